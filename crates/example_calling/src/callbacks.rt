@@ -5,10 +5,10 @@ use std::num::NonZeroU16;
 use vt100::capture::RowContents;
 use vt100::{Call, Callbacks, Error, Parser, Screen};
 
-/// The greatest size that a program is given.
+/// The largest size that a program may ask for, in rows and columns.
 const GREATEST: (u16, u16) = (200, 400);
 
-/// A window around a terminal.
+/// A window that contains a terminal.
 #[derive(Drop)]
 pub struct Window {
     title: Vec<u8>,
@@ -18,7 +18,7 @@ pub struct Window {
 }
 
 impl Window {
-    /// A window without a title.
+    /// Creates a window without a title.
     pub fn new(alloc: Global) -> Self {
         Window {
             title: Vec::new(alloc),
@@ -28,12 +28,12 @@ impl Window {
         }
     }
 
-    /// The title, as the program sent it: it may be no UTF-8.
+    /// Returns the title as the program sent it, which need not be UTF-8.
     pub fn title(&self) -> &[u8] {
         self.title.as_slice()
     }
 
-    /// How often the bell rang.
+    /// Returns how often the bell rang.
     pub fn bells(&self) -> u64 {
         self.bells
     }
@@ -42,7 +42,7 @@ impl Window {
 impl Callbacks for Window {
     ghost use Rattle.std.specs.Prelude.{◌≡◌};
 
-    // The screen stays as it is.
+    // No callback changes the screen.
     ghost does = { λ _ _ before _ after. after ≡ before };
 
     fn otherwise(&mut self, _screen: &mut Screen, _call: Call<'_>) {}
@@ -65,9 +65,11 @@ impl Callbacks for Window {
     }
 }
 
-/// Reads bytes, and then gives the screen the size that they asked for, at most the greatest one.
+/// Parses `bytes`, and then resizes the screen if they asked for it, at most to the largest size.
 ///
-/// Fails where memory is refused, also to a callback.
+/// # Errors
+///
+/// Returns [`Error::OutOfMemory`] if an allocation fails, in a callback or elsewhere.
 pub fn read(parser: &mut Parser<Window>, bytes: &[u8]) -> Result<(), Error> {
     parser.process(bytes)?;
     let window = parser.callbacks_mut();

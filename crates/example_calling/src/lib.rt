@@ -1,4 +1,4 @@
-//! The callers that crates/vt100/CALLING.md shows, as they stand there.
+//! The callers that crates/vt100/CALLING.md quotes.
 #![tactic(auto)]
 
 pub mod callbacks;

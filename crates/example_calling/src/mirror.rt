@@ -4,7 +4,7 @@ use std::num::NonZeroU16;
 use vt_mirror::{Mirror, Update};
 use vt100::{Error, Parser};
 
-/// Has the mirror read an output, and a viewer's terminal take what is new to it.
+/// Feeds `output` to the mirror, and brings a viewer's terminal up to date.
 pub fn show(
     mirror: &mut Mirror,
     output: &[u8],
@@ -18,8 +18,8 @@ pub fn show(
     }
 }
 
-/// What a viewer's terminal does with an update: it takes its size, if it is a full one, and reads
-/// its text.
+/// Applies an update to a viewer's terminal: the size first, if it is a full update, and then the
+/// text.
 fn take(terminal: &mut Parser, update: &Update) -> Result<(), Error> {
     let text = match update {
         Update::Diff(text) => text,

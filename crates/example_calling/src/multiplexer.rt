@@ -1,22 +1,22 @@
-//! A client's terminal is kept equal to a screen.
+//! A client's terminal that is kept equal to a screen.
 
 use anyhow::Result;
 use std::io::Write;
 use vt100::{Error, Screen};
 
-/// A client, and the screen that its terminal shows.
+/// A client, and the screen that its terminal displays.
 #[derive(Drop)]
 pub struct Client {
     seen: Option<Screen>,
 }
 
 impl Client {
-    /// A client whose terminal is plain and shows anything.
+    /// Creates a client whose terminal is plain and may display anything.
     pub fn new() -> Self {
         Client { seen: None }
     }
 
-    /// Writes what the client's terminal has to read to show this screen.
+    /// Writes the escape sequences that make the client's terminal display this screen.
     pub fn update<W: Write>(&mut self, screen: &Screen, writer: &mut W) -> Result<()> {
         let text = match &self.seen {
             Some(seen) => text_from(screen, seen)?,
@@ -30,7 +30,7 @@ impl Client {
     }
 }
 
-/// The difference from the screen before, or a redraw where that has another size.
+/// Returns the difference from the screen before, or a redraw if that has a different size.
 fn text_from(screen: &Screen, seen: &Screen) -> Result<String, Error> {
     if screen.is_sized_as(seen) {
         screen.contents_diff_scrolling(seen)

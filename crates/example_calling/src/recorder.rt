@@ -1,4 +1,5 @@
-//! A log of all that was shown: the rows that left the screen at its top, and then those on it.
+//! A log of all that was displayed: the rows that scrolled off the top, and then the rows of the
+//! screen.
 
 ghost use Rattle.vt_cells.specs.Refusals.{OnlyOutOfMemory};
 
@@ -7,7 +8,7 @@ use std::num::NonZeroU16;
 use vt_notes::Recorder;
 use vt100::{Error, Parser};
 
-/// The log of an output, as text and SGR, on a terminal of this size.
+/// Returns the log of `output` on a terminal of this size, as text with SGR sequences.
 pub fn log(
     alloc: Global,
     rows: NonZeroU16,
@@ -19,7 +20,7 @@ pub fn log(
     finish(alloc, &mut parser)
 }
 
-/// The rows that left, and behind them those that are kept and shown.
+/// Returns the rows that scrolled off, followed by those that are kept and displayed.
 fn finish(alloc: Global, parser: &mut Parser<Recorder>) -> Result<String, Error>
     ensures memory { OnlyOutOfMemory result }
 {

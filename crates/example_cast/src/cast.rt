@@ -5,17 +5,17 @@ use serde_json::Value;
 use std::alloc::Global;
 use std::num::NonZeroU16;
 
-/// The versions that are read.
+/// The versions of the format that are supported.
 #[derive(Clone, Copy, PartialEq, Eq)]
 pub enum Version {
-    /// Times count from the beginning.
+    /// Version 2: times count from the beginning of the recording.
     Two,
 
-    /// Times count from the event before, and a line that begins with `#` is a comment.
+    /// Version 3: times count from the event before, and a line that begins with `#` is a comment.
     Three,
 }
 
-/// What stands in the first line: the version, and the size that the terminal has at first.
+/// The content of the first line: the version, and the initial size of the terminal.
 #[derive(Clone, Copy)]
 pub struct Header {
     pub version: Version,
@@ -23,7 +23,7 @@ pub struct Header {
     pub cols: NonZeroU16,
 }
 
-/// What stands in a line behind the first one.
+/// The content of a line after the first one.
 #[derive(Clone, Copy)]
 pub struct Event<'a> {
     /// Seconds since the recording began.
@@ -31,7 +31,7 @@ pub struct Event<'a> {
     pub action: Action<'a>,
 }
 
-/// When the last event happened.
+/// A clock that keeps the time of the last event.
 #[derive(Clone, Copy)]
 pub struct Clock {
     version: Version,
@@ -40,21 +40,21 @@ pub struct Clock {
     time: f64,
 }
 
-/// What happened.
+/// The action of an event.
 #[derive(Clone, Copy)]
 pub enum Action<'a> {
-    /// The program wrote a text to its terminal.
+    /// The program wrote output to its terminal.
     Output(&'a str),
 
-    /// The terminal got another size.
+    /// The terminal was resized.
     Resize { rows: NonZeroU16, cols: NonZeroU16 },
 
-    /// What does not change the screen: keys, marks, the program's exit, and kinds that this program
-    /// doesn't know.
+    /// An event that does not change the screen: input, a marker, the program's exit, or an unknown
+    /// kind.
     Other,
 }
 
-/// The value of a line.
+/// Parses a line as JSON.
 pub fn json(alloc: Global, line: &str) -> Result<Value> {
     match Value::from_str(alloc, line) {
         Ok(value) => Ok(value),
@@ -64,7 +64,7 @@ pub fn json(alloc: Global, line: &str) -> Result<Value> {
 }
 
 impl Version {
-    /// Whether an event stands in a line, which is neither blank nor a comment.
+    /// Returns whether a line has an event, that is, it is neither blank nor a comment.
     pub fn has_event(self, line: &str) -> bool {
         let is_comment = self == Version::Three && line.starts_with('#');
         !is_comment && !line.trim().is_empty()
@@ -72,7 +72,7 @@ impl Version {
 }
 
 impl Header {
-    /// Reads the value of the first line.
+    /// Reads the header from the JSON value of the first line.
     pub fn read(value: &Value) -> Result<Header> {
         match value.get("version").and_then(Value::as_u64) {
             Some(2) => Header::read_size(Version::Two, value, "height", "width"),
@@ -84,7 +84,7 @@ impl Header {
         }
     }
 
-    /// Reads the size, whose numbers have these names.
+    /// Reads the size from the fields with these names.
     fn read_size(version: Version, value: &Value, rows: &str, cols: &str) -> Result<Header> {
         Ok(Header {
             version,
@@ -95,12 +95,12 @@ impl Header {
 }
 
 impl Clock {
-    /// A clock at the beginning of a recording.
+    /// Creates a clock at the beginning of a recording.
     pub fn new(version: Version) -> Clock {
         Clock { version, time: 0.0 }
     }
 
-    /// Goes on to an event that has this time in its line.
+    /// Advances to an event with the time `time` in its line.
     fn go_on(&mut self, time: f64) {
         self.time = match self.version {
             Version::Two => time,
@@ -110,7 +110,7 @@ impl Clock {
 }
 
 impl<'a> Event<'a> {
-    /// Reads the value of a line that has an event, of any kind.
+    /// Reads an event, of any kind, from the JSON value of its line.
     pub fn read(value: &'a Value, clock: &mut Clock) -> Result<Event<'a>> {
         let parts = value.as_array().context("an event is an array")?;
         let [time, kind, data] = parts.as_slice() else {
@@ -135,7 +135,7 @@ impl<'a> Action<'a> {
     }
 }
 
-/// The number of rows or columns of this name.
+/// Returns the number of rows or columns in the field of this name.
 fn read_number(value: &Value, name: &str) -> Result<NonZeroU16> {
     value
         .get(name)
@@ -143,7 +143,7 @@ fn read_number(value: &Value, name: &str) -> Result<NonZeroU16> {
         .context(format_args!("no {name} from 1 to 65535"))
 }
 
-/// A number of rows or columns; `None` if it isn't from 1 to 65535.
+/// Converts a number of rows or columns; returns `None` if it is not from 1 to 65535.
 fn size(value: &Value) -> Option<NonZeroU16> {
     NonZeroU16::new(u16::try_from(value.as_u64()?).ok()?)
 }

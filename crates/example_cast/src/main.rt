@@ -1,6 +1,6 @@
-//! `example_cast`: reads a recording of asciinema, version 2 or 3, plays it through a mirror, and
-//! writes what was read, what the updates of two viewers took, one for each kind of difference, and
-//! then the rows that the second one sees last.
+//! `example_cast`: reads a recording of asciinema, version 2 or 3, and plays it through a mirror
+//! with two viewers, one for each kind of difference. Writes the amount of input, the amount of
+//! updates for each viewer, and the rows that the second viewer displays at the end.
 #![tactic(auto)]
 
 mod cast;
@@ -20,7 +20,7 @@ use tally::Tally;
 
 const USAGE: &str = "usage: example_cast <RECORDING";
 
-/// Plays a whole recording: a header in its first line, and an event in each other one that is
+/// Plays a whole recording: a header in its first line, and an event in each further line that is
 /// neither blank nor a comment.
 fn play(alloc: Global, recording: &str) -> Result<Player> {
     let (first, events) = recording.split_once('\n').unwrap_or((recording, ""));
@@ -56,8 +56,8 @@ fn write<R: Print>(rt: &R, tally: &Tally, rows: &[String]) -> io::Result<()> {
     Ok(())
 }
 
-/// Reads a recording from standard input, and writes what came of it. That nobody reads the output
-/// any more is no error.
+/// Reads a recording from standard input, and writes the counts and the rows. A closed output is no
+/// error.
 fn run<R: AllocGlobal + Input + Print>(rt: &R) -> Result<()> {
     let recording = io::read_to_string(rt.alloc(), rt.reader()).context("reading the recording")?;
     let player = play(rt.alloc(), recording.as_str())?;
@@ -68,7 +68,7 @@ fn run<R: AllocGlobal + Input + Print>(rt: &R) -> Result<()> {
     }
 }
 
-/// Whether there is a word after the program's name, or one that can't be read.
+/// Returns whether there are command-line arguments, or ones that cannot be read.
 fn has_arguments<R: AllocGlobal + Env>(rt: &R) -> bool {
     match env::args(rt) {
         Ok(words) => words.skip(1).next().is_some(),

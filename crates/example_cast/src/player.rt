@@ -1,4 +1,4 @@
-//! A recording that is played through a mirror.
+//! Playing a recording through a mirror.
 
 use crate::cast::{Action, Event};
 use crate::tally::{Count, Tally};
@@ -8,20 +8,20 @@ use std::alloc::Global;
 use std::num::NonZeroU16;
 use vt_mirror::Mirror;
 
-/// A mirror that reads what a program wrote, and two viewers, one for each kind of difference.
+/// A mirror that parses the recorded output, and two viewers, one for each kind of difference.
 #[derive(Drop)]
 pub struct Player {
     mirror: Mirror,
     drawn: Viewer,
     scrolling: Viewer,
 
-    /// When the events happened that the viewers aren't told of yet.
+    /// The time of the events that the viewers have not yet received.
     time: Option<f64>,
     read: Count,
 }
 
 impl Player {
-    /// A mirror of this size, and its viewers.
+    /// Creates a mirror of this size with its two viewers.
     pub fn new(alloc: Global, rows: NonZeroU16, cols: NonZeroU16) -> Result<Player> {
         let mut mirror = Mirror::new(alloc, rows, cols, 0)?;
         let drawn = Viewer::join(alloc, &mut mirror, Kind::Drawn, (rows, cols))?;
@@ -35,7 +35,8 @@ impl Player {
         })
     }
 
-    /// Plays an event. The viewers are told of all events of a moment at once, when a later one comes.
+    /// Plays an event. All events of one moment are sent to the viewers together, when a later one
+    /// arrives.
     pub fn play(&mut self, event: Event<'_>) -> Result<()> {
         if let Action::Other = event.action {
             return Ok(());
@@ -55,7 +56,7 @@ impl Player {
         Ok(())
     }
 
-    /// Tells the viewers of the events that they aren't told of yet, if there are any.
+    /// Sends the pending events to the viewers, if there are any.
     pub fn update(&mut self) -> Result<()> {
         if self.time.take().is_none() {
             return Ok(());
@@ -64,12 +65,12 @@ impl Player {
         self.scrolling.update(&mut self.mirror)
     }
 
-    /// The text of each row that the second viewer sees.
+    /// Returns the text of each row that the second viewer displays.
     pub fn rows(&self, alloc: Global) -> Result<Vec<String>> {
         self.scrolling.rows(alloc)
     }
 
-    /// What was read and written up to now.
+    /// Returns the counts of what was read and written so far.
     pub fn tally(&self) -> Tally {
         Tally {
             read: self.read,

@@ -1,38 +1,38 @@
-//! What playing a recording took.
+//! Counts of input and updates.
 
 use std::fmt;
 
-/// Counts of what was read, and of the updates of two viewers.
+/// The counts of what was read, and of the updates of both viewers.
 #[derive(Clone, Copy)]
 pub struct Tally {
-    /// Events of output.
+    /// Output events.
     pub read: Count,
 
-    /// Updates whose differences are drawn alone.
+    /// The updates of the viewer whose differences only draw.
     pub drawn: Updates,
 
-    /// Updates whose differences may move rows first.
+    /// The updates of the viewer whose differences may move rows first.
     pub scrolling: Updates,
 }
 
-/// Counts of the updates of a viewer.
+/// The counts of the updates of a viewer.
 #[derive(Clone, Copy, Default)]
 pub struct Updates {
     /// Updates that draw the whole screen.
     pub redraws: Count,
 
-    /// Updates that say what differs from the one before.
+    /// Updates that draw the difference from the update before.
     pub differences: Count,
 }
 
 impl Updates {
-    /// Both together.
+    /// Returns the sum of both counts.
     fn all(self) -> Count {
         self.redraws.with(self.differences)
     }
 }
 
-/// How often something came, and how many bytes it had in all.
+/// A number of items, and the sum of their lengths in bytes.
 #[derive(Clone, Copy, Default)]
 pub struct Count {
     times: u64,
@@ -40,13 +40,13 @@ pub struct Count {
 }
 
 impl Count {
-    /// Counts one more.
+    /// Counts one more item of this length.
     pub fn add(&mut self, bytes: usize) {
         self.times = self.times.saturating_add(1);
         self.bytes = self.bytes.saturating_add(bytes);
     }
 
-    /// Both counts together.
+    /// Returns the sum of two counts.
     fn with(self, other: Count) -> Count {
         Count {
             times: self.times.saturating_add(other.times),

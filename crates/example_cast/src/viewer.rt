@@ -7,20 +7,20 @@ use std::num::NonZeroU16;
 use vt_mirror::{Mirror, Update};
 use vt100::{Error, Parser};
 
-/// The texts of rows, or want of memory for one.
+/// The texts of rows, or the error if one cannot be allocated.
 type Texts = std::result::Result<Vec<String>, Error>;
 
-/// How differences are made.
+/// The kind of differences that a viewer receives.
 #[derive(Clone, Copy)]
 pub enum Kind {
-    /// Drawn alone.
+    /// Differences only draw.
     Drawn,
 
-    /// Behind rows that move first, where that is shorter.
+    /// Differences may move rows first, if that is shorter.
     Scrolling,
 }
 
-/// A viewer whose terminal reads nothing but updates.
+/// A viewer whose terminal receives only updates.
 #[derive(Drop)]
 pub struct Viewer {
     number: u64,
@@ -30,7 +30,7 @@ pub struct Viewer {
 }
 
 impl Viewer {
-    /// A new viewer of a mirror, with a terminal of this size.
+    /// Adds a viewer to a mirror, with a terminal of this size.
     pub fn join(
         alloc: Global,
         mirror: &mut Mirror,
@@ -46,7 +46,7 @@ impl Viewer {
         })
     }
 
-    /// Has the terminal read the next update.
+    /// Applies the next update to the viewer's terminal.
     pub fn update(&mut self, mirror: &mut Mirror) -> Result<()> {
         let update = match self.kind {
             Kind::Drawn => mirror.update(self.number)?,
@@ -67,7 +67,7 @@ impl Viewer {
         Ok(())
     }
 
-    /// Gives the terminal the mirror's size.
+    /// Resizes the viewer's terminal to the mirror's size.
     fn resize(&mut self, rows: u16, cols: u16) -> Result<()> {
         let rows = NonZeroU16::new(rows).context("no rows")?;
         let cols = NonZeroU16::new(cols).context("no columns")?;
@@ -75,7 +75,7 @@ impl Viewer {
         Ok(())
     }
 
-    /// The text of each row that is seen.
+    /// Returns the text of each displayed row.
     pub fn rows(&self, alloc: Global) -> Result<Vec<String>> {
         let screen = self.terminal.screen();
         let (_, cols) = screen.size();
@@ -83,7 +83,7 @@ impl Viewer {
         Ok(rows?)
     }
 
-    /// What the updates took up to now.
+    /// Returns the counts of the updates so far.
     pub fn updates(&self) -> Updates {
         self.updates
     }

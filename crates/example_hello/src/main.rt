@@ -1,4 +1,5 @@
-//! Reads a text as a terminal does, and writes it for another one.
+//! Parses text as a terminal does, and writes the escape sequences that display it on another
+//! terminal.
 #![tactic(auto)]
 
 use std::num::NonZeroU16;

@@ -1,18 +1,18 @@
-//! What the colours of cells look like.
+//! The RGB values of cell colours.
 
 ghost use Rattle.std.specs.Prelude.{◌≡◌, ◌<◌, ◌+◌, ◌*◌, ◌==◌, if◌then◌else◌};
 
 use std::fmt;
 use vt100::Color;
 
-/// A colour by its parts.
+/// A colour by its red, green and blue components.
 #[derive(Clone, Copy, PartialEq, Eq, Debug)]
 pub struct Rgb(pub u8, pub u8, pub u8);
 
-/// The colour of text that has no colour of its own.
+/// The default colour of text.
 pub const INK: Rgb = Rgb(0xe5, 0xe5, 0xe5);
 
-/// The colour of a background that has no colour of its own.
+/// The default colour of the background.
 pub const PAPER: Rgb = Rgb(0, 0, 0);
 
 /// The first 16 colours of xterm's palette.
@@ -36,7 +36,7 @@ const NAMED: [Rgb; 16] = [
 ];
 
 impl Rgb {
-    /// What a cell's colour looks like, where its own is `default`.
+    /// Returns the RGB value of a cell's colour; `default` is that of [`Color::Default`].
     pub fn of(color: Color, default: Rgb) -> Rgb {
         match color {
             Color::Default => default,
@@ -45,7 +45,7 @@ impl Rgb {
         }
     }
 
-    /// The colour halfway between two.
+    /// Returns the colour halfway between two.
     pub fn mixed(self, other: Rgb) -> Rgb {
         Rgb(
             self.0.midpoint(other.0),
@@ -62,7 +62,7 @@ impl fmt::Display for Rgb {
     }
 }
 
-/// A colour of xterm's palette: 16 with names, a cube of 6 steps a side, and 24 greys.
+/// Returns a colour of xterm's palette: 16 named ones, a cube of 6 steps a side, and 24 greys.
 fn of_palette(index: u8) -> Rgb {
     match index {
         0..=15 => NAMED[usize::from(index)],
@@ -74,14 +74,14 @@ fn of_palette(index: u8) -> Rgb {
     }
 }
 
-/// A colour of the cube, in which blue changes fastest.
+/// Returns a colour of the cube, in which blue changes fastest.
 fn of_cube(place: u8) -> Rgb
     requires { place < 216 }
 {
     Rgb(level(place / 36), level(place / 6 % 6), level(place % 6))
 }
 
-/// How bright a step of the cube is.
+/// Returns the brightness of a step of the cube, 0 to 255.
 fn level(step: u8) -> u8
     requires { step < 6 }
     ensures { result ≡ (if step == 0 then 0 else 55 + 40 * step) }

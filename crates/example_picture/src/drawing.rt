@@ -6,25 +6,27 @@ use crate::xml::Escaped;
 use std::alloc::{AllocError, Global};
 use vt100::Screen;
 
-/// How wide a column is.
+/// The width of a column, in SVG units.
 const WIDTH: u32 = 9;
 
-/// How high a row is.
+/// The height of a row, in SVG units.
 const HEIGHT: u32 = 17;
 
-/// How far the line on which glyphs stand is below the top of a row.
+/// The distance of the text's baseline from the top of its row, in SVG units.
 const BASE: u32 = 13;
 
-/// How far the screen is from each side of the picture.
+/// The distance of the screen from each side of the picture, in SVG units.
 const MARGIN: u32 = 9;
 
 const FONTS: &str = "'DejaVu Sans Mono', Menlo, Consolas, monospace";
 
-/// Blanks stay, and glyphs stand from left to right in the order of their columns.
+/// The style sheet: blanks are kept, and glyphs run from left to right in the order of their
+/// columns.
 const STYLE: &str = "text { white-space: pre; direction: ltr; unicode-bidi: bidi-override }";
 
-/// The picture of a screen, as a file of SVG: backgrounds, and then texts, each of which begins at its
-/// column and is as long as its columns, whatever font it is shown in.
+/// Returns the picture of a screen as SVG: the backgrounds and then the texts.
+///
+/// Each text begins at its column and is as long as its columns, whatever font displays it.
 pub fn svg(alloc: Global, screen: &Screen) -> Result<String, AllocError> {
     let mut out = String::new(alloc);
     write_head(&mut out, screen)?;
@@ -33,7 +35,8 @@ pub fn svg(alloc: Global, screen: &Screen) -> Result<String, AllocError> {
     Ok(out)
 }
 
-/// The size, the style and the paper of the whole picture, and the beginning of its one group.
+/// Writes the size, the style and the background of the whole picture, and the start of its only
+/// group.
 fn write_head(out: &mut String, screen: &Screen) -> Result<(), AllocError> {
     let (rows, cols) = screen.size();
     let width = u32::from(cols.get()) * WIDTH + 2 * MARGIN;
@@ -54,7 +57,7 @@ fn write_head(out: &mut String, screen: &Screen) -> Result<(), AllocError> {
     writeln!(out, r#" fill="{INK}" shape-rendering="crispEdges">"#)
 }
 
-/// The backgrounds of all rows, and then their texts.
+/// Writes the backgrounds of all rows, and then their texts.
 fn write_rows(alloc: Global, out: &mut String, screen: &Screen) -> Result<(), AllocError> {
     let (rows, _) = screen.size();
     for row in 0..rows.get() {
@@ -68,7 +71,7 @@ fn write_rows(alloc: Global, out: &mut String, screen: &Screen) -> Result<(), Al
     Ok(())
 }
 
-/// A rectangle for each stretch of one background, but for those of the whole picture's.
+/// Writes a rectangle for each run of one background colour, except for that of the whole picture.
 fn write_papers(out: &mut String, spots: &[Spot<'_>], row: u16) -> Result<(), AllocError> {
     for stretch in spots.chunk_by(|one, next| one.paint.paper == next.paint.paper) {
         write_paper(out, stretch, row)?;
@@ -92,8 +95,8 @@ fn write_paper(out: &mut String, stretch: &[Spot<'_>], row: u16) -> Result<(), A
     )
 }
 
-/// A text for each stretch of ASCII of one look, without the blanks at its ends, and for each other
-/// glyph.
+/// Writes a text element for each run of ASCII with the same style, without the blanks at its ends,
+/// and for each other glyph.
 fn write_texts(out: &mut String, spots: &[Spot<'_>], row: u16) -> Result<(), AllocError> {
     for stretch in spots.chunk_by(|one, next| one.goes_on_in(next)) {
         if let Some(inked) = inked(stretch) {
@@ -103,7 +106,8 @@ fn write_texts(out: &mut String, spots: &[Spot<'_>], row: u16) -> Result<(), All
     Ok(())
 }
 
-/// The part from the first spot that isn't blank to the last one; `None` where all are.
+/// Returns the part from the first spot that is not blank to the last one, or `None` if all are
+/// blank.
 fn inked<'a, 'b>(stretch: &'a [Spot<'b>]) -> Option<&'a [Spot<'b>]> {
     let first = stretch.iter().position(|spot| !spot.is_blank())?;
     let last = stretch.iter().rposition(|spot| !spot.is_blank())?;
@@ -126,7 +130,8 @@ fn write_text(out: &mut String, stretch: &[Spot<'_>], row: u16) -> Result<(), Al
     writeln!(out, "</text>")
 }
 
-/// What differs from plain text. A glyph beyond ASCII is made as wide as its columns.
+/// Writes the attributes that differ from unstyled text. A glyph outside ASCII is stretched to its
+/// columns.
 fn write_style(out: &mut String, spot: &Spot<'_>) -> Result<(), AllocError> {
     let paint = spot.paint;
     if !spot.text.is_ascii() {
@@ -147,7 +152,7 @@ fn write_style(out: &mut String, spot: &Spot<'_>) -> Result<(), AllocError> {
     Ok(())
 }
 
-/// Where a stretch begins, and how wide it is.
+/// Returns the position and the width of a run, in SVG units.
 fn extent(stretch: &[Spot<'_>]) -> (u32, u32) {
     let (Some(first), Some(last)) = (stretch.first(), stretch.last()) else {
         return (0, 0);
@@ -157,7 +162,7 @@ fn extent(stretch: &[Spot<'_>]) -> (u32, u32) {
     (begin * WIDTH, cols.saturating_mul(WIDTH))
 }
 
-/// The cursor, where it is a line; a block is painted with the text.
+/// Writes the cursor if it is a line; a block is painted with the text.
 fn write_mark(
     out: &mut String,
     screen: &Screen,

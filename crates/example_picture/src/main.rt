@@ -1,5 +1,5 @@
 //! `example_picture ROWS COLS`: reads what a program wrote to its terminal, and writes a picture of
-//! the screen that it shows then, as SVG.
+//! the resulting screen as SVG.
 #![tactic(auto)]
 
 mod color;
@@ -17,7 +17,8 @@ use vt100::Parser;
 
 const USAGE: &str = "usage: example_picture ROWS COLS";
 
-/// Rows and columns, from the words after the program's name; `None` for other words.
+/// Returns the rows and columns given by the command-line arguments, or `None` if the arguments are
+/// wrong.
 fn asked_size<R: AllocGlobal + Env>(rt: &R) -> Result<Option<(NonZeroU16, NonZeroU16)>> {
     let words: Vec<String> = env::args(rt)?.skip(1).collect(rt.alloc())?;
     let [rows, cols] = words.as_slice() else {
@@ -28,7 +29,8 @@ fn asked_size<R: AllocGlobal + Env>(rt: &R) -> Result<Option<(NonZeroU16, NonZer
     Ok(rows.ok().zip(cols.ok()))
 }
 
-/// Reads standard input to its end into a screen of this size, and writes the picture of it.
+/// Reads standard input to its end into a screen of this size, and writes the picture of the
+/// screen.
 fn draw<R: AllocGlobal + Input + Print>(rt: &R, rows: NonZeroU16, cols: NonZeroU16) -> Result<()> {
     let mut bytes = Vec::new(rt.alloc());
     rt.reader().read_to_end(&mut bytes)?;
@@ -39,7 +41,7 @@ fn draw<R: AllocGlobal + Input + Print>(rt: &R, rows: NonZeroU16, cols: NonZeroU
     Ok(())
 }
 
-/// Answers whether the arguments were right.
+/// Draws the picture, and returns whether the command-line arguments were right.
 fn run<R: AllocGlobal + Env + Input + Print>(rt: &R) -> Result<bool> {
     let Some((rows, cols)) = asked_size(rt)? else {
         return Ok(false);

@@ -1,4 +1,4 @@
-//! What a row shows from column to column.
+//! The content of a row from column to column.
 
 ghost use Rattle.std.specs.Prelude.{◌≡◌, ◌+◌, ◌<◌, IfSome, None, true};
 
@@ -6,20 +6,20 @@ use crate::color::{INK, PAPER, Rgb};
 use std::alloc::{AllocError, Global};
 use vt100::{Cell, CursorStyle, Screen};
 
-/// A glyph or a blank: where it stands, and how it is painted.
+/// A glyph or a blank, with its position and its paint.
 #[derive(Clone, Copy)]
 pub struct Spot<'a> {
     pub col: u16,
 
-    /// How many columns it takes: 1, or 2 for a wide glyph.
+    /// The number of columns: 1, or 2 for a wide glyph.
     pub cols: u16,
 
-    /// Empty for a blank.
+    /// The text, empty for a blank.
     pub text: &'a str,
     pub paint: Paint,
 }
 
-/// How a glyph is painted.
+/// The colours and the style of a glyph.
 #[derive(Clone, Copy, PartialEq, Eq)]
 pub struct Paint {
     pub ink: Rgb,
@@ -29,48 +29,50 @@ pub struct Paint {
     pub underline: bool,
 }
 
-/// How the cursor marks the cell that it stands at.
+/// The marking of the cell that the cursor is on.
 #[derive(Clone, Copy, PartialEq, Eq)]
 pub enum Mark {
-    /// It has its colours exchanged.
+    /// The colours of the cell are exchanged.
     Block,
 
-    /// It has a line below.
+    /// The cell has a line below it.
     Underline,
 
-    /// It has a line at its left.
+    /// The cell has a line at its left.
     Bar,
 }
 
 impl Spot<'_> {
-    /// Whether no ink is seen.
+    /// Returns whether nothing is drawn in the text colour.
     pub fn is_blank(&self) -> bool {
         let is_empty = self.text.is_empty() || self.text == " ";
         is_empty && !self.paint.underline
     }
 
-    /// Whether both can be drawn as one text: they look the same up to their glyphs, which are ASCII.
-    /// Others may come from a font of another width, and would move what follows.
+    /// Returns whether both can be drawn as one text: they are ASCII and have the same paint.
+    ///
+    /// Glyphs outside ASCII may come from a font of another width, and would move what follows.
     pub fn goes_on_in(&self, next: &Spot<'_>) -> bool {
         let is_ascii = self.text.is_ascii() && next.text.is_ascii();
         is_ascii && self.paint == next.paint
     }
 
-    /// The column behind it.
+    /// Returns the column after the spot.
     pub fn end(&self) -> u32
         ensures { result ≡ self.now.col + self.now.cols }
     {
         u32::from(self.col) + u32::from(self.cols)
     }
 
-    /// Whether it stands in a column.
+    /// Returns whether the spot covers a column.
     pub fn covers(&self, col: u16) -> bool {
         self.col <= col && u32::from(col) < self.end()
     }
 }
 
 impl Paint {
-    /// The paint of a cell: inverse colours change places, and dim ink is halfway to its paper.
+    /// Returns the paint of a cell: inverse exchanges the colours, and dim text is halfway to its
+    /// background.
     fn of(cell: &Cell) -> Paint {
         let ink = Rgb::of(cell.fgcolor(), INK);
         let paper = Rgb::of(cell.bgcolor(), PAPER);
@@ -88,7 +90,7 @@ impl Paint {
         }
     }
 
-    /// The same with its colours exchanged.
+    /// Returns the paint with its colours exchanged.
     fn inverted(self) -> Paint {
         Paint {
             ink: self.paper,
@@ -99,7 +101,7 @@ impl Paint {
 }
 
 impl Mark {
-    /// The mark of a cursor; one that blinks is drawn as a steady one.
+    /// Returns the marking for a cursor style. A blinking cursor is drawn as a steady one.
     pub fn of(style: CursorStyle) -> Mark {
         match style {
             CursorStyle::Default | CursorStyle::BlinkBlock | CursorStyle::SteadyBlock => {
@@ -111,8 +113,8 @@ impl Mark {
     }
 }
 
-/// The column that the cursor marks in a row, which is the last one where a wrap is pending; `None`
-/// in other rows, and where the cursor is hidden.
+/// Returns the column of the cursor if it is visible and in this row. If a wrap is pending, that is
+/// the last column.
 pub fn cursor_col(screen: &Screen, row: u16) -> Option<u16>
     ensures inside { IfSome result (λ col. col < screen.now.page.width) }
     ensures hidden { screen.now.hidden ≡ true → result ≡ None }
@@ -126,7 +128,8 @@ pub fn cursor_col(screen: &Screen, row: u16) -> Option<u16>
     Some(cursor_col.min(cols.get() - 1))
 }
 
-/// What a row shows, from left to right. The right half of a wide glyph is no spot of its own.
+/// Returns the glyphs and blanks of a row, from left to right. A continuation cell is not a spot of
+/// its own.
 pub fn spots_of(alloc: Global, screen: &Screen, row: u16) -> Result<Vec<Spot<'_>>, AllocError> {
     let (_, cols) = screen.size();
     let mut spots = Vec::new(alloc);

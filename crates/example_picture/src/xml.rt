@@ -2,7 +2,8 @@
 
 use std::fmt;
 
-/// Text as it stands between two tags. The two characters that no XML has are written as U+FFFD.
+/// Text escaped for use between two tags. The two characters U+FFFE and U+FFFF, which XML does not
+/// allow, are written as U+FFFD.
 #[derive(Clone, Copy)]
 pub struct Escaped<'a>(pub &'a str);
 

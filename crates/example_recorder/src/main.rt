@@ -1,9 +1,9 @@
-//! `example_recorder ROWS COLS [--colors]`: reads what a program wrote to its terminal, and writes a
-//! log of what it showed there: each row as it leaves the screen at its top, and at the end the rows
-//! that the screen shows then.
+//! `example_recorder ROWS COLS [--colors]`: reads what a program wrote to its terminal, and writes
+//! a log of what was displayed: each row as it scrolls off the top, and at the end the rows of the
+//! screen.
 //!
-//! Rows are written as they leave, so a long recording takes no more memory than a short one. A row
-//! that goes on in the next one is written with it as one line.
+//! Rows are written as they scroll off, so a long recording needs no more memory than a short one.
+//! A wrapped row and the next one are written as one line.
 #![tactic(auto)]
 
 ghost use Rattle.std.specs.Io.KnownBytes.{IsAtEnd};
@@ -20,10 +20,10 @@ use vt100::capture::{
 };
 use vt100::{Call, Callbacks, Parser, Screen};
 
-/// How many bytes are read at once.
+/// The number of bytes that are read at once.
 const BUFFER_SIZE: usize = 8192;
 
-/// What the words after the program's name ask for.
+/// The settings that the command-line arguments specify.
 #[derive(Clone, Copy)]
 struct Settings {
     rows: NonZeroU16,
@@ -31,7 +31,7 @@ struct Settings {
     keeps_colors: bool,
 }
 
-/// The settings that these words ask for; `None` for wrong words.
+/// Returns the settings that the command-line arguments specify, or `None` if they are wrong.
 fn read_words(words: &[String]) -> Option<Settings> {
     let (rows, cols, keeps_colors) = match words {
         [rows, cols] => (rows, cols, false),
@@ -45,14 +45,13 @@ fn read_words(words: &[String]) -> Option<Settings> {
     })
 }
 
-/// The part of the log that is still to be written.
+/// The part of the log that is not yet written.
 #[derive(Drop)]
 struct Log {
     text: String,
-    /// What the text of the next row depends on: whether a line end comes first, and which
-    /// attributes were written last.
+    /// The state between rows: whether a line end is pending, and the attributes written last.
     state: BasicFormattedCaptureState,
-    /// Whether memory for a row was refused.
+    /// Whether memory for a row could not be allocated.
     has_gap: bool,
 }
 
@@ -66,12 +65,12 @@ impl Log {
     }
 }
 
-/// Rows that leave the main page are logged. The alternate page is that of full-screen programs, which
-/// write their rows again and again.
+/// Rows that scroll off the main page are logged. The alternate page is for full-screen programs,
+/// which draw their rows again and again.
 impl Callbacks for Log {
     ghost use Rattle.std.specs.Prelude.{◌≡◌};
 
-    // The screen stays as it is.
+    // No callback changes the screen.
     ghost does = { λ _ _ before _ after. after ≡ before };
 
     fn otherwise(&mut self, _screen: &mut Screen, _call: Call<'_>) {}
@@ -89,7 +88,7 @@ impl Callbacks for Log {
     }
 }
 
-/// Writes a text of rows, as it is or without its colours.
+/// Writes the text of rows, with or without its SGR sequences.
 fn write_text<W: Write>(writer: &mut W, text: &str, keeps_colors: bool) -> io::Result<()> {
     if keeps_colors {
         return writer.write_all(text.as_bytes());
@@ -100,7 +99,7 @@ fn write_text<W: Write>(writer: &mut W, text: &str, keeps_colors: bool) -> io::R
     Ok(())
 }
 
-/// Writes the rows that left since the last call.
+/// Writes the rows that scrolled off since the last call.
 fn write_rows<W: Write>(log: &mut Log, writer: &mut W, keeps_colors: bool) -> io::Result<()> {
     if log.has_gap {
         return Err(io::Error::from(ErrorKind::OutOfMemory));
@@ -111,7 +110,7 @@ fn write_rows<W: Write>(log: &mut Log, writer: &mut W, keeps_colors: bool) -> io
     Ok(())
 }
 
-/// Writes the rows that the screen shows at the end, without the blank ones behind the last text.
+/// Writes the rows of the screen at the end, without the blank ones after the last text.
 fn write_screen<W: Write>(
     parser: &mut Parser<Log>,
     writer: &mut W,
@@ -162,7 +161,7 @@ fn run<R: AllocGlobal + Input + Print>(rt: &R, settings: Settings) -> io::Result
     )
 }
 
-/// Ends quietly if nobody reads the output any more.
+/// Records standard input as the arguments ask. A closed output is no error.
 fn main(rt: HostRuntime) -> Result<ExitCode> {
     let words: Vec<String> = env::args(&rt)?.skip(1).collect(rt.alloc())?;
     let Some(settings) = read_words(words.as_slice()) else {

@@ -1,9 +1,9 @@
-//! The tables: what is written to a terminal, and what has to stand there then.
+//! The tables of cases: what is written to a terminal, and what it must then display.
 
 use Property::{Background, Bold, Foreground, Inverse, Underlined};
 use vt100::Color;
 
-/// How a text has to be drawn.
+/// A property that text must be drawn with.
 #[derive(Clone, Copy, Debug)]
 pub enum Property {
     Bold,
@@ -13,19 +13,19 @@ pub enum Property {
     Background(Color),
 }
 
-/// A text that has to stand on the screen: its row and the column of its first character, counted from
-/// 0, and what has to hold of each of its characters.
+/// A text that must be on the screen: its row and the column of its first character, counted from
+/// 0, and the properties that each of its characters must have.
 pub type Spot = (u16, u16, &'static str, &'static [Property]);
 
-/// An output, and what a terminal has to show of it.
+/// Some output, and what a terminal must display after it.
 pub struct Case {
     pub name: &'static str,
-    /// The size of the terminal.
+    /// The number of rows of the terminal.
     pub rows: u16,
     pub columns: u16,
     pub output: &'static str,
     pub spots: &'static [Spot],
-    /// The row and the column where the cursor has to be, counted from 0.
+    /// The row and the column that the cursor must be at, counted from 0.
     pub cursor: (u16, u16),
 }
 
@@ -35,7 +35,7 @@ const BLUE: Color = Color::Idx(4);
 
 const ORANGE: Color = Color::Rgb(255, 135, 0);
 
-/// Cases that hold.
+/// The cases that hold.
 pub const CASES: [Case; 7] = [
     Case {
         name: "a prompt has the user in bold green and the folder in blue",
@@ -106,7 +106,7 @@ pub const CASES: [Case; 7] = [
     },
 ];
 
-/// Cases that fail on purpose: the program sums up otherwise, and draws in no colour.
+/// The cases that fail on purpose: a wrong sum, and a missing colour.
 pub const WRONG: [Case; 2] = [
     Case {
         name: "a bill ends with its sum",

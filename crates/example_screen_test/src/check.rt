@@ -1,21 +1,21 @@
-//! Whether a screen shows what a case expects.
+//! Comparison of a screen with what a case expects.
 
 use crate::cases::{Case, Property, Spot};
 use crate::picture::shown;
 use anyhow::Result;
 use vt100::{Cell, Screen};
 
-/// Why a text doesn't stand at its place as it has to.
+/// The reason why an expected text is not displayed.
 #[derive(Clone, Copy)]
 enum Miss {
-    /// There is another text.
+    /// Its place has a different text.
     Text,
 
-    /// It is there, but not drawn so.
+    /// The text is there, but without a property.
     Property(Property),
 }
 
-/// Whether a screen shows all that a case expects.
+/// Returns whether a screen displays everything that a case expects.
 pub fn holds(screen: &Screen, case: &Case) -> bool {
     for spot in case.spots {
         if miss_at(screen, spot).is_some() {
@@ -25,7 +25,7 @@ pub fn holds(screen: &Screen, case: &Case) -> bool {
     screen.cursor_position() == case.cursor
 }
 
-/// Prints a line for each thing that a screen doesn't show.
+/// Prints a line for each expectation that a screen does not meet.
 pub fn print_misses<R: Print>(rt: &R, screen: &Screen, case: &Case) -> Result<()> {
     for spot in case.spots {
         let (row, column, text, _) = spot;
@@ -47,7 +47,7 @@ pub fn print_misses<R: Print>(rt: &R, screen: &Screen, case: &Case) -> Result<()
     Ok(())
 }
 
-/// What is missing of a text at its place.
+/// Returns why an expected text is not displayed, or `None` if it is.
 fn miss_at(screen: &Screen, spot: &Spot) -> Option<Miss> {
     let (_, columns) = screen.size();
     let (row, start, text, properties) = *spot;
@@ -77,7 +77,7 @@ fn miss_at(screen: &Screen, spot: &Spot) -> Option<Miss> {
     }
 }
 
-/// Whether a wide character begins in the column before.
+/// Returns whether the cell is the continuation cell of a wide character.
 fn is_right_half(screen: &Screen, row: u16, column: u16) -> bool {
     match screen.cell(row, column) {
         Some(cell) => cell.is_wide_continuation(),
@@ -85,8 +85,8 @@ fn is_right_half(screen: &Screen, row: u16, column: u16) -> bool {
     }
 }
 
-/// The first of these properties that a cell lacks. The right half of a wide character is drawn as the
-/// left one, so it lacks none.
+/// Returns the first of these properties that a cell lacks. A continuation cell is drawn with its
+/// wide character, so it lacks none.
 fn lacking(cell: &Cell, properties: &[Property]) -> Option<Property> {
     if cell.is_wide_continuation() {
         return None;
@@ -99,7 +99,7 @@ fn lacking(cell: &Cell, properties: &[Property]) -> Option<Property> {
     None
 }
 
-/// Whether a cell is drawn so.
+/// Returns whether a cell has a property.
 fn has(cell: &Cell, property: Property) -> bool {
     match property {
         Property::Bold => cell.bold(),

@@ -1,9 +1,9 @@
-//! `example_screen_test [demo]`: tests what a terminal shows of a program's output. Each case of a
-//! table has some output, the size of the terminal that it is written to, and texts that have to
-//! stand there at their places, with attributes.
+//! `example_screen_test [demo]`: tests what a terminal displays after a program's output. Each case
+//! in a table has some output, the size of the terminal, and the texts that must be on its screen,
+//! with their positions and attributes.
 //!
-//! Prints `ok` and the name of each case that holds. For one that doesn't, what was expected is
-//! printed beside what was seen, and what is missing below. The status is 1 if there is one.
+//! Prints `ok` and the name of each case that holds. For a case that fails, prints the expected
+//! screen beside the actual one, and what is missing. The status is 1 if a case fails.
 #![tactic(auto)]
 
 mod cases;
@@ -18,28 +18,28 @@ use std::num::NonZeroU16;
 use std::process::ExitCode;
 use vt100::{Parser, Screen};
 
-/// How many cases held, and how many didn't.
+/// The number of cases that held, and of those that failed.
 #[derive(Clone, Copy)]
 struct Tally {
     passed: u64,
     failed: u64,
 }
 
-/// A terminal of a case's size.
+/// Creates a terminal of a case's size.
 fn terminal(alloc: Global, case: &Case) -> Result<Parser> {
     let rows = NonZeroU16::new(case.rows).context("a case without rows")?;
     let columns = NonZeroU16::new(case.columns).context("a case without columns")?;
     Ok(Parser::new(alloc, rows, columns, 0)?)
 }
 
-/// Tests a case, prints how that went, and counts it.
+/// Tests a case, prints the result, and counts it.
 fn test_case<R: AllocGlobal + Print>(rt: &R, case: &Case, tally: &mut Tally) -> Result<()> {
     let mut parser = terminal(rt.alloc(), case)?;
     parser.process(case.output.as_bytes())?;
     judge(rt, case, parser.screen(), tally)
 }
 
-/// Prints whether a screen shows what a case expects, and counts it.
+/// Prints whether a screen displays what a case expects, and counts the result.
 fn judge<R: AllocGlobal + Print>(
     rt: &R,
     case: &Case,
@@ -67,7 +67,7 @@ fn test_all<R: AllocGlobal + Print>(rt: &R, cases: &[Case], tally: &mut Tally) -
     Ok(())
 }
 
-/// Whether these words ask for the wrong case, too; `None` for wrong words.
+/// Returns whether the arguments ask for the failing cases too, or `None` if they are wrong.
 fn read_words(words: &[String]) -> Option<bool> {
     match words {
         [] => Some(false),

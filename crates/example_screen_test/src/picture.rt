@@ -1,4 +1,4 @@
-//! Pictures of screens, side by side.
+//! Pictures of two screens side by side.
 
 ghost use Rattle.std.specs.Prelude.{◌≡◌};
 ghost use Rattle.vt_rows.specs.Basic.{shown_text};
@@ -8,7 +8,7 @@ use anyhow::Result;
 use std::alloc::{AllocError, Global};
 use vt100::{Cell, Parser, Screen};
 
-/// Draws what a case expects on a terminal: each text at its place.
+/// Draws what a case expects on a terminal: each text at its position.
 pub fn draw(alloc: Global, parser: &mut Parser, case: &Case) -> Result<()> {
     for (row, column, text, _) in case.spots {
         let (row, column) = (u32::from(*row) + 1, u32::from(*column) + 1);
@@ -18,7 +18,7 @@ pub fn draw(alloc: Global, parser: &mut Parser, case: &Case) -> Result<()> {
     Ok(())
 }
 
-/// Prints two screens of one size side by side, each row between bars.
+/// Prints two screens of the same size side by side, each row between bars.
 pub fn print_both<R: AllocGlobal + Print>(rt: &R, expected: &Screen, seen: &Screen) -> Result<()> {
     let (rows, columns) = seen.size();
     let width = usize::from(columns.get()) + 2;
@@ -31,7 +31,7 @@ pub fn print_both<R: AllocGlobal + Print>(rt: &R, expected: &Screen, seen: &Scre
     Ok(())
 }
 
-/// The text of a row over all columns of a screen.
+/// Returns the text of a row over all columns of a screen.
 fn row_text(alloc: Global, screen: &Screen, row: u16) -> Result<String, AllocError> {
     let (_, columns) = screen.size();
     let mut text = String::new(alloc);
@@ -43,7 +43,7 @@ fn row_text(alloc: Global, screen: &Screen, row: u16) -> Result<String, AllocErr
     Ok(text)
 }
 
-/// What stands in a cell: a space in a blank one, and nothing in the right half of a wide character.
+/// Returns the text that a cell displays: a space for a blank, and nothing for a continuation cell.
 pub fn shown(cell: &Cell) -> &str
     ensures { result.now ≡ shown_text cell.now }
 {

@@ -1,6 +1,6 @@
-//! `example_updates ROWS COLS EVERY`: reads what a program writes to its terminal, and writes it for
-//! another terminal of that size: the screen first, and after each piece that is read, of at most
-//! EVERY bytes, what has changed.
+//! `example_updates ROWS COLS EVERY`: reads what a program writes to its terminal, and keeps
+//! another terminal of that size up to date: writes a redraw first, and then, after each chunk of
+//! at most EVERY bytes, what has changed.
 #![tactic(auto)]
 
 use anyhow::Result;
@@ -11,17 +11,17 @@ use std::num::NonZeroU16;
 use std::process::ExitCode;
 use vt100::Parser;
 
-/// What the command-line arguments ask for.
+/// The settings that the command-line arguments specify.
 #[derive(Clone, Copy)]
 struct Settings {
     rows: NonZeroU16,
     cols: NonZeroU16,
 
-    /// The most bytes that are read between two updates.
+    /// The maximum number of bytes that are read between two updates.
     every: NonZeroU16,
 }
 
-/// Returns the settings that the arguments ask for, or `None` if they are wrong.
+/// Returns the settings that the command-line arguments specify, or `None` if they are wrong.
 fn read_arguments(arguments: &[String]) -> Option<Settings> {
     let [rows, cols, every] = arguments else {
         return None;
@@ -33,7 +33,7 @@ fn read_arguments(arguments: &[String]) -> Option<Settings> {
     })
 }
 
-/// Parses a piece of input, and writes what has changed on the screen.
+/// Parses a chunk of input, and writes what has changed on the screen.
 fn update<W: Write>(parser: &mut Parser, writer: &mut W, piece: &[u8]) -> io::Result<()> {
     let before = parser.screen().clone()?;
     parser.process(piece)?;
@@ -67,7 +67,7 @@ fn run<R: Read, W: Write>(
     Err(io::Error::other("no end of input"))
 }
 
-/// Ends quietly if nobody reads the output any more.
+/// Runs the program as the arguments ask. A closed output is no error.
 fn main(rt: HostRuntime) -> Result<ExitCode> {
     let arguments: Vec<String> = env::args(&rt)?.skip(1).collect(rt.alloc())?;
     let Some(settings) = read_arguments(arguments.as_slice()) else {

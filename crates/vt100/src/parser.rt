@@ -7,7 +7,7 @@ ghost use Rattle.vt100.specs.Calls.{ParserProcesses, ParserReadsUnit};
 ghost use Rattle.vt100.specs.Parser.{HasFreshScreen};
 ghost use Rattle.vt100.specs.contracts.parser.Parser.{the_row as parser_row};
 ghost use Rattle.vt_scan.specs.Automaton.{State, start};
-ghost use Rattle.vt_scan.specs.Scanner.{StandsFor};
+ghost use Rattle.vt_scan.specs.Scanner.{StandsFor, unfinished_command};
 ghost use Rattle.vt_screen.specs.Pages.{calls_resized, has_size, resized};
 ghost use Rattle.vt_screen.specs.CallsOfRun.{TakesCalls};
 ghost use Rattle.vt_screen.specs.contracts.screen.Screen.{the_row as screen_row};
@@ -187,6 +187,32 @@ impl<CB: Callbacks> Parser<CB> {
                 (before, Err(Error::OutOfMemory))
             }
         }
+    }
+
+    /// Returns how many bytes of an unfinished operating system command the
+    /// parser holds: those after `\x1b]` that have been read, without control
+    /// functions. It is 0 if no such command is unfinished. Nothing else that is
+    /// unfinished takes memory: strings such as DCS are dropped as they are read,
+    /// and of any other sequence a fixed amount is kept.
+    ///
+    /// A command has no limit but memory. To end one at a limit, write CAN:
+    /// what there is of it is dispatched, and then `unhandled_control` is
+    /// invoked for the CAN.
+    ///
+    /// ```text
+    /// parser.process(b"\x1b]2;a title that does not end")?;
+    /// if parser.pending_len() > 16 {
+    ///     parser.process(b"\x18")?;
+    /// }
+    /// assert_eq!(parser.pending_len(), 0);
+    /// ```
+    #[inline]
+    pub fn pending_len(&self) -> usize
+        ensures held { result ≡ length (unfinished_command self.now.scanner.kind self.now.scanner.text) }
+        ensures collected { (state : State) → StandsFor self.now.scanner state
+            → result ≡ length (unfinished_command state.kind state.collected) }
+    {
+        self.scanner.pending_len()
     }
 
     /// Gives the screen another number of rows and columns, on both pages, as

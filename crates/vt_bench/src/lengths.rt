@@ -1,4 +1,4 @@
-//! How many bytes differences take, one after the other.
+//! The lengths of consecutive differences.
 
 ghost use Rattle.std.specs.Prelude.{◌<◌};
 
@@ -7,36 +7,35 @@ use std::alloc::Global;
 use std::num::NonZeroU16;
 use vt100::{Parser, Screen};
 
-/// Sums of the bytes of differences of the same screens.
+/// The total lengths in bytes of the differences between the same screens.
 #[derive(Clone, Copy)]
 pub struct Lengths {
-    /// Of `contents_diff`.
+    /// The total length of `contents_diff`.
     pub plain: usize,
 
-    /// Of `contents_diff_scrolling`.
+    /// The total length of `contents_diff_scrolling`.
     pub scrolling: usize,
 }
 
-/// A terminal that reads, and how often it is looked at.
+/// A terminal that parses a file, and how often its screen is examined.
 #[derive(Clone, Copy)]
 pub struct Reading {
-    /// How many rows it has.
+    /// The number of rows.
     pub rows: NonZeroU16,
 
-    /// How many columns it has.
+    /// The number of columns.
     pub cols: NonZeroU16,
 
-    /// How many rows its scrollback may keep.
+    /// The scrollback capacity in rows.
     pub capacity: usize,
 
-    /// After how many bytes each difference is made.
+    /// The number of bytes between two differences.
     pub every: usize,
 }
 
 impl Reading {
-    /// The lengths of one difference after each so many bytes, and of one at
-    /// the end, each from the screen of the one before, the first one from a
-    /// fresh screen.
+    /// Returns the total lengths of the differences after every `every` bytes and at the end, each
+    /// from the screen of the one before, the first from a new screen.
     pub fn lengths(self, alloc: Global, bytes: &[u8]) -> Result<Lengths> {
         ensure!(self.every > 0, "no bytes between differences");
         let mut parser = Parser::new(alloc, self.rows, self.cols, self.capacity)?;
@@ -61,7 +60,7 @@ fn sum(parser: &mut Parser, every: usize, bytes: &[u8]) -> Result<Lengths>
 }
 
 impl Lengths {
-    /// With the differences of two screens more.
+    /// Returns the totals with the differences from `prev` to `screen` added.
     fn with(self, screen: &Screen, prev: &Screen) -> Result<Lengths> {
         ensure!(screen.is_sized_as(prev), "another size");
         Ok(Lengths {

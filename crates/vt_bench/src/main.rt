@@ -1,17 +1,17 @@
-//! `vt_bench WHAT ROWS COLS CAPACITY TIMES FILE`: makes one call many times, so that its instructions
-//! can be counted.
+//! `vt_bench WHAT ROWS COLS CAPACITY TIMES FILE`: makes one call many times, so that its
+//! instructions can be counted.
 //!
-//! `process` reads FILE into one parser TIMES times, in pieces of 4096 bytes. Any other WHAT reads the
-//! first half of FILE, keeps a copy of the screen, reads the rest, and then makes its call of the
-//! screen TIMES times. Prints the call, how often it was made, and how many bytes were read or
-//! written by it, of a copy how many rows.
+//! With WHAT `process`, one parser parses FILE TIMES times, in chunks of 4096 bytes. With any other
+//! WHAT, it parses the first half of FILE, keeps a copy of the screen, parses the rest, and then
+//! makes the call on the screen TIMES times. Prints the call, the number of calls, and the number
+//! of bytes parsed or written by them; for a copy, the number of rows.
 //!
-//! `vt_bench lengths ROWS COLS CAPACITY EVERY FILE` prints two sums of bytes, of `contents_diff` and of
-//! `contents_diff_scrolling`: one difference after each EVERY bytes of FILE and one at its end, each
-//! from the screen of the one before, the first one from a fresh screen.
+//! `vt_bench lengths ROWS COLS CAPACITY EVERY FILE` prints the total lengths in bytes of
+//! `contents_diff` and of `contents_diff_scrolling`: one difference after every EVERY bytes of FILE
+//! and one at its end, each from the screen of the one before, the first from a new screen.
 //!
 //! `vt_bench texts ROWS COLS CAPACITY EVERY FILE` prints these differences, redraws of the same
-//! screens and what these show: see `bench/tmux`.
+//! screens, and what these display: see `bench/tmux`.
 #![tactic(auto)]
 
 mod lengths;
@@ -28,10 +28,10 @@ use texts::show_texts;
 use vt100::Parser;
 use work::Work;
 
-/// How many bytes a parser is given at a time.
+/// The number of bytes that a parser is given at a time.
 const PIECE: usize = 4096;
 
-/// What is measured.
+/// The measurement that the command-line arguments specify.
 #[derive(Clone, Copy)]
 struct Task {
     work: Work,
@@ -72,7 +72,7 @@ fn run<R: AllocGlobal + Env + Files + Print>(rt: &R) -> Result<()> {
     Ok(())
 }
 
-/// Prints the texts of screens on the way through a file, or the lengths of their differences.
+/// Prints the output of screens while a file is parsed, or the lengths of their differences.
 fn show_on_the_way<R: AllocGlobal + Files + Print>(
     rt: &R,
     what: &str,
@@ -88,7 +88,7 @@ fn show_on_the_way<R: AllocGlobal + Files + Print>(
     Ok(())
 }
 
-/// Makes the parser of a task.
+/// Makes the calls of a task, and returns the count that they add up to.
 fn measured(alloc: Global, task: Task, bytes: &[u8]) -> Result<usize> {
     let mut parser = Parser::new(alloc, task.rows, task.cols, task.capacity)?;
     if let Work::Process = task.work {
@@ -98,7 +98,7 @@ fn measured(alloc: Global, task: Task, bytes: &[u8]) -> Result<usize> {
     call_often(&mut parser, task, first, rest)
 }
 
-/// Reads bytes so many times, and answers how many it read.
+/// Parses the bytes `times` times, and returns the number of bytes parsed.
 fn process_often(parser: &mut Parser, times: u64, bytes: &[u8]) -> Result<usize> {
     let mut count = 0usize;
     for _ in 0..times {
@@ -108,7 +108,7 @@ fn process_often(parser: &mut Parser, times: u64, bytes: &[u8]) -> Result<usize>
     Ok(count)
 }
 
-/// Reads bytes in pieces.
+/// Parses bytes in chunks.
 fn process(parser: &mut Parser, bytes: &[u8]) -> Result<()> {
     for piece in bytes.chunks(PIECE) {
         parser.process(piece)?;
@@ -116,7 +116,8 @@ fn process(parser: &mut Parser, bytes: &[u8]) -> Result<()> {
     Ok(())
 }
 
-/// Reads both parts and makes the call after it, against a copy of the screen between the two.
+/// Parses both parts and then makes the calls, with a copy of the screen after the first part as
+/// the earlier screen.
 fn call_often(parser: &mut Parser, task: Task, first: &[u8], rest: &[u8]) -> Result<usize> {
     process(parser, first)?;
     let prev = parser.screen().clone()?;

@@ -1,15 +1,16 @@
-//! The texts of screens, for another terminal to read, and what that has to show then.
+//! The output of screens for another terminal, and what that terminal must display.
 
 use crate::lengths::Reading;
 use anyhow::{Result, ensure};
 use std::alloc::{AllocError, Global};
 use vt100::{Cell, Color, Parser, Screen};
 
-/// Prints four texts after each so many bytes, and at the end: `contents_formatted`,
-/// `contents_diff` and `contents_diff_scrolling` from the screen of the time before, the first one
-/// from a fresh screen, and what the screen shows. Before them stands a line with the cursor's row
-/// and column, from 0, whether it is hidden, and how many bytes each text has; behind them a line
-/// end.
+/// Prints four texts after every `every` bytes and at the end: `contents_formatted`,
+/// `contents_diff` and `contents_diff_scrolling` from the screen before, the first from a new
+/// screen, and the display of the screen.
+///
+/// Each group begins with a line that has the cursor's row and column, counted from 0, whether the
+/// cursor is hidden, and the length of each text in bytes. It ends with a line end.
 pub fn show_texts<R: AllocGlobal + Print>(rt: &R, reading: Reading, bytes: &[u8]) -> Result<()> {
     ensure!(reading.every > 0, "no bytes between texts");
     let alloc = rt.alloc();
@@ -37,8 +38,8 @@ fn show<R: AllocGlobal + Print>(rt: &R, screen: &Screen, prev: &Screen) -> Resul
     Ok(())
 }
 
-/// What a screen shows: for each row its glyphs, NUL for a blank, and a line end. Before the first
-/// cell of a row, and where they change, stand the attributes, as `ESC [ FOREGROUND BACKGROUND
+/// Returns the display of a screen: for each row its glyphs, NUL for a blank, and a line end.
+/// Attributes precede the first cell of a row and each change, as `ESC [ FOREGROUND BACKGROUND
 /// MARKS m`.
 fn shown(alloc: Global, screen: &Screen) -> Result<String, AllocError> {
     let (rows, cols) = screen.size();
@@ -56,7 +57,7 @@ fn shown(alloc: Global, screen: &Screen) -> Result<String, AllocError> {
     Ok(text)
 }
 
-/// Appends a cell, unless it is the right half of a glyph.
+/// Appends a cell, unless it is a continuation cell.
 fn write_cell(text: &mut String, cell: &Cell, before: Option<&Cell>) -> Result<(), AllocError> {
     if cell.is_wide_continuation() {
         return Ok(());
@@ -75,7 +76,8 @@ fn write_cell(text: &mut String, cell: &Cell, before: Option<&Cell>) -> Result<(
     }
 }
 
-/// The colours of a cell, and a sum: 1 for bold, 2 dim, 4 italic, 8 underlined and 16 inverse.
+/// Returns the colours of a cell, and a sum: 1 for bold, 2 for dim, 4 for italics, 8 for underlined
+/// and 16 for inverse.
 fn looks(cell: &Cell) -> (Color, Color, u32) {
     let marks = u32::from(cell.bold())
         + 2 * u32::from(cell.dim())
@@ -85,7 +87,7 @@ fn looks(cell: &Cell) -> (Color, Color, u32) {
     (cell.fgcolor(), cell.bgcolor(), marks)
 }
 
-/// Appends a colour: `-`, its number, or its red, green and blue parts; and a space.
+/// Appends a colour and a space: `-`, its index, or its red, green and blue components.
 fn write_color(text: &mut String, color: Color) -> Result<(), AllocError> {
     match color {
         Color::Default => text.push_str("- "),

@@ -2,36 +2,36 @@
 
 use vt100::{Error, Screen};
 
-/// A call.
+/// A call that is measured.
 #[derive(Clone, Copy)]
 pub enum Work {
-    /// Bytes are read.
+    /// Parses bytes.
     Process,
 
-    /// The whole screen is written.
+    /// Writes the redraw of the screen.
     Formatted,
 
-    /// What differs from the earlier screen is written.
+    /// Writes the difference from the earlier screen.
     Diff,
 
-    /// What differs from the earlier screen is written, with rows that move.
+    /// Writes the difference from the earlier screen, which may move rows first.
     Scrolling,
 
-    /// What differs from the screen itself is written.
+    /// Writes the difference from the screen itself.
     Same,
 
-    /// The text of the screen is written.
+    /// Writes the text of the screen.
     Contents,
 
-    /// The text of the screen is written with its attributes.
+    /// Writes the text of the screen with SGR sequences.
     Basic,
 
-    /// The screen is copied.
+    /// Copies the screen.
     Clone,
 }
 
 impl Work {
-    /// The call of this name.
+    /// Returns the call of this name.
     pub fn named(name: &str) -> Option<Work> {
         match name {
             "process" => Some(Work::Process),
@@ -46,7 +46,8 @@ impl Work {
         }
     }
 
-    /// Makes the call once, and answers how many bytes its text has; of a copy, how many rows.
+    /// Makes the call once, and returns the length of its output in bytes; for a copy, the number
+    /// of rows.
     pub fn call(self, screen: &Screen, prev: &Screen) -> Result<usize, Error> {
         match self {
             Work::Process => Ok(0),

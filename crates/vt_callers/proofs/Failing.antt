@@ -1,11 +1,11 @@
--- Why the second of two calls fails.
+-- The reasons why the second of two calls fails.
 use Rattle.std.proofs.Common.{◌≡◌, false, inl, inr, sym, ◌∙◌}
 use Rattle.std.proofs.lemmas.Bool.{false≢true}
 use Rattle.vt_cells.specs.declared.error.Error.{Error}
 use Rattle.vt100.specs.Parser.{Parsing}
 use Rattle.vt_callers.specs.Failing.{IsFailure}
 
--- where the terminal did not fail before the second call, memory is refused
+-- If the terminal had not failed before the second call, that call fails because an allocation does.
 pub fails_second : {S : Type 0} (before between : Parsing S) (error : Error)
     → between.is_failed ≡ false → IsFailure between error → IsFailure before error
 fails_second before between error fine (inl refused) = inl refused

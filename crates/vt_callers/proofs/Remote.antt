@@ -14,7 +14,7 @@ use Rattle.vt100.specs.Parser.{Parsing}
 use Rattle.vt100.specs.Pieces.{IsPlainParser, Processes, processing}
 use Rattle.vt_callers.specs.Remote.{ShowsScreen}
 
--- a plain terminal among those that read the text
+-- A plain terminal that parses the text displays the screen.
 reads : {S : Type 0} (self : ScreenValue) (Reader : ScreenValue → Type 0)
     (text : List ℕ) (answer : Result (Unit {0}) Error) (old new : Parsing S)
     → Redraws (shown self) Reader KeepsRest text → IsSteady (shown self)

@@ -1,4 +1,4 @@
--- A fresh parser, and runs one after the other.
+-- A new parser, and runs one after the other.
 use Rattle.std.proofs.Common.{◌≡◌, ℕ, ◌<◌, ◌^◌, List, [], ◌∷◌, ◌++◌, refl, subst}
 use Rattle.std.proofs.lemmas.List.{length-replicate}
 use Rattle.std.specs.List.{FoldsTo}

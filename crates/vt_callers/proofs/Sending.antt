@@ -25,7 +25,7 @@ use Rattle.vt_callers.specs.Failing.{IsFailure}
 use Rattle.vt_callers.specs.Remote.{HasFollowed, HasTaken, IsCut, IsWhole, SendsNext, ShowsScreen}
 use Rattle.vt_callers.proofs.Remote.{same_shown}
 
--- ---- calls, one after the other
+-- ---- Calls in sequence
 
 bytes_then : (xs ys : List Processing) → bytes_in (xs ++ ys) ≡ bytes_in xs ++ bytes_in ys
 bytes_then [] ys = refl
@@ -60,7 +60,7 @@ pub fails_behind : {S : Type 0} (bytes : List ℕ) (p q : Parsing S) (error : Er
 fails_behind bytes p q error t (inl refused) = inl refused
 fails_behind bytes p q error t (inr failed) = inr (failed.0, t.fails failed.1)
 
--- ---- a text that is cut
+-- ---- A text that is split
 
 pub cut_none : {S : Type 0} (text : List ℕ) (p : Parsing S) → IsCut text text p p
 cut_none text p = record { front = []; whole = refl; takes = taken_none p }
@@ -85,7 +85,7 @@ cut_all {S} text rest answer p q r c processes fine =
     subst (λ (bytes : List ℕ). HasTaken bytes p r) c.whole
     (taken_then c.front rest p q r c.takes (taken_one rest answer q r processes fine))
 
--- what was taken in pieces is read as if it had come at once
+-- What was taken in chunks has the effect of one chunk.
 pub as_one : {S : Type 0}
     → ((p q : Parsing S) (calls : List Processing) (state : State) (after : Terminal) → p.is_failed ≡ false
     → StandsFor p.scanner state → read (terminal state p.screen) (bytes_in calls) ≡ Some after
@@ -94,7 +94,7 @@ pub as_one : {S : Type 0}
 as_one law text p q t = λ state after fine stands reads.
     (refl, (law p q t.calls state after fine stands (ap (read (terminal state p.screen)) t.whole ∙ reads) t.folds).1)
 
--- ---- a redraw, and differences behind it
+-- ---- A redraw, and differences after it
 
 same_size_back : (a b : Page) → SameSize a b → SameSize b a
 same_size_back a b s = record { width = sym s.width; height = sym s.height }
@@ -134,7 +134,7 @@ followed_more {S} first nexts prev next p q r f size s = record {
       (taken_then (chain_text first nexts) (change prev) p q r f.takes s.takes);
 }
 
--- what holds of each in a list holds of the one at a place
+-- What holds for each item of a list holds for the one at an index.
 pub at_place : {X : Type 0} (P : X → Type 0) (xs : List X) (k : ℕ) (d : X) →
     k < length xs → AllByRecursion P xs → P (get_or xs k d)
 at_place P [] k d inside all = absurd (none inside) where
@@ -150,7 +150,7 @@ next_fits first nexts k next inside is size =
     subst (λ (screen : ScreenValue). SameSize screen.page first.page) (sym is)
     (at_place (λ screen. SameSize screen.page first.page) nexts k next inside size)
 
--- the screen at the next place was sent
+-- The screen at the next index was sent.
 pub followed_next : {S : Type 0} (first : ScreenValue) (nexts : List ScreenValue) (k : ℕ) (prev next : ScreenValue)
     (p q r : Parsing S) → k < length nexts → next ≡ get_or nexts k next
     → AllByRecursion (λ screen. SameSize screen.page first.page) nexts

@@ -1,4 +1,4 @@
--- Why a call that works on a terminal fails.
+-- The reasons why a call that works on a terminal fails.
 use Rattle.std.specs.Prelude.{◌≡◌, ◌⊎◌, ◌<◌, true, Some}
 use Rattle.vt_cells.specs.declared.error.Error.{Error}
 use Rattle.vt_cells.specs.declared.error.Error.TheVariants.{Failed, NoNumber, OutOfMemory}
@@ -8,18 +8,18 @@ use Rattle.vt_mirror.specs.Mirror.{MirrorValue}
 use Rattle.vt_mirror.specs.declared.update.Update.{Update}
 use Rattle.vt_mirror.specs.declared.update.Update.TheVariants.{Diff, Full}
 
--- memory is refused, or the terminal failed before
+-- An allocation fails, or the terminal failed before.
 abbrev pub IsFailure : {S : Type 0} → (terminal : Parsing S) → (error : Error) → Type 0
 IsFailure terminal error = (error ≡ OutOfMemory) ⊎ ((error ≡ Failed) × (terminal.is_failed ≡ true))
 
--- memory is refused, the mirror or the terminal failed before, or the greatest viewer number was given
+-- An allocation fails, the mirror or the terminal failed before, or the largest viewer number is already assigned.
 abbrev pub IsLateFailure : {S : Type 0} → (mirror : MirrorValue) → (terminal : Parsing S) → (error : Error) → Type 0
 IsLateFailure mirror terminal error =
     (error ≡ OutOfMemory)
     ⊎ (((error ≡ Failed) × ((mirror.parser.is_failed ≡ true) ⊎ (terminal.is_failed ≡ true)))
     ⊎ ((error ≡ NoNumber) × (mirror.viewers.last ≡ Some greatest)))
 
--- an update that a terminal can take: a full one has at least one row and one column
+-- An update that a terminal can apply: a full one has at least one row and one column.
 abbrev pub HasSides : Update → Type 0
 HasSides (Diff text) = Unit {0}
 HasSides (Full rows cols text) = (0 < rows) × (0 < cols)

@@ -10,37 +10,37 @@ use Rattle.vt_screen.specs.Shown.{shown}
 use Rattle.vt100.specs.Parser.{Parsing}
 use Rattle.vt100.specs.Pieces.{IsPlainParser, Processes, Processing, bytes_in}
 
--- a plain parser that shows what a screen shows
+-- The parser is plain and displays what the screen displays.
 pub record ShowsScreen {S : Type 0} (screen : ScreenValue) (remote : Parsing S) : Type 0 where
   pub plain : IsPlainParser remote
   pub shows : shown remote.screen ≡ shown screen
 
--- ---- aids of proofs, which private functions alone cite
+-- ---- Aids of proofs, which only private functions cite
 
--- calls that answered Ok had the terminal read these bytes; it failed only if it had before
+-- Calls that succeeded passed these bytes to the terminal, which failed only if it had failed before.
 pub record HasTaken {S : Type 0} (bytes : List ℕ) (old new : Parsing S) : Type 0 where
   pub calls : List Processing
   pub whole : bytes_in calls ≡ bytes
   pub folds : FoldsTo Processes old calls new
   pub fails : new.is_failed ≡ true → old.is_failed ≡ true
 
--- some of a text was taken, and this is left of it
+-- A prefix of a text was taken, and `rest` is left of it.
 pub record IsCut {S : Type 0} (text rest : List ℕ) (old new : Parsing S) : Type 0 where
   pub front : List ℕ
   pub whole : front ++ rest ≡ text
   pub takes : HasTaken front old new
 
--- a screen that can be sent
+-- The screen is valid, so that it can be sent.
 pub record IsWhole (screen : ScreenValue) : Type 0 where
   pub sound : IsScreen screen
   pub colored : IsColored screen
 
--- the difference of a screen from one before was taken
+-- The difference of a screen from the one before was taken.
 pub record SendsNext {S : Type 0} (screen prev : ScreenValue) (old new : Parsing S) : Type 0 where
   pub whole : IsWhole screen
   pub takes : HasTaken (bytes_of_all (difference (shown screen) (shown prev))) old new
 
--- the redraw of a screen was taken, and the differences of these behind it
+-- The redraw of a screen was taken, and then the differences of the further ones.
 pub record HasFollowed {S : Type 0} (first : ScreenValue) (nexts : List ScreenValue) (prev : ScreenValue)
     (old new : Parsing S) : Type 0 where
   pub whole : AllByRecursion IsWhole (first ∷ nexts)

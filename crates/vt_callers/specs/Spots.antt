@@ -1,10 +1,10 @@
--- What stands where on a screen.
+-- What is displayed where on a screen.
 use Rattle.std.specs.Prelude.{◌≡◌, ◌<◌, ℕ, List, length}
 use Rattle.vt_cells.specs.Cell.{text_of}
 use Rattle.vt_rows.specs.Cells.{at}
 use Rattle.vt_screen.specs.Screen.{ScreenValue, visible_row}
 
--- the cell at a row and a column of what is shown has this text
+-- The displayed cell at a row and a column has this text.
 pub record HasText (screen : ScreenValue) (row column : ℕ) (text : List ℕ) : Type 0 where
   pub inside : row < length screen.page.rows
   pub within : column < length (visible_row screen row).cells

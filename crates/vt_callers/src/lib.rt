@@ -1,4 +1,4 @@
-//! Proved callers of the terminal, one for each use: each is a small function with a clause that a
+//! Proved callers of the terminal: small functions, one for each use, whose contracts state what a
 //! user of it wants.
 #![tactic(auto)]
 

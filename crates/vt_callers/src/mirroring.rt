@@ -1,4 +1,4 @@
-//! A mirror: a viewer that joins late shows what the mirror shows.
+//! A mirror: a viewer that joins late displays what the mirror displays.
 
 ghost use Rattle.std.specs.Prelude.{◌≡◌, ◌<◌, IfErr, IfOk, OnOk, true};
 ghost use Rattle.vt100.specs.Parser.{Ran, quietly};
@@ -15,12 +15,17 @@ use std::num::NonZeroU16;
 use vt_mirror::{Mirror, Update, laws};
 use vt100::{Callbacks, Error, Parser};
 
-/// Has a mirror that nobody viewed before read an output, and a viewer join after it, whose terminal
-/// is given its first update. If that was plain, and what the mirror shows is steady, it shows the
-/// same then, whatever its size was. Answers the viewer's number, which is the next one.
+/// Feeds `output` to a mirror without earlier viewers, adds a viewer, and passes its first update
+/// to `terminal`. Returns the viewer's number, which is the next free one.
 ///
-/// Fails where memory is refused, where the mirror or the terminal failed before, and where no viewer
-/// number is left.
+/// If the terminal was plain (in ground state, with full scroll region, origin mode off and no
+/// scrollback displayed) and the mirror's display is steady (every visible glyph reproduces itself
+/// when printed), the terminal then displays the same as the mirror, whatever its size was.
+///
+/// # Errors
+///
+/// Returns [`Error::OutOfMemory`] if an allocation fails, [`Error::Failed`] if the mirror or the
+/// terminal failed before, and [`Error::NoNumber`] if no viewer number is left.
 pub fn show_late<CB: Callbacks>(
     mirror: &mut Mirror,
     output: &[u8],
@@ -34,7 +39,7 @@ pub fn show_late<CB: Callbacks>(
     ensures only { IfErr result (IsLateFailure mirror.old terminal.old) }
 {
     laws::viewers::<CB>();
-    // For the proof: every screen is whole.
+    // Only for the proof: a call on a screen makes its invariant available.
     terminal.screen().size();
     mirror.process(output)?;
     let viewer = mirror.join()?;
@@ -46,10 +51,12 @@ pub fn show_late<CB: Callbacks>(
     Ok(viewer)
 }
 
-/// Gives a terminal an update: its size first where it is a full one, and then its text.
+/// Applies an update to a terminal: the size first, if it is a full update, and then the text.
 ///
-/// Fails where memory is refused, or the terminal failed before, and with `Failed` for a full update
-/// without a row or a column, which no mirror gives.
+/// # Errors
+///
+/// Returns [`Error::OutOfMemory`] if an allocation fails, and [`Error::Failed`] if the terminal
+/// failed before or if a full update has no rows or no columns, which no mirror returns.
 pub fn take_update<CB: Callbacks>(terminal: &mut Parser<CB>, update: &Update) -> Result<(), Error>
     ensures takes { OnOk result (TakesUpdate update.now terminal.old terminal.new) }
     ensures only { HasSides update.now → IfErr result (IsFailure terminal.old) }
@@ -63,7 +70,7 @@ pub fn take_update<CB: Callbacks>(terminal: &mut Parser<CB>, update: &Update) ->
     }
 }
 
-/// Gives a terminal a size; no mirror has one of nothing.
+/// Resizes a terminal. Fails if a side is 0, which no mirror has.
 fn take_size<CB: Callbacks>(terminal: &mut Parser<CB>, rows: u16, cols: u16) -> Result<(), Error>
     ensures takes { OnOk result (TakesSize rows cols terminal.old terminal.new) }
     ensures only { 0 < rows → 0 < cols → OnlyOutOfMemory result }
@@ -77,13 +84,13 @@ fn take_size<CB: Callbacks>(terminal: &mut Parser<CB>, rows: u16, cols: u16) -> 
     terminal.set_size(rows, cols)
 }
 
-/// Has a terminal read a text, in one piece.
+/// Passes a text to a terminal in one call.
 fn read_text<CB: Callbacks>(terminal: &mut Parser<CB>, text: &str) -> Result<(), Error>
     ensures reads { OnOk result (ReadsText text.now terminal.old terminal.new) }
     ensures only { IfErr result (IsFailure terminal.old) }
 {
     terminal.process(text.as_bytes())?;
-    // For the proof: every screen is whole.
+    // Only for the proof: a call on a screen makes its invariant available.
     terminal.screen().size();
     Ok(())
 }

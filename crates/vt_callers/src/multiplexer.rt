@@ -1,4 +1,4 @@
-//! A multiplexer: a remote terminal is kept equal to a screen, by one redraw and then differences.
+//! A multiplexer: a remote terminal is kept equal to a screen by one redraw and then differences.
 
 ghost use Rattle.std.specs.List.{AllByRecursion};
 ghost use Rattle.std.specs.Prelude.{◌≡◌, ◌∷◌, IfErr, OnOk, Ok, false};
@@ -13,27 +13,38 @@ ghost use Rattle.vt_screen.specs.Shown.{shown};
 
 use vt100::{Callbacks, Error, Parser, Screen, laws};
 
-/// Sends a whole redraw to a remote terminal of the screen's size. If that is plain, and what the
-/// screen shows is steady, it shows the same then.
+/// Sends a complete redraw to a remote terminal of the screen's size.
 ///
-/// Fails where memory is refused, or the remote terminal failed before.
+/// If the remote terminal is plain (in ground state, with full scroll region, origin mode off and
+/// no scrollback displayed) and the display of the screen is steady (every visible glyph reproduces
+/// itself when printed), it then displays the same as the screen.
+///
+/// # Errors
+///
+/// Returns [`Error::OutOfMemory`] if an allocation fails, and [`Error::Failed`] if the remote
+/// terminal failed before.
 pub fn send_redraw<CB: Callbacks>(screen: &Screen, remote: &mut Parser<CB>) -> Result<(), Error>
     ensures shows { OnOk result (IsSteady (shown screen.now) → IsPlainParser remote.old →
         SamePictureSize (shown screen.now) (shown remote.old.screen) → ShowsScreen screen.now remote.new) }
     ensures fine { OnOk result (remote.new.is_failed ≡ false) }
     ensures only { IfErr result (IsFailure remote.old) }
 {
-    // For the proof: every screen is whole.
+    // Only for the proof: a call on a screen makes its invariant available.
     remote.screen().size();
     let text = screen.contents_formatted()?;
     remote.process(text.as_bytes())?;
     Ok(())
 }
 
-/// Sends the difference from `prev`, a screen of the same size. If the remote terminal is plain and
-/// shows what `prev` shows, and what the screen shows is steady, it shows the same as the screen then.
+/// Sends the difference from `prev`, a screen of the same size, to a remote terminal.
 ///
-/// Fails where memory is refused, or the remote terminal failed before.
+/// If the remote terminal is plain and displays what `prev` displays, and the display of the screen
+/// is steady, it then displays the same as the screen.
+///
+/// # Errors
+///
+/// Returns [`Error::OutOfMemory`] if an allocation fails, and [`Error::Failed`] if the remote
+/// terminal failed before.
 pub fn send_difference<CB: Callbacks>(
     screen: &Screen,
     prev: &Screen,
@@ -44,17 +55,23 @@ pub fn send_difference<CB: Callbacks>(
         (IsSteady (shown screen.now) → ShowsScreen prev.now remote.old → ShowsScreen screen.now remote.new) }
     ensures only { IfErr result (IsFailure remote.old) }
 {
-    // For the proof: every screen is whole.
+    // Only for the proof: a call on a screen makes its invariant available.
     remote.screen().size();
     let text = screen.contents_diff(prev)?;
     remote.process(text.as_bytes())?;
     Ok(())
 }
 
-/// Sends a screen whole, and after it another one as what differs: a remote terminal then shows the
-/// second one, whatever it showed at first.
+/// Sends a complete redraw of one screen, and then the difference to a second screen of the same
+/// size.
 ///
-/// Fails where memory is refused, or the remote terminal failed before.
+/// If the remote terminal is plain and both displays are steady, it then displays the same as the
+/// second screen, whatever it displayed at first.
+///
+/// # Errors
+///
+/// Returns [`Error::OutOfMemory`] if an allocation fails, and [`Error::Failed`] if the remote
+/// terminal failed before.
 #[tactic(auto, using(crate::proofs::Failing::fails_second))]
 pub fn send_both<CB: Callbacks>(
     first: &Screen,
@@ -71,10 +88,13 @@ pub fn send_both<CB: Callbacks>(
     Ok(())
 }
 
-/// Sends a whole redraw, as [`send_redraw`] does, over a connection that cuts it: as many bytes as the
-/// first size says go at once, then as many as the next one says, and at last those that are left.
+/// Sends a complete redraw, as [`send_redraw`] does, over a connection that splits it: into chunks
+/// of at most the given sizes, and a last chunk with the rest.
 ///
-/// Fails where memory is refused, or the remote terminal failed before.
+/// # Errors
+///
+/// Returns [`Error::OutOfMemory`] if an allocation fails, and [`Error::Failed`] if the remote
+/// terminal failed before.
 pub fn send_redraw_cut<CB: Callbacks>(
     screen: &Screen,
     sizes: &[usize],
@@ -84,16 +104,20 @@ pub fn send_redraw_cut<CB: Callbacks>(
         SamePictureSize (shown screen.now) (shown remote.old.screen) → ShowsScreen screen.now remote.new) }
     ensures only { IfErr result (IsFailure remote.old) }
 {
-    // For the proof: every screen is whole.
+    // Only for the proof: a call on a screen makes its invariant available.
     remote.screen().size();
     let text = screen.contents_formatted()?;
     send_cut(text.as_bytes(), sizes, remote)?;
     Ok(())
 }
 
-/// Sends the difference from `prev`, as [`send_difference`] does, over a connection that cuts it.
+/// Sends the difference from `prev`, as [`send_difference`] does, over a connection that splits it:
+/// into chunks of at most the given sizes, and a last chunk with the rest.
 ///
-/// Fails where memory is refused, or the remote terminal failed before.
+/// # Errors
+///
+/// Returns [`Error::OutOfMemory`] if an allocation fails, and [`Error::Failed`] if the remote
+/// terminal failed before.
 pub fn send_difference_cut<CB: Callbacks>(
     screen: &Screen,
     prev: &Screen,
@@ -105,15 +129,15 @@ pub fn send_difference_cut<CB: Callbacks>(
         (IsSteady (shown screen.now) → ShowsScreen prev.now remote.old → ShowsScreen screen.now remote.new) }
     ensures only { IfErr result (IsFailure remote.old) }
 {
-    // For the proof: every screen is whole.
+    // Only for the proof: a call on a screen makes its invariant available.
     remote.screen().size();
     let text = screen.contents_diff(prev)?;
     send_cut(text.as_bytes(), sizes, remote)?;
     Ok(())
 }
 
-/// Sends a text in pieces of these sizes, and what is left of it: what is read quietly is read as if it
-/// came at once.
+/// Sends a text in chunks of at most the given sizes, and a last chunk with the rest. A text that
+/// is parsed without callbacks or allocations has the same effect however it is split.
 fn send_cut<CB: Callbacks>(
     text: &[u8],
     sizes: &[usize],
@@ -133,11 +157,16 @@ fn send_cut<CB: Callbacks>(
     Ok(())
 }
 
-/// Has a remote terminal of the first screen's size join by a redraw of that, and take the difference
-/// of each next screen from the one before. If the remote terminal was plain, and what each screen
-/// shows is steady, it shows the last one then.
+/// Sends a redraw of the first screen to a remote terminal of its size, and then the difference of
+/// each further screen from the one before.
 ///
-/// Fails where memory is refused, or the remote terminal failed before.
+/// If the remote terminal was plain and the display of each screen is steady, it then displays the
+/// same as the last one.
+///
+/// # Errors
+///
+/// Returns [`Error::OutOfMemory`] if an allocation fails, and [`Error::Failed`] if the remote
+/// terminal failed before.
 pub fn follow<CB: Callbacks>(
     first: &Screen,
     nexts: &[Screen],
@@ -150,7 +179,7 @@ pub fn follow<CB: Callbacks>(
     ensures only { IfErr result (IsFailure remote.old) }
 {
     laws::chain::<CB>();
-    // For the proof: every screen is whole.
+    // Only for the proof: a call on a screen makes its invariant available.
     remote.screen().size();
     first.size();
     let text = first.contents_formatted()?;
@@ -173,7 +202,7 @@ fn send_next<CB: Callbacks>(
     ensures sends { OnOk result (SendsNext screen.now prev.now remote.old remote.new) }
     ensures only { IfErr result (IsFailure remote.old) }
 {
-    // For the proof: every screen is whole.
+    // Only for the proof: a call on a screen makes its invariant available.
     screen.size();
     let text = screen.contents_diff(prev)?;
     remote.process(text.as_bytes())?;

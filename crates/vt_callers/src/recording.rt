@@ -1,4 +1,5 @@
-//! A recorder: all that was shown as one text, rows as they left and then the screen.
+//! A recorder: all that was displayed as one text, the rows as they scrolled off and then the
+//! screen.
 
 ghost use Rattle.std.specs.Prelude.{◌≡◌, ◌++◌, false, true, IfOk, string_bytes};
 ghost use Rattle.vt100.specs.Streams.{whole_text};
@@ -14,10 +15,15 @@ use std::num::NonZeroU16;
 use vt_notes::Recorder;
 use vt100::{Error, Parser};
 
-/// The text of all that an output writes on the main page of a terminal of this size: the rows that
-/// leave it at its top, and then those that it shows. It is the same for every capacity of scrollback.
+/// Returns the text of everything that `output` writes on the main page of a terminal of this size:
+/// the rows that scroll off the top, and then the displayed ones. The capacity of scrollback makes
+/// no difference.
 ///
-/// Premises are that the output ends on the main page and has no RIS. Fails where memory is refused.
+/// The contract assumes that the output ends on the main page and contains no RIS.
+///
+/// # Errors
+///
+/// Returns [`Error::OutOfMemory`] if an allocation fails.
 pub fn record(
     alloc: Global,
     rows: NonZeroU16,
@@ -34,15 +40,15 @@ pub fn record(
     vt_notes::laws::recorded();
     let recorder = Recorder::new(alloc);
     let mut parser = Parser::new_with_callbacks(alloc, rows, cols, capacity, recorder)?;
-    // For the proof: every screen is whole.
+    // Only for the proof: a call on a screen makes its invariant available.
     parser.screen().size();
     parser.process(output)?;
-    // For the proof: a value in the tail, so that its clause is found.
+    // Only for the proof: a value in the tail expression makes the callee's clauses available.
     let text = finish(alloc, &mut parser)?;
     Ok(text)
 }
 
-/// What a recorder has written, and behind it the rows that its parser keeps and shows.
+/// Returns what a recorder has written, followed by the rows that its parser keeps and displays.
 fn finish(alloc: Global, parser: &mut Parser<Recorder>) -> Result<String, Error>
     ensures whole { IfOk result (λ text. parser.old.callbacks.is_whole ≡ true) }
     ensures text { IfOk result (λ text. string_bytes text

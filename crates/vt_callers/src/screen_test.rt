@@ -1,4 +1,4 @@
-//! Tests of a program's screen: what stands where after its output was read.
+//! Tests of a program's screen: what is displayed where after its output was parsed.
 
 ghost use Rattle.std.specs.Prelude.{◌≡◌, ◌↔◌, false, map, true, IfOk, OnOk};
 ghost use Rattle.vt100.specs.Parser.{Ran, pieces_joined, quietly};
@@ -13,7 +13,7 @@ use std::alloc::Global;
 use std::num::NonZeroU16;
 use vt100::{Error, Parser, Screen, laws};
 
-/// Whether the cell at a row and a column of what is shown has this text.
+/// Returns whether the displayed cell at a row and a column has this text.
 pub fn cell_shows(screen: &Screen, row: u16, column: u16, text: &str) -> bool
     ensures { result ≡ true ↔ HasText screen.now row column text.now }
 {
@@ -23,9 +23,12 @@ pub fn cell_shows(screen: &Screen, row: u16, column: u16, text: &str) -> bool
     }
 }
 
-/// Whether a row has this text, over all columns of the screen and without blanks at its end.
+/// Returns whether a displayed row has this text, over all columns of the screen and without blanks
+/// at its end.
 ///
-/// Fails where memory for the text is refused.
+/// # Errors
+///
+/// Returns [`Error::OutOfMemory`] if the text cannot be allocated.
 pub fn row_shows(screen: &Screen, row: u16, text: &str) -> Result<bool, Error>
     ensures shows { IfOk result (λ is. is ≡ true ↔ between_of row 0 row screen.now.page.width screen.now ≡ text.now) }
     ensures memory { OnlyOutOfMemory result }
@@ -35,9 +38,11 @@ pub fn row_shows(screen: &Screen, row: u16, text: &str) -> Result<bool, Error>
     Ok(shown.as_str() == text)
 }
 
-/// Whether the text of all that is shown is this one.
+/// Returns whether the text of the display is `text`.
 ///
-/// Fails where memory for the text is refused.
+/// # Errors
+///
+/// Returns [`Error::OutOfMemory`] if the text cannot be allocated.
 pub fn screen_shows(screen: &Screen, text: &str) -> Result<bool, Error>
     ensures shows { IfOk result (λ is. is ≡ true ↔ contents_of screen.now ≡ text.now) }
     ensures memory { OnlyOutOfMemory result }
@@ -46,9 +51,11 @@ pub fn screen_shows(screen: &Screen, text: &str) -> Result<bool, Error>
     Ok(shown.as_str() == text)
 }
 
-/// Whether a terminal of this size shows this text once it has read an output.
+/// Returns whether a terminal of this size displays `text` after it has parsed `output`.
 ///
-/// Fails where memory is refused.
+/// # Errors
+///
+/// Returns [`Error::OutOfMemory`] if an allocation fails.
 pub fn output_shows(
     alloc: Global,
     rows: NonZeroU16,
@@ -63,14 +70,17 @@ pub fn output_shows(
     laws::one_text::<()>();
     let mut parser = Parser::new(alloc, rows, cols, 0)?;
     parser.process(output)?;
-    // For the proof: a value in the tail, so that its clause is found.
+    // Only for the proof: a value in the tail expression makes the callee's clauses available.
     let holds = screen_shows(parser.screen(), text)?;
     Ok(holds)
 }
 
-/// Whether a terminal of this size shows this text once it has read an output that came in pieces.
+/// Returns whether a terminal of this size displays `text` after it has parsed output that arrived
+/// in chunks.
 ///
-/// Fails where memory is refused.
+/// # Errors
+///
+/// Returns [`Error::OutOfMemory`] if an allocation fails.
 pub fn pieces_show(
     alloc: Global,
     rows: NonZeroU16,
@@ -85,12 +95,12 @@ pub fn pieces_show(
     laws::one_text::<()>();
     let mut parser = Parser::new(alloc, rows, cols, 0)?;
     read_pieces(&mut parser, pieces)?;
-    // For the proof: a value in the tail, so that its clause is found.
+    // Only for the proof: a value in the tail expression makes the callee's clauses available.
     let holds = screen_shows(parser.screen(), text)?;
     Ok(holds)
 }
 
-/// Has a terminal read pieces, one after the other: that is a run over all their bytes.
+/// Passes chunks to a terminal one by one, which is a run over all their bytes.
 fn read_pieces(parser: &mut Parser, pieces: &[&[u8]]) -> Result<(), Error>
     requires { parser.old.is_failed ≡ false }
     ensures ran { OnOk result

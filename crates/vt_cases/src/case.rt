@@ -5,7 +5,7 @@ use anyhow::Result;
 use std::alloc::Global;
 use std::num::NonZeroU16;
 
-/// A case: bytes for a fresh parser, and what stands then.
+/// A case: input for a new parser, and the expected state after it.
 #[derive(Drop)]
 pub struct Case<'a> {
     pub name: &'a str,
@@ -13,24 +13,24 @@ pub struct Case<'a> {
     pub cols: NonZeroU16,
     pub bytes: Vec<u8>,
 
-    /// How many of the bytes come before the screen that differences start from.
+    /// The number of bytes before the screen that differences start from.
     pub before: usize,
 
-    /// Whether each glyph, printed on a blank row, gives just itself.
+    /// Whether every glyph reproduces itself when printed on a blank row.
     pub is_steady: bool,
 
-    /// The lines about cursor, flags and cells, each with its line end.
+    /// The lines about cursor, wrapped flags and cells, each with its line end.
     pub picture: String,
 
     /// The lines about modes and calls, each with its line end.
     pub others: String,
 
-    /// The lines about texts.
+    /// The lines that give the expected output of the screen.
     pub texts: Vec<&'a str>,
 }
 
 impl<'a> Case<'a> {
-    /// Reads the lines of a case behind its first one.
+    /// Reads the lines of a case after its first one.
     pub fn read(
         alloc: Global,
         name: &'a str,

@@ -1,14 +1,16 @@
-//! A screen that is left where bytes end, drawn again.
+//! Redraws of the screen after a prefix of the input.
 
 use crate::given::difference;
 use anyhow::Result;
 use std::alloc::Global;
 use vt100::Screen;
 
-/// Whether a fresh parser that reads the redraw of a screen, and one that reads the redraw of the screen
-/// before it and then the difference, has the cells, flags and cursor of the screen, gives the same
-/// redraw, and calls nothing. A screen with a narrow glyph that has U+FE0F is passed over, since that
-/// glyph may be another one if it is printed again.
+/// Returns whether a new parser displays the screen after it has parsed the screen's redraw, and
+/// also after it has parsed the redraw of `prev` and then the difference: the same cells, wrapped
+/// flags, cursor and redraw, without calls.
+///
+/// A screen that has a narrow glyph with U+FE0F is skipped, since that glyph may differ when it is
+/// printed again.
 pub fn is_drawn(alloc: Global, screen: &Screen, prev: &Screen) -> Result<bool> {
     if !is_surely_steady(screen) {
         return Ok(true);
@@ -34,7 +36,8 @@ fn is_drawn_by(alloc: Global, screen: &Screen, pieces: &[&[u8]], redraw: &str) -
     Ok(is_quiet && again.as_str() == redraw && has_same_picture(parser.screen(), screen))
 }
 
-/// Whether two screens, none of whose scrollback is in view, have the same cells, flags and cursor.
+/// Returns whether two screens, neither of which displays scrollback, have the same cells, wrapped
+/// flags and cursor.
 fn has_same_picture(one: &Screen, other: &Screen) -> bool {
     let (rows, cols) = other.size();
     for row in 0..rows.get() {
@@ -50,8 +53,8 @@ fn has_same_picture(one: &Screen, other: &Screen) -> bool {
     one.cursor_position() == other.cursor_position()
 }
 
-/// Whether each glyph that is shown, printed again on a blank row, gives just itself: those without
-/// U+FE0F do, and so does one that it made wide.
+/// Returns `true` only if every displayed glyph reproduces itself when printed on a blank row. That
+/// holds for glyphs without U+FE0F, and for those that it made wide.
 fn is_surely_steady(screen: &Screen) -> bool {
     let (rows, cols) = screen.size();
     for row in 0..rows.get() {

@@ -1,11 +1,11 @@
-//! Texts that a screen gives, beside the lines of a file.
+//! The output of a screen, compared with the lines of a file.
 
 use crate::text::bytes_of;
 use anyhow::{Context, Result, bail};
 use std::alloc::Global;
 use vt100::{Error, Screen};
 
-/// Whether a screen gives the text of a line, or the texts; `prev` is the screen that differences
+/// Returns whether a screen has the output that a line gives; `prev` is the screen that differences
 /// start from.
 pub fn gives(alloc: Global, screen: &Screen, prev: &Screen, line: &str) -> Result<bool> {
     let (word, rest) = line.split_once(' ').unwrap_or((line, ""));
@@ -21,13 +21,13 @@ pub fn gives(alloc: Global, screen: &Screen, prev: &Screen, line: &str) -> Resul
     }
 }
 
-/// Whether a text is that of a word.
+/// Returns whether a text equals the bytes that a word encodes.
 fn is_text(alloc: Global, text: &str, word: &str) -> Result<bool> {
     let expected = bytes_of(alloc, word)?;
     Ok(text.as_bytes() == expected.as_slice())
 }
 
-/// The text that a word names.
+/// Returns the output of the kind that a word names.
 fn text_of(screen: &Screen, prev: &Screen, word: &str) -> Result<String> {
     let text = match word {
         "contents" => screen.contents()?,
@@ -43,7 +43,7 @@ fn text_of(screen: &Screen, prev: &Screen, word: &str) -> Result<String> {
     Ok(text)
 }
 
-/// What differs from another screen, which has to be of the same size.
+/// Returns the difference from another screen, which must have the same size.
 pub fn difference(screen: &Screen, prev: &Screen) -> Result<String> {
     if !screen.is_sized_as(prev) {
         bail!("a difference from a screen of another size");
@@ -51,17 +51,17 @@ pub fn difference(screen: &Screen, prev: &Screen) -> Result<String> {
     Ok(screen.contents_diff(prev)?)
 }
 
-/// The texts of rows, or want of memory for one.
+/// The texts of rows, or the error if one cannot be allocated.
 type Texts = std::result::Result<Vec<String>, Error>;
 
-/// Whether the rows have the texts of `START WIDTH BYTES ..`.
+/// Returns whether the rows have the texts of `START WIDTH BYTES ..`.
 fn are_rows(alloc: Global, screen: &Screen, line: &str) -> Result<bool> {
     let (start, width, words) = range_of(line)?;
     let texts: Texts = screen.rows(start, width).try_collect(alloc);
     are_texts(alloc, texts?, words)
 }
 
-/// The same for the texts that draw them on blank rows.
+/// Returns whether the redraws of the rows are those of `START WIDTH BYTES ..`.
 fn are_rows_formatted(alloc: Global, screen: &Screen, line: &str) -> Result<bool> {
     let (start, width, words) = range_of(line)?;
     let (_, cols) = screen.size();
@@ -72,7 +72,8 @@ fn are_rows_formatted(alloc: Global, screen: &Screen, line: &str) -> Result<bool
     are_texts(alloc, texts?, words)
 }
 
-/// And for those that draw them on the rows of another screen of the same size.
+/// Returns whether the differences of the rows from those of `prev`, which must have the same size,
+/// are those of `START WIDTH BYTES ..`.
 fn are_rows_changed(alloc: Global, screen: &Screen, prev: &Screen, line: &str) -> Result<bool> {
     let (start, width, words) = range_of(line)?;
     if !screen.is_sized_as(prev) {
@@ -86,14 +87,14 @@ fn are_rows_changed(alloc: Global, screen: &Screen, prev: &Screen, line: &str) -
     are_texts(alloc, texts?, words)
 }
 
-/// Start and width of a range of columns, and the texts behind them.
+/// Splits a line into the start and the width of a range of columns, and the rest.
 fn range_of(line: &str) -> Result<(u16, u16, &str)> {
     let (start, rest) = line.split_once(' ').context("a range without a width")?;
     let (width, words) = rest.split_once(' ').context("a range without texts")?;
     Ok((start.parse::<u16>()?, width.parse::<u16>()?, words))
 }
 
-/// Whether the texts are those of the words, one for each.
+/// Returns whether the texts equal those of the words, one for each.
 fn are_texts(alloc: Global, texts: Vec<String>, words: &str) -> Result<bool> {
     let mut words = words.split(' ');
     for text in &texts {
@@ -105,7 +106,7 @@ fn are_texts(alloc: Global, texts: Vec<String>, words: &str) -> Result<bool> {
     Ok(words.next().is_none())
 }
 
-/// Whether the range has the text of `ROW COL ROW COL BYTES`.
+/// Returns whether the range has the text of `ROW COL ROW COL BYTES`.
 fn is_range(alloc: Global, screen: &Screen, line: &str) -> Result<bool> {
     let mut words = line.split(' ');
     let start_row = number(words.next())?;

@@ -1,18 +1,18 @@
-//! The lines that case files have about a screen and its calls.
+//! The lines of case files about a screen and its calls.
 
 use crate::text::{AttrsWord, ColorWord, Hex, digit};
 use std::alloc::{AllocError, Global};
 use vt_notes::Notes;
 use vt100::{Cell, Color, Screen};
 
-/// The lines about cursor, flags and cells, each with its line end.
+/// Returns the lines about cursor, wrapped flags and cells, each with its line end.
 pub fn picture_lines(alloc: Global, screen: &Screen) -> Result<String, AllocError> {
     let mut lines = String::new(alloc);
     write_picture(&mut lines, screen)?;
     Ok(lines)
 }
 
-/// The lines about modes and calls, each with its line end.
+/// Returns the lines about modes and calls, each with its line end.
 pub fn other_lines(alloc: Global, screen: &Screen, notes: &Notes) -> Result<String, AllocError> {
     let mut lines = String::new(alloc);
     write_modes(&mut lines, screen)?;
@@ -20,7 +20,7 @@ pub fn other_lines(alloc: Global, screen: &Screen, notes: &Notes) -> Result<Stri
     Ok(lines)
 }
 
-/// The lines about sizes and scrollback, each with its line end.
+/// Returns the lines about sizes and scrollback, each with its line end.
 pub fn size_lines(alloc: Global, screen: &Screen) -> Result<String, AllocError> {
     let mut lines = String::new(alloc);
     let (rows, cols) = screen.size();
@@ -92,7 +92,8 @@ fn write_calls(alloc: Global, lines: &mut String, notes: &Notes) -> Result<(), A
     Ok(())
 }
 
-/// How many cells a row has: a row of scrollback may have more or fewer than the screen has columns.
+/// Returns the number of cells of a row. A row of scrollback may have more or fewer than the screen
+/// has columns.
 fn row_length(screen: &Screen, row: u16) -> u16 {
     for col in 0..u16::MAX {
         if screen.cell(row, col).is_none() {
@@ -102,7 +103,7 @@ fn row_length(screen: &Screen, row: u16) -> u16 {
     u16::MAX
 }
 
-/// A line for each cell that isn't a blank in default attributes.
+/// Writes a line for each cell that is not a default blank.
 fn write_row(lines: &mut String, screen: &Screen, row: u16) -> Result<(), AllocError> {
     for col in 0..u16::MAX {
         let Some(cell) = screen.cell(row, col) else {
@@ -134,7 +135,7 @@ fn is_default_blank(cell: &Cell, attrs: AttrsWord) -> bool {
     !shows && !colored && attrs.is_default()
 }
 
-/// `n` for a blank and a narrow glyph, `w` for a wide one, `r` for a right half.
+/// Returns `n` for a blank and a narrow glyph, `w` for a wide one, and `r` for a continuation cell.
 fn kind_of(cell: &Cell) -> char {
     if cell.is_wide_continuation() {
         'r'

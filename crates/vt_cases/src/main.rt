@@ -1,9 +1,9 @@
-//! Replays recorded cases and scripts. Whatever way the bytes of a case are cut, a fresh parser shows
-//! and calls what the case says, and its texts draw it again; after each call of a script stands what
-//! the script says.
+//! Replays recorded cases and scripts. However the bytes of a case are split, a new parser must
+//! display and call what the case says, and its output must draw the same again. After each call of
+//! a script, the state must be what the script says.
 //!
-//! Each argument is a file to read. A line is printed for each difference, and a
-//! last one with the counts. The status is 1 where a case differs.
+//! Each argument is a file to read. Prints a line for each difference, and a last one with the
+//! counts. The status is 1 if a case differs.
 #![tactic(auto)]
 
 mod case;
@@ -37,7 +37,7 @@ fn replay_file<R: AllocGlobal + Print>(rt: &R, text: &str, tally: &mut Tally) ->
     Ok(())
 }
 
-/// Replays what the words of a first line begin: a case, or with a capacity a script.
+/// Replays a case, or a script if the first line also has a capacity.
 fn replay_block<R: AllocGlobal + Print>(rt: &R, head: &str, lines: &str) -> Result<bool> {
     let words: Vec<&str> = head.split_whitespace().collect(rt.alloc())?;
     match words.as_slice() {

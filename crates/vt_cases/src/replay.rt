@@ -9,9 +9,11 @@ use std::alloc::Global;
 use vt_notes::Notes;
 use vt100::{Parser, Screen};
 
-/// Replays a case: its bytes whole, byte by byte, and cut in two at every place; then its texts, and if
-/// it is steady what a fresh parser shows that reads them, also where the bytes end at any place. Prints
-/// a line for the first difference of each kind, and answers whether there was none.
+/// Replays a case: parses its bytes at once, one by one, and split in two at every place. Then
+/// compares its output, and checks that a new parser which parses that output displays the same:
+/// after all bytes if the case is steady, and after each prefix.
+///
+/// Prints a line for the first difference of each kind, and returns whether there is none.
 pub fn replay<R: AllocGlobal + Print>(rt: &R, case: &Case<'_>) -> Result<bool> {
     let is_shown = is_shown_however_cut(rt, case)?;
     let gives = are_texts_given(rt, case)?;
@@ -75,7 +77,8 @@ fn is_drawn_at_every_place<R: AllocGlobal + Print>(rt: &R, case: &Case<'_>) -> R
     Ok(true)
 }
 
-/// The first place where the bytes, ended there, leave a screen whose texts do not draw it again.
+/// Returns the first place at which the bytes, ended there, leave a screen whose output does not
+/// draw it again.
 fn place_not_drawn(alloc: Global, case: &Case<'_>) -> Result<Option<usize>> {
     let mut parser = fed(alloc, case, &[])?;
     for (place, byte) in case.bytes.chunks(1).enumerate() {
@@ -88,7 +91,7 @@ fn place_not_drawn(alloc: Global, case: &Case<'_>) -> Result<Option<usize>> {
     Ok(None)
 }
 
-/// The first place where the bytes, cut there, give something else.
+/// Returns the first place at which the bytes, split there, leave a different state.
 fn differing_cut(alloc: Global, case: &Case<'_>) -> Result<Option<usize>> {
     for place in 0..case.bytes.len() {
         let (front, back) = case.bytes.split_at(place);
@@ -99,7 +102,7 @@ fn differing_cut(alloc: Global, case: &Case<'_>) -> Result<Option<usize>> {
     Ok(None)
 }
 
-/// Whether a fresh parser that reads these pieces shows and calls what the case says.
+/// Returns whether a new parser that parses these chunks displays and calls what the case says.
 fn is_shown(alloc: Global, case: &Case<'_>, pieces: &[&[u8]]) -> Result<bool> {
     let parser = fed(alloc, case, pieces)?;
     let others = other_lines(alloc, parser.screen(), parser.callbacks())?;
@@ -107,13 +110,13 @@ fn is_shown(alloc: Global, case: &Case<'_>, pieces: &[&[u8]]) -> Result<bool> {
     Ok(is_same && is_picture(alloc, parser.screen(), case)?)
 }
 
-/// Whether a screen has the cells, flags and cursor of the case.
+/// Returns whether a screen has the cells, wrapped flags and cursor of the case.
 fn is_picture(alloc: Global, screen: &Screen, case: &Case<'_>) -> Result<bool> {
     let picture = picture_lines(alloc, screen)?;
     Ok(picture.as_str() == case.picture.as_str())
 }
 
-/// The line of the first text that the screen after all bytes doesn't give.
+/// Returns the first line whose output differs from that of the screen after all bytes.
 fn differing_text<'a>(alloc: Global, case: &Case<'a>) -> Result<Option<&'a str>> {
     let prev = screen_before(alloc, case)?;
     let parser = fed(alloc, case, &[case.bytes.as_slice()])?;
@@ -125,7 +128,7 @@ fn differing_text<'a>(alloc: Global, case: &Case<'a>) -> Result<Option<&'a str>>
     Ok(None)
 }
 
-/// The screen that differences start from.
+/// Returns the screen that differences start from.
 fn screen_before(alloc: Global, case: &Case<'_>) -> Result<Screen> {
     let before = case.bytes.get(..case.before);
     let before = before.context("fewer bytes than come before a difference")?;
@@ -133,16 +136,16 @@ fn screen_before(alloc: Global, case: &Case<'_>) -> Result<Screen> {
     Ok(parser.screen().clone()?)
 }
 
-/// Whether a fresh parser that reads the redraw has the cells, flags and cursor of the case, gives the
-/// same redraw, and calls nothing.
+/// Returns whether a new parser that parses the redraw has the cells, wrapped flags and cursor of
+/// the case, has the same redraw, and makes no calls.
 fn is_redrawn(alloc: Global, case: &Case<'_>) -> Result<bool> {
     let parser = fed(alloc, case, &[case.bytes.as_slice()])?;
     let redraw = parser.screen().contents_formatted()?;
     is_drawn_by(alloc, case, &[redraw.as_bytes()], redraw.as_str())
 }
 
-/// Whether a fresh parser that shows the screen of before and reads the difference has the cells, flags
-/// and cursor of the case, gives the same redraw, and calls nothing.
+/// Returns whether a new parser that displays the earlier screen and parses the difference has the
+/// cells, wrapped flags and cursor of the case, has the same redraw, and makes no calls.
 fn is_updated(alloc: Global, case: &Case<'_>) -> Result<bool> {
     let prev = screen_before(alloc, case)?;
     let parser = fed(alloc, case, &[case.bytes.as_slice()])?;
@@ -153,8 +156,8 @@ fn is_updated(alloc: Global, case: &Case<'_>) -> Result<bool> {
     is_drawn_by(alloc, case, &texts, redraw.as_str())
 }
 
-/// Whether a fresh parser that reads these texts has the cells, flags and cursor of the case, gives this
-/// redraw, and calls nothing.
+/// Returns whether a new parser that parses these texts has the cells, wrapped flags and cursor of
+/// the case, has this redraw, and makes no calls.
 fn is_drawn_by(alloc: Global, case: &Case<'_>, texts: &[&[u8]], redraw: &str) -> Result<bool> {
     let parser = fed(alloc, case, texts)?;
     let again = parser.screen().contents_formatted()?;
@@ -162,7 +165,7 @@ fn is_drawn_by(alloc: Global, case: &Case<'_>, texts: &[&[u8]], redraw: &str) ->
     Ok(is_quiet && again.as_str() == redraw && is_picture(alloc, parser.screen(), case)?)
 }
 
-/// A fresh parser of the size of a case, after these pieces.
+/// Creates a parser of the size of a case, and feeds these chunks to it.
 fn fed(alloc: Global, case: &Case<'_>, pieces: &[&[u8]]) -> Result<Parser<Notes>> {
     Ok(vt_notes::read(alloc, case.rows, case.cols, pieces)?)
 }

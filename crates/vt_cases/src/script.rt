@@ -9,7 +9,7 @@ use std::num::NonZeroU16;
 use vt_notes::Notes;
 use vt100::{Parser, Screen};
 
-/// A script: calls of a fresh parser one after the other, and what stands in between.
+/// A script: calls of a new parser in sequence, and the expected states in between.
 #[derive(Clone, Copy)]
 pub struct Script<'a> {
     pub name: &'a str,
@@ -17,12 +17,12 @@ pub struct Script<'a> {
     pub cols: NonZeroU16,
     pub capacity: usize,
 
-    /// The lines behind the first one.
+    /// The lines after the first one.
     pub lines: &'a str,
 }
 
-/// Replays a script. Prints a line for each text and state that differs, and answers whether there was
-/// none.
+/// Replays a script. Prints a line for each output and state that differs, and returns whether
+/// there is none.
 pub fn replay<R: AllocGlobal + Print>(rt: &R, script: Script<'_>) -> Result<bool> {
     let notes = Notes::new(rt.alloc());
     let mut parser = Parser::new_with_callbacks(
@@ -32,7 +32,7 @@ pub fn replay<R: AllocGlobal + Print>(rt: &R, script: Script<'_>) -> Result<bool
         script.capacity,
         notes,
     )?;
-    // The screen of the step that looked at the parser last.
+    // The screen at the last step that examined the parser.
     let mut prev = parser.screen().clone()?;
     let mut same = true;
     let steps = script.lines.strip_prefix("> ").unwrap_or(script.lines);
@@ -51,7 +51,7 @@ pub fn replay<R: AllocGlobal + Print>(rt: &R, script: Script<'_>) -> Result<bool
     Ok(same)
 }
 
-/// The call that a step names.
+/// Makes the call that a step names.
 fn take_step(alloc: Global, parser: &mut Parser<Notes>, call: &str) -> Result<()> {
     let (name, rest) = call.split_once(' ').unwrap_or((call, ""));
     match name {
@@ -93,8 +93,8 @@ fn size_of(words: &str) -> Result<(NonZeroU16, NonZeroU16)> {
     Ok((rows.parse::<NonZeroU16>()?, cols.parse::<NonZeroU16>()?))
 }
 
-/// The first word of the first line that the parser does otherwise: `state` for one about the screen
-/// and its calls.
+/// Returns the first word of the first line that the parser does not match, or `state` for a line
+/// about the screen and its calls.
 fn differing_word<'a>(
     alloc: Global,
     parser: &Parser<Notes>,

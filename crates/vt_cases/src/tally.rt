@@ -1,13 +1,13 @@
-//! How many cases were replayed.
+//! Counts of replayed cases.
 
 use std::fmt;
 
-/// Counts of cases.
+/// Counts of replayed cases.
 #[derive(Clone, Copy, Default)]
 pub struct Tally {
     run: u64,
 
-    /// Those of `run` that did not do what they say.
+    /// The number of cases that did not do what they say.
     pub differ: u64,
 }
 

@@ -5,7 +5,7 @@ use std::alloc::Global;
 use std::fmt;
 use vt100::Color;
 
-/// The bytes of a word: hexadecimal, or a dot for none.
+/// Returns the bytes of a word: hexadecimal, or a dot for none.
 pub fn bytes_of(alloc: Global, word: &str) -> Result<Vec<u8>> {
     if word == "." {
         return Ok(Vec::new(alloc));
@@ -13,7 +13,7 @@ pub fn bytes_of(alloc: Global, word: &str) -> Result<Vec<u8>> {
     Ok(hex::decode(alloc, word)?)
 }
 
-/// Bytes in hexadecimal, or a dot for none.
+/// Displays bytes in hexadecimal, or as a dot if there are none.
 #[derive(Clone, Copy)]
 pub struct Hex<'a>(pub &'a [u8]);
 
@@ -29,7 +29,7 @@ impl fmt::Display for Hex<'_> {
     }
 }
 
-/// A colour.
+/// Displays a colour as a word of a case file.
 #[derive(Clone, Copy)]
 pub struct ColorWord(pub Color);
 
@@ -43,7 +43,7 @@ impl fmt::Display for ColorWord {
     }
 }
 
-/// Attributes: a letter for each that is on, or a dash.
+/// Displays attributes as a letter for each that is set, or as a dash if none is.
 #[derive(Clone, Copy)]
 pub struct AttrsWord {
     pub bold: bool,
@@ -54,7 +54,7 @@ pub struct AttrsWord {
 }
 
 impl AttrsWord {
-    /// Whether all are off.
+    /// Returns whether no attribute is set.
     pub fn is_default(self) -> bool {
         !(self.bold || self.dim || self.italic || self.underline || self.inverse)
     }
@@ -81,7 +81,7 @@ impl fmt::Display for AttrsWord {
     }
 }
 
-/// A truth as a digit.
+/// Returns 1 for `true` and 0 for `false`.
 pub fn digit(on: bool) -> u8 {
     if on { 1 } else { 0 }
 }

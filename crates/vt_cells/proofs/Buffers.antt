@@ -1,4 +1,4 @@
--- Texts that are gathered.
+-- Strings gathered in a buffer.
 use Rattle.std.proofs.Common.{◌≡◌, ℕ, ◌+◌, ◌≤◌, List, [], ◌∷◌, ◌++◌, length, take, slice_index_or, slice_set}
 use Rattle.std.proofs.Common.{IsUtf8, refl, sym, subst, ap, ◌∙◌, arith, length-append, append-nil}
 use Rattle.std.proofs.lemmas.Slice.{take-put_mid}
@@ -6,7 +6,7 @@ use Rattle.std.proofs.lemmas.Str.{IsUtf8-append}
 use Rattle.vt_cells.specs.BufferInternals.{IsBuffer, gathered}
 use borrow.Rule.Slice.PartMut.{put_mid}
 
--- the only byte is set
+-- Setting the only item of a list of one to that of another list gives that list.
 pub one_set : (xs ys : List ℕ) → length xs ≡ length ys → length ys ≡ 1 → slice_set xs 0 (slice_index_or ys 0 0) ≡ ys
 one_set (x ∷ []) (y ∷ []) e f = refl
 one_set (x ∷ (z ∷ xs)) (y ∷ []) e f = let none : ⊥ = omega (arith, e) in absurd none
@@ -14,7 +14,7 @@ one_set [] (y ∷ ys) e f = let none : ⊥ = omega (arith, e) in absurd none
 one_set xs [] e f = let none : ⊥ = omega (arith, f) in absurd none
 one_set xs (y ∷ (z ∷ ys)) e f = let none : ⊥ = omega (arith, f) in absurd none
 
--- the only two, and the only three
+-- Setting both items of a list of two to those of another list gives that list.
 pub two_set : (xs ys : List ℕ) → length xs ≡ length ys → length ys ≡ 2 →
     slice_set (slice_set xs 0 (slice_index_or ys 0 0)) 1 (slice_index_or ys 1 0) ≡ ys
 two_set (x ∷ (z ∷ [])) (y ∷ (w ∷ [])) e f = refl
@@ -46,7 +46,7 @@ longer old text n buffer e fits utf8 = record {
   utf8 = IsUtf8-append old text buffer.utf8 utf8;
 }
 
--- a text is put behind another one
+-- The invariant of a buffer holds after a string is copied behind its bytes.
 pub pushed : (len k : ℕ) (bytes copied text : List ℕ) → IsBuffer len (take len bytes)
     → len ≤ length bytes → length (take len bytes) + length text ≤ 128 → copied ≡ text → IsUtf8 text
     → IsBuffer (len + length text) (take (len + length text) (put_mid len k bytes copied))

@@ -1,4 +1,4 @@
--- What stays true of cells that are edited.
+-- Cells stay valid when they are edited.
 use Rattle.std.proofs.Common.{◌≡◌, ◌≢◌, ℕ, Bool, true, false, [], ◌∷◌, Some, refl}
 use Rattle.std.specs.Char.{encode_utf8, IsScalar}
 use Rattle.vt_cells.specs.Cell.{CellValue, blank, glyph, right_half, IsCell, text_of, marked, widened}
@@ -6,7 +6,7 @@ use Rattle.vt_cells.specs.Glyph.{IsMark, columns_of, glyph_columns, has_room}
 use Rattle.vt_cells.specs.Attrs.{Attrs}
 use Rattle.vt_cells.proofs.Glyphs.{IsGlyphText-first, IsGlyphText-marked, IsGlyphText-selector, IsGlyphText-space}
 
--- what `cell::glyph` makes is a cell
+-- The glyph that `cell::glyph` makes is a valid cell.
 pub IsCell-glyph : (c : ℕ) (wide : Bool) (attrs : Attrs) → IsScalar c → c ≢ 0xFFFD →
     columns_of c ≡ Some (glyph_columns wide) → IsCell (glyph (encode_utf8 c) wide attrs)
 IsCell-glyph c wide attrs scalar reported columns = IsGlyphText-first c wide scalar reported columns
@@ -14,13 +14,13 @@ IsCell-glyph c wide attrs scalar reported columns = IsGlyphText-first c wide sca
 pub IsCell-space : (attrs : Attrs) → IsCell (glyph (0x20 ∷ []) false attrs)
 IsCell-space attrs = IsGlyphText-space
 
--- a mark leaves a cell a cell
+-- A valid cell with a combining character added is a valid cell.
 pub IsCell-marked : (mark : ℕ) (cell : CellValue) → IsMark mark → IsCell cell → IsCell (marked mark cell)
 IsCell-marked mark (blank attrs) is_mark is_cell = IsGlyphText-marked (0x20 ∷ []) false mark IsGlyphText-space is_mark
 IsCell-marked mark (glyph text wide attrs) is_mark is_cell = IsGlyphText-marked text wide mark is_cell is_mark
 IsCell-marked mark right_half is_mark is_cell = tt
 
--- with U+FE0F put on it, a cell may be made wide or narrow
+-- A valid cell with U+FE0F added may be made wide or narrow.
 pub IsCell-selector : (wide : Bool) (cell : CellValue) → IsCell cell →
     has_room (text_of cell) ≡ true → IsCell (widened wide (marked 0xFE0F cell))
 IsCell-selector wide (blank attrs) is_cell room = IsGlyphText-selector (0x20 ∷ []) false wide IsGlyphText-space refl

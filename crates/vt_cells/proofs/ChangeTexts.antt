@@ -1,4 +1,4 @@
--- The text of a change, written from its last byte to its first.
+-- The text of an SGR change, written from its last byte to its first.
 use Rattle.std.proofs.Common.{◌≡◌, ℕ, ◌+◌, ◌<◌, ◌≤◌, true, false, List, [], ◌∷◌}
 use Rattle.std.proofs.Common.{◌++◌, length, drop, decimal, flat_map, refl, sym}
 use Rattle.std.proofs.Common.{ap, ◌∙◌, append_assoc, append-nil, length-append, arith}
@@ -15,11 +15,11 @@ use Rattle.vt_cells.proofs.Changes.{background_part, foreground_part, intensity_
 use Rattle.vt_cells.proofs.Changes.{inverse_part, italic_part, joined_is, underline_part}
 use Rattle.vt_cells.proofs.Same.{two_parts}
 
--- a number has three digits at most
+-- A byte has at most three decimal digits.
 pub digits_of_byte : (n : ℕ) → n < 256 → length (decimal n) ≤ 3
 digits_of_byte n h = length-decimal-le 3 n (omega arith) (omega arith) (omega arith)
 
--- digits are put before a text
+-- Prepending the digits of a number to a text at the end of the array gives such a text.
 pub digits_put : (n start next : ℕ) (rest text : List ℕ) → n < 256 → IsEnd start rest →
     next + length (decimal n) ≡ start → text ≡ decimal n ++ rest → IsEnd next text
 digits_put n start next rest text byte is_end sum e =
@@ -61,7 +61,7 @@ longer_by_number n rest now text whole byte e same is_whole =
 pub one_put : (n : ℕ) (xs : List ℕ) → separated_all (n ∷ []) ++ xs ≡ separated n ++ xs
 one_put n xs = ap (λ ys. ys ++ xs) (append-nil (separated n))
 
--- colours that are the same need no number
+-- If two colours are equal, no parameters are prepended.
 pub nothing_put : (a b : Color) (xs ns : List ℕ) → same_color a b ≡ true →
     xs ≡ separated_all (part (same_color a b) ns) ++ xs
 nothing_put a b xs ns e = rw e refl
@@ -70,7 +70,7 @@ pub some_put : (a b : Color) (xs ns : List ℕ) → same_color a b ≡ false →
     separated_all (part (same_color a b) ns) ++ xs ≡ separated_all ns ++ xs
 some_put a b xs ns e = rw e refl
 
--- neither do styles that are the same
+-- If two styles are equal, no parameters are prepended.
 pub no_style_put : (was new : Attrs) (xs : List ℕ) →
     same_style (style_of_attrs was) (style_of_attrs new) ≡ true → xs ≡ separated_all (style_part was new) ++ xs
 unfolding same_style
@@ -81,7 +81,7 @@ no_style_put was new xs e =
     two_parts (same_bool was.underline new.underline) (same_bool was.inverse new.inverse) others in
     rw (intensity, italic, underline, inverse) refl
 
--- four lists of numbers, put one before the other
+-- Prepending four lists of parameters in turn prepends their concatenation.
 four_put : (i t u v end : List ℕ)
     → separated_all i ++ (separated_all t ++ (separated_all u ++ (separated_all v ++ end)))
     ≡ separated_all (i ++ (t ++ (u ++ v))) ++ end
@@ -103,7 +103,7 @@ pub switches_put : (was new : Attrs) (end : List ℕ)
 switches_put was new end =
     four_put (intensity_part was new) (italic_part was new) (underline_part was new) (inverse_part was new) end
 
--- three lists of numbers, put one before the other
+-- Prepending three lists of parameters in turn prepends their concatenation.
 three_put : (f b i end : List ℕ) →
     separated_all f ++ (separated_all b ++ (separated_all i ++ end)) ≡ separated_all (f ++ (b ++ i)) ++ end
 three_put f b i end =
@@ -114,7 +114,7 @@ three_put f b i end =
       append_assoc (separated_all b) (separated_all i) end,
     ) refl
 
--- the parts of a change, put one before the other
+-- Prepending the three parts of a change in turn gives the parameters of the change.
 pub change_put : (was new : Attrs)
     → separated_all (foreground_part was new)
     ++ (separated_all (background_part was new) ++ (separated_all (style_part was new) ++ 0x6D ∷ []))
@@ -127,7 +127,7 @@ without_first [] h = absurd (omega (arith, h))
 without_first (x ∷ []) h = absurd (omega (arith, h))
 without_first (x ∷ y ∷ xs) h = refl
 
--- the first byte is left out
+-- Moving the start of the text one byte on removes the separator, if that is not the only byte.
 pub without_first_is : (start : ℕ) (bytes : List ℕ) → IsEnd start (drop start bytes) →
     start + 1 < 64 → drop (start + 1) bytes ≡ without_separator (drop start bytes)
 without_first_is start bytes is_end room =
@@ -148,11 +148,11 @@ tail_left : (x m : ℕ) (ys : List ℕ) → without_separator (x ∷ (ys ++ m �
 tail_left x m [] = refl
 tail_left x m (y ∷ ys) = refl
 
--- what is left when the first separator is taken away
+-- Removing the first separator from separated numbers leaves them joined.
 pub numbers_left : (ns : List ℕ) → without_separator (separated_all ns ++ 0x6D ∷ []) ≡ joined ns ++ 0x6D ∷ []
 numbers_left [] = refl
 numbers_left (n ∷ ns) =
     tail_left 0x3B 0x6D (decimal n ++ flat_map separated ns) ∙ ap (λ xs. xs ++ 0x6D ∷ []) (sym (joined_is n ns))
 
--- what a colour adds: no number, one, or several
+-- The parameters that a colour adds: none, one, or several.
 pub ruleset numbers_put = (nothing_put, one_put, some_put)

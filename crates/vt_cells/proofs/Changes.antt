@@ -1,4 +1,5 @@
--- Changes of attributes: the code's `==` is the definitions' sameness, and what the numbers of a change are.
+-- Changes of attributes: `==` in the code agrees with equality in the definitions, and what the parameters of a
+-- change are.
 use Rattle.std.proofs.Common.{◌≡◌, ℕ, ◌≤◌, ◌<◌, Bool, true, false, List, [], ◌∷◌, ◌++◌, length}
 use Rattle.std.proofs.Common.{nat_lt, decimal, refl, sym, ap, append-nil}
 use Rattle.std.proofs.Common.{flat_map, if◌then◌else◌, rules, arith}
@@ -19,7 +20,7 @@ use Rattle.vt_cells.specs.contracts.attrs.IntensityPartialEq.TheImpl as intensit
 use Rattle.std.specs.contracts.prelude.BoolPartialEq.TheImpl as bool
 use Rattle.vt_cells.specs.contracts.color.ColorPartialEq.TheImpl as color
 
--- the code's `==` of two colours
+-- `==` on two colours in the code is `same_color`.
 pub same_color_is : (a b : Color) → (color.ghosts).eq a b ≡ same_color a b
 unfolding same_color
 same_color_is Default Default = refl
@@ -38,7 +39,7 @@ same_intensity_is = search rules
 pub same_bool_is : (a b : Bool) → (bool.ghosts).eq a b ≡ same_bool a b
 same_bool_is = search rules
 
--- the six parts of a change
+-- The parameters of the foreground colour in a change.
 abbrev pub foreground_part : Attrs → Attrs → List ℕ
 foreground_part was new = part (same_color was.fgcolor new.fgcolor) (foreground_numbers new.fgcolor)
 
@@ -57,7 +58,7 @@ underline_part was new = part (same_bool was.underline new.underline) ((if new.u
 abbrev pub inverse_part : Attrs → Attrs → List ℕ
 inverse_part was new = part (same_bool was.inverse new.inverse) ((if new.inverse then 7 else 27) ∷ [])
 
--- how many numbers a colour has
+-- A list of parameters as long as that of a colour.
 abbrev IsShort : List ℕ → Type 0
 IsShort ns = (0 < length ns) × (length ns ≤ 5)
 
@@ -77,7 +78,7 @@ background-length (Idx i) =
     (λ _. cond_both (nat_lt i 16) _ _ IsShort (λ _. (omega arith, omega arith)) (λ _. (omega arith, omega arith)))
 background-length (Rgb r g b) = (omega arith, omega arith)
 
--- each of the numbers is a byte
+-- All numbers of a list are bytes.
 abbrev pub AllBytes : List ℕ → Type 0
 AllBytes ns = AllByRecursion (λ n. n < 256) ns
 
@@ -121,7 +122,7 @@ AllBytes-switch true new on off p q = tt
 AllBytes-switch false true on off p q = (p, tt)
 AllBytes-switch false false on off p q = (q, tt)
 
--- the numbers of a change are bytes
+-- The parameters of a change are bytes.
 pub AllBytes-change_numbers : (was new : Attrs) → FitsAttrs new → AllBytes (change_numbers was new)
 unfolding change_numbers
 AllBytes-change_numbers was new h =
@@ -148,7 +149,7 @@ part-none : (same : Bool) (ns : List ℕ) → 0 < length ns → part same ns ≡
 part-none true ns l e = refl
 part-none false ns l e = absurd (omega (arith, l, ap length e))
 
--- a change without numbers changes nothing
+-- If a change has no parameters, both sets of attributes are equal.
 pub change_numbers-none : (was new : Attrs) → change_numbers was new ≡ [] → same_attrs was new ≡ true
 unfolding change_numbers same_attrs
 change_numbers-none was new none =
@@ -170,12 +171,12 @@ change_numbers-none was new none =
     )
     refl
 
--- numbers joined: the first, and then each other one with its separator
+-- Joined numbers are the first one, and then each further one after its separator.
 pub joined_is : (x : ℕ) (xs : List ℕ) → joined (x ∷ xs) ≡ decimal x ++ flat_map separated xs
 joined_is x [] = sym (append-nil (decimal x))
 joined_is x (y ∷ xs) = ap (λ rest. decimal x ++ 0x3B ∷ rest) (joined_is y xs)
 
--- the three cases of a change's text, by the code's `==`
+-- The text of a change from attributes to equal ones, by `==` in the code.
 pub change_text-same : (was new : Attrs) → attrs_eq was new ≡ true → change_text was new ≡ []
 unfolding change_text
 change_text-same was new e = rw (sym (attrs_eq-same was new), e) refl

@@ -1,4 +1,4 @@
--- Four cells, one by one.
+-- Four cells, compared one by one.
 use Rattle.std.proofs.Common.{◌≡◌, ℕ, List, length, slice_index_or, zero, suc, arith, ap, sym, ◌∙◌}
 use Rattle.std.proofs.Common.{inl, inr}
 use Rattle.std.proofs.Common.{◌+◌, ◌-◌, ◌<◌}
@@ -9,7 +9,7 @@ use Rattle.std.proofs.lemmas.Grind.{common_steps}
 use Rattle.std.proofs.lemmas.Simd.{get_or-chunk}
 use Rattle.vt_cells.specs.Cell.{CellValue}
 
--- both have the same cell there
+-- Both lists have the same cell at an index.
 abbrev pub IsSameAt : (s t : List CellValue) → ℕ → Type 0
 IsSameAt s t k = (d : CellValue) → slice_index_or s k d ≡ slice_index_or t k d
 
@@ -28,7 +28,7 @@ four_cells s t one two first second third fourth = same_lists s t (one ∙ sym t
     at (suc (suc (suc zero))) d lt = fourth d
     at (suc (suc (suc (suc k)))) d lt = absurd (omega (arith, one))
 
--- as far as four more
+-- If the cells before index i are equal, and so are four more, then all before i + 4 are equal.
 pub four_more : (s t : List CellValue) (i : ℕ) → slice_range s i (i + 4) ≡ slice_range t i (i + 4)
     → ((k : ℕ) (d : CellValue) → k < i → slice_index_or s k d ≡ slice_index_or t k d)
     → (k : ℕ) (d : CellValue) → k < i + 4 → slice_index_or s k d ≡ slice_index_or t k d

@@ -1,4 +1,4 @@
--- Texts of glyphs: the first character, and one more mark.
+-- Texts of glyphs: the first character, and one more combining character.
 use Rattle.std.proofs.Common.{◌≡◌, ◌≢◌, ℕ, ◌+◌, ◌<◌, ◌≤◌, Bool, true, false, List, [], ◌∷◌, ◌++◌}
 use Rattle.std.proofs.Common.{length, Some, if◌then◌else◌, refl, arith, ap, sym, ◌∙◌, append_assoc}
 use Rattle.std.proofs.Common.{append-nil, length-append, IsUtf8, subst, lit<, lit≤}
@@ -16,7 +16,7 @@ use lib.Utf8.{scalars}
 use Rattle.vt_cells.specs.Glyph.{IsGlyphText, Joins, IsMark, columns_of, is_selector}
 use Rattle.vt_cells.specs.Glyph.{mark_limit, has_room, marked_text, glyph_columns}
 
--- a character takes one to four bytes
+-- A character takes one to four bytes in UTF-8.
 pub encode_bounds : (c : ℕ) → (1 ≤ length (encode_utf8 c)) × (length (encode_utf8 c) ≤ 4)
 encode_bounds c = rw (length-encode c) (len_utf8_bounds c)
 
@@ -39,7 +39,7 @@ some_columns : (wide : Bool) → Some (glyph_columns wide) ≡ Some 0 → ⊥
 some_columns true e = cc
 some_columns false e = cc
 
--- the text of one character
+-- One character that takes columns is the text of a glyph.
 pub IsGlyphText-first : (c : ℕ) (wide : Bool) → IsScalar c → c ≢ 0xFFFD →
     columns_of c ≡ Some (glyph_columns wide) → IsGlyphText (encode_utf8 c) wide
 IsGlyphText-first c wide scalar reported columns = record {
@@ -54,7 +54,7 @@ IsGlyphText-first c wide scalar reported columns = record {
   width = λ _. columns;
 }
 
--- one mark more, where the width is known
+-- A glyph's text with a combining character added is that of a glyph of a width that fits.
 pub longer : (text : List ℕ) (was wide : Bool) (mark : ℕ) (glyph : IsGlyphText text was)
     → IsMark mark → has_room text ≡ true
     → (list_any is_selector (glyph.marks ++ mark ∷ []) ≡ false → columns_of glyph.first ≡ Some (glyph_columns wide))
@@ -71,7 +71,7 @@ longer text was wide mark glyph is_mark room width = record {
   width = width;
 }
 
--- one mark more
+-- A glyph's text with a combining character added is that of a glyph of the same width.
 pub IsGlyphText-push : (text : List ℕ) (wide : Bool) (mark : ℕ) → IsGlyphText text wide →
     IsMark mark → has_room text ≡ true → IsGlyphText (text ++ encode_utf8 mark) wide
 IsGlyphText-push text wide mark glyph is_mark room =
@@ -94,13 +94,13 @@ Joins-length text (m ∷ marks) whole low high (room, joins) =
     let below : length text < mark_limit = ltb-true (length text) mark_limit room in
     Joins-length (text ++ encode_utf8 m) marks whole (omega arith) (omega arith) joins
 
--- a glyph's text is UTF-8
+-- A glyph's text is UTF-8.
 pub IsGlyphText-utf8 : (text : List ℕ) (wide : Bool) → IsGlyphText text wide → IsUtf8 text
 IsGlyphText-utf8 text wide glyph =
     Joins-utf8 (encode_utf8 glyph.first) glyph.marks text
     (IsUtf8-encode glyph.first glyph.scalar) glyph.are_marks glyph.spelled
 
--- it has at least one byte, and at most three behind the limit of marks
+-- A glyph's text has at least one byte, and at most three more than the limit for combining characters.
 pub IsGlyphText-length : (text : List ℕ) (wide : Bool) →
     IsGlyphText text wide → (1 ≤ length text) × (length text ≤ mark_limit + 3)
 IsGlyphText-length text wide glyph =
@@ -112,7 +112,7 @@ by_room : (room : Bool) (longer text : List ℕ) (wide : Bool) → (room ≡ tru
 by_room true longer text wide with_room without = with_room refl
 by_room false longer text wide with_room without = without
 
--- U+FE0F is a mark
+-- U+FE0F is a combining character.
 pub selector_columns : columns_of 0xFE0F ≡ Some 0
 unfolding columns_of unicode_width
 selector_columns = refl
@@ -121,13 +121,13 @@ list_any-last : (marks : List ℕ) → list_any is_selector (marks ++ 0xFE0F ∷
 list_any-last [] = refl
 list_any-last (m ∷ marks) = let more = list_any-last marks in grind (arith, nat_tests, more)
 
--- U+FE0F lets a glyph be of either width
+-- A glyph's text with U+FE0F added is that of a glyph of either width.
 pub IsGlyphText-selector : (text : List ℕ) (was wide : Bool) → IsGlyphText text was →
     has_room text ≡ true → IsGlyphText (text ++ encode_utf8 0xFE0F) wide
 IsGlyphText-selector text was wide glyph room =
     longer text was wide 0xFE0F glyph (refl, selector_columns) room (λ none. let has = list_any-last glyph.marks in cc)
 
--- a mark leaves a glyph's text a glyph's text, also where there is no room for it
+-- Adding a combining character, if there is room, gives the text of a glyph of the same width.
 pub IsGlyphText-marked : (text : List ℕ) (wide : Bool) (mark : ℕ) →
     IsGlyphText text wide → IsMark mark → IsGlyphText (marked_text text mark) wide
 IsGlyphText-marked text wide mark glyph is_mark =
@@ -136,7 +136,7 @@ IsGlyphText-marked text wide mark glyph is_mark =
 space_first : encode_utf8 0x20 ≡ 0x20 ∷ []
 space_first = encode_ascii 0x20 (lit< tt)
 
--- a space is a glyph's text
+-- A space is the text of a narrow glyph.
 pub IsGlyphText-space : IsGlyphText (0x20 ∷ []) false
 IsGlyphText-space =
     subst (λ text. IsGlyphText text false) space_first
@@ -151,12 +151,12 @@ all_scalar : (marks : List ℕ) → AllByRecursion IsMark marks → scalars mark
 all_scalar [] all = refl
 all_scalar (m ∷ marks) (mark, all) = rw (mark.0, all_scalar marks all) refl
 
--- a glyph's text spells its first character and its marks
+-- A glyph's text is the UTF-8 of its first character and its combining characters.
 pub IsGlyphText-spelled : (text : List ℕ) (wide : Bool) (glyph : IsGlyphText text wide) →
     text ≡ encode_utf8_all (glyph.first ∷ glyph.marks)
 IsGlyphText-spelled text wide glyph = Joins-spelled (encode_utf8 glyph.first) glyph.marks text glyph.spelled
 
--- and these are its characters
+-- The characters of a glyph's text are its first character and its combining characters.
 pub IsGlyphText-chars : (text : List ℕ) (wide : Bool) (glyph : IsGlyphText text wide) →
     chars text ≡ glyph.first ∷ glyph.marks
 IsGlyphText-chars text wide glyph =

@@ -12,8 +12,8 @@ use Rattle.unicode_width.specs.declared.kind.Kind.{Kind}
 use Rattle.unicode_width.specs.declared.kind.Kind.TheVariants as kinds
 use Rattle.vt_cells.specs.Glyph.{columns_of}
 
--- punctuation, Hiragana and Katakana without their combining marks, what is enclosed and squared with all ideographs
--- up to the syllables of Yi, and the syllables of Hangul
+-- The blocks: punctuation; Hiragana and Katakana without their combining characters; enclosed and squared characters
+-- with all ideographs up to the syllables of Yi; and the syllables of Hangul.
 abbrev pub blocks : List Range
 blocks = (0x3000, 0x3029) ∷ (0x3041, 0x3096) ∷ (0x309B, 0x30FF) ∷ (0x3250, 0xA48C) ∷ (0xAC00, 0xD7A3) ∷ []
 
@@ -21,7 +21,7 @@ is_two : Kind → Bool
 is_two kinds.Wide = true
 is_two _ = false
 
--- outside of the blocks, or of two columns
+-- Outside the blocks, or of two columns.
 is_fit : Bool → Kind → Bool
 is_fit inside found = not inside || is_two found
 
@@ -47,7 +47,7 @@ two true c kinds.EmojiModifier fit is = cc
 two true c kinds.Single fit is = cc
 two false c found fit is = cc
 
--- in the blocks every character takes two columns
+-- Every character in the blocks takes two columns.
 columns_of-block : (c : ℕ) → c ≤ 0x10_FFFF → 0xA0 ≤ c → in_ranges blocks c ≡ true → columns_of c ≡ Some 2
 unfolding columns_of char_width alone
 columns_of-block c last high inside =

@@ -1,4 +1,4 @@
--- What a cell's fields keep.
+-- The fields of a cell.
 use Rattle.std.proofs.Common.{◌≡◌, ◌≢◌, ℕ, ◌+◌, ◌<◌, ◌≤◌, Bool, true, false, List}
 use Rattle.std.proofs.Common.{◌++◌, length, Some, arith, sym, length-append, zero, suc, refl}
 use Rattle.std.proofs.Common.{replicate, slice_index, rules}
@@ -13,7 +13,7 @@ use Rattle.vt_cells.specs.Attrs.{Attrs, default_attrs}
 use Rattle.vt_cells.proofs.Glyphs.{IsGlyphText-first, IsGlyphText-utf8, IsGlyphText-length}
 use Rattle.vt_cells.proofs.Glyphs.{IsGlyphText-push, encode_bounds}
 
--- bytes that are all 0
+-- Each byte of a list of zeros is 0.
 pub zeros_at : (n k : ℕ) → slice_index (replicate n 0) k ≡ 0
 zeros_at zero k = refl
 zeros_at (suc n) zero = refl
@@ -51,14 +51,14 @@ pub IsKept-first : (c len : ℕ) (text : List ℕ) (wide : Bool) (attrs : Attrs)
 IsKept-first c len text wide attrs scalar reported columns size e =
     rw e (IsKept-glyph len (encode_utf8 c) wide attrs (IsGlyphText-first c wide scalar reported columns) size)
 
--- a cell with a text, and no right half, is a glyph
+-- Valid fields with a text, of no continuation cell, have the text of a glyph.
 glyph_kept : (len : ℕ) (text : List ℕ) (wide : Bool) (attrs : Attrs) → IsKept len text wide false attrs →
     is_blank (cell_of text wide false attrs) ≡ false → IsGlyphText text wide
 glyph_kept len text wide attrs kept shown =
     let low : 1 ≤ length text = grind (arith, nat_tests) in
     rw (cell_of-text text wide attrs low) at kept.sound
 
--- a glyph with a mark behind its text, as wide as it was
+-- The fields of a glyph stay valid when a combining character is added, with the same width.
 pub IsKept-mark : (c len next : ℕ) (text longer : List ℕ) (wide right same : Bool) (attrs : Attrs)
     → IsScalar c → columns_of c ≡ Some 0
     → IsKept len text wide right attrs → is_blank (cell_of text wide right attrs) ≡ false

@@ -1,4 +1,4 @@
--- Attributes in one word are the same exactly where the bytes are.
+-- Packed attributes are equal exactly if their words are.
 use Rattle.std.proofs.Common.{◌≡◌, ℕ, ◌+◌, ◌*◌, ◌/◌, ◌%◌, ◌<◌, ◌≤◌, ◌==◌, zero, suc}
 use Rattle.std.proofs.Common.{Bool, true, false, refl, arith, ap, subst, sym, ◌∙◌, eqb-true, if◌then◌else◌}
 use Rattle.std.proofs.lemmas.Bool.Decides.{nat_tests}
@@ -16,7 +16,7 @@ use Rattle.vt_cells.proofs.Same.{attrs_of-same, color_of-same, same_attrs-itself
 use Rattle.vt_cells.proofs.Same.{bool_of-same, intensity_of-same, same_bool-itself}
 use Rattle.vt_cells.proofs.Same.{same_intensity-itself, two_parts}
 
--- the parts of a style are those of its byte
+-- Unpacking the packed bits of a style gives the style.
 pub style_back : (intensity : Intensity) (italic underline inverse : Bool)
     → style_of
     (style_bits (record { intensity = intensity; italic = italic; underline = underline; inverse = inverse }))
@@ -77,7 +77,7 @@ alike false false to from = refl
 pub itself : (n : ℕ) → (n == n) ≡ true
 itself n = grind (arith, nat_tests)
 
--- two bytes are compared, and the styles are
+-- Two packed styles are equal as numbers exactly if they are equal as styles.
 pub bits_same : (m n : ℕ) → style_bits (style_of m) ≡ m →
     style_bits (style_of n) ≡ n → (m == n) ≡ same_style (style_of m) (style_of n)
 bits_same m n p q =
@@ -85,7 +85,7 @@ bits_same m n p q =
     (λ e. rw (eqb-true m n e) (same_style-itself (style_of n)))
     (λ e. rw (sym p ∙ ap style_bits (style_of-same (style_of m) (style_of n) e) ∙ q) (itself n))
 
--- two numbers are compared, and the colours are
+-- Two packed colours are equal as numbers exactly if they are equal as colours.
 pub packed_same : (m n : ℕ) → IsColorBits m → IsColorBits n
     → (m == n) ≡ same_color (color_of m) (color_of n)
 packed_same m n p q =
@@ -93,7 +93,7 @@ packed_same m n p q =
     (λ e. rw (eqb-true m n e) (same_color-itself (color_of n)))
     (λ e. rw (sym p.back ∙ ap color_bits (color_of-same (color_of m) (color_of n) e) ∙ q.back) (itself n))
 
--- a colour of the palette is the one of its number
+-- Unpacking the bits of a palette colour gives the colour.
 pub index_of : (i : ℕ) → i < 256 → color_of (1 + 4 * i) ≡ Idx i
 index_of i small =
     let kind : (1 + 4 * i) % 4 ≡ 1 = omega arith in
@@ -127,7 +127,7 @@ intensity_most Normal = omega arith
 intensity_most Bold = omega arith
 intensity_most Dim = omega arith
 
--- a style has five bits
+-- A packed style has five bits.
 pub style_small : (style : StyleValue) → style_bits style < 32
 style_small style =
     omega (
@@ -138,7 +138,7 @@ style_small style =
       switch_most style.inverse 16,
     )
 
--- the parts of a word
+-- The three parts of a word are the style and the colours that it was made of.
 pub parts_of : (style fgcolor bgcolor : ℕ) → style < 32 → fgcolor < 67108864
     → (word_of style fgcolor bgcolor % 32 ≡ style)
     × ((word_of style fgcolor bgcolor / 32 % 67108864 ≡ fgcolor)
@@ -159,7 +159,7 @@ word_parts style fgcolor bgcolor s f =
     let parts = parts_of style fgcolor bgcolor s f in
     λ i. attrs_of_bits (parts.0 i) (parts.1.0 i) (parts.1.1 i)
 
--- the attributes of a word that is made of a style and two colours
+-- The attributes of a word made of a packed style and two packed colours.
 pub attrs_made : (style fgcolor bgcolor : ℕ) (v : StyleValue) (front back : Color)
     → style < 32 → IsColorBits fgcolor
     → style_of style ≡ v → color_of fgcolor ≡ front → color_of bgcolor ≡ back
@@ -181,12 +181,12 @@ attrs_made style fgcolor bgcolor v front back s f is_v is_front is_back =
       inverse = (is_v i).inverse;
     })
 
--- attributes have 57 bits
+-- A packed word of attributes has 57 bits.
 pub word_small : (word : ℕ) → IsAttrsWord word → word < 144115188075855872
 word_small word h =
     let high = h.bgcolor.small in omega arith
 
--- two words are compared, and the attributes are
+-- Two packed words are equal as numbers exactly if they are equal as attributes.
 pub words_same : (m n : ℕ) → IsAttrsWord m → IsAttrsWord n
     → (m == n) ≡ same_attrs (attrs_of_word m) (attrs_of_word n)
 words_same m n p q =
@@ -204,7 +204,7 @@ unpacked_fits (suc (suc kind)) first second third f s t = (f, (s, t))
 color_fits : (bits : ℕ) → FitsColor (color_of bits)
 color_fits bits = unpacked_fits (bits % 4) _ _ _ (omega arith) (omega arith) (omega arith)
 
--- attributes that a word gives back have colours whose numbers are bytes
+-- Attributes that packing preserves have colours whose components are bytes.
 pub attrs_fit : (attrs : Attrs) → attrs_of_word (attrs_word attrs) ≡ attrs → FitsAttrs attrs
 attrs_fit attrs back =
     subst FitsAttrs back

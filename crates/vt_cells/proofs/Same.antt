@@ -1,4 +1,4 @@
--- What `==` on attributes and colours says.
+-- The meaning of `==` on attributes and colours.
 use Rattle.std.proofs.Common.{◌≡◌, ◌≢◌, ◌&&◌, Bool, true, false, if◌then◌else◌, refl, arith, ap}
 use Rattle.std.proofs.Common.{sym, eqb-true}
 use Rattle.std.proofs.lemmas.Bool.Decides.{nat_tests}
@@ -12,7 +12,7 @@ use Rattle.vt_cells.specs.declared.attrs.Intensity.TheVariants.{Normal, Bold, Di
 use Rattle.vt_cells.specs.declared.color.Color.{Color}
 use Rattle.vt_cells.specs.declared.color.Color.TheVariants.{Default, Idx, Rgb}
 
--- the test that `==` on colours computes
+-- The test that `==` on colours computes.
 abbrev pub color_eq : Color → Color → Bool
 color_eq = (colors.ghosts).eq
 
@@ -125,7 +125,7 @@ six_parts p q r s t u e =
     let (fifth, sixth) = two_parts _ _ e4 in
     (first, second, third, fourth, fifth, sixth)
 
--- attributes that are the same in all six components are equal
+-- Attributes that agree in all six components are equal.
 pub attrs_of-same : (a b : Attrs) → same_attrs a b ≡ true → a ≡ b
 unfolding same_attrs
 attrs_of-same a b e =
@@ -159,7 +159,7 @@ third true c x y z n first second last = first refl
 third false true x y z n first second last = second refl
 third false false x y z n first second last = last
 
--- what a change makes of the attributes that it was made for
+-- A change from attributes to new ones turns the former into the latter.
 pub changed_attrs-new : (was new : Attrs) → changed_attrs was new was ≡ new
 unfolding changed_attrs
 changed_attrs-new was new =
@@ -180,18 +180,18 @@ changed_attrs-new was new =
           chosen (same_bool was.inverse new.inverse) was.inverse new.inverse (bool_of-same was.inverse new.inverse) i;
     })
 
--- no change leaves all attributes
+-- A change from attributes to the same ones changes nothing.
 pub changed_attrs-none : (attrs others : Attrs) → changed_attrs attrs attrs others ≡ others
 unfolding changed_attrs
 changed_attrs-none attrs others = rw (same_attrs-itself attrs) refl
 
--- attributes that change to the default ones at all are the default ones
+-- A change to the default attributes from different ones makes any attributes the default ones.
 pub changed_attrs-default : (was others : Attrs) → same_attrs was default_attrs ≡ false →
     changed_attrs was default_attrs others ≡ default_attrs
 unfolding changed_attrs
 changed_attrs-default was others differ = rw (differ, same_attrs-itself default_attrs) refl
 
--- attributes that aren't equal aren't the same
+-- Attributes that are not equal differ in a component.
 pub same_attrs-differ : (a b : Attrs) → a ≢ b → same_attrs a b ≡ false
 same_attrs-differ a b differ = false_of (same_attrs a b) (λ e. differ (attrs_of-same a b e))
 

@@ -1,4 +1,4 @@
--- What `==` on cells says.
+-- The meaning of `==` on cells.
 use Rattle.std.proofs.Common.{◌≡◌, ◌≢◌, ℕ, IsTrue, Bool, true, false, [], ◌∷◌, ◌==◌}
 use Rattle.std.proofs.Common.{◌<◌, ◌≤◌, ◌++◌, zero, suc, take, List, length, refl, arith, ap, sym}
 use Rattle.std.proofs.Common.{◌∙◌}
@@ -26,7 +26,7 @@ text_of-same s t e = (bytes_eq-Decides s t).0 e
 pub same_text-itself : (s : List ℕ) → bytes_eq s s ≡ true
 same_text-itself s = nat_list_eq_equiv.refl s
 
--- the same cells are equal
+-- Cells for which `same_cell` holds are equal.
 pub cell_of-same : (x y : CellValue) → same_cell x y ≡ true → x ≡ y
 unfolding same_cell
 cell_of-same (blank a) (blank b) e = ap blank (attrs_of-same a b e)
@@ -54,7 +54,7 @@ same_cell-itself right_half = refl
 pub same_cell-differ : (x y : CellValue) → x ≢ y → same_cell x y ≡ false
 same_cell-differ x y differ = false_of (same_cell x y) (λ e. differ (cell_of-same x y e))
 
--- a cell is known by its text, its attributes and both flags
+-- Valid cells with the same text, width, kind and attributes are equal.
 pub cell_by_parts : (x y : CellValue) → IsCell x → IsCell y → text_of x ≡ text_of y →
     is_wide x ≡ is_wide y → is_right_half x ≡ is_right_half y → attrs_of x ≡ attrs_of y → x ≡ y
 cell_by_parts (blank a) (blank b) p q text wide right attrs = ap blank attrs
@@ -77,7 +77,7 @@ narrow_or_wide s t true false a b = rw (and-false (bytes_eq s t)) refl
 narrow_or_wide s t false true a b = rw (and-false (bytes_eq s t)) refl
 narrow_or_wide s t false false a b = rw (attrs_eq-same a b) refl
 
--- the test of `==` is the same
+-- `same_cell` is the test that `==` computes.
 pub same_cell-eq : (x y : CellValue) → same_cell x y ≡ cell_eq x y
 unfolding same_cell
 same_cell-eq (blank a) (blank b) = sym (attrs_eq-same a b)
@@ -100,7 +100,7 @@ cell_same x y r tested holds = cell_of-same x y (sym tested ∙ holds)
 pub same_cell_of : (x y : CellValue) (r : Bool) → r ≡ same_cell x y → x ≡ y → IsTrue r
 same_cell_of x y r tested same = tested ∙ rw same (same_cell-itself y)
 
--- the shape of a cell is the one that it keeps
+-- The shape that the fields of a cell hold is the shape of the cell.
 pub shape_of_parts : (len : ℕ) (text : List ℕ) (wide right : Bool) (attrs : Attrs) → IsKept len text wide right attrs
     → record { len = len; wide = wide; right_half = right } ≡ shape_of_cell (cell_of text wide right attrs)
 shape_of_parts len text wide right attrs kept = sym (ap (λ h. h.shape) (cell_head len text wide right attrs kept))
@@ -114,14 +114,14 @@ shape_of_blank (glyph text wide attrs) is_cell =
     rw none refl
 shape_of_blank right_half is_cell = refl
 
--- a cell is blank where its shape is
+-- A cell is a blank exactly if its shape is that of a blank.
 pub blank_kept : (len : ℕ) (text : List ℕ) (wide right : Bool) (attrs : Attrs) → IsKept len text wide right attrs
     → same_shape (record { len = len; wide = wide; right_half = right }) blank_shape
     ≡ is_blank (cell_of text wide right attrs)
 blank_kept len text wide right attrs kept =
     rw (shape_of_parts len text wide right attrs kept) (shape_of_blank (cell_of text wide right attrs) kept.sound)
 
--- cells of one head are the same where their texts are
+-- Cells with equal heads are equal exactly if their texts are.
 pub same_cell-headed : (x y : CellValue) → IsCell x → IsCell y
     → same_head (head_of_cell x) (head_of_cell y) ≡ true → bytes_eq (text_of x) (text_of y) ≡ same_cell x y
 same_cell-headed x y is_x is_y e =
@@ -132,7 +132,7 @@ same_cell-headed x y is_x is_y e =
     (ap (λ h. h.shape.right_half) heads) (ap (λ h. h.attrs) heads)) (same_cell-itself y))
     (λ same. rw (cell_of-same x y same) (same_text-itself (text_of y)))
 
--- cells of other heads differ
+-- Cells with different heads differ.
 pub same_cell-other_head : (x y : CellValue) →
     same_head (head_of_cell x) (head_of_cell y) ≡ false → same_cell x y ≡ false
 same_cell-other_head x y e =
@@ -144,25 +144,25 @@ take_front [] z n le = refl
 take_front (x ∷ s) z zero le = absurd (omega arith)
 take_front (x ∷ s) z (suc n) le = ap (λ t. x ∷ t) (take_front s z n (omega arith))
 
--- texts of one length whose first eight bytes are the same, and that have no more, are the same
+-- Texts of the same length, of at most eight bytes, are equal if their first eight bytes in the array are.
 pub short_texts : (s t : List ℕ) → length s ≡ length t → length s ≤ 8 → front s ≡ front t → s ≡ t
 unfolding front
 short_texts s t same short fronts =
     sym (take_front s _ 8 short) ∙ (λ i. take (same i) (fronts i)) ∙ take_front t _ 8 (omega (arith, same))
 
--- the bytes of a cell begin as its text does
+-- The first eight bytes of a cell's array are the front of its text.
 pub front_stored : (head : HeadValue) (contents : List ℕ) (cell : CellValue) → IsStored head contents
     → cell_of_parts head contents ≡ cell → take 8 contents ≡ front (text_of cell)
 unfolding front
 front_stored head contents cell h is =
     (λ i. take 8 (sym (stored_contents head contents h) i)) ∙ ap (λ v. take 8 (padded (text_of v))) is
 
--- and its head is that of the cell
+-- The stored head is the head of the cell.
 pub head_stored : (head : HeadValue) (contents : List ℕ) (cell : CellValue) → IsStored head contents
     → cell_of_parts head contents ≡ cell → head_of_cell cell ≡ head
 head_stored head contents cell h is = sym (ap head_of_cell is) ∙ stored_head head contents h
 
--- cells that begin alike, and have short texts, are the same
+-- Cells with short texts are equal if their heads and the fronts of their texts are.
 pub cells_begin : (x y : CellValue) → IsCell x → IsCell y → length (text_of x) < 8
     → head_of_cell x ≡ head_of_cell y → front (text_of x) ≡ front (text_of y) → x ≡ y
 cells_begin x y is_x is_y short heads fronts =

@@ -1,4 +1,4 @@
--- What a cell is, in one byte.
+-- Packed shapes and heads.
 use Rattle.std.proofs.Common.{◌≡◌, ◌≢◌, ℕ, ◌+◌, ◌*◌, ◌/◌, ◌%◌, ◌<◌, ◌≤◌, ◌==◌, Bool, true, false}
 use Rattle.std.proofs.Common.{refl, arith, ap, sym, ◌∙◌, eqb-true, if◌then◌else◌, nat_le}
 use Rattle.std.proofs.lemmas.Bool.Decides.{nat_tests}
@@ -10,7 +10,7 @@ use Rattle.vt_cells.proofs.Same.{attrs_of-same, same_attrs-itself, bool_of-same,
 use Rattle.vt_cells.proofs.Same.{two_parts}
 use Rattle.vt_cells.proofs.Packing.{alike, itself}
 
--- the length and the width of a text are those of its byte
+-- Unpacking the packed length and width of a text gives them back.
 pub text_back : (len : ℕ) (wide : Bool) → len < 32
     → shape_of (if wide then len + 32 else len) ≡ record { len = len; wide = wide; right_half = false }
 text_back len true room =
@@ -39,7 +39,7 @@ pub same_shape-itself : (a : ShapeValue) → same_shape a a ≡ true
 unfolding same_shape
 same_shape-itself a = rw (itself a.len, same_bool-itself a.wide, same_bool-itself a.right_half) refl
 
--- two bytes are compared, and the shapes are
+-- Two packed shapes are equal as numbers exactly if they are equal as shapes.
 pub bits_same : (m n : ℕ) → shape_bits (shape_of m) ≡ m →
     shape_bits (shape_of n) ≡ n → (m == n) ≡ same_shape (shape_of m) (shape_of n)
 bits_same m n p q =
@@ -47,7 +47,7 @@ bits_same m n p q =
     (λ e. rw (eqb-true m n e) (same_shape-itself (shape_of n)))
     (λ e. rw (sym p ∙ ap shape_bits (shape_of-same (shape_of m) (shape_of n) e) ∙ q) (itself n))
 
--- a byte without a bit is that of a blank
+-- A packed shape is 0 exactly if it is that of a blank.
 pub no_bits : (m : ℕ) → shape_bits (shape_of m) ≡ m → (m == 0) ≡ same_shape (shape_of m) blank_shape
 no_bits m p = bits_same m 0 p refl
 
@@ -55,7 +55,7 @@ flag_bits : (flag : Bool) (n : ℕ) → (if flag then n else 0) ≤ n
 flag_bits true n = omega arith
 flag_bits false n = omega arith
 
--- a shape that is one of a byte has seven bits
+-- A packed shape has seven bits.
 pub shape_small : (m : ℕ) → shape_bits (shape_of m) ≡ m → m < 128
 shape_small m p =
     let wide = flag_bits (m / 32 % 2 == 1) 32 in
@@ -66,7 +66,7 @@ head_parts : (low high : ℕ) → low < 128
     → ((low + 128 * high) % 128 ≡ low) × ((low + 128 * high) / 128 ≡ high)
 head_parts low high small = (omega arith, omega arith)
 
--- the head of a word that is made of a shape and attributes
+-- The head of a word made of a packed shape and packed attributes.
 pub head_made : (low high : ℕ) (shape : ShapeValue) (attrs : Attrs) → low < 128 → shape_of low ≡ shape
     → attrs_of_word high ≡ attrs → head_of (low + 128 * high) ≡ record { attrs = attrs; shape = shape }
 head_made low high shape attrs small is_shape is_attrs =
@@ -89,22 +89,22 @@ pub same_head-itself : (a : HeadValue) → same_head a a ≡ true
 unfolding same_head
 same_head-itself a = rw (same_shape-itself a.shape, same_attrs-itself a.attrs) refl
 
--- two words are compared, and the heads are
+-- Two packed heads are equal as numbers exactly if they are equal as heads.
 pub heads_same : (m n : ℕ) → IsHead m → IsHead n → (m == n) ≡ same_head (head_of m) (head_of n)
 heads_same m n p q =
     alike (m == n) (same_head (head_of m) (head_of n))
     (λ e. rw (eqb-true m n e) (same_head-itself (head_of n)))
     (λ e. rw (sym (head_back m p) ∙ ap head_word (head_of-same (head_of m) (head_of n) e) ∙ head_back n q) (itself n))
 
--- where two of its bits are 0, the text of a head is short
+-- If the two high bits of the length are 0, the text has fewer than eight bytes.
 pub short_head : (word : ℕ) → word / 8 % 4 ≡ 0 → word % 128 % 32 < 8
 short_head word none = omega arith
 
--- where one of them is not, it is long
+-- If one of the two high bits of the length is not 0, the text has more than seven bytes.
 pub long_head : (word : ℕ) → word / 8 % 4 ≢ 0 → 7 < word % 128 % 32
 long_head word some = omega arith
 
--- the highest bit is known by size
+-- The highest bit of a packed shape is set exactly if the number is at least 64.
 pub high_bit : (m : ℕ) → shape_bits (shape_of m) ≡ m → nat_le 64 m ≡ (m / 64 == 1)
 high_bit m p =
     let wide = flag_bits (m / 32 % 2 == 1) 32 in

@@ -1,4 +1,4 @@
--- Texts of operations: they join as lists do, and are ASCII but for the texts that they print.
+-- The bytes of operations: those of lists concatenate, and are ASCII except for printed text.
 use Rattle.std.proofs.Common.{◌≡◌, ℕ, zero, suc, ◌+◌, ◌<◌, ◌^◌, Bool, true, false, List, [], ◌∷◌}
 use Rattle.std.proofs.Common.{◌++◌, decimal, if◌then◌else◌, true≢false, IsAscii, arith}
 use Rattle.std.specs.List.{AllByRecursion}
@@ -12,7 +12,7 @@ use Rattle.vt_cells.specs.Op.{Print, FitsAttrs, FitsOp, bytes_of, bytes_of_all, 
 use Rattle.vt_cells.specs.Op.{change_text, counted, csi, is_print, joined, place}
 use Rattle.vt_cells.proofs.Changes.{AllBytes, AllBytes-change_numbers}
 
--- the text of two lists of operations, one after the other
+-- The bytes of two concatenated lists of operations are the concatenation of their bytes.
 pub bytes_of_all-append : (ops more : List Op) → bytes_of_all (ops ++ more) ≡ bytes_of_all ops ++ bytes_of_all more
 bytes_of_all-append ops more = flat_map-append bytes_of ops more
 
@@ -64,11 +64,11 @@ IsAscii-change_text was new h =
 IsAscii-two : (a b : ℕ) → a < 128 → b < 128 → IsAscii (a ∷ b ∷ [])
 IsAscii-two a b h k = IsAscii-cons a (b ∷ []) h (IsAscii-cons b [] k IsAscii-nil)
 
--- DECTCEM's parameter
+-- The parameter of DECTCEM is ASCII.
 IsAscii-hide : IsAscii (0x3F ∷ 0x32 ∷ 0x35 ∷ [])
 IsAscii-hide = IsAscii-cons 0x3F (0x32 ∷ 0x35 ∷ []) (omega arith) (IsAscii-two 0x32 0x35 (omega arith) (omega arith))
 
--- the text of an operation that prints nothing
+-- The bytes of an operation that prints nothing are ASCII.
 pub IsAscii-bytes_of : (op : Op) → FitsOp op → is_print op ≡ false → IsAscii (bytes_of op)
 IsAscii-bytes_of (Hide true) h p = IsAscii-csi (0x3F ∷ 0x32 ∷ 0x35 ∷ []) 0x6C (omega arith) IsAscii-hide
 IsAscii-bytes_of (Hide false) h p = IsAscii-csi (0x3F ∷ 0x32 ∷ 0x35 ∷ []) 0x68 (omega arith) IsAscii-hide
@@ -87,7 +87,7 @@ IsAscii-bytes_of RestoreCursor h p = IsAscii-two 0x1B 0x38 (omega arith) (omega 
 IsAscii-bytes_of (ChangeAttrs was new) h p = IsAscii-change_text was new h.1
 IsAscii-bytes_of (Print text) h p = absurd (true≢false p)
 
--- the text of a list of operations that print nothing
+-- The bytes of operations that print nothing are ASCII.
 pub IsAscii-bytes_of_all : (ops : List Op) → AllByRecursion (λ op. FitsOp op × (is_print op ≡ false)) ops →
     IsAscii (bytes_of_all ops)
 IsAscii-bytes_of_all [] h = IsAscii-nil

@@ -1,4 +1,4 @@
--- How many columns characters take.
+-- The number of columns that characters take.
 use Rattle.std.proofs.Common.{◌≡◌, ℕ, ◌<◌, ◌≤◌, min, false, Option, Some, None, refl, arith}
 use Rattle.std.proofs.lemmas.Bool.Decides.{nat_tests}
 use Rattle.unicode_width.specs.Width.{char_width}
@@ -8,7 +8,7 @@ pub char_width-ascii : (c : ℕ) → 0x20 ≤ c → c < 0x7F → char_width fals
 unfolding char_width
 char_width-ascii c low high = grind (arith, nat_tests)
 
--- printable ASCII takes one column
+-- Printable ASCII takes one column.
 pub columns_of-ascii : (c : ℕ) → 0x20 ≤ c → c < 0x7F → columns_of c ≡ Some 1
 unfolding columns_of
 columns_of-ascii c low high = rw (char_width-ascii c low high) refl
@@ -29,7 +29,7 @@ columns_or-le : (c w : ℕ) (given : Option ℕ) → columns_or c given ≡ Some
 columns_or-le c w (Some n) e = let p : min n 2 ≡ w = cc in omega arith
 columns_or-le c w None e = grind (arith, nat_tests)
 
--- at most two columns
+-- A character takes at most two columns.
 pub columns_of-le : (c w : ℕ) → columns_of c ≡ Some w → w ≤ 2
 unfolding columns_of
 columns_of-le c w e = columns_or-le c w (char_width false c) e

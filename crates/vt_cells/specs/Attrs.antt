@@ -1,10 +1,11 @@
--- Attributes: six components, as ECMA-48's SGR sets them.
+-- Text attributes: the six components that SGR sets (ECMA-48).
 use Rattle.std.specs.Prelude.{Bool, true, false, not, ◌&&◌, ◌==◌, if◌then◌else◌}
 use Rattle.vt_cells.specs.declared.attrs.Intensity.{Intensity}
 use Rattle.vt_cells.specs.declared.attrs.Intensity.TheVariants.{Normal, Bold, Dim}
 use Rattle.vt_cells.specs.declared.color.Color.{Color}
 use Rattle.vt_cells.specs.declared.color.Color.TheVariants as color
 
+-- The text attributes of a cell.
 pub record Attrs : Type 0 where
   pub fgcolor : Color
   pub bgcolor : Color
@@ -13,7 +14,7 @@ pub record Attrs : Type 0 where
   pub underline : Bool
   pub inverse : Bool
 
--- what a fresh screen draws with
+-- The attributes of a new screen: default colours and no style.
 abbrev pub default_attrs : Attrs
 default_attrs = record {
   fgcolor = color.Default;
@@ -24,36 +25,41 @@ default_attrs = record {
   inverse = false;
 }
 
+-- Both intensities are equal.
 abbrev pub same_intensity : Intensity → Intensity → Bool
 same_intensity Normal Normal = true
 same_intensity Bold Bold = true
 same_intensity Dim Dim = true
 same_intensity _ _ = false
 
+-- The attributes are bold.
 abbrev pub is_bold : Attrs → Bool
 is_bold attrs = same_intensity attrs.intensity Bold
 
+-- The attributes are dim.
 abbrev pub is_dim : Attrs → Bool
 is_dim attrs = same_intensity attrs.intensity Dim
 
--- the same colour
+-- Both colours are equal.
 unfoldable pub same_color : Color → Color → Bool
 same_color color.Default color.Default = true
 same_color (color.Idx i) (color.Idx j) = i == j
 same_color (color.Rgb r g b) (color.Rgb s h c) = (r == s) && ((g == h) && (b == c))
 same_color _ _ = false
 
+-- Both truth values are equal.
 abbrev pub same_bool : Bool → Bool → Bool
 same_bool true b = b
 same_bool false b = not b
 
--- the same in all six components
+-- Both sets of attributes are equal in all six components.
 unfoldable pub same_attrs : Attrs → Attrs → Bool
 same_attrs a b =
     same_color a.fgcolor b.fgcolor && (same_color a.bgcolor b.bgcolor && (same_intensity a.intensity b.intensity
     && (same_bool a.italic b.italic && (same_bool a.underline b.underline && same_bool a.inverse b.inverse))))
 
--- the attributes that a change from `was` to `new` makes of others: default ones at once, else part by part
+-- The attributes `attrs` after a reader applies the SGR change from `was` to `new`: the defaults if `new` is the
+-- default, otherwise each component that differs between `was` and `new` is replaced by that of `new`.
 unfoldable pub changed_attrs : Attrs → Attrs → Attrs → Attrs
 changed_attrs was new attrs =
     if same_attrs was new then attrs

@@ -8,54 +8,58 @@ use Rattle.vt_cells.specs.declared.attrs.Intensity.TheVariants.{Normal, Bold, Di
 use Rattle.vt_cells.specs.declared.color.Color.{Color}
 use Rattle.vt_cells.specs.declared.color.Color.TheVariants.{Default, Idx, Rgb}
 
--- the colour of a kind and three parts
+-- The colour of a given kind (0 default, 1 palette, 2 and above RGB) with up to three components.
 abbrev pub unpacked : (kind first second third : ℕ) → Color
 unpacked zero first second third = Default
 unpacked (suc zero) first second third = Idx first
 unpacked (suc (suc kind)) first second third = Rgb first second third
 
--- the number of a colour: its kind in two bits, and behind them three parts of eight bits each
+-- A colour packed into a number: its kind in the two low bits and three components of eight bits above them.
 abbrev pub color_bits : Color → ℕ
 color_bits Default = 0
 color_bits (Idx i) = 1 + 4 * i
 color_bits (Rgb r g b) = 2 + 4 * (r + 256 * (g + 256 * b))
 
+-- The colour that a packed number stands for.
 abbrev pub color_of : ℕ → Color
 color_of bits = unpacked (bits % 4) (bits / 4 % 256) (bits / 4 / 256 % 256) (bits / 4 / 256 / 256 % 256)
 
--- the number of a colour, in 26 bits
+-- The number is a packed colour, which has 26 bits.
 pub record IsColorBits (bits : ℕ) : Type 0 where
   pub small : bits < 67108864
   pub back : color_bits (color_of bits) ≡ bits
 
--- what attributes have beside their colours
+-- The style of attributes: everything but the colours.
 pub record StyleValue : Type 0 where
   pub intensity : Intensity
   pub italic : Bool
   pub underline : Bool
   pub inverse : Bool
 
+-- The style of attributes, without their colours.
 abbrev pub style_of_attrs : Attrs → StyleValue
 style_of_attrs attrs =
     record { intensity = attrs.intensity; italic = attrs.italic; underline = attrs.underline; inverse = attrs.inverse }
 
+-- Both styles are equal.
 unfoldable pub same_style : StyleValue → StyleValue → Bool
 same_style a b =
     same_intensity a.intensity b.intensity
     && (same_bool a.italic b.italic && (same_bool a.underline b.underline && same_bool a.inverse b.inverse))
 
--- the intensity of two bits, and back
+-- The intensity that a number below 4 stands for.
 abbrev pub intensity_of : ℕ → Intensity
 intensity_of zero = Normal
 intensity_of (suc zero) = Bold
 intensity_of (suc (suc bits)) = Dim
 
+-- The number that stands for an intensity.
 abbrev pub intensity_bits : Intensity → ℕ
 intensity_bits Normal = 0
 intensity_bits Bold = 1
 intensity_bits Dim = 2
 
--- the style of a byte, and back: two bits of intensity, and one for each switch
+-- The style that the five low bits of a number stand for: two bits for the intensity and one for each switch.
 abbrev pub style_of : ℕ → StyleValue
 style_of bits = record {
   intensity = intensity_of (bits % 4);
@@ -64,12 +68,13 @@ style_of bits = record {
   inverse = bits / 16 % 2 == 1;
 }
 
+-- A style packed into five bits.
 abbrev pub style_bits : StyleValue → ℕ
 style_bits style =
     intensity_bits style.intensity + (if style.italic then 4 else 0)
     + (if style.underline then 8 else 0) + (if style.inverse then 16 else 0)
 
--- the word of attributes: five bits of style, and 26 of each colour
+-- The attributes with a style and two colours in packed form.
 abbrev pub attrs_of_bits : (style fgcolor bgcolor : ℕ) → Attrs
 attrs_of_bits style fgcolor bgcolor = record {
   fgcolor = color_of fgcolor;
@@ -80,21 +85,25 @@ attrs_of_bits style fgcolor bgcolor = record {
   inverse = (style_of style).inverse;
 }
 
+-- The attributes that a packed word stands for: five bits of style and 26 bits for each colour.
 abbrev pub attrs_of_word : ℕ → Attrs
 attrs_of_word word = attrs_of_bits (word % 32) (word / 32 % 67108864) (word / 32 / 67108864)
 
+-- The word that holds a style and two colours in packed form.
 abbrev pub word_of : (style fgcolor bgcolor : ℕ) → ℕ
 word_of style fgcolor bgcolor = style + 32 * (fgcolor + 67108864 * bgcolor)
 
+-- Attributes packed into one word.
 abbrev pub attrs_word : Attrs → ℕ
 attrs_word attrs = word_of (style_bits (style_of_attrs attrs)) (color_bits attrs.fgcolor) (color_bits attrs.bgcolor)
 
+-- The word is one that attributes are packed into.
 pub record IsAttrsWord (word : ℕ) : Type 0 where
   pub style : style_bits (style_of (word % 32)) ≡ word % 32
   pub fgcolor : IsColorBits (word / 32 % 67108864)
   pub bgcolor : IsColorBits (word / 32 / 67108864)
 
--- attributes give their word back
+-- Unpacking and packing a valid word of attributes gives the same word.
 pub word_back : (word : ℕ) → IsAttrsWord word → attrs_word (attrs_of_word word) ≡ word
 word_back word h =
     (λ i. word_of (h.style i) (h.fgcolor.back i) (h.bgcolor.back i)) ∙ omega arith

@@ -1,82 +1,86 @@
--- Cells: a blank, a glyph, or the right half of the wide glyph before it.
+-- Cells: a blank, a glyph, or the continuation cell (right half) of the wide glyph before it.
 use Rattle.std.specs.Prelude.{ℕ, ◌==◌, Bool, true, false, List, [], ◌∷◌, length, bytes_eq, ◌&&◌, if◌then◌else◌}
 use Rattle.vt_cells.specs.Attrs.{default_attrs, same_bool, same_attrs, Attrs}
 use Rattle.vt_cells.specs.Glyph.{IsGlyphText, marked_text}
 
--- a blank in attributes; a glyph with its text in UTF-8, wide (two columns) or narrow, in attributes; a right half
+-- A cell: a blank with attributes; a glyph with its text in UTF-8, wide (two columns) or narrow, with attributes; or
+-- the continuation cell of a wide glyph.
 pub data CellValue : Type 0 where
   blank : Attrs → CellValue
   glyph : (text : List ℕ) → (wide : Bool) → Attrs → CellValue
   right_half : CellValue
 
+-- A blank with default attributes.
 abbrev pub default_blank : CellValue
 default_blank = blank default_attrs
 
--- the cell that a text, its width, the mark of a right half and attributes stand for: without text it is a blank
+-- The cell with this text, width, continuation flag and attributes: a blank if the text is empty.
 abbrev pub cell_of : List ℕ → Bool → Bool → Attrs → CellValue
 cell_of text wide right attrs =
     if right then right_half else if length text == 0 then blank attrs else glyph text wide attrs
 
--- a wide glyph, which is the left half of two columns
+-- The cell is a wide glyph, which is the first of two columns.
 abbrev pub is_wide : CellValue → Bool
 is_wide (glyph text wide attrs) = wide
 is_wide _ = false
 
+-- The cell is a blank.
 abbrev pub is_blank : CellValue → Bool
 is_blank (blank attrs) = true
 is_blank _ = false
 
--- a cell with a text
+-- The cell is a glyph, that is, it has text.
 abbrev pub is_glyph : CellValue → Bool
 is_glyph (glyph text wide attrs) = true
 is_glyph _ = false
 
+-- The cell is a continuation cell.
 abbrev pub is_right_half : CellValue → Bool
 is_right_half right_half = true
 is_right_half _ = false
 
--- a blank in default attributes
+-- The cell is a blank with default attributes.
 abbrev pub is_default_blank : CellValue → Bool
 is_default_blank (blank attrs) = same_attrs attrs default_attrs
 is_default_blank _ = false
 
--- the text that a cell holds, empty where it is no glyph
+-- The text of a cell, empty unless it is a glyph.
 abbrev pub text_of : CellValue → List ℕ
 text_of (glyph text wide attrs) = text
 text_of _ = []
 
--- the attributes of a cell; a right half has the default ones
+-- The attributes of a cell; a continuation cell has the default ones.
 abbrev pub attrs_of : CellValue → Attrs
 attrs_of (blank attrs) = attrs
 attrs_of (glyph text wide attrs) = attrs
 attrs_of right_half = default_attrs
 
--- the same cell: the same variant with the same text, as wide, in the same attributes
+-- Both cells are equal: the same kind with the same text, width and attributes.
 unfoldable pub same_cell : CellValue → CellValue → Bool
 same_cell (blank a) (blank b) = same_attrs a b
 same_cell (glyph s v a) (glyph t w b) = bytes_eq s t && (same_bool v w && same_attrs a b)
 same_cell right_half right_half = true
 same_cell _ _ = false
 
--- a cell with a mark put on it: a blank becomes a space glyph first, and keeps its attributes
+-- A cell with a combining character added: a blank first becomes the glyph of a space with the same attributes.
 abbrev pub marked : ℕ → CellValue → CellValue
 marked mark (blank attrs) = glyph (marked_text (0x20 ∷ []) mark) false attrs
 marked mark (glyph text wide attrs) = glyph (marked_text text mark) wide attrs
 marked mark right_half = right_half
 
--- a glyph made wide or narrow
+-- A cell whose glyph is made wide or narrow; any other cell is unchanged.
 abbrev pub widened : Bool → CellValue → CellValue
 widened wide (glyph text was attrs) = glyph text wide attrs
 widened wide (blank attrs) = blank attrs
 widened wide right_half = right_half
 
--- a blank or a glyph in other attributes
+-- A cell with different attributes; a continuation cell is unchanged.
 abbrev pub redrawn : Attrs → CellValue → CellValue
 redrawn attrs (blank was) = blank attrs
 redrawn attrs (glyph text wide was) = glyph text wide attrs
 redrawn attrs right_half = right_half
 
--- what every cell is
+-- The invariant of every cell: the text of a glyph is well formed and fits its width.
 abbrev pub IsCell : CellValue → Type 0
 IsCell (glyph text wide attrs) = IsGlyphText text wide
 IsCell _ = Unit {0}

@@ -1,9 +1,9 @@
--- Which error a refused call answers.
+-- The errors that a failed call may return.
 use Rattle.std.specs.Prelude.{◌≡◌, IfErr}
 use Rattle.std.specs.declared.result.Result.{Result}
 use Rattle.vt_cells.specs.declared.error.Error.{Error}
 use Rattle.vt_cells.specs.declared.error.Error.TheVariants.{OutOfMemory}
 
--- the one error is want of memory
+-- If the result is an error, it is `OutOfMemory`.
 abbrev pub OnlyOutOfMemory : {A : Type 0} → Result A Error → Type 0
 OnlyOutOfMemory result = IfErr result (λ error. error ≡ OutOfMemory)

@@ -1,8 +1,9 @@
--- What a sink holds after it refused a part of a text.
+-- The contents of a sink after a failed write of part of a text.
 use Rattle.std.specs.Prelude.{◌≡◌, ◌<◌, ℕ, List, ◌++◌, length}
 
--- of a text behind another one the sink took a beginning, refused some text offered behind that, and was given no more;
--- what it holds then goes by its own relation
+-- A write of `text` to a sink with contents `before` stopped, leaving `after`: the sink took a prefix, failed on a
+-- nonempty string offered next, and was given no more. The sink's own relation `refuses` says what the failed write
+-- leaves.
 pub record IsStopped (refuses : List ℕ → List ℕ → List ℕ → Type 0) (before text after : List ℕ) : Type 0 where
   pub taken : List ℕ
   pub offered : List ℕ

@@ -1,4 +1,4 @@
-//! Attributes that a cell is drawn with.
+//! Text attributes of a cell: colours, intensity, italics, underline and inverse.
 
 ghost use Rattle.std.specs.Prelude.{◌≡◌, ◌<◌, if◌then◌else◌};
 ghost use Rattle.vt_cells.specs.Attrs.{default_attrs, is_bold, is_dim, same_attrs, same_color};
@@ -10,16 +10,16 @@ use crate::color::Color;
 use crate::packed_color::PackedColor;
 use std::marker::Model;
 
-/// The bit of italics. The two bits below this one are the intensity.
+/// The bit for italics in a packed [`Attrs`] word. The two bits below it hold the intensity.
 const ITALIC: u64 = 4;
 
-/// The bit of underlining.
+/// The bit for underlining in a packed [`Attrs`] word.
 const UNDERLINE: u64 = 8;
 
-/// The bit of exchanged colours.
+/// The bit for inverse video in a packed [`Attrs`] word.
 const INVERSE: u64 = 16;
 
-/// How strongly a character is drawn; bold and dim exclude each other.
+/// The intensity of a character. Bold and dim exclude each other.
 #[derive(Clone, Copy, PartialEq, Eq, Debug, Default)]
 pub enum Intensity {
     /// Neither bold nor dim.
@@ -33,18 +33,17 @@ pub enum Intensity {
     Dim,
 }
 
-/// The six parts of the graphic rendition of ECMA-48 that a cell keeps: the
-/// foreground and the background colour, the intensity, and whether characters
-/// are drawn in italics, underlined, and with both colours exchanged.
+/// The text attributes of a cell: foreground and background colour, intensity, italics, underline
+/// and inverse video (ECMA-48, SGR).
 ///
-/// They are kept in one word, which is the same exactly where they are: five
-/// bits for all but the colours, and 26 for each colour.
+/// All six are packed into one word: five bits of style and 26 bits for each colour. Two values are
+/// equal exactly if their words are.
 #[derive(Clone, Copy, Debug)]
 pub struct Attrs {
     word: u64,
 }
 
-/// The six parts, each by itself.
+/// The six attributes, unpacked from the word of an [`Attrs`].
 #[derive(Clone, Copy)]
 struct Parts {
     fgcolor: PackedColor,
@@ -72,7 +71,7 @@ impl Model for Attrs {
 }
 
 impl Attrs {
-    /// The attributes of a fresh screen: default colours, nothing set.
+    /// Returns the attributes of a new screen: default colours and no style.
     #[inline]
     pub fn new() -> Self
         ensures { result ≡ default_attrs }
@@ -80,7 +79,7 @@ impl Attrs {
         Attrs { word: 0 }
     }
 
-    /// The attributes of these parts.
+    /// Packs `parts` into one word.
     #[inline]
     fn of(parts: Parts) -> Self
         ensures { result ≡ record {
@@ -105,7 +104,7 @@ impl Attrs {
         }
     }
 
-    /// Their parts.
+    /// Unpacks the six attributes from the word.
     #[inline]
     fn parts(&self) -> Parts
         ensures { result ≡ record {
@@ -127,7 +126,7 @@ impl Attrs {
         }
     }
 
-    /// Their word, of which 57 bits are used.
+    /// Returns the packed word, which uses the low 57 bits.
     #[inline]
     #[tactic(auto, using(crate::proofs::Packing::word_small))]
     pub(crate) fn word(&self) -> u64
@@ -139,7 +138,7 @@ impl Attrs {
         self.word
     }
 
-    /// The attributes of a word.
+    /// Creates attributes from a packed word.
     #[inline]
     pub(crate) fn of_word(word: u64) -> Self
         requires { IsAttrsWord word }
@@ -148,7 +147,7 @@ impl Attrs {
         Attrs { word }
     }
 
-    /// The foreground colour, as it is kept.
+    /// Returns the foreground colour in packed form.
     #[inline]
     fn front(&self) -> PackedColor
         ensures { result ≡ self.now.fgcolor }
@@ -156,7 +155,7 @@ impl Attrs {
         PackedColor::of_bits((self.word / 32 % 0x400_0000) as u32)
     }
 
-    /// The background colour, as it is kept.
+    /// Returns the background colour in packed form.
     #[inline]
     fn back(&self) -> PackedColor
         ensures { result ≡ self.now.bgcolor }
@@ -164,7 +163,7 @@ impl Attrs {
         PackedColor::of_bits((self.word / 32 / 0x400_0000) as u32)
     }
 
-    /// Whether both are the same in all six parts.
+    /// Returns whether all six attributes equal those of `other`.
     #[inline]
     #[tactic(auto, using(crate::proofs::Packing::words_same))]
     pub fn is_same(&self, other: &Attrs) -> bool
@@ -173,7 +172,7 @@ impl Attrs {
         self.word == other.word
     }
 
-    /// Whether both have the same foreground colour.
+    /// Returns whether the foreground colour equals that of `other`.
     #[inline]
     pub fn has_fgcolor_of(&self, other: &Attrs) -> bool
         ensures { result ≡ same_color self.now.fgcolor other.now.fgcolor }
@@ -181,7 +180,7 @@ impl Attrs {
         self.front().is_same(&other.front())
     }
 
-    /// Whether both have the same background colour.
+    /// Returns whether the background colour equals that of `other`.
     #[inline]
     pub fn has_bgcolor_of(&self, other: &Attrs) -> bool
         ensures { result ≡ same_color self.now.bgcolor other.now.bgcolor }
@@ -189,7 +188,7 @@ impl Attrs {
         self.back().is_same(&other.back())
     }
 
-    /// Whether both are the same but for their colours.
+    /// Returns whether everything but the colours equals that of `other`.
     #[inline]
     #[tactic(auto, using(crate::proofs::Packing::bits_same))]
     pub fn has_style_of(&self, other: &Attrs) -> bool
@@ -198,7 +197,7 @@ impl Attrs {
         self.word % 32 == other.word % 32
     }
 
-    /// The foreground colour.
+    /// Returns the foreground colour.
     #[inline]
     pub fn fgcolor(&self) -> Color
         ensures { result ≡ self.now.fgcolor }
@@ -206,7 +205,7 @@ impl Attrs {
         self.front().color()
     }
 
-    /// The background colour.
+    /// Returns the background colour.
     #[inline]
     pub fn bgcolor(&self) -> Color
         ensures { result ≡ self.now.bgcolor }
@@ -214,7 +213,7 @@ impl Attrs {
         self.back().color()
     }
 
-    /// Normal, bold or dim.
+    /// Returns the intensity.
     #[inline]
     pub fn intensity(&self) -> Intensity
         ensures { result ≡ self.now.intensity }
@@ -226,7 +225,7 @@ impl Attrs {
         }
     }
 
-    /// Whether characters are drawn bold.
+    /// Returns whether characters are bold.
     #[inline]
     pub fn bold(&self) -> bool
         ensures { result ≡ is_bold self.now }
@@ -234,7 +233,7 @@ impl Attrs {
         self.intensity() == Intensity::Bold
     }
 
-    /// Whether characters are drawn dim.
+    /// Returns whether characters are dim.
     #[inline]
     pub fn dim(&self) -> bool
         ensures { result ≡ is_dim self.now }
@@ -242,7 +241,7 @@ impl Attrs {
         self.intensity() == Intensity::Dim
     }
 
-    /// Whether characters are drawn in italics.
+    /// Returns whether characters are in italics.
     #[inline]
     pub fn italic(&self) -> bool
         ensures { result ≡ self.now.italic }
@@ -250,7 +249,7 @@ impl Attrs {
         self.word / ITALIC % 2 == 1
     }
 
-    /// Whether characters are underlined.
+    /// Returns whether characters are underlined.
     #[inline]
     pub fn underline(&self) -> bool
         ensures { result ≡ self.now.underline }
@@ -258,7 +257,7 @@ impl Attrs {
         self.word / UNDERLINE % 2 == 1
     }
 
-    /// Whether foreground and background are exchanged.
+    /// Returns whether foreground and background colours are exchanged (inverse video).
     #[inline]
     pub fn inverse(&self) -> bool
         ensures { result ≡ self.now.inverse }
@@ -286,7 +285,7 @@ impl Attrs {
         });
     }
 
-    /// Makes characters bold, dim, or neither.
+    /// Sets the intensity.
     pub fn set_intensity(&mut self, intensity: Intensity)
         ensures { self.new ≡ record self.old { intensity = intensity } }
     {
@@ -296,7 +295,7 @@ impl Attrs {
         });
     }
 
-    /// Sets or ends italics.
+    /// Turns italics on or off.
     pub fn set_italic(&mut self, italic: bool)
         ensures { self.new ≡ record self.old { italic = italic } }
     {
@@ -306,7 +305,7 @@ impl Attrs {
         });
     }
 
-    /// Sets or ends underlining.
+    /// Turns underlining on or off.
     pub fn set_underline(&mut self, underline: bool)
         ensures { self.new ≡ record self.old { underline = underline } }
     {
@@ -316,7 +315,7 @@ impl Attrs {
         });
     }
 
-    /// Sets or ends the exchange of foreground and background.
+    /// Turns inverse video on or off.
     pub fn set_inverse(&mut self, inverse: bool)
         ensures { self.new ≡ record self.old { inverse = inverse } }
     {
@@ -337,7 +336,7 @@ impl PartialEq for Attrs {
 
     ghost laws = { partial_equiv_from_equiv attrs_eq_equiv };
 
-    /// Whether both are the same in all six parts.
+    /// Returns whether all six attributes equal those of `other`.
     #[inline]
     fn eq(&self, other: &Self) -> bool
         ensures value { result ≡ attrs_eq self.now other.now }
@@ -364,7 +363,7 @@ impl Default for Attrs {
     }
 }
 
-/// The five lowest bits of a word: all but the colours.
+/// Returns the five low bits of a packed [`Attrs`] word, which hold everything but the colours.
 #[inline]
 #[tactic(auto, using(crate::proofs::Packing::style_back, crate::proofs::Packing::style_small))]
 fn style_bits(intensity: Intensity, italic: bool, underline: bool, inverse: bool) -> u64
@@ -383,7 +382,7 @@ fn style_bits(intensity: Intensity, italic: bool, underline: bool, inverse: bool
         + switch_bits(inverse, INVERSE)
 }
 
-/// The two lowest bits.
+/// Returns the two low bits of a packed [`Attrs`] word, which hold the intensity.
 #[inline]
 fn intensity_bits(intensity: Intensity) -> u64
     ensures { result ≡ intensity_bits intensity }
@@ -395,7 +394,7 @@ fn intensity_bits(intensity: Intensity) -> u64
     }
 }
 
-/// The bit of a switch, where it is on.
+/// Returns `bit` if `on`, otherwise 0.
 #[inline]
 fn switch_bits(on: bool, bit: u64) -> u64
     requires { bit < 32 }

@@ -1,4 +1,4 @@
-//! Small texts, gathered before they are written.
+//! A buffer that gathers short strings before they are written to a sink.
 
 ghost use Rattle.std.specs.Prelude.{◌≡◌, ◌+◌, ◌++◌, ◌<◌, ◌≤◌, [], length, IsErr, OnErr, OnOk};
 ghost use Rattle.vt_cells.specs.BufferInternals.{gathered};
@@ -8,12 +8,13 @@ use crate::sink::Sink;
 use std::marker::Model;
 use std::str;
 
-/// How many bytes are gathered at most.
+/// The capacity of a [`Buffer`] in bytes.
 const ROOM: usize = 128;
 
-/// A text of at most 128 bytes that is not yet written: small texts are added to
-/// it, and written together. What was added reaches the sink with
-/// [`Buffer::flush`] at the latest.
+/// A buffer of at most 128 bytes in front of a [`Sink`].
+///
+/// Short strings are gathered and written together. Call [`Buffer::flush`] at the end: only then is
+/// everything that was added sure to have reached the sink.
 #[derive(Drop)]
 pub struct Buffer {
     bytes: [u8; ROOM],
@@ -32,7 +33,7 @@ impl Model for Buffer {
 }
 
 impl Buffer {
-    /// The empty text.
+    /// Creates an empty buffer.
     #[inline]
     pub fn new() -> Self
         ensures { result ≡ [] }
@@ -43,10 +44,12 @@ impl Buffer {
         }
     }
 
-    /// Adds a text; where there is no room for it, what was added before and the
-    /// text itself are written. Else nothing is written.
+    /// Appends `text`. If it does not fit, writes the buffered bytes and then `text` to `sink`;
+    /// otherwise writes nothing.
     ///
-    /// An error is the sink's own; then part of the text may have been written.
+    /// # Errors
+    ///
+    /// Returns the sink's error. Part of the output may have been written by then.
     #[inline(always)]
     #[tactic(auto, unfolding(crate::specs::BufferInternals::gathered))]
     pub fn add<S: Sink>(&mut self, sink: &mut S, text: &str) -> Result<(), S::Error>
@@ -71,9 +74,11 @@ impl Buffer {
         Ok(())
     }
 
-    /// Writes what was added, if anything was.
+    /// Writes the buffered bytes to `sink` and empties the buffer. Writes nothing if it is empty.
     ///
-    /// An error is the sink's own; then part of the text may have been written.
+    /// # Errors
+    ///
+    /// Returns the sink's error. Part of the output may have been written by then.
     #[inline(never)]
     #[tactic(auto, unfolding(crate::specs::BufferInternals::gathered))]
     pub fn flush<S: Sink>(&mut self, sink: &mut S) -> Result<(), S::Error>
@@ -91,7 +96,7 @@ impl Buffer {
         Ok(())
     }
 
-    /// The text so far.
+    /// Returns the buffered bytes as a string.
     #[inline]
     fn as_str(&self) -> &str
         ensures { result.now ≡ self.now }
@@ -99,7 +104,7 @@ impl Buffer {
         unsafe { str::from_utf8_unchecked(&self.bytes[..self.len]) }
     }
 
-    /// How many bytes there is room for.
+    /// Returns the number of bytes that still fit.
     #[inline]
     fn room(&self) -> usize
         ensures { length self.now + result ≡ 128 }
@@ -107,7 +112,7 @@ impl Buffer {
         ROOM - self.len
     }
 
-    /// Appends a text that there is room for.
+    /// Appends `text`, which must fit.
     #[inline(always)]
     fn push(&mut self, text: &str)
         requires { length self.old + length text.now ≤ 128 }
@@ -118,7 +123,7 @@ impl Buffer {
         self.len = end;
     }
 
-    /// The same for a text of one byte, as most glyphs have.
+    /// Appends a string of one byte, the length of most glyphs; it must fit.
     #[inline(always)]
     fn push_one(&mut self, text: &str)
         requires room { length self.old + 1 ≤ 128 }
@@ -130,7 +135,7 @@ impl Buffer {
         self.len = end;
     }
 
-    /// Forgets the text.
+    /// Empties the buffer.
     #[inline]
     fn clear(&mut self)
         ensures { self.new ≡ [] }
@@ -139,7 +144,7 @@ impl Buffer {
     }
 }
 
-/// Copies the one byte that there is.
+/// Copies the single byte of `from` to `to`.
 #[inline(always)]
 #[tactic(auto, using(crate::proofs::Buffers::one_set))]
 fn copy_one(to: &mut [u8], from: &[u8])
@@ -150,8 +155,10 @@ fn copy_one(to: &mut [u8], from: &[u8])
     to[0] = from[0];
 }
 
-/// Copies bytes; where they are two or three, as of most glyphs with more than
-/// one, without a call.
+/// Copies `from` to `to`, which has the same length.
+///
+/// Two or three bytes, the length of most glyphs outside ASCII, are copied inline instead of by a
+/// call of `memcpy`.
 #[inline(always)]
 #[tactic(auto, using(crate::proofs::Buffers::two_set, crate::proofs::Buffers::three_set))]
 fn copy(to: &mut [u8], from: &[u8])

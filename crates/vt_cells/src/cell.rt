@@ -1,4 +1,4 @@
-//! One cell of a screen.
+//! A single cell of the screen.
 
 ghost use Rattle.std.specs.Prelude.{◌≡◌, ◌↔◌, length, IsTrue, bytes_eq};
 ghost use Rattle.std.specs.Int.{to_le_bytes, w64};
@@ -20,16 +20,16 @@ use std::marker::Model;
 use std::str;
 use unicode_width::UnicodeWidthStr;
 
-/// A cell whose text has this many bytes takes no further mark.
+/// The length of a text in bytes at which its cell stops accepting combining characters.
 pub const MARK_LIMIT: u8 = 26;
 
-/// The bytes of a cell's array: one character more than [`MARK_LIMIT`].
+/// The size of a cell's text array in bytes: [`MARK_LIMIT`] and one more character.
 const TEXT_ROOM: usize = 30;
 
-/// A cell: a blank, a glyph, or the right half of the wide glyph before it.
+/// A cell of the screen: a blank, a glyph, or the continuation cell of the wide glyph before it.
 ///
-/// A glyph is one character that takes columns and the marks put on it, at
-/// most 29 bytes in UTF-8.
+/// A glyph is one character of width 1 or 2 with the combining characters added to it, at most 29
+/// bytes of UTF-8.
 #[derive(Clone, Copy, Debug)]
 pub struct Cell {
     head: Head,
@@ -56,8 +56,8 @@ impl Model for Cell {
 }
 
 impl Cell {
-    /// The text: a character and its marks, 1 to 29 bytes, or nothing for a
-    /// blank and a right half.
+    /// Returns the cell's text: a character with its combining characters, 1 to 29 bytes of UTF-8.
+    /// Empty for a blank and for a continuation cell.
     #[inline]
     pub fn contents(&self) -> &str
         ensures value { result.now ≡ text_of self.now }
@@ -67,7 +67,7 @@ impl Cell {
         unsafe { str::from_utf8_unchecked(bytes) }
     }
 
-    /// Whether the cell has a text, as each glyph has.
+    /// Returns whether the cell has text, that is, whether it is a glyph.
     #[inline]
     pub fn has_contents(&self) -> bool
         ensures { result ≡ is_glyph self.now }
@@ -75,7 +75,7 @@ impl Cell {
         self.head.shape().len() > 0
     }
 
-    /// Whether the cell is a wide glyph, the left half of two columns.
+    /// Returns whether the cell is the first of the two cells of a wide glyph.
     #[inline]
     pub fn is_wide(&self) -> bool
         ensures { result ≡ is_wide self.now }
@@ -83,7 +83,7 @@ impl Cell {
         self.head.shape().wide()
     }
 
-    /// Whether the cell is the right half of a wide glyph.
+    /// Returns whether the cell is the continuation cell of a wide glyph.
     #[inline]
     pub fn is_wide_continuation(&self) -> bool
         ensures { result ≡ is_right_half self.now }
@@ -91,7 +91,7 @@ impl Cell {
         self.head.shape().is_right_half()
     }
 
-    /// Whether both are the same cell.
+    /// Returns whether both cells have the same text, width, kind and attributes.
     #[inline]
     fn is_same(&self, other: &Cell) -> bool
         ensures { result ≡ same_cell self.now other.now }
@@ -102,8 +102,8 @@ impl Cell {
         self.has_text_of(other)
     }
 
-    /// Whether both are alike beside the text: its length, its width, whether
-    /// they are right halves, and their attributes.
+    /// Returns whether both cells agree in everything but the bytes of their text: its length and
+    /// width, whether they are continuation cells, and the attributes.
     #[inline]
     fn has_head_of(&self, other: &Cell) -> bool
         ensures value { result ≡ same_head (head_of_cell self.now) (head_of_cell other.now) }
@@ -113,8 +113,9 @@ impl Cell {
         self.head.is_same(&other.head)
     }
 
-    /// Whether both have the same text, of one length. The first eight bytes are
-    /// compared as one word; few texts have more.
+    /// Returns whether both cells, which have text of the same length, have the same text.
+    ///
+    /// The first eight bytes are compared as one word; few cells have more.
     #[inline]
     fn has_text_of(&self, other: &Cell) -> bool
         requires { length (text_of self.now) ≡ length (text_of other.now) }
@@ -129,7 +130,7 @@ impl Cell {
         self.has_bytes_of(other)
     }
 
-    /// The same test, of each byte.
+    /// Returns whether both cells have the same text, comparing all its bytes.
     #[inline(never)]
     fn has_bytes_of(&self, other: &Cell) -> bool
         ensures { result ≡ bytes_eq (text_of self.now) (text_of other.now) }
@@ -137,8 +138,9 @@ impl Cell {
         self.contents() == other.contents()
     }
 
-    /// Bits that are all 0 only where both are the same cell. A text of more
-    /// than seven bytes sets some, since only so many are compared.
+    /// Returns a bit set that is 0 only if both cells are equal.
+    ///
+    /// It is also nonzero if a text has more than seven bytes, because only so many are compared.
     #[inline(always)]
     pub(crate) fn odd_bits(&self, other: &Cell) -> u64
         ensures { result ≡ 0 → self.now ≡ other.now }
@@ -146,7 +148,8 @@ impl Cell {
         self.head.odd_bits(&other.head) | (self.front_word() ^ other.front_word())
     }
 
-    /// The first eight bytes, of the text and of the zeros behind it, as one word.
+    /// Returns the first eight bytes of the text array, text followed by zeros, as a little-endian
+    /// word.
     #[inline(always)]
     fn front_word(&self) -> u64
         ensures { to_le_bytes w64 result ≡ front (text_of self.now) }
@@ -157,7 +160,7 @@ impl Cell {
         ])
     }
 
-    /// The foreground colour.
+    /// Returns the foreground colour.
     #[inline]
     pub fn fgcolor(&self) -> Color
         ensures { result ≡ (attrs_of self.now).fgcolor }
@@ -165,7 +168,7 @@ impl Cell {
         self.head.attrs().fgcolor()
     }
 
-    /// The background colour.
+    /// Returns the background colour.
     #[inline]
     pub fn bgcolor(&self) -> Color
         ensures { result ≡ (attrs_of self.now).bgcolor }
@@ -173,7 +176,7 @@ impl Cell {
         self.head.attrs().bgcolor()
     }
 
-    /// Whether the cell is drawn bold.
+    /// Returns whether the cell is bold.
     #[inline]
     pub fn bold(&self) -> bool
         ensures { result ≡ is_bold (attrs_of self.now) }
@@ -181,7 +184,7 @@ impl Cell {
         self.head.attrs().bold()
     }
 
-    /// Whether the cell is drawn dim.
+    /// Returns whether the cell is dim.
     #[inline]
     pub fn dim(&self) -> bool
         ensures { result ≡ is_dim (attrs_of self.now) }
@@ -189,7 +192,7 @@ impl Cell {
         self.head.attrs().dim()
     }
 
-    /// Whether the cell is drawn in italics.
+    /// Returns whether the cell is in italics.
     #[inline]
     pub fn italic(&self) -> bool
         ensures { result ≡ (attrs_of self.now).italic }
@@ -197,7 +200,7 @@ impl Cell {
         self.head.attrs().italic()
     }
 
-    /// Whether the cell is underlined.
+    /// Returns whether the cell is underlined.
     #[inline]
     pub fn underline(&self) -> bool
         ensures { result ≡ (attrs_of self.now).underline }
@@ -205,7 +208,7 @@ impl Cell {
         self.head.attrs().underline()
     }
 
-    /// Whether foreground and background are exchanged.
+    /// Returns whether foreground and background colours are exchanged (inverse video).
     #[inline]
     pub fn inverse(&self) -> bool
         ensures { result ≡ (attrs_of self.now).inverse }
@@ -224,7 +227,7 @@ impl PartialEq for Cell {
 
     ghost laws = { partial_equiv_from_equiv cell_eq_equiv };
 
-    /// Whether both are the same cell: text, width, both flags and attributes.
+    /// Returns whether both cells have the same text, width, kind and attributes.
     #[inline]
     fn eq(&self, other: &Self) -> bool
         ensures value { result ≡ cell_eq self.now other.now }
@@ -241,7 +244,7 @@ impl Eq for Cell {
     ghost laws = { cell_eq_equiv };
 }
 
-/// Whether the cell is a blank.
+/// Returns whether the cell is a blank: no text, and not a continuation cell.
 #[inline]
 pub fn is_blank(cell: &Cell) -> bool
     ensures { result ≡ is_blank cell.now }
@@ -249,7 +252,7 @@ pub fn is_blank(cell: &Cell) -> bool
     cell.head.shape().is_blank()
 }
 
-/// Whether `unicode_width` gives the whole text more than one column.
+/// Returns whether `unicode_width` counts more than one column for the whole text of the cell.
 #[tactic(auto, unfolding(crate::specs::Glyph::is_wide_text))]
 pub fn is_wide_text(cell: &Cell) -> bool
     ensures { result ≡ is_wide_text (text_of cell.now) }
@@ -257,7 +260,7 @@ pub fn is_wide_text(cell: &Cell) -> bool
     cell.contents().width() > 1
 }
 
-/// The attributes; default ones for a right half.
+/// Returns the attributes of the cell; a continuation cell has the default ones.
 #[inline]
 pub fn attrs(cell: &Cell) -> Attrs
     ensures { result ≡ attrs_of cell.now }
@@ -265,7 +268,7 @@ pub fn attrs(cell: &Cell) -> Attrs
     cell.head.attrs()
 }
 
-/// Whether these are its attributes; they are compared where they lie.
+/// Returns whether the cell has these attributes.
 #[inline]
 pub fn has_attrs(cell: &Cell, attrs: &Attrs) -> bool
     ensures { result ≡ same_attrs attrs.now (attrs_of cell.now) }

@@ -3,13 +3,13 @@
 /// A foreground or background colour of a cell.
 #[derive(Clone, Copy, PartialEq, Eq, Debug, Default)]
 pub enum Color {
-    /// The terminal's own colour.
+    /// The terminal's default colour.
     #[default]
     Default,
 
-    /// A colour of the palette of 256.
+    /// A colour of the 256-colour palette, by its index.
     Idx(u8),
 
-    /// A colour by its red, green and blue parts.
+    /// A colour given by its red, green and blue components.
     Rgb(u8, u8, u8),
 }

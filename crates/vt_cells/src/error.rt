@@ -1,22 +1,22 @@
-//! What a call can refuse.
+//! The error type of this library.
 
 use std::alloc::AllocError;
 use std::{fmt, io};
 
-/// Why a call was refused.
+/// The reason why a call failed.
 #[derive(Clone, Copy, PartialEq, Eq, Debug)]
 pub enum Error {
-    /// An allocation was refused by the allocator.
+    /// An allocation failed.
     OutOfMemory,
 
-    /// The parser ran out of memory before, and reads nothing any more.
+    /// The parser ran out of memory earlier and accepts no more input.
     Failed,
 
-    /// A mirror has given the greatest viewer number, `u64::MAX`, and has none left.
+    /// The mirror has already assigned the largest viewer number, `u64::MAX`.
     NoNumber,
 }
 
-/// A refused allocation, for `?`.
+/// Converts a failed allocation to [`Error::OutOfMemory`], for the operator `?`.
 impl From<AllocError> for Error {
     ghost use Rattle.std.specs.Prelude.{◌≡◌};
     ghost use Rattle.vt_cells.specs.declared.error.Error.TheVariants.{OutOfMemory};
@@ -28,8 +28,8 @@ impl From<AllocError> for Error {
     }
 }
 
-/// For `?` where input and output are handled: of the kind `OutOfMemory` for a refused allocation, and
-/// of the kind `Other` for the others.
+/// Converts an error for code that does input and output: [`Error::OutOfMemory`] to the kind
+/// `OutOfMemory`, any other to the kind `Other`.
 impl From<Error> for io::Error {
     ghost use Rattle.std.specs.IoError.{error_kind};
     ghost use Rattle.std.specs.Prelude.{◌≡◌};
@@ -45,7 +45,7 @@ impl From<Error> for io::Error {
     }
 }
 
-/// `out of memory`, `parser failed` or `no viewer number left`.
+/// Displays as `out of memory`, `parser failed` or `no viewer number left`.
 impl fmt::Display for Error {
     ghost use Rattle.std.specs.Prelude.{Some};
     ghost use Rattle.vt_cells.specs.ErrorText.{error_text};

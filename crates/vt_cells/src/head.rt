@@ -1,4 +1,4 @@
-//! What a cell is beside its text, in one word.
+//! Everything about a cell but the bytes of its text, in one word.
 
 ghost use Rattle.std.specs.Prelude.{◌≡◌, ◌<◌, false, IsTrue};
 ghost use Rattle.vt_cells.specs.Attrs.{default_attrs};
@@ -8,8 +8,8 @@ use crate::attrs::Attrs;
 use crate::shape::Shape;
 use std::marker::Model;
 
-/// The shape of a cell in the seven lowest bits of a word, and its attributes
-/// in the others: two are the same exactly where their words are.
+/// The shape of a cell in the seven low bits of a word, and its attributes in the higher ones. Two
+/// heads are equal exactly if their words are.
 #[derive(Clone, Copy, Debug)]
 pub struct Head {
     word: u64,
@@ -30,7 +30,7 @@ impl Model for Head {
 }
 
 impl Head {
-    /// That of a cell of this shape and in these attributes.
+    /// Packs a shape and attributes into one word.
     #[inline]
     pub fn of(shape: Shape, attrs: Attrs) -> Self
         ensures { result ≡ record { attrs = attrs; shape = shape } }
@@ -42,7 +42,8 @@ impl Head {
         }
     }
 
-    /// That of a text of so many bytes; without a text it is that of a blank.
+    /// Creates the head of a cell with `len` bytes of text; it is the head of a blank if `len` is
+    /// 0.
     #[inline]
     pub fn text(len: u8, wide: bool, attrs: Attrs) -> Self
         requires { len < 32 }
@@ -54,7 +55,7 @@ impl Head {
         Head::of(Shape::text(len, wide), attrs)
     }
 
-    /// That of the right half of a wide glyph.
+    /// Creates the head of a continuation cell: default attributes and no text.
     #[inline]
     pub fn right_half() -> Self
         ensures { result ≡ record { attrs = default_attrs; shape = half_shape } }
@@ -62,7 +63,7 @@ impl Head {
         Head::of(Shape::right_half(), Attrs::new())
     }
 
-    /// The shape.
+    /// Returns the shape.
     #[inline]
     pub fn shape(&self) -> Shape
         ensures { result ≡ self.now.shape }
@@ -70,7 +71,7 @@ impl Head {
         Shape::of_bits((self.word % 128) as u8)
     }
 
-    /// The attributes.
+    /// Returns the attributes.
     #[inline]
     pub fn attrs(&self) -> Attrs
         ensures { result ≡ self.now.attrs }
@@ -78,7 +79,7 @@ impl Head {
         Attrs::of_word(self.word / 128)
     }
 
-    /// Whether the text has more than seven bytes.
+    /// Returns whether the text has more than seven bytes.
     #[inline]
     #[tactic(auto, using(crate::proofs::Shapes::short_head, crate::proofs::Shapes::long_head))]
     pub fn is_long(&self) -> bool
@@ -88,9 +89,11 @@ impl Head {
         self.word / 8 % 4 != 0
     }
 
-    /// Bits that are all 0 only where both are the same, and the text has at most
-    /// seven bytes: the bits in which the words differ, and the two of the length
-    /// that are 0 below eight.
+    /// Returns a bit set that is 0 only if both heads are equal and the text has at most seven
+    /// bytes.
+    ///
+    /// It consists of the bits in which the words differ and the two bits of the length that are 0
+    /// below eight.
     #[inline(always)]
     #[tactic(auto, using(crate::proofs::Words::heads_even, crate::proofs::Words::short_even))]
     pub fn odd_bits(&self, other: &Head) -> u64
@@ -100,7 +103,7 @@ impl Head {
         (self.word ^ other.word) | self.word % 32 / 8 * 8
     }
 
-    /// Whether both are the same.
+    /// Returns whether both heads are equal.
     #[inline]
     #[tactic(auto, using(crate::proofs::Shapes::heads_same))]
     pub fn is_same(&self, other: &Head) -> bool

@@ -1,61 +1,61 @@
-//! Modes that a program sets for the terminal's input and its cursor.
+//! Modes for mouse reporting and for the cursor style.
 
-/// Which mouse events the terminal reports (xterm's private modes 9, 1000, 1002 and 1003).
+/// The mouse events that the terminal reports (xterm, DEC private modes 9, 1000, 1002 and 1003).
 #[derive(Clone, Copy, PartialEq, Eq, Debug, Default)]
 pub enum MouseProtocolMode {
-    /// None.
+    /// Mouse events are not reported.
     #[default]
     None,
 
-    /// Button presses.
+    /// Button presses are reported (mode 9).
     Press,
 
-    /// Button presses and releases.
+    /// Button presses and releases are reported (mode 1000).
     PressRelease,
 
-    /// Presses and releases, and motion while a button is down.
+    /// Button presses and releases are reported, and motion while a button is down (mode 1002).
     ButtonMotion,
 
-    /// Presses and releases, and all motion.
+    /// Button presses and releases are reported, and all motion (mode 1003).
     AnyMotion,
 }
 
-/// How mouse events are encoded (xterm's private modes 1005 and 1006).
+/// The encoding of reported mouse events (xterm, DEC private modes 1005 and 1006).
 #[derive(Clone, Copy, PartialEq, Eq, Debug, Default)]
 pub enum MouseProtocolEncoding {
-    /// One printable byte a number.
+    /// Each number is one byte.
     #[default]
     Default,
 
-    /// One character in UTF-8 a number.
+    /// Each number is one character in UTF-8 (mode 1005).
     Utf8,
 
-    /// Decimal numbers.
+    /// Numbers are decimal, in an SGR-like sequence (mode 1006).
     Sgr,
 }
 
-/// The look of the cursor (DECSCUSR, numbers 0 to 6).
+/// The cursor style (DECSCUSR, parameters 0 to 6).
 #[derive(Clone, Copy, PartialEq, Eq, Debug, Default)]
 pub enum CursorStyle {
-    /// The terminal's own.
+    /// The terminal's default cursor (0).
     #[default]
     Default,
 
-    /// A blinking block.
+    /// A blinking block (1).
     BlinkBlock,
 
-    /// A steady block.
+    /// A steady block (2).
     SteadyBlock,
 
-    /// A blinking underline.
+    /// A blinking underline (3).
     BlinkUnderline,
 
-    /// A steady underline.
+    /// A steady underline (4).
     SteadyUnderline,
 
-    /// A blinking vertical bar.
+    /// A blinking vertical bar (5).
     BlinkVerticalBar,
 
-    /// A steady vertical bar.
+    /// A steady vertical bar (6).
     SteadyVerticalBar,
 }

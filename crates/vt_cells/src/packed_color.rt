@@ -1,4 +1,4 @@
-//! A colour in 26 bits.
+//! A colour packed into 26 bits.
 
 ghost use Rattle.std.specs.Prelude.{◌≡◌};
 ghost use Rattle.vt_cells.specs.Attrs.{same_color};
@@ -8,9 +8,8 @@ ghost use Rattle.vt_cells.specs.declared.color.Color.TheVariants as color;
 use crate::color::Color;
 use std::marker::Model;
 
-/// A colour as its kind in the two lowest bits and three parts of eight bits
-/// behind them, 0 where the kind has none: two colours are the same exactly
-/// where their numbers are.
+/// A colour packed into 26 bits: its kind in the two low bits and three components of eight bits
+/// above them, 0 if the kind does not use them. Two colours are equal exactly if their bits are.
 #[derive(Clone, Copy, Debug)]
 pub struct PackedColor {
     bits: u32,
@@ -32,7 +31,7 @@ impl Model for PackedColor {
 }
 
 impl PackedColor {
-    /// This colour.
+    /// Packs a colour.
     #[inline]
     pub fn of(color: Color) -> Self
         ensures { result ≡ color }
@@ -44,7 +43,7 @@ impl PackedColor {
         }
     }
 
-    /// A colour of the palette.
+    /// Packs a colour of the palette.
     #[inline]
     fn index(i: u8) -> Self
         ensures { result ≡ color.Idx i }
@@ -54,7 +53,7 @@ impl PackedColor {
         }
     }
 
-    /// A colour of three parts.
+    /// Packs a colour given by its red, green and blue components.
     #[inline]
     fn rgb(r: u8, g: u8, b: u8) -> Self
         ensures { result ≡ color.Rgb r g b }
@@ -64,7 +63,7 @@ impl PackedColor {
         }
     }
 
-    /// The colour.
+    /// Unpacks the colour.
     #[inline]
     pub fn color(&self) -> Color
         ensures { result ≡ self.now }
@@ -80,7 +79,7 @@ impl PackedColor {
         }
     }
 
-    /// Its number.
+    /// Returns the packed bits.
     #[inline]
     pub fn bits(&self) -> u32
         ensures value { result ≡ color_bits self.now }
@@ -90,7 +89,7 @@ impl PackedColor {
         self.bits
     }
 
-    /// The colour of a number.
+    /// Creates a packed colour from its bits.
     #[inline]
     pub fn of_bits(bits: u32) -> Self
         requires { IsColorBits bits }
@@ -99,7 +98,7 @@ impl PackedColor {
         PackedColor { bits }
     }
 
-    /// Whether both are the same colour.
+    /// Returns whether both colours are equal.
     #[inline]
     #[tactic(auto, using(crate::proofs::Packing::packed_same))]
     pub fn is_same(&self, other: &PackedColor) -> bool

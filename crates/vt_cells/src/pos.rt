@@ -1,11 +1,11 @@
 //! Positions on a screen.
 
-/// A position: row and column, both counted from 0.
+/// A position on the screen as a row and a column, both counted from 0.
 #[derive(Clone, Copy, PartialEq, Eq, Debug, Default)]
 pub struct Pos {
-    /// The row, from the top.
+    /// The row, counted from the top.
     pub row: u16,
 
-    /// The column, from the left; one past the last column is a pending wrap.
+    /// The column, counted from the left. One past the last column means that a wrap is pending.
     pub col: u16,
 }

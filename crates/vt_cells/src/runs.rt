@@ -1,12 +1,14 @@
-//! Runs of cells.
+//! Comparison of runs of cells.
 
 ghost use Rattle.std.specs.Prelude.{◌≡◌, ◌<◌, ◌≤◌, ℕ, IsTrue, length, slice_index_or};
 ghost use Rattle.vt_cells.specs.Cell.{CellValue};
 
 use crate::cell::Cell;
 
-/// A number of cells, from the first on, that are the same in both rows. There
-/// may be more: groups of four are compared, with texts of at most seven bytes.
+/// Returns a number of leading cells in which both rows are equal.
+///
+/// It is a lower bound: cells are compared in groups of four, and a cell whose text has more than
+/// seven bytes ends the run.
 pub fn same_run(own: &[Cell], others: &[Cell]) -> usize
     ensures own { result ≤ length own.now }
     ensures others { result ≤ length others.now }
@@ -21,9 +23,9 @@ pub fn same_run(own: &[Cell], others: &[Cell]) -> usize
     count
 }
 
-/// True only where four cells are the same as four others; their texts are short
-/// then. What differs is gathered in one word, so that the compiler can compare
-/// vectors.
+/// Returns `true` only if two groups of four cells are equal and no text has more than seven bytes.
+///
+/// The differences are gathered in one word, so that the compiler can vectorize the comparison.
 #[inline(always)]
 fn four_same(own: &[Cell], others: &[Cell]) -> bool
     requires own { length own.now ≡ 4 }

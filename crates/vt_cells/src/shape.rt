@@ -1,18 +1,18 @@
-//! What a cell is, in one byte.
+//! The kind, width and text length of a cell, in one byte.
 
 ghost use Rattle.std.specs.Prelude.{◌≡◌, ◌<◌, false, true};
 ghost use Rattle.vt_cells.specs.CellInternals.{blank_shape, same_shape, shape_bits, shape_of};
 
 use std::marker::Model;
 
-/// The bit of a wide glyph. The bits below this one are the length of the text.
+/// The bit for a wide glyph in a packed [`Shape`]. The bits below it hold the length of the text.
 const WIDE: u8 = 32;
 
-/// The bit of a right half.
+/// The bit for a continuation cell in a packed [`Shape`].
 const RIGHT_HALF: u8 = 64;
 
-/// The length of a cell's text in bytes, whether it is a wide glyph, and whether
-/// it is a right half, in one byte.
+/// The shape of a cell, in one byte: the length of its text in bytes, whether it is a wide glyph,
+/// and whether it is a continuation cell.
 #[derive(Clone, Copy, Debug)]
 pub struct Shape {
     bits: u8,
@@ -34,7 +34,8 @@ impl Model for Shape {
 }
 
 impl Shape {
-    /// That of a text of so many bytes; without a text it is that of a blank.
+    /// Creates the shape of a cell with `len` bytes of text; it is the shape of a blank if `len` is
+    /// 0.
     #[inline]
     #[tactic(auto, using(crate::proofs::Shapes::text_back))]
     pub fn text(len: u8, wide: bool) -> Self
@@ -46,7 +47,7 @@ impl Shape {
         }
     }
 
-    /// That of the right half of a wide glyph.
+    /// Creates the shape of a continuation cell.
     #[inline]
     pub fn right_half() -> Self
         ensures { result ≡ record { len = 0; wide = false; right_half = true } }
@@ -54,7 +55,7 @@ impl Shape {
         Shape { bits: RIGHT_HALF }
     }
 
-    /// Its byte, of which seven bits are used.
+    /// Returns the packed byte, which uses the low seven bits.
     #[inline]
     #[tactic(auto, using(crate::proofs::Shapes::shape_small))]
     pub fn bits(&self) -> u8
@@ -66,7 +67,7 @@ impl Shape {
         self.bits
     }
 
-    /// The shape of a byte.
+    /// Creates a shape from its packed byte.
     #[inline]
     pub fn of_bits(bits: u8) -> Self
         requires { shape_bits (shape_of bits) ≡ bits }
@@ -75,7 +76,7 @@ impl Shape {
         Shape { bits }
     }
 
-    /// How many bytes the text has.
+    /// Returns the length of the text in bytes.
     #[inline]
     pub fn len(&self) -> u8
         ensures { result ≡ self.now.len }
@@ -83,7 +84,7 @@ impl Shape {
         self.bits % WIDE
     }
 
-    /// Whether the text takes two columns.
+    /// Returns whether the cell is a wide glyph.
     #[inline]
     pub fn wide(&self) -> bool
         ensures { result ≡ self.now.wide }
@@ -91,7 +92,7 @@ impl Shape {
         self.bits / WIDE % 2 == 1
     }
 
-    /// Whether it is a right half.
+    /// Returns whether the cell is a continuation cell.
     #[inline]
     #[tactic(auto, using(crate::proofs::Shapes::high_bit))]
     pub fn is_right_half(&self) -> bool
@@ -100,7 +101,7 @@ impl Shape {
         self.bits >= RIGHT_HALF
     }
 
-    /// Whether it is that of a blank: no text, and no right half.
+    /// Returns whether the cell is a blank: no text, and not a continuation cell.
     #[inline]
     #[tactic(auto, using(crate::proofs::Shapes::no_bits))]
     pub fn is_blank(&self) -> bool

@@ -1,30 +1,33 @@
-//! Where the writers of this crate put their texts.
+//! Destinations for the output of this crate's writers.
 
 ghost use Rattle.std.specs.Prelude.{◌≡◌, ◌+◌, ◌<◌, ◌++◌, ℕ, List, length, OnOk, OnErr};
 ghost use Rattle.std.specs.Prelude.{string_bytes, string_capacity, string_len};
 
 use crate::error::Error;
 
-/// Something that texts are appended to, piece by piece.
+/// A destination that strings are appended to.
 pub trait Sink {
-    /// Why a piece was refused.
+    /// The error of a write that failed.
     type Error;
 
     ghost text: { Self → List ℕ };
 
     ghost refuses: { List ℕ → List ℕ → List ℕ → Type 0 } = { λ _ _ _. Unit {0} };
 
-    /// Appends `s`. On `Ok` the sink's text is the one before, followed by `s`.
+    /// Appends `s`.
     ///
-    /// What stands after an error is for each sink to say, by `refuses` of the text before, `s`, and
-    /// the text then: a string stays as it was, a sink that keeps what fits has a beginning of `s`
-    /// more, and of one that says nothing nothing is promised.
+    /// # Errors
+    ///
+    /// Returns the sink's own error. Each sink states by `refuses`, a relation on the contents
+    /// before, `s` and the contents after, what a failed write leaves: a `String` is unchanged, a
+    /// sink that keeps what fits has a prefix of `s` appended, and for a sink that states nothing
+    /// nothing is promised.
     fn write_str(&mut self, s: &str) -> Result<(), Self::Error>
         ensures ok { OnOk result (text self.new ≡ text self.old ++ s.now) }
         ensures err { OnErr result (refuses (text self.old) s.now (text self.new)) };
 }
 
-/// A string takes every text that its memory has room for.
+/// Strings are sinks: a write fails only if the string cannot grow.
 impl Sink for String {
     type Error = Error;
 
@@ -32,8 +35,12 @@ impl Sink for String {
 
     ghost refuses = { λ before _ after. after ≡ before };
 
-    /// Appends `s`, or refuses with `OutOfMemory` and stays as it was; that happens only where `s`
-    /// does not fit into the memory that the string has.
+    /// Appends `s` to the string.
+    ///
+    /// # Errors
+    ///
+    /// Returns [`Error::OutOfMemory`] if the string must grow and the allocation fails; the string
+    /// is unchanged.
     fn write_str(&mut self, s: &str) -> Result<(), Error>
         ensures ok { OnOk result (string_bytes self.new ≡ string_bytes self.old ++ s.now) }
         ensures err { OnErr result (string_bytes self.new ≡ string_bytes self.old) }

@@ -1,5 +1,5 @@
-//! The small sequences that a redraw is made of, each with its exact text
-//! (ECMA-48, the VT510's manual and xterm's control sequences).
+//! The short escape sequences that a redraw is made of, each with its exact bytes (ECMA-48, the
+//! VT510 manual and xterm's control sequences).
 
 ghost use Rattle.std.specs.Prelude.{◌≡◌, ◌++◌, ◌<◌, ℕ, List, length, OnErr, OnOk};
 
@@ -24,12 +24,16 @@ pub use input::{
 pub use lines::{DeleteLines, InsertLines};
 pub use moves::{MoveFromTo, MoveRight, MoveTo};
 
-/// A sequence that can be written to a sink.
+/// An escape sequence that can be written to a sink.
 pub trait BufWrite {
     ghost bytes: { Self → List ℕ };
 
-    /// Appends the sequence's text to `sink`; an error is the sink's own, and then part of the
-    /// text may have been appended. An empty text is never refused.
+    /// Appends the sequence to `sink`.
+    ///
+    /// # Errors
+    ///
+    /// Returns the sink's error; part of the sequence may have been written by then. An empty
+    /// sequence never fails.
     fn write_buf<S: Sink>(&self, sink: &mut S) -> Result<(), S::Error>
         ensures text { OnOk result (S.text sink.new ≡ S.text sink.old ++ bytes self.now) }
         ensures some { OnErr result (0 < length (bytes self.now)) };

@@ -1,14 +1,15 @@
-//! How many columns a character takes on the screen.
+//! The number of columns that a character takes on the screen.
 
 ghost use Rattle.std.specs.Prelude.{◌≡◌, IsTrue, Some};
 ghost use Rattle.vt_cells.specs.Glyph.{columns_of};
 
 use unicode_width::UnicodeWidthChar;
 
-/// The columns that a character takes, 0 to 2, after UAX #11; None for a control.
+/// Returns the number of columns that a character takes, 0 to 2, or `None` for a control character
+/// (UAX #11).
 ///
-/// A character to which `unicode_width` gives more than two columns takes
-/// two, and one to which it gives none takes one from U+0100 on.
+/// A character for which `unicode_width` returns more than two columns takes two. One for which it
+/// returns `None` takes one column from U+0100 on.
 #[inline]
 pub fn columns(c: char) -> Option<u8>
     ensures { result ≡ columns_of c }
@@ -26,11 +27,12 @@ pub fn columns(c: char) -> Option<u8>
     }
 }
 
-/// Whether this is in one of the blocks whose characters all take two columns:
-/// the ideographs with the enclosed and squared ones before them and the
-/// syllables of Yi behind them, which come most and are asked for first,
-/// punctuation, the letters of Hiragana and Katakana, and the syllables of
-/// Hangul. There are others that take two.
+/// Returns `true` only if `code` is in one of the common blocks whose characters all take two
+/// columns, so that the width table need not be searched.
+///
+/// The blocks are U+3250 to U+A48C (enclosed characters, ideographs and Yi syllables; tested first,
+/// as the most frequent), and the main ranges of CJK punctuation, Hiragana, Katakana and Hangul.
+/// Other wide characters exist.
 #[inline]
 #[tactic(auto, using(crate::proofs::Ideographs::blocks_wide))]
 fn is_ideograph(code: u32) -> bool

@@ -6,14 +6,14 @@ use std::num::NonZeroU16;
 use vt_notes::Recorder;
 use vt100::Parser;
 
-/// How many rows scrollback keeps, each time the stream is captured.
+/// The scrollback capacities with which the stream is captured.
 const CAPACITIES: [usize; 4] = [0, 1, 7, 1000];
 
-/// Ends what the stream may have begun, and shows the main page.
+/// Input that ends any incomplete sequence of the stream, and activates the main page.
 const END: &[u8] = b"\x18\x1b[?1049l";
 
-/// Whether the rows that leave the main page, with those of scrollback and of the page behind them,
-/// are one text, however many rows scrollback keeps. It has to be a stream without RIS.
+/// Returns whether the capture of the rows that scroll off the main page, followed by scrollback
+/// and the page, is the same for each scrollback capacity. The stream must not contain RIS.
 pub fn are_one(alloc: Global, size: (NonZeroU16, NonZeroU16), bytes: &[u8]) -> Result<bool> {
     let mut first = None;
     for capacity in CAPACITIES {

@@ -1,4 +1,4 @@
-//! A terminal that is kept equal to another one by texts alone.
+//! A terminal that is kept equal to another one by escape sequences alone.
 
 use crate::pace::{Pace, may_scroll};
 use crate::picture::{Part, differing, have_same_cells, have_same_flags};
@@ -9,18 +9,18 @@ use std::num::NonZeroU16;
 use vt_notes::Notes;
 use vt100::{Parser, Screen};
 
-/// How many rows the follower keeps in scrollback.
+/// The scrollback capacity of the follower in rows.
 const KEPT: usize = 100;
 
-/// Fills the follower's main page with rows that go on in the next one, and its scrollback.
+/// Input that fills the follower's main page with wrapped rows, and its scrollback.
 const MAIN: &[u8] =
     b"\x1b[7mthe main page \xe4\xb8\xad\x1b[100b\r\n\x1b[32m$ \x1b[3S\x1b[m# \x1b[90b";
 
-/// Enters the alternate page, and draws there in other attributes.
+/// Input that enters the alternate page, and prints there with other attributes.
 const ALTERNATE: &[u8] = b"\x1b[?1049h\x1b[1;4;33;44malternate \xe4\xb8\xad\x1b[200b\x1b[?25l";
 
-/// Has one terminal read these bytes, and another one follow it at this pace. The follower reads on its
-/// alternate page, and its main page and scrollback are looked at in the end.
+/// Feeds these bytes to one terminal, and makes another one follow it at this pace. The follower
+/// stays on its alternate page; at the end, its main page and scrollback must be unchanged.
 pub fn follow(
     alloc: Global,
     (rows, cols): (NonZeroU16, NonZeroU16),
@@ -41,7 +41,8 @@ pub fn follow(
     Ok(tally)
 }
 
-/// Redraws the leader, and then reads its bytes and updates the follower until both differ.
+/// Redraws the leader on the follower, and then parses the bytes and updates the follower until
+/// both differ.
 fn follow_each(
     leader: &mut Parser,
     follower: &mut Parser<Notes>,
@@ -75,8 +76,8 @@ fn redraw(leader: &Screen, follower: &mut Parser<Notes>) -> Result<()> {
     Ok(follower.process(text.as_bytes())?)
 }
 
-/// Has the leader read these bytes and the follower the difference, which may move rows first or not,
-/// and answers how long that is.
+/// Feeds a chunk to the leader and the difference to the follower, and returns the length of the
+/// difference in bytes. The difference moves rows first if `scrolls`.
 fn update(
     leader: &mut Parser,
     follower: &mut Parser<Notes>,
@@ -100,7 +101,8 @@ fn difference(screen: &Screen, prev: &Screen, scrolls: bool) -> Result<String> {
     Ok(screen.contents_diff(prev)?)
 }
 
-/// Whether a screen that shows its main page has the cells, flags and scrollback that it had before.
+/// Returns whether a screen with its main page active has the same cells, wrapped flags and
+/// scrollback as before.
 fn has_kept(screen: &mut Screen, before: &mut Screen) -> Result<bool> {
     let rows = screen.size().0.get();
     let kept = screen.scrollback_len();

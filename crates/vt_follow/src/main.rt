@@ -1,9 +1,9 @@
-//! `vt_follow ROWS COLS SEED FILE`: keeps a terminal equal to one that reads a recorded stream, by one
-//! redraw and differences alone, and compares both after each update; and captures the stream with
-//! more and less scrollback; and has viewers of a mirror follow it, too.
+//! `vt_follow ROWS COLS SEED FILE`: keeps a terminal equal to one that parses a recorded stream, by
+//! one redraw and then differences, and compares both after each update. Also captures the stream
+//! with various scrollback capacities, and lets viewers of a mirror follow it.
 //!
-//! Two lines with the counts are printed, and behind each what differs first, if anything does. The
-//! status is 1 where something differs.
+//! Prints two lines with the counts, and after each the first difference, if there is one. The
+//! status is 1 if something differs.
 #![tactic(auto)]
 
 mod captures;

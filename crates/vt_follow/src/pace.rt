@@ -1,8 +1,8 @@
-//! What is left to chance: how many bytes are read between two updates, and what viewers do.
+//! Random choices: the number of bytes between two updates, and the actions of viewers.
 
 ghost use Rattle.std.specs.Prelude.{◌<◌};
 
-/// The most bytes between two updates.
+/// The maximum number of bytes between two updates.
 const MOST: u32 = 100;
 
 /// A linear congruential generator of lengths and other numbers.
@@ -12,17 +12,17 @@ pub struct Pace {
 }
 
 impl Pace {
-    /// The numbers that this seed gives.
+    /// Creates a generator with this seed.
     pub fn new(seed: u32) -> Self {
         Pace { state: seed }
     }
 
-    /// The next length, from 1 to 100.
+    /// Returns the next length, from 1 to 100.
     pub fn next_length(&mut self) -> usize {
         1 + self.next_below(MOST) as usize
     }
 
-    /// The next number below this one, which is not 0.
+    /// Returns the next number below `bound`, which must not be 0.
     pub fn next_below(&mut self, bound: u32) -> u32
         requires { 0 < bound }
         ensures { result < bound }
@@ -35,8 +35,8 @@ impl Pace {
     }
 }
 
-/// Whether the difference that comes behind so many may move rows first: two are drawn, then two may
-/// move rows, and so on, so that each kind comes behind itself and behind the other one.
+/// Returns whether the difference after `count` earlier ones may move rows first. Two differences
+/// that only draw alternate with two that may move rows, so that each kind follows each.
 pub fn may_scroll(count: usize) -> bool {
     count % 4 >= 2
 }

@@ -1,30 +1,30 @@
-//! What two screens show, compared.
+//! Comparison of what two screens display.
 
 use std::fmt;
 use vt100::{Color, Screen};
 
-/// What may differ in a terminal that follows another one.
+/// A part in which a terminal that follows another one may differ.
 #[derive(Clone, Copy)]
 pub enum Part {
-    /// A cell that is shown, or what it is drawn with.
+    /// A displayed cell or its attributes.
     Cells,
 
-    /// Whether a row goes on in the next one.
+    /// The wrapped flag of a row.
     Flags,
 
-    /// The cursor, or whether it is hidden.
+    /// The cursor position, or whether the cursor is hidden.
     Cursor,
 
-    /// What is drawn with.
+    /// The current attributes.
     Attributes,
 
-    /// Calls of functions.
+    /// The callbacks that were invoked.
     Calls,
 
-    /// The page that isn't drawn on, or scrollback.
+    /// The page that is not active, or scrollback.
     Rest,
 
-    /// Captures of the whole stream, with more or less scrollback.
+    /// Captures of the whole stream with different scrollback capacities.
     Captures,
 }
 
@@ -42,7 +42,7 @@ impl fmt::Display for Part {
     }
 }
 
-/// What two screens of one size show differently.
+/// Returns the part in which the displays of two screens of the same size differ, if any.
 pub fn differing(one: &Screen, other: &Screen) -> Option<Part> {
     let rows = one.size().0.get();
     if !have_same_cells(one, other, rows) {
@@ -58,7 +58,7 @@ pub fn differing(one: &Screen, other: &Screen) -> Option<Part> {
     }
 }
 
-/// Whether the first rows of two screens have the same cells.
+/// Returns whether the first `rows` rows of two screens have the same cells.
 pub fn have_same_cells(one: &Screen, other: &Screen, rows: u16) -> bool {
     let (_rows, cols) = one.size();
     for row in 0..rows {
@@ -71,7 +71,7 @@ pub fn have_same_cells(one: &Screen, other: &Screen, rows: u16) -> bool {
     true
 }
 
-/// Whether the rows of two screens go on alike.
+/// Returns whether the rows of two screens have the same wrapped flags.
 pub fn have_same_flags(one: &Screen, other: &Screen) -> bool {
     let (rows, _cols) = one.size();
     for row in 0..rows.get() {

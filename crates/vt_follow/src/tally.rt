@@ -1,21 +1,21 @@
-//! What was done, and what came out.
+//! Counts of a run, and its result.
 
 use crate::picture::Part;
 use std::fmt;
 
-/// What was done, and what differs first.
+/// The counts of a run, and the first difference.
 #[derive(Clone, Copy, Default)]
 pub struct Tally {
-    /// How many differences were read.
+    /// The number of differences that were parsed.
     pub updates: usize,
 
-    /// How many bytes the leader read.
+    /// The number of bytes that the leader parsed.
     pub read: usize,
 
-    /// How many bytes the differences have.
+    /// The total length of the differences in bytes.
     pub written: usize,
 
-    /// What differs first.
+    /// The first part that differs, if any.
     pub differs: Option<Part>,
 }
 

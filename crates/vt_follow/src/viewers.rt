@@ -9,35 +9,35 @@ use std::num::NonZeroU16;
 use vt_mirror::{Mirror, Update};
 use vt100::{Parser, Screen};
 
-/// How many viewers there are at most.
+/// The maximum number of viewers.
 const SEATS: u32 = 20;
 
-/// How many seats are visited after each piece that is read.
+/// The number of seats that are visited after each chunk of input.
 const VISITS: u32 = 4;
 
-/// One viewer in so many that are visited leaves.
+/// The average number of visits for each viewer that leaves.
 const LEAVING: u32 = 8;
 
-/// At one piece in so many the mirror gets another size.
+/// The average number of chunks for each resize of the mirror.
 const RESIZED: u32 = 16;
 
-/// The most rows of such a size.
+/// The maximum number of rows after a resize.
 const MOST_ROWS: u32 = 40;
 
-/// The least columns: on one column a glyph may stay narrow that U+FE0F makes
-/// wide elsewhere, and it would not be steady once there are more.
+/// The minimum number of columns after a resize. With one column, a glyph may stay narrow that
+/// U+FE0F makes wide elsewhere; it would not be steady with more columns.
 const LEAST_COLS: u32 = 2;
 
-/// The most columns.
+/// The maximum number of columns after a resize.
 const MOST_COLS: u32 = 100;
 
-/// The size of a viewer's terminal at first.
+/// The initial size of a viewer's terminal.
 const SIZE: (u16, u16) = (3, 7);
 
-/// How many rows it keeps in scrollback.
+/// The scrollback capacity of a viewer's terminal in rows.
 const KEPT: usize = 5;
 
-/// What it has read before it is a viewer's.
+/// The input of a viewer's terminal before it becomes a viewer's.
 const BEFORE: &[u8] = b"\x1b[7mbefore \xe4\xb8\xad\x1b[30b\x1b[32;1m\x1b[?25l";
 
 /// A viewer: its number, and its terminal.
@@ -47,7 +47,7 @@ struct Viewer {
     terminal: Parser,
 }
 
-/// A mirror, a terminal that reads and is resized as it is, and the viewers.
+/// A mirror, a terminal that parses and is resized like it, and the viewers.
 #[derive(Drop)]
 struct Hall {
     mirror: Mirror,
@@ -55,8 +55,8 @@ struct Hall {
     viewers: Vec<Viewer>,
 }
 
-/// Has a mirror read these bytes piece by piece, with visits of its viewers between them, and updates all
-/// of these at the end.
+/// Feeds these bytes to a mirror in chunks, visits its viewers in between, and updates all of them
+/// at the end.
 pub fn follow(
     alloc: Global,
     (rows, cols): (NonZeroU16, NonZeroU16),
@@ -98,7 +98,7 @@ fn size_of(rows: u16, cols: u16) -> Result<(NonZeroU16, NonZeroU16)> {
     Ok((rows, cols))
 }
 
-/// A terminal that is plain, and shows something else than the mirror.
+/// Creates a terminal that is plain and does not display what the mirror does.
 fn terminal(alloc: Global) -> Result<Parser> {
     let (rows, cols) = size_of(SIZE.0, SIZE.1)?;
     let mut terminal = Parser::new(alloc, rows, cols, KEPT)?;
@@ -141,7 +141,7 @@ impl Hall {
         Ok(())
     }
 
-    /// The viewer at a seat leaves, and is none any more.
+    /// Removes the viewer at a seat, and checks that the mirror no longer knows it.
     fn leave(&mut self, seat: usize, visits: &mut Visits) {
         if seat >= self.viewers.len() {
             return;
@@ -154,7 +154,7 @@ impl Hall {
         }
     }
 
-    /// The viewer at a seat reads its update, and shows what the leader shows.
+    /// Updates the viewer at a seat, and checks that it displays what the leader displays.
     fn update(&mut self, seat: usize, visits: &mut Visits) -> Result<()> {
         let Some(viewer) = self.viewers.get_mut(seat) else {
             return Ok(());

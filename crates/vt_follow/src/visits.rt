@@ -1,24 +1,25 @@
-//! What viewers did.
+//! Counts of what viewers did.
 
 use std::fmt;
 use vt_mirror::Update;
 
-/// How often viewers came, went and were told, and whether one showed something else.
+/// Counts of viewers that joined, left and were updated, and whether one differed.
 #[derive(Clone, Copy, Default)]
 pub struct Visits {
-    /// How many viewers joined.
+    /// The number of viewers that joined.
     pub joined: usize,
 
-    /// How many left.
+    /// The number of viewers that left.
     pub left: usize,
 
-    /// How many full updates were read.
+    /// The number of full updates that were parsed.
     pub full: usize,
 
-    /// How many differences were read.
+    /// The number of differences that were parsed.
     pub differences: usize,
 
-    /// Whether a viewer differs, or was taken for one after it had left.
+    /// Whether a viewer displayed something else, or was still known to the mirror after it had
+    /// left.
     pub differs: bool,
 }
 
@@ -33,7 +34,7 @@ impl Visits {
         self.left = self.left.saturating_add(1);
     }
 
-    /// How many updates were read.
+    /// Returns the number of updates that were parsed.
     pub fn updates(&self) -> usize {
         self.full.saturating_add(self.differences)
     }

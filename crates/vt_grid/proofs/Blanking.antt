@@ -1,4 +1,4 @@
--- Erasing from the begin of a row or a page, and of whole ones, leaves a page.
+-- Erasing from the start of a row or a page, or a whole one, leaves a valid page.
 use Rattle.std.proofs.Common.{◌≡◌, ℕ, ◌+◌, ◌-◌, ◌<◌, min, List, ◌++◌, length}
 use Rattle.std.proofs.Common.{drop, replicate, get_or, refl, ap, ◌∙◌, arith}
 use Rattle.std.proofs.lemmas.List.{length-append, length-drop, length-replicate}
@@ -20,7 +20,7 @@ page_erased_row attrs page p =
     page_with_row page.row (blank_row attrs page.width) page
     p.cursor_row p (IsRow-blank_row attrs page.width) (λ e. refl)
 
--- ---- the rows above
+-- ---- The rows above
 
 pub length-blanked_above : (attrs : Attrs) (page : Page) → IsPage page →
     length (blanked_above attrs page).rows ≡ length page.rows
@@ -34,7 +34,7 @@ length-blanked_above attrs page p =
       length-drop page.row page.rows,
     )
 
--- the last row is not above the cursor's, and stays
+-- The last row is not above the cursor's, and is unchanged.
 above_last : (rows : List RowValue) (r : ℕ) (blank d : RowValue) → r < length rows →
     get_or (replicate r blank ++ drop r rows) (length rows - 1) d ≡ get_or rows (length rows - 1) d
 above_last rows r blank d h =
@@ -59,7 +59,7 @@ pub page_erased_above : (attrs : Attrs) (page : Page) → IsPage page → IsPage
 unfolding erased_above
 page_erased_above attrs page p = page_blanked_above attrs (erased_start attrs page) (page_erased_start attrs page p)
 
--- ---- all rows
+-- ---- All rows
 
 pub page_erased_page : (attrs : Attrs) (page : Page) → IsPage page → IsPage (erased_page attrs page)
 page_erased_page attrs page p =

@@ -1,5 +1,5 @@
--- A glyph that U+FE0F makes wide at a pending wrap: it is taken out, and put again in the next row, or back if there is
--- no memory for a row that leaves.
+-- A glyph that U+FE0F makes wide at a pending wrap: it is removed and put on the next row, or put back if memory for
+-- a row that scrolls off cannot be allocated.
 use Rattle.std.proofs.Common.{◌≡◌, ℕ, ◌+◌, ◌-◌, ◌<◌, ◌==◌, ◌&&◌, nat_lt, not, Bool, true, false}
 use Rattle.std.proofs.Common.{List, length, set, refl, inl, inr, sym, ap, ◌∙◌, arith}
 use Rattle.std.specs.Prelude.{if◌then◌else◌}
@@ -24,7 +24,7 @@ use Rattle.vt_grid.proofs.Pages.{page_cursor_cells, IsRow-cursor_row}
 use Rattle.vt_grid.proofs.Marks.{cursor_row_put, mark_place}
 use Rattle.vt_grid.proofs.Sized.{sized}
 
--- ---- what is known of a glyph that is carried
+-- ---- The properties of a glyph that is carried
 
 pub record IsCarried (mark : ℕ) (page : Page) : Type 0 where
   pub selector : is_selector mark ≡ true
@@ -56,7 +56,7 @@ pub carried_of : (mark : ℕ) (page : Page) → carries mark page ≡ true → I
 unfolding carries
 carried_of mark page t = by_tests mark page _ _ _ _ refl refl refl refl t
 
--- ---- its row
+-- ---- Its row
 
 left_same : (k j : ℕ) (cells : List CellValue) → IsPaired cells →
     is_right_half (at cells k) ≡ false → ((j + 1 == k) && is_wide (at cells j)) ≡ false
@@ -74,7 +74,7 @@ right_same k j cells p w = elim (cases_eq j (k + 1)) [
   | inr ne ↦ grind (arith, nat_tests)
 ]
 
--- nothing beside a narrow cell is changed where it is taken out
+-- Removing a narrow cell changes only that cell.
 restored_at : (k j : ℕ) (attrs : Attrs) (cells : List CellValue) → IsPaired cells →
     is_right_half (at cells k) ≡ false → is_wide (at cells k) ≡ false →
     column_of k 1 default_blank (blanks attrs 1) cells j ≡ (if j == k then blank attrs else at cells j)
@@ -98,7 +98,7 @@ restored_at k j attrs cells p r w = elim (cases_lt j k) [
   ]
 ]
 
--- the cell put back makes the row what it was
+-- Putting the cell back restores the row.
 put_back_cells : (k : ℕ) (attrs : Attrs) (cells : List CellValue) → IsPaired cells →
     is_right_half (at cells k) ≡ false → is_wide (at cells k) ≡ false →
     k < length cells → set (erased k 1 attrs cells) k (at cells k) ≡ cells
@@ -113,7 +113,7 @@ put_back_cells k attrs cells p r w h =
       same_if : (j : ℕ) → (if j == k then at cells k else if j == k then blank attrs else at cells j) ≡ at cells j
       same_if j = grind (arith, nat_tests)
 
--- ---- its page
+-- ---- Its page
 
 pub page_lifted : (k : ℕ) (attrs : Attrs) (page : Page) →
     k < length (cursor_row page).cells → IsPage page → IsPage (lifted_page k attrs page)
@@ -135,7 +135,7 @@ pub sized_with_row : (rows cols r : ℕ) (row : RowValue) (page : Page) →
 sized_with_row rows cols r row page p s =
     sized rows cols page (with_row r row page) s (length-set page.rows r row) refl p
 
--- the cell put back into the page from which it was taken
+-- Putting the cell back restores the page.
 pub put_back_is : (k : ℕ) (attrs : Attrs) (page : Page) → IsMarkPlace (cursor_row page).cells page.column k →
     is_wide (at (cursor_row page).cells k) ≡ false → IsPage page →
     with_row page.row (record {
@@ -158,7 +158,7 @@ put_back_is k attrs page place narrow p =
     same
     ∙ (ap (λ (rows : List RowValue). record page { rows = rows }) (twice ∙ set-get_or page.rows page.row _))
 
--- ---- the mark is printed so
+-- ---- The combining character is printed so
 
 pub cell_marked : (k mark : ℕ) (page : Page) → k < length (cursor_row page).cells → IsPage page →
     at (cursor_row (mark_put k mark page)).cells k ≡ marked mark (at (cursor_row page).cells k)
@@ -173,7 +173,7 @@ pub carried_is : (mark : ℕ) (attrs : Attrs) (page : Page) → carries mark pag
 unfolding mark_printed carried
 carried_is mark attrs page t = rw t refl
 
--- ---- what the code of a carry needs
+-- ---- What the code of a carry needs
 
 pub put_back_parts : (k mark : ℕ) (attrs : Attrs) (page new : Page) (cell : CellValue) (goes_on : Bool) →
     IsPage page → IsCarried mark page → k ≡ mark_column page →
@@ -199,7 +199,7 @@ untested true true true d e f p q r s t = cc
 untested true false c d e f p q r s t = cc
 untested false b c d e f p q r s t = cc
 
--- a mark that is not carried finds a column for the right half, where it makes its glyph wide
+-- If a combining character is not carried and makes its glyph wide, there is a column for the continuation cell.
 pub stays_before : (mark : ℕ) (page : Page) → IsPage page →
     mark_column page < length (cursor_row page).cells → is_selector mark ≡ true →
     takes_mark (at (cursor_row page).cells (mark_column page)) ≡ true → carries mark page ≡ false →

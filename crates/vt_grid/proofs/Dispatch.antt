@@ -1,4 +1,4 @@
--- A character is printed by the columns that it takes.
+-- A character is printed according to the columns that it takes.
 use Rattle.std.proofs.Common.{◌≡◌, ◌≢◌, ℕ, ◌==◌, nat_lt, true, false, refl, ap, ◌∙◌, arith}
 use Rattle.std.specs.Prelude.{if◌then◌else◌, Some, None}
 use Rattle.std.specs.Char.{encode_utf8}
@@ -24,7 +24,7 @@ pub printed_mark : (c : ℕ) (attrs : Attrs) (page : Page) → columns_of c ≡ 
     printed c attrs page ≡ (if page.column == 0 then page else mark_printed c attrs page)
 printed_mark c attrs page e = rw e refl
 
--- what is left for a mark
+-- A character that takes neither one column nor two takes none.
 pub no_columns : (c width : ℕ) → columns_of c ≡ Some width → width ≢ 1 → width ≢ 2 → columns_of c ≡ Some 0
 no_columns c width e one two =
     let le = columns_of-le c width e in

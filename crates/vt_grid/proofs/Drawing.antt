@@ -1,9 +1,9 @@
--- One list of operations after another.
+-- Concatenated lists of operations.
 use Rattle.std.proofs.Common.{◌≡◌, List, [], ◌∷◌, ◌++◌, Option, Some, None, refl, ap, ◌∙◌}
 use Rattle.vt_cells.specs.Op.{Op}
 use Rattle.vt_grid.specs.Canvas.{Canvas, and_then, drawn, drawn_all}
 
--- from canvas a the operations draw canvas b
+-- The operations turn canvas a into canvas b.
 abbrev pub Draws : List Op → Canvas → Canvas → Type 0
 Draws ops a b = drawn_all ops a ≡ Some b
 

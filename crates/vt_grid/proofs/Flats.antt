@@ -1,4 +1,5 @@
--- Rows in one list of cells: what an edit of a row's cells, a flag and a rotation of the table make of them.
+-- Rows in one list of cells: the effect of an edit of a row's cells, of a change of a flag and of a rotation of the
+-- table.
 use Rattle.std.proofs.Common.{◌≡◌, ◌≢◌, ℕ, ◌+◌, ◌*◌, ◌-◌, ◌<◌, ◌≤◌, ◌&&◌, not, Bool, false, List}
 use Rattle.std.proofs.Common.{[], ◌∷◌, ◌++◌, length, take, drop, replicate, map, Vec, Global}
 use Rattle.std.proofs.Common.{get_or, set, inl, inr, sym, ap, subst, ◌∙◌, arith}
@@ -23,12 +24,12 @@ use Rattle.vt_grid.specs.declared.flat.Line.{Line}
 use Rattle.vt_grid.specs.declared.flat.Flat.{Flat}
 use Rattle.vt_grid.specs.Flat.{IsFlat, rows_of, cells_at, row_in, rows_in, no_line, line_at, in_order, IsTable}
 
--- ---- places
+-- ---- Places
 
 pub place_inside : (p n w : ℕ) → p < n → p * w + w ≤ n * w
 place_inside p n w h = grind arith
 
--- after a write to the cells of place p those of each other place are as they were
+-- A write to the cells of place p leaves those of every other place unchanged.
 pub cells_at-put_other : (w n p q : ℕ) (cells new : List CellValue) → length cells ≡ n * w → p < n →
     q < n → q ≢ p → length new ≡ w → cells_at w (put_mid (p * w) w cells new) q ≡ cells_at w cells q
 cells_at-put_other w n p q cells new e h i other l =
@@ -53,7 +54,7 @@ cells_at-put_same w n p cells new e h l =
     let inside = place_inside p n w h in
     between-put_mid (p * w) w cells new (p * w + w) (omega (arith, inside, e)) (omega (arith, l))
 
--- a vector of cells after the cells of place p were lent and became `new`
+-- The vector of cells after those of place p were borrowed and became `new`.
 pub written : (w n p a k : ℕ) (v now : Vec CellValue Global) (xs new : List CellValue) →
     now ≡ with_items v (put_mid a k xs new) → xs ≡ v.items →
     length v.items ≡ n * w → p < n → a ≡ p * w → k ≡ w → length new ≡ w →
@@ -66,7 +67,7 @@ written w n p a k v now xs new e was f h i j l =
     ap (λ (u : Vec CellValue Global). u.items) (e ∙ (λ t. with_items v (put_mid (i t) (j t) (was t) new)))
     ∙ with_items_is v (put_mid (p * w) w v.items new) (size ∙ sym v.ok.0)
 
--- ---- rows
+-- ---- Rows
 
 pub rows_counted : (w : ℕ) (cells : List CellValue) (lines : List Line) → length (rows_in w cells lines) ≡ length lines
 unfolding rows_in
@@ -77,7 +78,7 @@ pub row_found : (w r : ℕ) (cells : List CellValue) (lines : List Line) (d : Ro
 unfolding rows_in
 row_found w r cells lines d h = get_or-map (row_in w cells) lines r no_line d h
 
--- the rows of a page whose lines are others, which stand for these rows
+-- The rows of a page whose table was replaced, if each entry stands for the given row.
 pub rows_in_by : (w : ℕ) (cells : List CellValue) (lines : List Line) (rows : List RowValue) (d : RowValue) →
     length rows ≡ length lines →
     ((k : ℕ) → k < length lines → row_in w cells (line_at lines k) ≡ get_or rows k d) → rows_in w cells lines ≡ rows
@@ -86,7 +87,7 @@ rows_in_by w cells lines rows d e f =
     ext_get_or d (rows_in w cells lines) rows (l ∙ sym e)
     (λ k h. let i : k < length lines = omega (arith, l) in row_found w k cells lines d i ∙ f k i)
 
--- row r has other cells and another flag, and the cells of each other place are as they were
+-- The rows after row r got new cells and a new flag, if the cells of every other place are unchanged.
 pub rows_in-replaced : (w r : ℕ) (cells now new : List CellValue) (flag : Bool) (lines : List Line) →
     IsTable w cells lines → r < length lines → cells_at w now (line_at lines r).place ≡ new →
     ((q : ℕ) → q < length lines → q ≢ (line_at lines r).place → cells_at w now q ≡ cells_at w cells q) →
@@ -131,7 +132,7 @@ rows_in-edited w r cells new flag lines t h l =
     (cells_at-put_same w (length lines) p cells new t.filled (t.inside r h) l)
     (λ q i other. cells_at-put_other w (length lines) p q cells new t.filled (t.inside r h) i other l)
 
--- row r has another flag
+-- The rows after row r got a new flag.
 pub rows_in-flagged : (w r : ℕ) (cells : List CellValue) (flag : Bool) (lines : List Line) → r < length lines →
     rows_in w cells (set lines r (record (line_at lines r) { wrapped = flag }))
     ≡ set (rows_in w cells lines) r
@@ -142,13 +143,13 @@ rows_in-flagged w r cells flag lines h =
     ∙ ap (λ (row : RowValue). set (map (row_in w cells) lines) r (record row { wrapped = flag }))
     (sym (get_or-map (row_in w cells) lines r no_line (row_in w cells no_line) h))
 
--- ---- tables
+-- ---- Tables
 
 pub IsTable-cells : (w : ℕ) (cells now : List CellValue) (lines : List Line) →
     length now ≡ length cells → IsTable w cells lines → IsTable w now lines
 IsTable-cells w cells now lines e t = record { filled = e ∙ t.filled; inside = t.inside; distinct = t.distinct }
 
--- each line has a place of an old one, of another one than any other line
+-- A table is valid if its entries are at distinct places of a valid table.
 pub IsTable-moved : (w : ℕ) (source : ℕ → ℕ) (cells : List CellValue) (lines now : List Line) →
     length now ≡ length lines → ((k : ℕ) → k < length lines → source k < length lines) →
     ((j k : ℕ) → j < length lines → k < length lines → source j ≡ source k → j ≡ k) →
@@ -165,7 +166,7 @@ IsTable-moved w source cells lines now e i once f t = record {
       once r s r_in s_in (t.distinct (source r) (source s) (i r r_in) (i s s_in) (sym (f r r_in) ∙ (same ∙ f s s_in)));
 }
 
--- ---- the table turned
+-- ---- The table rotated
 
 turn_inside : (from to n k len : ℕ) → from + n ≤ to → to ≤ len → k < len → turn_source from to n k < len
 turn_inside from to n k len h t l = grind (arith, nat_tests)
@@ -189,7 +190,7 @@ rows_in-turned w from to n cells lines now h i e f k d l =
     ∙ (ap (row_in w cells) (f k)
     ∙ sym (row_found w (turn_source from to n k) cells lines d (turn_inside from to n k (length lines) h i l)))
 
--- ---- rows that lie in their order
+-- ---- Rows in their order
 
 pub length-in_order : (n : ℕ) → length (in_order n) ≡ n
 length-in_order n = length-map-range_with_len (λ place. record { place = place; wrapped = false }) 0 n
@@ -201,7 +202,7 @@ line_in_order n r h =
 pub in_order_more : (n : ℕ) → in_order (n + 1) ≡ in_order n ++ record { place = n; wrapped = false } ∷ []
 in_order_more n = map-range_with_len_more (λ place. record { place = place; wrapped = false }) 0 n n (omega arith)
 
--- blank rows, as many as lie in their order
+-- A table of blank rows in their order is valid.
 pub IsTable-in_order : (w n : ℕ) (attrs : Attrs) → IsTable w (blanks attrs (n * w)) (in_order n)
 IsTable-in_order w n attrs =
     let l = length-in_order n in record {
@@ -249,12 +250,12 @@ length-cells_at w n p cells e h =
     let inside = place_inside p n w h in
     omega (arith, length-take (p * w + w - p * w) (drop (p * w) cells), length-drop (p * w) cells, inside, e)
 
--- ---- edits of a row
+-- ---- Edits of a row
 
 abbrev pub page_rows_of : Flat → PageRowsValue
 page_rows_of flat = record { rows = rows_of flat; width = flat.width }
 
--- each row has the page's width
+-- Each row has the page's width.
 pub columns_counted : (flat : Flat) (r : ℕ) → IsFlat flat → r < length (rows_of flat) →
     length (page_row (page_rows_of flat) r).cells ≡ flat.width
 columns_counted flat r t h =
@@ -265,7 +266,7 @@ columns_counted flat r t h =
     ap (λ (row : RowValue). length row.cells) (row_found w r cells lines (blank_row default_attrs w) i)
     ∙ length-cells_at w (length lines) (line_at lines r).place cells t.filled (t.inside r i)
 
--- the cells of row r were lent and became `new`, and its flag is another
+-- The page after the cells of row r were borrowed and became `new`, with a new flag.
 pub row_changed : (r a b : ℕ) (flat edited : Flat) (xs new : List CellValue) (flag : Bool) →
     IsFlat flat → r < length flat.lines.items →
     edited.cells ≡ with_items flat.cells (put_mid a (b - a) xs new) → xs ≡ flat.cells.items →
@@ -283,7 +284,7 @@ row_changed r a b flat edited xs new flag t inside e was i j m size w f =
     (λ z. rows_in (w z) (cells z) (f z)) ∙ rows_in-edited flat.width r flat.cells.items new flag lines t inside l in
     λ z. record { rows = rows z; width = w z }
 
--- by a print or an erase
+-- The page after the cells of row r were replaced by a print or an erase.
 pub row_printed : (r a b : ℕ) (flat edited : Flat) (xs new : List CellValue) (was_flag flag : Bool) →
     IsFlat flat → r < length flat.lines.items →
     edited.cells ≡ with_items flat.cells (put_mid a (b - a) xs new) → xs ≡ flat.cells.items →
@@ -297,7 +298,7 @@ row_printed r a b flat edited xs new was_flag flag t inside e was i j m size w f
     ∙ ap (λ (x : Bool). with_page_row r (record { cells = new; wrapped = x }) (page_rows_of flat))
     (k ∙ ap (λ (x : Bool). x && not (ends_blank new)) g)
 
--- row r was made blank
+-- The page after row r was made blank.
 pub row_blanked : (r : ℕ) (attrs : Attrs) (flat edited : Flat) → IsFlat flat → r < length (rows_of flat) →
     cells_at flat.width edited.cells.items (line_at flat.lines.items r).place ≡ blanks attrs flat.width →
     ((q : ℕ) → q < length flat.lines.items → q ≢ (line_at flat.lines.items r).place →
@@ -314,7 +315,7 @@ row_blanked r attrs flat edited t h own others w f =
     (blanks attrs flat.width) false flat.lines.items t inside own others in
     λ z. record { rows = rows z; width = w z }
 
--- row r has another flag
+-- The page after row r got a new flag.
 pub row_flagged : (r : ℕ) (flag : Bool) (flat edited : Flat) →
     r < length flat.lines.items → edited.cells ≡ flat.cells → edited.width ≡ flat.width →
     edited.lines.items ≡ set flat.lines.items r (record (line_at flat.lines.items r) { wrapped = flag }) →
@@ -328,7 +329,7 @@ row_flagged r flag flat edited h c w f =
     (get_or_default (rows_of flat) r d (blank_row default_attrs flat.width) (omega (arith, n)))) in
     λ z. record { rows = rows z; width = w z }
 
--- ---- the whole table
+-- ---- The whole table
 
 pub flat_turned : (from to n : ℕ) (flat turned : Flat) → IsFlat flat → from + n ≤ to → to ≤ length (rows_of flat) →
     turned.cells ≡ flat.cells → turned.width ≡ flat.width → length turned.lines.items ≡ length flat.lines.items →
@@ -350,7 +351,7 @@ rows_turned from to n flat turned h i c w e f k d l =
     ∙ rows_in-turned flat.width from to n flat.cells.items flat.lines.items
     turned.lines.items h (omega (arith, i, all)) e f k d (omega (arith, l, all))
 
--- ---- a fresh page
+-- ---- A new page
 
 pub fresh_flat : (rows width : ℕ) (flat : Flat) → flat.cells.items ≡ blanks default_attrs (rows * width) →
     flat.lines.items ≡ in_order rows → flat.width ≡ width → (page_rows_of flat ≡ blank_page_rows rows width) × IsFlat flat
@@ -361,7 +362,7 @@ fresh_flat rows width flat c l w = (
       (λ z. (sym w z, (sym c z, sym l z))) (IsTable-in_order width rows default_attrs),
 )
 
--- all rows were made blank
+-- The page after all rows were made blank.
 pub all_blanked : (attrs : Attrs) (flat edited : Flat) → IsFlat flat →
     edited.cells.items ≡ blanks attrs (length flat.cells.items) → edited.width ≡ flat.width →
     length edited.lines.items ≡ length flat.lines.items →

@@ -1,4 +1,4 @@
--- The rows in view grow, and spare rows are made for them before.
+-- The displayed rows are extended, after spare rows are allocated for them.
 use Rattle.std.proofs.Common.{◌≡◌, ℕ, zero, suc, ◌+◌, ◌-◌, ◌<◌, ◌≤◌, ◌==◌, nat_lt, min, Bool, true}
 use Rattle.std.proofs.Common.{List, [], ◌∷◌, ◌++◌, length, take, drop, map, get_or, slice_set}
 use Rattle.std.proofs.Common.{refl, sym, ap, subst, ◌∙◌, append_assoc, inl, inr, arith}
@@ -15,13 +15,13 @@ use Rattle.vt_grid.specs.Scrollback.{Scrollback, IsScrollback, last_of, stacked,
 use Rattle.vt_grid.specs.Spare.{AreSpare, window_from, grown_from, in_view}
 use Rattle.vt_grid.proofs.Stacking.{length-stacked, length-last_of}
 
--- ---- rows from k on
+-- ---- Rows from k on
 
 pub window_more : {X : Type 0} (xs : List X) (k m n : ℕ) (d : X) → k < length xs →
     m ≡ suc n → take m (drop k xs) ≡ get_or xs k d ∷ take n (drop (k + 1) xs)
 window_more xs k m n d h e = ap (λ (i : ℕ). take i (drop k xs)) e ∙ ap (take (suc n)) (drop_more xs k d h)
 
--- ---- how many are narrow
+-- ---- The number of narrow rows
 
 pub narrow-most : (w : ℕ) (rows : List RowValue) → narrow_rows w rows ≤ length rows
 narrow-most w [] = omega arith
@@ -38,7 +38,7 @@ narrow_counted w first h k count one total rows row i j r o t =
     let same = ap (narrow_rows w) more in
     omega (arith, same, o, t)
 
--- rows below others: as many more as stand in the window
+-- Rows appended to others add at most as many narrow rows as they have in the window.
 pub narrow_below : (w s h : ℕ) (xs ys : List RowValue) →
     narrow_rows w (window_from s h (xs ++ ys))
     ≤ narrow_rows w (window_from s h xs) + (min (s + h) (length xs + length ys) - length xs)
@@ -48,9 +48,9 @@ narrow_below w (suc s) h (x ∷ xs) ys = omega (arith, narrow_below w s h xs ys)
 narrow_below w zero zero (x ∷ xs) ys = omega arith
 narrow_below w zero (suc h) (x ∷ xs) ys = omega (arith, narrow_below w zero h xs ys)
 
--- ---- what is in view after rows were taken over
+-- ---- The displayed rows after rows were appended
 
--- nothing is in view
+-- If no row of scrollback is displayed, no displayed row is narrow.
 pub none_in_view : (w h : ℕ) (gone : List RowValue) (above : Scrollback) →
     above.offset ≡ 0 → narrow_rows w (in_view h (kept_after gone above)) ≤ 0
 unfolding kept_after
@@ -82,7 +82,7 @@ allocations_enough w h count first gone above a e o f =
     let below = narrow_below w first h above.rows (map trimmed_row gone) in
     omega (arith, ap (λ (zs : List RowValue). narrow_rows w (take h zs)) same, below, length-map gone trimmed_row, e)
 
--- ---- spare rows
+-- ---- Spare rows
 
 spare_is : (w : ℕ) (rows spare rest : List RowValue) (row : RowValue) →
     AreSpare w rows spare → spare ≡ rest ++ row ∷ [] → row ≡ blank_row default_attrs w
@@ -120,7 +120,7 @@ pub spare_one : (w : ℕ) (rows spare : List RowValue) (row : RowValue) →
     AreSpare w (row ∷ rows) spare → AreSpare w (row ∷ []) spare
 spare_one w rows spare row s = record { blank = s.blank; enough = omega (arith, s.enough) }
 
--- ---- rows grow one by one
+-- ---- Rows are extended one by one
 
 abbrev pub grown_until : (w first k : ℕ) → List RowValue → List RowValue
 grown_until w first k rows = take first rows ++ map (grown_row w) (window_from first (k - first) rows)
@@ -173,7 +173,7 @@ grown_set w first k rows now row f i e r =
     ∙ (sym (append_assoc (grown_until w first k rows) (grown_row w (get_or rows k row) ∷ []) (drop (k + 1) rows))
     ∙ ap (λ (xs : List RowValue). xs ++ drop (k + 1) rows) (sym (grown_more w first k rows row f i)))))
 
--- all rows that are shown were grown
+-- All displayed rows were extended.
 pub grown_whole : (w first h k : ℕ) (rows now : List RowValue) → k ≡ min (length rows) (first + h) →
     first ≤ length rows → now ≡ grown_until w first k rows ++ drop k rows → now ≡ grown_from first h w rows
 grown_whole w first h k rows now e f g =

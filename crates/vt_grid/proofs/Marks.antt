@@ -1,4 +1,4 @@
--- A mark and U+FE0F leave a page.
+-- Printing a combining character, U+FE0F included, leaves a valid page.
 use Rattle.std.proofs.Common.{◌≡◌, ℕ, ◌+◌, ◌-◌, ◌<◌, ◌≤◌, ◌&&◌, nat_lt, Bool, true, false, List, []}
 use Rattle.std.proofs.Common.{◌∷◌, ◌++◌, length, refl, inl, inr, sym, ap, subst, ◌∙◌, arith}
 use Rattle.std.specs.Prelude.{if◌then◌else◌}
@@ -26,7 +26,7 @@ use Rattle.vt_grid.specs.Printing.{with_cursor_cells, mark_column, takes_mark, m
 use Rattle.vt_grid.specs.Printing.{made_wide, made_narrow, width_followed}
 use Rattle.vt_grid.proofs.Pages.{page_at, page_if, page_cursor_cells, IsRow-cursor_row}
 
--- ---- the cell before the cursor
+-- ---- The cell before the cursor
 
 is_right_past : (cells : List CellValue) (k : ℕ) → is_right_half (at cells k) ≡ true → k < length cells
 is_right_past cells k h = elim (cases_lt k (length cells)) [
@@ -71,7 +71,7 @@ mark_place page p pos =
     place_by (cursor_row page).cells page.column row.paired pos (omega arith)
     (is_right_half (at (cursor_row page).cells (page.column - 1))) refl
 
--- ---- a mark
+-- ---- A combining character
 
 pub blank_marked : (mark : ℕ) (x : CellValue) → is_right_half x ≡ false → is_blank (marked mark x) ≡ false
 blank_marked mark (blank attrs) h = refl
@@ -92,7 +92,7 @@ page_mark_put k mark page m h p =
 any_push : (marks : List ℕ) (mark : ℕ) → is_selector mark ≡ true → list_any is_selector (marks ++ mark ∷ []) ≡ false → ⊥
 any_push marks mark s e = let both = list_any-append is_selector marks (mark ∷ []) in grind (arith, both)
 
--- with U+FE0F among its marks a glyph may be wide or narrow
+-- With U+FE0F among its combining characters, a glyph may be wide or narrow.
 pub selected_text : (text : List ℕ) (was wide : Bool) (mark : ℕ) → IsGlyphText text was → IsMark mark →
     is_selector mark ≡ true → has_room text ≡ true → IsGlyphText (text ++ encode_utf8 mark) wide
 selected_text text was wide mark old is_mark selector room =
@@ -110,7 +110,7 @@ glyph_text wide (blank attrs) b r h = cc
 glyph_text wide (glyph text was attrs) b r h = h
 glyph_text wide right_half b r h = cc
 
--- a glyph in other attributes and wide
+-- A cell that may be wide may be wide with different attributes.
 pub lifted_cell : (attrs : Attrs) (x : CellValue) → IsCell (widened true x) → IsCell (widened true (redrawn attrs x))
 lifted_cell attrs (blank was) h = tt
 lifted_cell attrs (glyph text wide was) h = h
@@ -155,7 +155,7 @@ page_width_followed k attrs page s room p =
     (λ _. page_if wide page (made_narrow k attrs page) (λ _. p) (λ _. page_made_narrow k attrs page s p))
     (λ n. page_if wide (made_wide k attrs page) page (λ t. page_made_wide k attrs page s n (room n t) p) (λ _. p))
 
--- ---- a mark is printed
+-- ---- A combining character is printed
 
 pub cursor_row_put : (cells : List CellValue) (page : Page) → IsPage page →
     cursor_row (with_cursor_cells cells page) ≡ with_cells (cursor_row page) cells

@@ -12,7 +12,7 @@ use Rattle.vt_cells.specs.Attrs.{default_attrs}
 use Rattle.vt_rows.specs.Cells.{IsPaired}
 use Rattle.vt_rows.specs.Row.{RowValue, IsRow, blank_row, resized_row}
 
--- the blank rows from k up to n have taken over: row j that of place `source j`
+-- The blank rows from k to before n have taken over: row j took that at index `source j`.
 abbrev pub MovedInto : (ℕ → ℕ) → (k n : ℕ) → (from blanks fresh : List RowValue) → Type 0
 MovedInto source k n from blanks fresh =
     (j : ℕ) (d : RowValue) →
@@ -20,7 +20,7 @@ MovedInto source k n from blanks fresh =
     ≡ (if nat_le k j && nat_lt j n
     then resized_row (length (get_or blanks j d).cells) (get_or from (source j) d) else get_or blanks j d)
 
--- none has
+-- If k is not below n, no row has taken over.
 pub moved_none : (source : ℕ → ℕ) (k n : ℕ) (from blanks : List RowValue) →
     n ≤ k → MovedInto source k n from blanks blanks
 moved_none source k n from blanks h j d =
@@ -29,7 +29,7 @@ moved_none source k n from blanks h j d =
     then resized_row (length (get_or blanks j d).cells) (get_or from (source j) d) else get_or blanks j d)
     t)
 
--- one before them does not yet
+-- A row before those that took over is still blank.
 pub still_blank : (source : ℕ → ℕ) (k n : ℕ) (from blanks fresh : List RowValue) (d : RowValue) →
     MovedInto source (k + 1) n from blanks fresh → get_or fresh k d ≡ get_or blanks k d
 still_blank source k n from blanks fresh d m =
@@ -76,7 +76,7 @@ moved_more source k n from blanks fresh row old new h i l s r e m j d = elim (ca
       t)
 ]
 
--- all that there are have
+-- All rows for which the test holds have taken over.
 pub moved_all : (source : ℕ → ℕ) (k n : ℕ) (from blanks fresh : List RowValue) (test : ℕ → Bool) →
     ((j : ℕ) → j < length blanks → (nat_le k j && nat_lt j n) ≡ test j) → MovedInto source k n from blanks fresh →
     (j : ℕ) (d : RowValue) → j < length blanks →
@@ -88,7 +88,7 @@ moved_all source k n from blanks fresh test t m j d h =
     then resized_row (length (get_or blanks j d).cells) (get_or from (source j) d) else get_or blanks j d)
     (t j h)
 
--- ---- the row that is taken from the end
+-- ---- The row that is removed from the end
 
 pub last_taken : (m n : ℕ) (from left : List RowValue) (row : RowValue) → left ≡ take m from →
     m ≡ n + 1 → m ≤ length from → row ≡ get_or left n row → row ≡ get_or from n row

@@ -1,4 +1,4 @@
--- The rows that leave a page, by what is printed.
+-- The rows that scroll off a page, by what is printed.
 use Rattle.std.proofs.Common.{◌≡◌, ℕ, ◌&&◌, ◌==◌, nat_lt, Bool, true, false, List, [], take, refl}
 use Rattle.std.specs.Prelude.{if◌then◌else◌, Some, None}
 use Rattle.vt_cells.specs.Glyph.{columns_of}
@@ -10,7 +10,7 @@ use Rattle.vt_grid.specs.Printing.{lacks_room, carries, pushes}
 use Rattle.vt_grid.specs.Outgoing.{fed_out, printed_out, left_by}
 use Rattle.vt_grid.specs.Internals.{room_out, mark_out}
 
--- where no row is pushed off the page, none leaves
+-- If a line feed scrolls no row off the page, the list of rows that scroll off is empty.
 pub unfed : (page : Page) → feeds_out page ≡ false → fed_out page ≡ []
 unfed page e = rw e refl
 

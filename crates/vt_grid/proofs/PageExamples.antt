@@ -1,4 +1,4 @@
--- The definitions of moves, erasing and printing, computed on small pages.
+-- The definitions of cursor movement, erasing and printing, computed on small pages.
 use Rattle.std.proofs.Common.{◌≡◌, ℕ, Bool, true, false, List, [], ◌∷◌, refl}
 use Rattle.std.specs.Char.{encode_utf8}
 use Rattle.std.specs.Prelude.{Some}
@@ -11,7 +11,7 @@ use Rattle.vt_grid.specs.Moves.{moved_to, moved_right, line_feed}
 use Rattle.vt_grid.specs.Erasing.{erased_chars, erased_rest, erased_below}
 use Rattle.vt_grid.specs.Printing.{glyph_put, room_made, wrapped_page, made_wide, made_narrow, carried, printed_by}
 
--- a letter of one column, and a character of two
+-- The page after a letter of one column is printed.
 abbrev letter : ℕ → Page → Page
 letter c page = glyph_put (c ∷ []) false default_attrs (room_made 1 page)
 
@@ -24,18 +24,18 @@ n c = glyph (c ∷ []) false default_attrs
 abbrev w : ℕ → CellValue
 w c = glyph (c ∷ []) true default_attrs
 
--- with U+FE0F
+-- The wide glyph of a character with U+FE0F.
 abbrev heart : CellValue
 heart = glyph (9 ∷ encode_utf8 0xFE0F) true default_attrs
 
 abbrev row : List CellValue → Bool → RowValue
 row cells wrapped = record { cells = cells; wrapped = wrapped }
 
--- a page without a region, and nothing saved
+-- The page `page` with these rows, cursor position and width.
 abbrev shown : List RowValue → ℕ → ℕ → ℕ → Page → Page
 shown rows r c width page = record page { rows = rows; row = r; column = c; width = width }
 
--- a full row leaves the cursor behind its last column, and no flag
+-- A full row leaves the cursor after its last column, and is not wrapped.
 full_row : letter 4 (letter 3 (letter 2 (letter 1 (blank_page 2 4))))
     ≡ shown (row (n 1 ∷ n 2 ∷ n 3 ∷ n 4 ∷ []) false
     ∷ row (default_blank ∷ default_blank ∷ default_blank ∷ default_blank ∷ []) false ∷ [])
@@ -43,37 +43,37 @@ full_row : letter 4 (letter 3 (letter 2 (letter 1 (blank_page 2 4))))
 unfolding room_made wrapped_page line_feed put_cells moved_rows
 full_row = refl
 
--- one letter more wraps, and the row above goes on
+-- One letter more wraps, and the row above is then wrapped.
 wraps : letter 3 (letter 2 (letter 1 (blank_page 2 2)))
     ≡ shown (row (n 1 ∷ n 2 ∷ []) true ∷ row (n 3 ∷ default_blank ∷ []) false ∷ []) 1 1 2 (blank_page 2 2)
 unfolding room_made wrapped_page line_feed put_cells moved_rows
 wraps = refl
 
--- at the bottom the rows move up, and the row that was left moves with its flag
+-- At the bottom the rows move up, and the row that was left moves with its flag.
 wraps_at_bottom : letter 5 (letter 4 (letter 3 (letter 2 (letter 1 (blank_page 2 2)))))
     ≡ shown (row (n 3 ∷ n 4 ∷ []) true ∷ row (n 5 ∷ default_blank ∷ []) false ∷ []) 1 1 2 (blank_page 2 2)
 unfolding room_made wrapped_page line_feed put_cells moved_rows
 wraps_at_bottom = refl
 
--- a wide character wraps over a blank column, and the row above does not go on
+-- A wide character wraps over a blank column, and the row above is not wrapped.
 wide_wraps : wide_letter 2 (letter 1 (blank_page 2 2))
     ≡ shown (row (n 1 ∷ default_blank ∷ []) false ∷ row (w 2 ∷ right_half ∷ []) false ∷ []) 1 2 2 (blank_page 2 2)
 unfolding room_made wrapped_page line_feed put_cells moved_rows
 wide_wraps = refl
 
--- one row: what was left is gone, and no flag is set
+-- On a page of one row, the row that was left is gone, and no flag is set.
 wraps_single : letter 3 (letter 2 (letter 1 (blank_page 1 2)))
     ≡ shown (row (n 3 ∷ default_blank ∷ []) false ∷ []) 0 1 2 (blank_page 1 2)
 unfolding room_made wrapped_page line_feed put_cells moved_rows
 wraps_single = refl
 
--- a wide character over the left half of another
+-- A wide character overwrites the first cell of another.
 wide_over_half : wide_letter 2 (moved_to 0 0 (wide_letter 1 (moved_to 0 1 (blank_page 1 4))))
     ≡ shown (row (w 2 ∷ right_half ∷ default_blank ∷ default_blank ∷ []) false ∷ []) 0 2 4 (blank_page 1 4)
 unfolding room_made wrapped_page line_feed put_cells moved_rows
 wide_over_half = refl
 
--- a letter over a right half, and over a left half
+-- A letter overwrites a continuation cell, and then the first cell of a wide glyph.
 over_right : letter 4 (moved_to 0 1 (letter 3 (letter 2 (wide_letter 1 (blank_page 1 5)))))
     ≡ shown (row (default_blank ∷ n 4 ∷ n 2 ∷ n 3 ∷ default_blank ∷ []) false ∷ []) 0 2 5 (blank_page 1 5)
 unfolding room_made wrapped_page line_feed put_cells moved_rows
@@ -84,30 +84,30 @@ over_left : letter 4 (moved_to 0 0 (letter 3 (letter 2 (wide_letter 1 (blank_pag
 unfolding room_made wrapped_page line_feed put_cells moved_rows
 over_left = refl
 
--- a character of two columns has no place on a page of one
+-- A character of two columns has no place on a page of one.
 too_wide : printed_by (Some 2) 0x4E2D default_attrs (blank_page 2 1) ≡ blank_page 2 1
 too_wide = refl
 
--- U+FE0F behind a heart makes it wide where a column is left
+-- U+FE0F after a heart makes it wide if a column is left.
 heart_in_place : made_wide 0 default_attrs (letter 9 (blank_page 1 3))
     ≡ shown (row (w 9 ∷ right_half ∷ default_blank ∷ []) false ∷ []) 0 2 3 (blank_page 1 3)
 unfolding room_made wrapped_page line_feed put_cells moved_rows made_wide
 heart_in_place = refl
 
--- and carries it to the next row where none is
+-- U+FE0F after a heart moves it to the next row if no column is left.
 heart_carried : carried 0xFE0F default_attrs (letter 9 (moved_to 1 1 (letter 1 (blank_page 2 2))))
     ≡ shown (row (default_blank ∷ default_blank ∷ []) false ∷ row (heart ∷ right_half ∷ []) false ∷ [])
     1 2 2 (blank_page 2 2)
 unfolding room_made wrapped_page line_feed put_cells moved_rows carried
 heart_carried = refl
 
--- a wide character made narrow leaves a space, and the cursor stays
+-- A wide character made narrow leaves a space, and the cursor stays.
 narrowed : made_narrow 0 default_attrs (wide_letter 9 (blank_page 1 3))
     ≡ shown (row (n 9 ∷ n 0x20 ∷ default_blank ∷ []) false ∷ []) 0 2 3 (blank_page 1 3)
 unfolding room_made wrapped_page line_feed put_cells moved_rows
 narrowed = refl
 
--- at a pending wrap nothing is erased in the row, and the cursor moves to the right only as far as the last column
+-- With a pending wrap nothing is erased in the row, and the cursor moves right only to the last column.
 pending : erased_rest default_attrs (letter 2 (letter 1 (blank_page 1 2))) ≡ letter 2 (letter 1 (blank_page 1 2))
 unfolding room_made wrapped_page line_feed put_cells moved_rows erased_rest
 pending = refl
@@ -117,14 +117,14 @@ pending_right : moved_right 1 (letter 2 (letter 1 (blank_page 1 2)))
 unfolding room_made wrapped_page line_feed put_cells moved_rows
 pending_right = refl
 
--- what is below is erased, and the flag of the cursor's row stays at a pending wrap
+-- The rows below are erased, and with a pending wrap the flag of the cursor's row stays.
 erases_below : erased_below default_attrs (moved_to 0 1 (letter 3 (letter 2 (letter 1 (blank_page 2 2)))))
     ≡ shown (row (n 1 ∷ default_blank ∷ []) false ∷ row (default_blank ∷ default_blank ∷ []) false ∷ [])
     0 1 2 (blank_page 2 2)
 unfolding room_made wrapped_page line_feed put_cells moved_rows erased_rest erased_below
 erases_below = refl
 
--- one half erased blanks the other
+-- Erasing one cell of a wide glyph makes the other one a blank.
 erases_half : erased_chars 1 default_attrs (moved_to 0 1 (letter 2 (wide_letter 1 (blank_page 1 4))))
     ≡ shown (row (default_blank ∷ default_blank ∷ n 2 ∷ default_blank ∷ []) false ∷ []) 0 1 4 (blank_page 1 4)
 unfolding room_made wrapped_page line_feed put_cells moved_rows erased_chars

@@ -1,4 +1,4 @@
--- Every operation on a page leaves a page.
+-- Every operation on a page leaves a valid page.
 use Rattle.std.proofs.Common.{◌≡◌, ℕ, ◌+◌, ◌-◌, ◌<◌, ◌≤◌, ◌^◌, ◌==◌, ◌&&◌, ◌⊎◌, nat_lt, min}
 use Rattle.std.proofs.Common.{not, Bool, true, false, List, ◌++◌, length, take, get_or, set}
 use Rattle.std.proofs.Common.{replicate, refl, inl, inr, sym, ap, subst, ◌∙◌, arith}
@@ -22,7 +22,7 @@ use Rattle.vt_grid.specs.Moves.{at_bottom, line_feed, cursor_saved, cursor_resto
 use Rattle.vt_grid.specs.Erasing.{erased_columns, erased_chars, erased_rest, blanked_below, erased_below}
 use Rattle.vt_grid.specs.Printing.{with_cursor_cells}
 
--- ---- the cursor, and the rows
+-- ---- The cursor, and the rows
 
 pub page_at : (row column : ℕ) (page : Page) → row < length page.rows →
     column ≤ page.width → IsPage page → IsPage (record page { row = row; column = column })
@@ -110,7 +110,7 @@ page_moved_to r c page p =
     page_at (target_row r page) (min c (page.width - 1)) page
     (target_in page.origin r page.top page.bottom (length page.rows) p.region_end) (omega arith) p
 
--- ---- one row
+-- ---- One row
 
 set_last : (rows : List RowValue) (r : ℕ) (row d : RowValue) → r < length rows →
     (r + 1 ≡ length rows → row.wrapped ≡ false) → (get_or rows (length rows - 1) d).wrapped ≡ false →
@@ -145,7 +145,7 @@ cursor_paired page p = let row = IsRow-cursor_row page p in row.paired
 pub cursor_columns : (page : Page) → IsPage page → length (cursor_row page).cells ≡ page.width
 cursor_columns page p = let row = IsRow-cursor_row page p in row.columns
 
--- the cursor's row, where it is the last one, has no flag
+-- If the cursor's row is the last one, it is not wrapped.
 pub last_unwrapped : (page : Page) → IsPage page → page.row + 1 ≡ length page.rows → (cursor_row page).wrapped ≡ false
 last_unwrapped page p e =
     let i : page.row ≡ length page.rows - 1 = omega arith in
@@ -161,7 +161,7 @@ pub page_if : (b : Bool) (x y : Page) → (b ≡ true → IsPage x) → (b ≡ f
 page_if true x y f g = f refl
 page_if false x y f g = g refl
 
--- ---- rows among each other
+-- ---- Rows that move
 
 pub length-moved_rows : (width : ℕ) (source : ℕ → ℕ) (rows : List RowValue) →
     length (moved_rows width source rows) ≡ length rows
@@ -182,7 +182,7 @@ All-moved_rows width source rows h =
     let i : r < length rows = omega (arith, length-moved_rows width source rows) in
     subst (IsRow width) (sym (row_or-moved_rows width source rows r i)) (IsRow-row_or width rows (source r) h))
 
--- a row below the region stays, and one that moves past its end is blank
+-- The last row stays if it is below the region, and is blank if it moves past the region's end.
 up_last : (height top bottom n : ℕ) → bottom < height →
     (up_source height top bottom n (height - 1) ≡ height - 1) ⊎ (up_source height top bottom n (height - 1) ≡ height)
 up_last height top bottom n h = elim (cases_eq (up_source height top bottom n (height - 1)) (height - 1)) [
@@ -222,7 +222,7 @@ page_line_feed page p =
     (λ t. page_at (page.row + 1) page.column page (ltb-true (page.row + 1) (length page.rows) t) p.cursor_column p)
     (λ f. p))
 
--- ---- erasing
+-- ---- Erasing
 
 pub page_erased_columns : (c n : ℕ) (attrs : Attrs) (page : Page) →
     c + n ≤ page.width → IsPage page → IsPage (erased_columns c n attrs page)
@@ -283,7 +283,7 @@ pub page_erased_below : (attrs : Attrs) (page : Page) → IsPage page → IsPage
 unfolding erased_below
 page_erased_below attrs page p = page_blanked_below attrs (erased_rest attrs page) (page_erased_rest attrs page p)
 
--- ---- a fresh page
+-- ---- A new page
 
 pub page_blank : (height width : ℕ) → 0 < height → height < 2 ^ 16 →
     0 < width → width < 2 ^ 16 → IsPage (blank_page height width)
@@ -305,7 +305,7 @@ page_blank height width h hh w ww =
           rw l (ap (λ (row : RowValue). row.wrapped) (get_or-replicate height (height - 1) blank blank (omega arith)));
     }
 
--- the cursor's row on a page, and what is erased in it
+-- The cells of the cursor's row on a page, for what is erased in it.
 pub ruleset cursor_cells = (cursor_paired, cursor_columns)
 
 pub ruleset erasing = (page_erased_chars, page_erased_rest, cursor_cells)

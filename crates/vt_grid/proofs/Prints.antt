@@ -1,4 +1,4 @@
--- A wrap and a printed glyph leave a page.
+-- A wrap and a printed glyph leave a valid page.
 use Rattle.std.proofs.Common.{◌≡◌, ℕ, ◌+◌, ◌-◌, ◌<◌, ◌≤◌, ◌==◌, ◌&&◌, ◌⊎◌, nat_lt, not, Bool, true}
 use Rattle.std.proofs.Common.{false, List, length, refl, inl, inr, sym, ap, subst, ◌∙◌, arith}
 use Rattle.std.specs.Prelude.{if◌then◌else◌, Option, Some, None}
@@ -17,7 +17,7 @@ use Rattle.vt_grid.specs.Printing.{wrapped_page, lacks_room, room_made, glyph_pu
 use Rattle.vt_grid.proofs.Pages.{page_at, page_if, page_with_row, page_cursor_cells, page_scrolled_up}
 use Rattle.vt_grid.proofs.Pages.{row_or-moved_rows, length-moved_rows, IsRow-row_or, IsRow-cursor_row}
 
--- ---- what a line feed keeps
+-- ---- What a line feed keeps
 
 if_same : {X : Type 0} (f : Page → X) (b : Bool) (x y : Page) (v : X) → f x ≡ v → f y ≡ v → f (if b then x else y) ≡ v
 if_same f true x y v p q = p
@@ -60,7 +60,7 @@ pub column_wrapped_page : (page : Page) → (wrapped_page page).column ≡ 0
 unfolding wrapped_page
 column_wrapped_page page = refl
 
--- ---- a wrap
+-- ---- A wrap
 
 pub region_order : (page : Page) → IsPage page → page.top ≤ page.bottom
 region_order page p = ordered p.region where
@@ -79,7 +79,7 @@ not_true : (b : Bool) → not b ≡ true → b ≡ false
 not_true true h = sym h
 not_true false h = refl
 
--- the row that scrolled up by one is the one that was left
+-- The row above the cursor's after scrolling up by one is the row that was left.
 pub moved_row : (page : Page) → IsPage page → at_bottom page ≡ true →
     (page.row == page.top) ≡ false → row_at (scrolled_up 1 page) (page.row - 1) ≡ cursor_row page
 moved_row page p e ne =
@@ -123,7 +123,7 @@ wrapped_rows : (page : Page) → IsPage page → (b : Bool) → at_bottom page �
 wrapped_rows page p true e = wrapped_bottom page p e (page.row == page.top) refl
 wrapped_rows page p false e = wrapped_below page p (nat_lt (page.row + 1) (length page.rows)) refl
 
--- the page of a wrap, before the cursor goes to the first column
+-- The page of a wrap is valid before the cursor moves to the first column.
 pub page_left : (page : Page) → IsPage page →
     IsPage (flagged_left (left_row page) (goes_down page && not (ends_blank (cursor_row page).cells)) (line_feed page))
 unfolding line_feed
@@ -137,7 +137,7 @@ page_wrapped page p =
     let left = page_left page p in
     page_at q.row 0 q left.cursor_row (omega arith) left
 
--- ---- room at the cursor
+-- ---- Room at the cursor
 
 pub page_room_made : (n : ℕ) (page : Page) → IsPage page → IsPage (room_made n page)
 unfolding room_made
@@ -156,7 +156,7 @@ has_room_made n page h = by_room (lacks_room n page) refl where
   by_room true e = omega (arith, column_wrapped_page page)
   by_room false e = grind (arith, nat_tests)
 
--- ---- a glyph at the cursor
+-- ---- A glyph at the cursor
 
 pub page_glyph_put : (text : List ℕ) (wide : Bool) (attrs : Attrs) (page : Page) → IsGlyphText text wide →
     page.column + glyph_columns wide ≤ page.width → IsPage page → IsPage (glyph_put text wide attrs page)
@@ -171,7 +171,7 @@ page_glyph_put text true attrs page t h p =
     (IsRow-put_wide page.width (cursor_row page) page.column text attrs (omega arith) t (IsRow-cursor_row page p)) in
     page_at page.row (page.column + 2) (with_cursor_cells cells page) q.cursor_row h q
 
--- a character of one or two columns
+-- The page is valid after a character of one or two columns is printed.
 pub page_drawn : (text : List ℕ) (wide : Bool) (attrs : Attrs) (page : Page) →
     IsGlyphText text wide → glyph_columns wide ≤ page.width → IsPage page →
     IsPage (glyph_put text wide attrs (room_made (glyph_columns wide) page))

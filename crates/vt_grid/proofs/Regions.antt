@@ -1,4 +1,4 @@
--- Moves that regard the scroll region, and the region itself, leave a page.
+-- Cursor movement that regards the scroll region, and the region itself, leave a valid page.
 use Rattle.std.proofs.Common.{◌≡◌, ℕ, ◌+◌, ◌-◌, ◌*◌, ◌/◌, ◌<◌, ◌≤◌, ◌⊎◌, nat_lt, min}
 use Rattle.std.proofs.Common.{max, Bool, true, false, length, refl, inl, inr, arith}
 use Rattle.std.specs.Prelude.{if◌then◌else◌}
@@ -9,7 +9,7 @@ use Rattle.vt_grid.specs.Regions.{in_region, last_row, moved_up, moved_down, nex
 use Rattle.vt_grid.specs.Regions.{moved_to_column, moved_to_row, tabbed, region_set, origin_set}
 use Rattle.vt_grid.proofs.Pages.{page_at, page_if, page_carriage_return, page_moved_to}
 
--- ---- the cursor
+-- ---- The cursor
 
 up_inside : (b : Bool) (row n top height : ℕ) → (b ≡ true → top ≤ row) →
     row < height → max (row - n) (if b then top else 0) < height
@@ -51,7 +51,7 @@ pub page_tabbed : (page : Page) → IsPage page → IsPage (tabbed page)
 page_tabbed page p =
     page_at page.row (min ((page.column / 8 + 1) * 8) (page.width - 1)) page p.cursor_row (omega arith) p
 
--- ---- the region and origin mode
+-- ---- The region and origin mode
 
 pub page_region : (top bottom : ℕ) (page : Page) → bottom < length page.rows →
     (top < bottom) ⊎ ((top ≡ 0) × (bottom + 1 ≡ length page.rows)) → IsPage page →

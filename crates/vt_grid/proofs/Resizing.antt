@@ -1,4 +1,4 @@
--- Another size of a page: what the fresh rows take over, and that what results is a page.
+-- Resizing a page: what the new rows take over, and that the result is a valid page.
 use Rattle.std.proofs.Common.{◌≡◌, ℕ, ◌+◌, ◌-◌, ◌<◌, ◌≤◌, ◌^◌, nat_le, nat_lt, min, Bool, true}
 use Rattle.std.proofs.Common.{false, List, [], ◌∷◌, ◌++◌, length, take, drop, map, get_or}
 use Rattle.std.proofs.Common.{replicate, refl, inl, inr, sym, ap, subst, ◌∙◌, arith}
@@ -30,7 +30,7 @@ use Rattle.vt_grid.specs.Shifts.{unflagged}
 use Rattle.vt_grid.proofs.Pages.{IsRow-row_or}
 use Rattle.vt_grid.proofs.Scrolling.{IsScrollback-pushed}
 
--- ---- a blank row of another size is a blank row
+-- ---- A blank row resized is a blank row
 
 resized-blanks : (v w : ℕ) → resized w (blanks default_attrs v) ≡ blanks default_attrs w
 unfolding resized
@@ -42,7 +42,7 @@ resized-blanks v w =
 pub resized_row-blank : (v w : ℕ) → resized_row w (blank_row default_attrs v) ≡ blank_row default_attrs w
 resized_row-blank v w = λ i. record { cells = resized-blanks v w i; wrapped = false }
 
--- ---- what stands where
+-- ---- Where each row comes from
 
 blank_at : (w k : ℕ) (rows : List RowValue) → length rows ≤ k → row_or w rows k ≡ blank_row default_attrs w
 blank_at w k rows h = get_or_past rows k (blank_row default_attrs w) h
@@ -72,7 +72,7 @@ passes : {X : Type 0} (b : Bool) (x y : X) → b ≡ false → (if b then x else
 passes true x y e = absurd (grind arith)
 passes false x y e = refl
 
--- a row that was lost
+-- A row of the window that was not kept is blank.
 window_lost : (v h down up : ℕ) (above rows : List RowValue) (k : ℕ) → k < h →
     length above + down + k < up → row_or v (window v h down up above rows) k ≡ blank_row default_attrs v
 window_lost v h down up above rows k l i =
@@ -87,7 +87,7 @@ window_there v h down up above rows k l i =
     ∙ passes (nat_lt (length above + down + k) up) (blank_row default_attrs v)
     (row_or v (above ++ rows) (length above + down + k - up)) (grind (arith, nat_tests))
 
--- a row that comes back
+-- A row of the window that comes back.
 window_above : (v h down up : ℕ) (above rows : List RowValue) (k : ℕ) → k < h → k < up → down ≡ 0 →
     up ≤ length above + k → row_or v (window v h down up above rows) k ≡ row_or v above (length above + k - up)
 window_above v h down up above rows k l i z j =
@@ -95,7 +95,7 @@ window_above v h down up above rows k l i z j =
     ∙ (ap (λ (n : ℕ). row_or v (above ++ rows) n) (omega arith)
     ∙ get_or_append_left above rows (blank_row default_attrs v) (length above + k - up) (omega arith))
 
--- a row of the page
+-- A row of the window that is a row of the page.
 window_own : (v h down up : ℕ) (above rows : List RowValue) (k : ℕ) → k < h → up ≤ k →
     row_or v (window v h down up above rows) k ≡ row_or v rows (down + (k - up))
 window_own v h down up above rows k l i =
@@ -104,7 +104,7 @@ window_own v h down up above rows k l i =
     (length above + down + k - up) (blank_row default_attrs v) refl (omega arith)
     ∙ ap (λ (n : ℕ). row_or v rows n) (omega arith))
 
--- ---- the fresh rows take over
+-- ---- The new rows take over
 
 refilled_at : (v w h down up : ℕ) (above rows : List RowValue) (k : ℕ) → k < h → (0 < up → down ≡ 0) →
     refilled down up above rows (blank_row default_attrs w) k (blank_row default_attrs v)
@@ -173,8 +173,7 @@ whole n given items e l =
     ap (λ (rest : List RowValue). take n (given ++ rest)) none
     ∙ (ap (take n) (append-nil given) ∙ take_all n given (omega arith))
 
--- the last of them goes on no more
--- the last row of the fresh ones goes on no more
+-- The last of the new rows is not wrapped.
 pub settled : (v w width h down up last : ℕ) (above rows fresh filled : List RowValue) →
     fresh ≡ replicate h (blank_row default_attrs w) → width ≡ w →
     0 < h → last ≡ length filled - 1 → length filled ≡ length fresh →
@@ -196,7 +195,7 @@ settled v w width h down up last above rows fresh filled e wide pos end same eit
     ) in
     λ z. unflagged (wide z) (place z) (all z)
 
--- what is filled from both sides
+-- A new page filled from scrollback and then from the old page.
 pub refilled_by : (down up : ℕ) (above rows fresh half filled : List RowValue) → length half ≡ length fresh →
     ((k : ℕ) (d : RowValue) → k < length fresh →
     get_or half k d ≡ given_back up above (get_or fresh k d) k d) →
@@ -237,7 +236,7 @@ all_blank h w rows e =
     (All-replicate (λ row. row ≡ blank_row default_attrs (length row.cells)) h
     (blank_row default_attrs w) (ap (blank_row default_attrs) (sym (length-replicate w default_blank))))
 
--- the rows below those that came back are blank still
+-- The rows below those that came back are still blank.
 pub still_fresh : (up : ℕ) (above fresh half : List RowValue) → length half ≡ length fresh →
     All (λ row. row ≡ blank_row default_attrs (length row.cells)) fresh →
     ((k : ℕ) (d : RowValue) → k < length fresh →
@@ -255,7 +254,7 @@ still_fresh up above fresh half e all f k d below h =
     subst (λ (row : RowValue). row ≡ blank_row default_attrs (length row.cells)) (sym still)
     (All-get_or (λ row. row ≡ blank_row default_attrs (length row.cells)) fresh k d l all)
 
--- ---- a page
+-- ---- A page
 
 abbrev IsAny : RowValue → Type 0
 IsAny row = IsRow (length row.cells) row
@@ -350,7 +349,7 @@ page_page_resized height width above page p a h hh w ww =
           ∙ last-rows_resized width rows (omega (arith, win));
     }
 
--- ---- scrollback
+-- ---- Scrollback
 
 pub offset-pushed : (h w : ℕ) (gone : List RowValue) (above : Scrollback) →
     (pushed h w gone (out_of_view above)).offset ≡ 0
@@ -376,9 +375,9 @@ scrollback_resized_is height page above p a =
       sound = All-take (λ row. IsRow (length row.cells) row) n mid.rows m.sound;
     }
 
--- ---- the steps of the code
+-- ---- The steps of the code
 
--- no row came back
+-- If no row comes back, the window consists of rows of the page.
 window_below : (v h down up : ℕ) (above rows : List RowValue) → up ≡ 0 →
     window v h down up above rows ≡ by_row h (λ k. row_or v (drop down rows) k)
 unfolding window
@@ -475,7 +474,7 @@ sized_resized rows cols h w above page r c p =
       width = c;
     }
 
--- ---- a fresh page tells its size
+-- ---- The size of a new page
 
 pub fresh_height : (height width : ℕ) (page : Page) → page ≡ blank_page height width → length page.rows ≡ height
 fresh_height height width page e =

@@ -1,4 +1,4 @@
--- Rows are taken over, and rows come into view: the whole scrollback.
+-- Rows are appended, and rows are displayed: all of scrollback.
 use Rattle.std.proofs.Common.{◌≡◌, ℕ, ◌+◌, ◌-◌, ◌<◌, ◌≤◌, ◌==◌, nat_lt, min, List, [], ◌∷◌, ◌++◌}
 use Rattle.std.proofs.Common.{length, take, drop, map, replicate, refl, sym, ap, subst, ◌∙◌, arith}
 use Rattle.std.specs.Prelude.{All, if◌then◌else◌}
@@ -17,7 +17,7 @@ use Rattle.vt_grid.specs.Scrollback.{grown_row, grown_in_view, pushed, reported,
 use Rattle.vt_grid.specs.Spare.{AreSpare, window_from, grown_from, in_view}
 use Rattle.vt_grid.proofs.Stacking.{All-stacked, IsScrollback-kept_after, length-stacked}
 
--- ---- rows in view grow
+-- ---- Displayed rows are extended
 
 IsRow-grown_row : (w : ℕ) (row : RowValue) → IsRow (length row.cells) row →
     IsRow (length (grown_row w row).cells) (grown_row w row)
@@ -65,7 +65,7 @@ IsScrollback-grown_in_view h w above a =
       sound = All-grown_from (length above.rows - above.offset) h w above.rows a.sound;
     }
 
--- ---- the offset is set
+-- ---- The offset is set
 
 pub IsScrollback-with_view : (h w n : ℕ) (above : Scrollback) → IsScrollback above →
     IsScrollback (with_view h w n above)
@@ -84,7 +84,7 @@ with_view_is h w n offset above rows e f =
     f ∙ ap (λ (m : ℕ). grown_from (length above.rows - m) h w above.rows) e in
     λ i. record { rows = g i; capacity = above.capacity; theoretical = above.theoretical; offset = e i }
 
--- ---- rows are taken over
+-- ---- Rows are appended
 
 pub pushed_some : (h w : ℕ) (gone : List RowValue) (above : Scrollback) →
     0 < length gone → pushed h w gone above ≡ grown_in_view h w (kept_after gone above)
@@ -113,7 +113,7 @@ kept_is gone above rows theoretical offset e t o =
     o ∙ ap (λ (xs : List RowValue). if above.offset == 0 then 0 else min (above.offset + length gone) (length xs)) e in
     λ i. record { rows = e i; capacity = above.capacity; theoretical = t i; offset = p i }
 
--- what the steps of the code leave
+-- The state after the steps of the code.
 pub kept_by_steps : (gone : List RowValue) (above : Scrollback)
     (before kept : List RowValue) (theoretical offset len : ℕ) →
     before ≡ above.rows → kept ≡ last_of above.capacity (before ++ map trimmed_row gone) →
@@ -163,7 +163,7 @@ All-kept w c gone rows before kept g r b e =
     (All-drop P (length (rows ++ map trimmed_row gone) - c)
     (rows ++ map trimmed_row gone) (All-stacked w gone rows g r))
 
--- the blank rows that stand in the places of those that left
+-- The blank rows that replace those that scrolled off are valid.
 pub All-blanks : (w width n : ℕ) (rows blanks : List RowValue) → rows ≡ blanks →
     blanks ≡ replicate n (blank_row default_attrs width) → width ≡ w → All (IsRow w) rows
 All-blanks w width n rows blanks r e c =
@@ -195,7 +195,7 @@ spare_made w width h n gone above kept theoretical offset spare e m s c =
       );
     }
 
--- ---- one row drives out the oldest, and none is in view
+-- ---- One row replaces the oldest, and none is displayed
 
 nothing_grows : (first h w : ℕ) (rows : List RowValue) → length rows ≤ first → rows ≡ grown_from first h w rows
 nothing_grows first h w rows f =
@@ -229,7 +229,7 @@ turned_is h w gone above rows theoretical f c o n e t =
     (kept_is gone above rows theoretical above.offset stacks t offset)
     (nothing_grows (length rows - above.offset) h w rows (omega arith))
 
--- where there is room for the row
+-- The state after a row is appended for which there is room.
 pub added_is : (h w : ℕ) (gone : List RowValue) (above : Scrollback) (rows : List RowValue) (theoretical : ℕ) →
     length above.rows < above.capacity → above.offset ≡ 0 → length gone ≡ 1 →
     rows ≡ above.rows ++ map trimmed_row gone → theoretical ≡ min (above.theoretical + length gone) greatest →
@@ -261,7 +261,7 @@ turned_reports gone above f c n =
     ∙ (ap (λ (m : ℕ). take m (stacked gone above)) one
     ∙ take-append-le 1 above.rows (map trimmed_row gone) (omega arith))
 
--- ---- nothing is kept
+-- ---- Nothing is kept
 
 pub passed_is : (h w : ℕ) (gone : List RowValue) (above : Scrollback) (theoretical : ℕ) → IsScrollback above →
     above.capacity ≡ 0 → 0 < length gone → theoretical ≡ min (above.theoretical + length gone) greatest →

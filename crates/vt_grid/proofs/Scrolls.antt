@@ -1,4 +1,4 @@
--- Rows turned and cleared are rows moved up or down.
+-- Rotating and clearing rows moves them up or down.
 use Rattle.std.proofs.Common.{◌≡◌, ℕ, ◌+◌, ◌-◌, ◌<◌, ◌≤◌, ◌&&◌, nat_lt, nat_le, min, Bool, true, false, List, ◌++◌}
 use Rattle.std.proofs.Common.{length, take, drop, replicate, get_or, refl, inl, inr, sym, ap, ◌∙◌, arith}
 use Rattle.std.specs.Prelude.{if◌then◌else◌}
@@ -26,8 +26,8 @@ source_past : (len top bottom count n k : ℕ) → n ≡ min count (bottom + 1 -
     up_source len top bottom count k ≡ len
 source_past len top bottom count n k e o i t = grind (arith, nat_tests)
 
--- rows from top to bottom turned to the left by m and cleared from `from` up to `to` come from where `source` says,
--- past the end where they are cleared
+-- Rows from top to bottom that are rotated left by m and cleared between `from` and `to` come from where `source`
+-- says, which is past the end for a cleared one.
 turned_is : (w top bottom m from to : ℕ) (source : ℕ → ℕ) (rows turned cleared : List RowValue) →
     top + m ≤ bottom + 1 → bottom < length rows → length cleared ≡ length rows →
     ((k : ℕ) (d : RowValue) → k < length rows → get_or turned k d ≡ get_or rows (turn_source top (bottom + 1) m k) d) →
@@ -61,7 +61,7 @@ scrolled_is w top bottom count n rows turned cleared e o i lc ft fc =
     (λ k h t. source_past (length rows) top bottom count n k e o i t)
     (λ k h f. sources_agree (length rows) top bottom count n k e o i h f)
 
--- ---- down
+-- ---- Down
 
 down_agree : (len top bottom count n k : ℕ) → n ≡ min count (bottom + 1 - top) →
     top ≤ bottom → bottom < len → k < len → (nat_le top k && nat_lt k (top + n)) ≡ false →
@@ -87,7 +87,7 @@ scrolled_down_is w top bottom count n rows turned cleared e o i lc ft fc =
     (λ k h t. down_past (length rows) top bottom count n k e o i t)
     (λ k h f. down_agree (length rows) top bottom count n k e o i h f)
 
--- ---- erasing
+-- ---- Erasing
 
 cleared_at : (w from k : ℕ) (attrs : Attrs) (rows : List RowValue) → k < length rows → from ≤ length rows →
     (if nat_le from k && nat_lt k (length rows) then blank_row attrs w else get_or rows k (blank_row default_attrs w))

@@ -1,4 +1,4 @@
--- The definitions of the region, of shifts and of erasing backward, computed on small pages.
+-- The definitions of the region, of insertion and deletion, and of erasing backward, computed on small pages.
 use Rattle.std.proofs.Common.{◌≡◌, ℕ, true, false, List, [], ◌∷◌, length, refl}
 use Rattle.vt_cells.specs.Attrs.{default_attrs}
 use Rattle.vt_cells.specs.Cell.{CellValue, glyph, right_half, default_blank}
@@ -20,11 +20,11 @@ wide = glyph (0xE4 ∷ 0xB8 ∷ 0xAD ∷ []) true default_attrs
 abbrev row : List CellValue → RowValue
 row cells = record { cells = cells; wrapped = false }
 
--- a row that goes on below
+-- A wrapped row.
 abbrev on : List CellValue → RowValue
 on cells = record { cells = cells; wrapped = true }
 
--- a row of one letter, and one of two
+-- A row of one letter.
 abbrev one : ℕ → RowValue
 one c = row (n c ∷ default_blank ∷ [])
 
@@ -34,14 +34,14 @@ two c d = row (n c ∷ n d ∷ [])
 abbrev blank_row : RowValue
 blank_row = row (default_blank ∷ default_blank ∷ [])
 
--- these rows, the cursor, and a region
+-- A page with these rows, cursor and region.
 abbrev paged : List RowValue → (r c width top bottom : ℕ) → Page
 paged rows r c width top bottom =
     record (blank_page (length rows) width) { rows = rows; row = r; column = c; top = top; bottom = bottom }
 
--- ---- rows
+-- ---- Rows
 
--- above the region only the first row scrolls it
+-- Above the region, RI scrolls it only from the first row.
 index_above : reverse_index (paged (one 1 ∷ one 2 ∷ one 3 ∷ []) 0 0 2 1 2) ≡ paged (one 1 ∷ blank_row ∷ one 2 ∷ []) 0 0 2 1 2
 unfolding reverse_index moved_rows
 index_above = refl
@@ -51,7 +51,7 @@ index_between : reverse_index (paged (one 1 ∷ one 2 ∷ one 3 ∷ one 4 ∷ []
 unfolding reverse_index moved_rows
 index_between = refl
 
--- the flag travels with its row, and falls at the region's bottom
+-- A row moves with its flag, which is cleared at the region's bottom.
 line_inserted : lines_inserted 1 (paged (on (n 1 ∷ n 2 ∷ []) ∷ one 3 ∷ []) 0 0 2 0 1)
     ≡ paged (blank_row ∷ two 1 2 ∷ []) 0 0 2 0 1
 unfolding lines_inserted moved_rows
@@ -68,7 +68,7 @@ line_outside : lines_inserted 1 (paged (one 1 ∷ one 2 ∷ one 3 ∷ []) 0 0 2 
 unfolding lines_inserted moved_rows
 line_outside = refl
 
--- more than there are leave blank rows, and what stands below the region stays
+-- Deleting more rows than there are leaves blank rows, and rows below the region stay.
 lines_gone : lines_deleted 9 (paged (one 1 ∷ one 2 ∷ one 3 ∷ one 4 ∷ []) 1 2 2 0 2)
     ≡ paged (one 1 ∷ blank_row ∷ blank_row ∷ one 4 ∷ []) 1 2 2 0 2
 unfolding lines_deleted moved_rows
@@ -84,7 +84,7 @@ region_down : scrolled_down 1 (paged (one 1 ∷ on (n 2 ∷ n 3 ∷ []) ∷ on (
 unfolding moved_rows
 region_down = refl
 
--- ---- columns
+-- ---- Columns
 
 half_deleted : chars_deleted 1 (paged (row (n 0x61 ∷ wide ∷ right_half ∷ n 0x62 ∷ default_blank ∷ []) ∷ []) 0 2 5 0 0)
     ≡ paged (row (n 0x61 ∷ default_blank ∷ n 0x62 ∷ default_blank ∷ default_blank ∷ []) ∷ []) 0 2 5 0 0
@@ -96,21 +96,21 @@ inserted_behind : chars_inserted 1 (paged (row (wide ∷ right_half ∷ n 1 ∷ 
 unfolding inserted moved
 inserted_behind = refl
 
--- at a pending wrap no column moves, and the flag falls
+-- With a pending wrap no column moves, and the flag is cleared.
 pending_inserted : chars_inserted 1 (paged (on (n 1 ∷ n 2 ∷ []) ∷ one 3 ∷ []) 0 2 2 0 1)
     ≡ paged (two 1 2 ∷ one 3 ∷ []) 0 2 2 0 1
 unfolding inserted moved
 pending_inserted = refl
 
--- ---- the cursor and the region
+-- ---- The cursor and the region
 
--- in origin mode the cursor stays in the region
+-- In origin mode the cursor stays in the region.
 stays_in_region : moved_to 3 3 (origin_set true (region_set 1 2 (blank_page 4 4)))
     ≡ record (blank_page 4 4) { row = 2; column = 3; top = 1; bottom = 2; origin = true }
 unfolding region_set
 stays_in_region = refl
 
--- one row is no region
+-- One row is no region.
 no_region : region_set 2 2 (region_set 1 2 (blank_page 4 4)) ≡ blank_page 4 4
 unfolding region_set
 no_region = refl
@@ -140,9 +140,9 @@ tab = refl
 tab_last : tabbed (record (blank_page 1 20) { column = 20 }) ≡ record (blank_page 1 20) { column = 19 }
 tab_last = refl
 
--- ---- erasing
+-- ---- Erasing
 
--- at a pending wrap the whole row, and its flag falls
+-- With a pending wrap the whole row is erased, and its flag cleared.
 start_pending : erased_start default_attrs (paged (on (n 1 ∷ n 2 ∷ []) ∷ one 3 ∷ []) 0 2 2 0 1)
     ≡ paged (blank_row ∷ one 3 ∷ []) 0 2 2 0 1
 unfolding erased_start put_cells
@@ -158,7 +158,7 @@ above : erased_above default_attrs (paged (on (n 1 ∷ n 2 ∷ []) ∷ two 3 4 �
 unfolding erased_above erased_start put_cells
 above = refl
 
--- no columns, also on a right half
+-- Erasing no columns changes nothing, even on a continuation cell.
 none_erased : erased_chars 0 default_attrs (paged (row (wide ∷ right_half ∷ []) ∷ []) 0 1 2 0 0)
     ≡ paged (row (wide ∷ right_half ∷ []) ∷ []) 0 1 2 0 0
 unfolding erased_chars

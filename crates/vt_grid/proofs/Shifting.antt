@@ -1,4 +1,4 @@
--- Rows that move down, and columns that move within a row, leave a page.
+-- Moving rows down, and moving columns within a row, leave a valid page.
 use Rattle.std.proofs.Common.{◌≡◌, ℕ, ◌-◌, ◌<◌, ◌==◌, false, List, length, refl, inl, inr, sym, ap, ◌∙◌, arith}
 use Rattle.std.specs.Prelude.{◌||◌, All}
 use Rattle.std.proofs.lemmas.Bool.{cases_eq}
@@ -18,7 +18,7 @@ use Rattle.vt_grid.proofs.Pages.{page_at, page_if, page_of_rows, page_with_row, 
 use Rattle.vt_grid.proofs.Pages.{IsRow-cursor_row, length-moved_rows, row_or-moved_rows, All-moved_rows}
 use Rattle.vt_grid.proofs.Prints.{region_order}
 
--- ---- rows that move down
+-- ---- Rows that move down
 
 pub length-rows_down : (width top bottom n : ℕ) (rows : List RowValue) →
     length (rows_down width top bottom n rows) ≡ length rows
@@ -35,7 +35,7 @@ All-unflagged width r rows h =
     All-set (IsRow width) rows r (record row { wrapped = false })
     (IsRow-wrapped width row false (λ e. cc) (IsRow-row_or width rows r h)) h
 
--- the last row is the region's bottom, which has no flag, or it stays
+-- The last row is the region's bottom, which is not wrapped, or it stays.
 down_last : (width top bottom n : ℕ) (rows : List RowValue) →
     bottom < length rows → (row_or width rows (length rows - 1)).wrapped ≡ false →
     (row_or width (rows_down width top bottom n rows) (length rows - 1)).wrapped ≡ false
@@ -78,7 +78,7 @@ page_reverse_index page p =
     (record page { row = page.row - 1 }) (λ t. page_scrolled_down 1 page p)
     (λ f. page_at (page.row - 1) page.column page (omega arith) p.cursor_column p)
 
--- ---- lines
+-- ---- Rows inserted and deleted
 
 pub page_lines_inserted : (n : ℕ) (page : Page) → IsPage page → IsPage (lines_inserted n page)
 unfolding lines_inserted
@@ -92,7 +92,7 @@ page_lines_deleted n page p =
     page_if (in_region page) (record page { rows = rows_up page.width page.row page.bottom n page.rows })
     page (λ t. page_rows_up page.row page.bottom n page p.region_end p) (λ f. p)
 
--- ---- characters
+-- ---- Columns inserted and deleted
 
 pub page_chars_inserted : (n : ℕ) (page : Page) → IsPage page → IsPage (chars_inserted n page)
 page_chars_inserted n page p =
@@ -104,5 +104,5 @@ page_chars_deleted n page p =
     page_with_row page.row (deleted_row page.column n (cursor_row page)) page p.cursor_row p
     (IsRow-deleted_row page.width page.column n (cursor_row page) (IsRow-cursor_row page p)) (λ e. refl)
 
--- rows that move down
+-- The facts about rows that move down.
 pub ruleset moving_down = (page_reverse_index, page_lines_inserted, region_order)

@@ -1,4 +1,4 @@
--- What happens to the rows of a grid leaves its size.
+-- Changes of the rows of a grid keep its size.
 use Rattle.std.proofs.Common.{◌≡◌, ℕ, ◌&&◌, not, Bool, true, false, subst, ◌+◌, ◌-◌, ◌<◌, ◌≤◌}
 use Rattle.std.proofs.Common.{List, length, take, replicate, refl, sym, ap, ◌==◌, ◌∙◌, arith}
 use Rattle.std.specs.Prelude.{if◌then◌else◌, Option, Some, None, IfSome}
@@ -79,9 +79,9 @@ sized_glyph_put rows cols text true attrs page t h s =
     refl
     (page_glyph_put text true attrs page t h s.sound)
 
--- ---- a wrap
+-- ---- A wrap
 
--- the page of a grid whose page got a flag, and whose cursor went to the first column
+-- The page of a grid after a row's flag was set and the cursor moved to the first column.
 pub flagged_page : (left : Option ℕ) (goes_on : Bool) (page_rows : PageRowsValue)
     (pos saved : Pos) (top bottom : ℕ) (origin saved_origin : Bool) →
     page_of (with_page_row_flag left goes_on page_rows) (record { row = pos.row; col = 0 }) saved top bottom origin saved_origin
@@ -117,7 +117,7 @@ left_inside page now fed left e l f p =
     sym (ap (λ (q : Page). length q.rows) f ∙ (height_line_feed now ∙ sym (ap (λ (q : Page). length q.rows) e))) in
     rw l (left_in (at_bottom page) (page.row == page.top) page.row (length fed.rows) (rw (← h) p.cursor_row))
 
--- ---- marks
+-- ---- Combining characters
 
 pub sized_mark_put : (rows cols k mark : ℕ) (page : Page) → IsMark mark →
     k < length (cursor_row page).cells → IsSized rows cols page → IsSized rows cols (mark_put k mark page)

@@ -1,4 +1,4 @@
--- Rows put below those that are kept: all at once is one after the other.
+-- Rows appended to those that are kept: all at once equals one after the other.
 use Rattle.std.proofs.Common.{◌≡◌, ℕ, suc, ◌+◌, ◌-◌, ◌≤◌, ◌==◌, min, List, [], ◌∷◌, ◌++◌, ◌<◌, get_or}
 use Rattle.std.proofs.Common.{length, take, drop, map, sym, ap, subst, ◌∙◌, append_assoc, arith}
 use Rattle.std.proofs.Math.Seq.{take-add}
@@ -30,7 +30,7 @@ before_then c xs ys =
     ∙ (ap (λ (zs : List _). zs ++ take n (drop m (xs ++ ys))) (take-append-le m xs ys (omega arith))
     ∙ ap (λ (zs : List _). before_last c xs ++ before_last c zs) (sym whole)))
 
--- one row was pushed, and the rest is to come
+-- One row was appended, and the rest is to come.
 pub row_kept : (c : ℕ) (kept next rest : List RowValue) (row : RowValue) →
     next ≡ last_of c (kept ++ row ∷ []) → last_of c (next ++ rest) ≡ last_of c (kept ++ (row ∷ rest))
 row_kept c kept next rest row e =
@@ -67,7 +67,7 @@ length-stacked gone above =
     length-append above.rows (map trimmed_row gone)
     ∙ ap (λ (n : ℕ). length above.rows + n) (length-map gone trimmed_row)
 
--- the rows are sound, each in its own width
+-- The rows are valid, each in its own width.
 pub All-stacked : (w : ℕ) (gone rows : List RowValue) →
     All (IsRow w) gone → All (λ row. IsRow (length row.cells) row) rows →
     All (λ row. IsRow (length row.cells) row) (rows ++ map trimmed_row gone)
@@ -87,7 +87,7 @@ All-pushed c kept next row e r k =
     subst (All P) (sym e)
     (All-drop P (length (kept ++ row ∷ []) - c) (kept ++ row ∷ []) (All-append P kept (row ∷ []) k one))
 
--- rows without the default blanks at their ends are sound, each in its own width
+-- Copies without the default blanks at their ends are valid, each in its own width.
 pub All-copied : (w n : ℕ) (rows copies : List RowValue) → All (IsRow w) rows →
     copies ≡ map trimmed_row (take n rows) → All (λ row. IsRow (length row.cells) row) copies
 All-copied w n rows copies all e =
@@ -98,7 +98,7 @@ All-copied w n rows copies all e =
     subst (All (λ row. IsRow (length row.cells) row)) (sym e)
     (All-map (λ row. IsRow (length row.cells) row) trimmed_row gone t)
 
--- one more of the first n rows
+-- One more of the first n rows.
 pub first_more : (n k : ℕ) (rows : List RowValue) (d : RowValue) → k < n → n ≤ length rows →
     map trimmed_row (drop k (take n rows))
     ≡ trimmed_row (get_or rows k d) ∷ map trimmed_row (drop (k + 1) (take n rows))

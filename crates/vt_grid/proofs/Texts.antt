@@ -1,4 +1,4 @@
--- A text of printable ASCII for which its row has room is printed as one edit.
+-- Printable ASCII that fits on its row is printed as one edit.
 use Rattle.std.proofs.Common.{◌≡◌, ℕ, suc, ◌+◌, ◌<◌, ◌≤◌, ◌&&◌, not, Bool, true, false}
 use Rattle.std.proofs.Common.{List, [], ◌∷◌, length, set, refl, sym, ap, ◌∙◌, arith}
 use Rattle.std.specs.Char.{encode_utf8}
@@ -21,7 +21,7 @@ use Rattle.vt_grid.proofs.Pages.{page_at, page_cursor_cells, IsRow-cursor_row}
 use Rattle.vt_grid.proofs.Prints.{page_glyph_put}
 use Rattle.vt_grid.proofs.Sized.{sized}
 
--- ---- where there is room
+-- ---- If there is room
 
 pub has_room : (page : Page) → page.column < page.width → lacks_room 1 page ≡ false
 has_room page h = grind (arith, nat_tests)
@@ -36,9 +36,9 @@ printed_put c attrs page low high h =
     printed_narrow c attrs page (columns_of-ascii c low high)
     ∙ ap (glyph_put (encode_utf8 c) false attrs) (room_kept page h)
 
--- ---- one character, and those behind it
+-- ---- One character, and those after it
 
--- a row that goes on does so after a glyph more
+-- Clearing a wrapped flag for one glyph and for the next equals clearing it for the next.
 pub flags_twice : (w a b : Bool) → (w ≡ true → a ≡ false) → ((w && not a) && not b) ≡ (w && not b)
 flags_twice true a b h = rw (h refl) refl
 flags_twice false a b h = refl
@@ -79,7 +79,7 @@ text_put_after b text attrs page p h =
     let column : page.column + 1 + length text ≡ page.column + suc (length text) = omega arith in
     sym (ap behind found ∙ (λ z. record page { rows = rows z; column = column z }))
 
--- ---- a whole text
+-- ---- A whole text
 
 pub text_printed : (text : List ℕ) (attrs : Attrs) (page : Page) → IsPage page →
     0 < length text → IsPrintableAscii text → page.column + length text ≤ page.width →
@@ -98,7 +98,7 @@ text_printed (c ∷ d ∷ text) attrs page p some h room =
     (omega arith) rest (omega arith)
     ∙ ap (printed_text (d ∷ text) attrs) (sym (printed_put c attrs page first.0 first.1 (omega arith))))
 
--- ---- what it leaves
+-- ---- What the edit keeps
 
 pub page_text_put : (text : List ℕ) (attrs : Attrs) (page : Page) → IsPrintableAscii text →
     page.column + length text ≤ page.width → IsPage page → IsPage (text_put text attrs page)

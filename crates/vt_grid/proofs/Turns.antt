@@ -1,4 +1,4 @@
--- A page whose table was turned, and of which some rows were made blank, scrolled up or down.
+-- A page whose table was rotated, and of which some rows were made blank, has scrolled up or down.
 use Rattle.std.proofs.Common.{◌≡◌, ℕ, ◌+◌, ◌-◌, ◌<◌, ◌≤◌, ◌&&◌, nat_le, nat_lt, min, ◌++◌}
 use Rattle.std.proofs.Common.{length, take, drop, replicate, get_or, ap, ◌∙◌, arith}
 use Rattle.std.specs.Prelude.{if◌then◌else◌}
@@ -22,7 +22,7 @@ counted_turned flat turned e = omega (
   rows_counted turned.width turned.cells.items turned.lines.items,
 )
 
--- what the blank rows are, in the words of a page before the turn
+-- The cleared rows, in terms of the page before the rotation.
 cleared_by : (from to : ℕ) (flat turned : Flat) (attrs : Attrs) (cleared : PageRowsValue) →
     turned.width ≡ flat.width → length turned.lines.items ≡ length flat.lines.items → attrs ≡ default_attrs →
     ((k : ℕ) (d : RowValue) → k < length (rows_of turned) →
@@ -73,7 +73,7 @@ turned_down top bottom count n flat turned attrs cleared m o i c w e f a l v g =
     (cleared_by top (top + n) flat turned attrs cleared w e a g) in
     λ z. record { rows = rows z; width = (v ∙ w) z }
 
--- ---- rows made blank
+-- ---- Rows made blank
 
 pub blank_from : (from to : ℕ) (attrs : Attrs) (was cleared : PageRowsValue) → from ≤ length was.rows →
     to ≡ length was.rows → length cleared.rows ≡ length was.rows → cleared.width ≡ was.width →

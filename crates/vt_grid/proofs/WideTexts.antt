@@ -1,4 +1,4 @@
--- A text of wide characters for which its row has room is printed as one edit.
+-- Wide characters that fit on their row are printed as one edit.
 use Rattle.std.proofs.Common.{◌≡◌, ℕ, suc, ◌+◌, ◌*◌, ◌<◌, ◌≤◌, nat_lt, Bool, true, false}
 use Rattle.std.proofs.Common.{List, [], ◌∷◌, length, set, refl, sym, ap, ◌∙◌, arith, Some}
 use Rattle.std.specs.Prelude.{if◌then◌else◌}
@@ -25,7 +25,7 @@ use Rattle.vt_grid.proofs.Prints.{page_glyph_put}
 use Rattle.vt_grid.proofs.Sized.{sized}
 use Rattle.vt_grid.proofs.Texts.{flags_twice}
 
--- ---- where there is room
+-- ---- If there is room
 
 has_room_for_two : (page : Page) → page.column + 2 ≤ page.width → lacks_room 2 page ≡ false
 has_room_for_two page h = grind (arith, nat_tests)
@@ -42,7 +42,7 @@ printed_wide_put c attrs page two h =
     ∙ (ap (λ (b : Bool). if b then glyph_put (encode_utf8 c) true attrs (room_made 2 page) else page) wide
     ∙ ap (glyph_put (encode_utf8 c) true attrs) (room_kept_for_two page h))
 
--- ---- one character, and those behind it
+-- ---- One character, and those after it
 
 row_twice : (width c x y : ℕ) (text : List ℕ) (attrs : Attrs) (row : RowValue) →
     IsRow width row → c + 2 * suc (suc (length text)) ≤ width →
@@ -82,7 +82,7 @@ wide_text_put_after x y text attrs page p h =
     let column : page.column + 2 + 2 * length more ≡ page.column + 2 * suc (length more) = omega arith in
     sym (ap behind found ∙ (λ z. record page { rows = rows z; column = column z }))
 
--- ---- a whole text
+-- ---- A whole text
 
 pub wide_text_printed : (text : List ℕ) (attrs : Attrs) (page : Page) → IsPage page →
     0 < length text → IsWideText text → page.column + 2 * length text ≤ page.width →
@@ -102,7 +102,7 @@ wide_text_printed (c ∷ d ∷ text) attrs page p some h room =
     (omega arith) rest (omega arith)
     ∙ ap (printed_text (d ∷ text) attrs) (sym (printed_wide_put c attrs page first.1.1 (omega arith))))
 
--- ---- what it leaves
+-- ---- What the edit keeps
 
 page_wide_text_put : (text : List ℕ) (attrs : Attrs) (page : Page) → IsWideText text →
     page.column + 2 * length text ≤ page.width → IsPage page → IsPage (wide_text_put text attrs page)

@@ -1,4 +1,4 @@
--- What the fields of a grid are together; for its model and private contracts only.
+-- What the fields of a grid stand for together; for its model and private contracts only.
 use Rattle.std.specs.Prelude.{◌≡◌, ℕ, ◌+◌, ◌-◌, ◌<◌, ◌&&◌, nat_le, nat_lt, Bool, true, false, List}
 use Rattle.std.specs.Prelude.{[], length, slice_index_or, Some, zero, if◌then◌else◌}
 use Rattle.std.specs.Char.{encode_utf8}
@@ -12,7 +12,7 @@ use Rattle.vt_grid.specs.Printing.{lacks_room, carries, glyph_put, room_made}
 use Rattle.vt_grid.specs.Outgoing.{fed_out, left_by}
 use Rattle.vt_grid.specs.PageRows.{PageRowsValue}
 
--- the page of these rows, a cursor, a saved one, a region and origin modes
+-- The page with these rows, cursor, saved cursor, scroll region and origin modes.
 abbrev pub page_of : PageRowsValue → Pos → Pos → ℕ → ℕ → Bool → Bool → Page
 page_of page_rows pos saved_pos top bottom origin saved_origin = record {
   rows = page_rows.rows;
@@ -27,46 +27,48 @@ page_of page_rows pos saved_pos top bottom origin saved_origin = record {
   width = page_rows.width;
 }
 
--- a page of this many rows and columns
+-- The page is valid and has this many rows and columns.
 pub record IsSized (rows cols : ℕ) (page : Page) : Type 0 where
   pub sound : IsPage page
   pub height : rows ≡ length page.rows
   pub width : cols ≡ page.width
 
--- a row made blank, in its own width
+-- A row made blank, in its own width.
 abbrev pub cleared_row : Attrs → RowValue → RowValue
 cleared_row attrs row = blank_row attrs (length row.cells)
 
--- where a mark goes: a cell of the row that is no right half, and directly before the cursor unless it is wide
+-- The place of a combining character: a cell at column k that is no continuation cell, and is directly before the
+-- cursor unless it is wide.
 pub record IsMarkPlace (cells : List CellValue) (column k : ℕ) : Type 0 where
   pub inside : k < length cells
   pub shown : is_right_half (at cells k) ≡ false
   pub narrow : is_wide (at cells k) ≡ false → k + 1 ≡ column
   pub wide : is_wide (at cells k) ≡ true → k + 1 < length cells
 
--- what U+FE0F finds at column k, after it was put there
+-- The state after U+FE0F was added to the glyph at column k.
 pub record IsSelected (page : Page) (k : ℕ) : Type 0 where
   pub place : IsMarkPlace (cursor_row page).cells page.column k
   pub drawn : is_blank (at (cursor_row page).cells k) ≡ false
   pub either : (wide : Bool) → IsCell (widened wide (at (cursor_row page).cells k))
 
--- the rows that leave where room is made for this many columns
+-- The rows that scroll off when room is made for this many columns.
 abbrev pub room_out : ℕ → Page → List RowValue
 room_out columns page = if lacks_room columns page then fed_out page else []
 
--- the rows that leave where a glyph of two columns is printed, and the page then; on a page of one column nothing
+-- The rows that scroll off when a glyph of two columns is printed; none on a page of one column.
 abbrev pub wide_out : Page → List RowValue
 wide_out page = if nat_lt 1 page.width then room_out 2 page else []
 
+-- The page after a glyph of two columns is printed; unchanged if it has one column.
 abbrev pub wide_printed : ℕ → Attrs → Page → Page
 wide_printed c attrs page =
     if nat_lt 1 page.width then glyph_put (encode_utf8 c) true attrs (room_made 2 page) else page
 
--- the rows that leave where a mark is printed
+-- The rows that scroll off when a combining character is printed.
 abbrev pub mark_out : ℕ → Attrs → Page → List RowValue
 mark_out mark attrs page = if carries mark page then fed_out (left_by (Some zero) attrs page) else []
 
--- what row k of a page becomes, which is blank before, where the newest `up` rows above go to its first ones
+-- Row k of a page, blank before, after the newest `up` rows of scrollback moved into its first rows.
 abbrev pub given_back : (up : ℕ) → (above : List RowValue) →
     (blank : RowValue) → (k : ℕ) → (d : RowValue) → RowValue
 given_back up above blank k d =
@@ -74,7 +76,7 @@ given_back up above blank k d =
     then resized_row (length blank.cells) (slice_index_or above (length above + k - up) d)
     else blank
 
--- what it becomes where the rows of another page from `down` on go to its rows from `up` on
+-- Row k of a page, blank before, after the rows of another page from `down` on moved into its rows from `up` on.
 abbrev pub taken_over : (down up : ℕ) → (rows : List RowValue) →
     (blank : RowValue) → (k : ℕ) → (d : RowValue) → RowValue
 taken_over down up rows blank k d =
@@ -82,7 +84,7 @@ taken_over down up rows blank k d =
     then resized_row (length blank.cells) (slice_index_or rows (down + (k - up)) d)
     else blank
 
--- what row k of a page of another size becomes, which is blank before: one of the newest rows above, or one of the page
+-- Row k of a resized page, blank before: one of the newest rows of scrollback, or one of the old page.
 abbrev pub refilled : (down up : ℕ) → (above rows : List RowValue) →
     (blank : RowValue) → (k : ℕ) → (d : RowValue) → RowValue
 refilled down up above rows blank k d =

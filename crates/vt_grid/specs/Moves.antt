@@ -1,45 +1,49 @@
--- Moves of the cursor (ECMA-48's CUF, CUP, CR and LF, with the VT510's region and origin mode).
+-- Cursor movement (ECMA-48: CUF, CUP, CR and LF, with the VT510's scroll region and origin mode).
 use Rattle.std.specs.Prelude.{ℕ, ◌+◌, ◌-◌, ◌==◌, nat_lt, Bool, false, length, min, if◌then◌else◌}
 use Rattle.vt_grid.specs.Page.{Page, scrolled_up}
 
--- to the first column (CR)
+-- The page after the cursor moves to the first column (CR).
 abbrev pub carriage_return : Page → Page
 carriage_return page = record page { column = 0 }
 
--- left by n columns, from the column as it is, down to the first (CUB, BS)
+-- The page after the cursor moves left by n columns, at most to the first one (CUB, BS).
 abbrev pub moved_left : ℕ → Page → Page
 moved_left n page = record page { column = page.column - n }
 
--- right by n columns, at most to the last one, also from a pending wrap (CUF)
+-- The page after the cursor moves right by n columns, at most to the last one, even from a pending wrap (CUF).
 abbrev pub moved_right : ℕ → Page → Page
 moved_right n page = record page { column = min (page.column + n) (page.width - 1) }
 
--- the row that a row of CUP means: in origin mode it counts from the region's top and stays in the region
+-- The row of the page that a row of CUP stands for: in origin mode it counts from the region's top and is limited to
+-- the region.
 abbrev pub target_row : ℕ → Page → ℕ
 target_row r page = if page.origin then min (page.top + r) page.bottom else min r (length page.rows - 1)
 
--- to a row and a column, counted from 0, at most the last ones (CUP)
+-- The page after the cursor moves to a row and a column, counted from 0 and limited to the last ones (CUP).
 abbrev pub moved_to : ℕ → ℕ → Page → Page
 moved_to r c page = record page { row = target_row r page; column = min c (page.width - 1) }
 
--- a line feed scrolls exactly at the region's bottom (LF)
+-- The cursor is at the bottom of the scroll region, where a line feed scrolls.
 abbrev pub at_bottom : Page → Bool
 at_bottom page = page.row == page.bottom
 
--- a line feed: at the region's bottom the region scrolls up by one, else the cursor moves down, at most to the last row
+-- The page after a line feed: at the region's bottom the region scrolls up by one row, otherwise the cursor moves
+-- down, at most to the last row.
 unfoldable pub line_feed : Page → Page
 line_feed page =
     if at_bottom page then scrolled_up 1 page
     else if nat_lt (page.row + 1) (length page.rows) then record page { row = page.row + 1 }
     else page
 
--- rows leave the page at its top: the region that scrolls begins there
+-- A line feed scrolls a row off the top of the page: the cursor is at the region's bottom, and the region begins at
+-- the top.
 abbrev pub feeds_out : Page → Bool
 feeds_out page = if at_bottom page then page.top == 0 else false
 
--- the cursor and origin mode are saved, and restored as they were saved (DECSC, DECRC)
+-- The page after the cursor and origin mode are saved (DECSC).
 abbrev pub cursor_saved : Page → Page
 cursor_saved page = record page { saved_row = page.row; saved_column = page.column; saved_origin = page.origin }
 
+-- The page after the cursor and origin mode are restored as they were saved (DECRC).
 abbrev pub cursor_restored : Page → Page
 cursor_restored page = record page { row = page.saved_row; column = page.saved_column; origin = page.saved_origin }

@@ -1,5 +1,5 @@
--- A page: rows of one width, a cursor, a scroll region, origin mode,
--- and what was saved (VT510 manual, DECSC, DECSTBM, DECOM).
+-- A page: rows of one width, a cursor, a scroll region, origin mode, and what was saved (VT510 manual: DECSC,
+-- DECSTBM, DECOM).
 use Rattle.std.specs.Prelude.{◌≡◌, ℕ, ◌+◌, ◌-◌, ◌<◌, ◌≤◌, ◌^◌, ◌⊎◌, nat_le, ◌&&◌, Bool, false, List}
 use Rattle.std.specs.Prelude.{length, replicate, map, slice_index_or, slice_set, All, if◌then◌else◌}
 use Rattle.std.specs.List.{range_with_len}
@@ -8,45 +8,47 @@ use Rattle.vt_cells.specs.Cell.{CellValue}
 use Rattle.vt_rows.specs.Cells.{at}
 use Rattle.vt_rows.specs.Row.{RowValue, IsRow, blank_row}
 
+-- The value of a page.
 pub record Page : Type 0 where
   pub rows : List RowValue
-  -- the cursor; its column may be the width, which is a pending wrap
+  -- The cursor. If its column equals the width, a wrap is pending.
   pub row : ℕ
   pub column : ℕ
-  -- the saved cursor
+  -- The saved cursor.
   pub saved_row : ℕ
   pub saved_column : ℕ
-  -- the first and the last row of the scroll region
+  -- The first and the last row of the scroll region.
   pub top : ℕ
   pub bottom : ℕ
   pub origin : Bool
   pub saved_origin : Bool
   pub width : ℕ
 
--- the row at a place; past the end a blank row
+-- The row at an index; a blank row past the end.
 abbrev pub row_or : ℕ → List RowValue → ℕ → RowValue
 row_or width rows r = slice_index_or rows r (blank_row default_attrs width)
 
+-- The row of a page at an index; a blank row past the end.
 abbrev pub row_at : Page → ℕ → RowValue
 row_at page r = row_or page.width page.rows r
 
--- the cell at a position; outside the page a default blank
+-- The cell at a position; a default blank outside the page.
 abbrev pub cell_at : Page → ℕ → ℕ → CellValue
 cell_at page r c = at (row_at page r).cells c
 
--- the row that the cursor is in
+-- The row that the cursor is in.
 abbrev pub cursor_row : Page → RowValue
 cursor_row page = row_at page page.row
 
--- a page whose row r was changed
+-- The page with row r replaced.
 abbrev pub with_row : ℕ → RowValue → Page → Page
 with_row r row page = record page { rows = slice_set page.rows r row }
 
--- the region is the whole page
+-- The scroll region is the whole page.
 abbrev pub IsWhole : Page → Type 0
 IsWhole page = (page.top ≡ 0) × (page.bottom + 1 ≡ length page.rows)
 
--- what every page is
+-- The invariant of every page.
 pub record IsPage (page : Page) : Type 0 where
   pub has_columns : 0 < page.width
   pub columns : page.width < 2 ^ 16
@@ -60,16 +62,17 @@ pub record IsPage (page : Page) : Type 0 where
   pub rows : All (IsRow page.width) page.rows
   pub last : (row_at page (length page.rows - 1)).wrapped ≡ false
 
--- a page whose region is all of it, with origin mode off
+-- The page is plain: its scroll region is all of it, and origin mode is off.
 pub record IsPlainPage (page : Page) : Type 0 where
   pub whole : IsWhole page
   pub origin : page.origin ≡ false
 
+-- Both pages have the same size.
 pub record SameSize (page other : Page) : Type 0 where
   pub width : page.width ≡ other.width
   pub height : length page.rows ≡ length other.rows
 
--- a fresh page: default blanks, the cursor in the corner, the whole page as region
+-- A new page: default blanks, the cursor at the top left, and the whole page as scroll region.
 abbrev pub blank_page : ℕ → ℕ → Page
 blank_page height width = record {
   rows = replicate height (blank_row default_attrs width);
@@ -84,22 +87,26 @@ blank_page height width = record {
   width = width;
 }
 
--- ---- rows among each other: row r comes from row `source r`, past the end a blank row
+-- ---- Rows that move: row r comes from row `source r`, and is blank past the end
 
+-- The n rows given by a function of the row.
 abbrev pub by_row : ℕ → (ℕ → RowValue) → List RowValue
 by_row n f = map f (range_with_len 0 n)
 
+-- The rows after a move of rows.
 unfoldable pub moved_rows : ℕ → (ℕ → ℕ) → List RowValue → List RowValue
 moved_rows width source rows = by_row (length rows) (λ r. row_or width rows (source r))
 
--- rows from top to bottom move up by n
+-- The source of row r when the rows from top to bottom move up by n; `past`, a row past the end, for a row that comes
+-- in.
 abbrev pub up_source : ℕ → ℕ → ℕ → ℕ → ℕ → ℕ
 up_source past top bottom n r =
     if nat_le top r && nat_le r bottom then (if nat_le (r + n) bottom then r + n else past) else r
 
+-- The rows after those from top to bottom move up by n; blank rows come in.
 abbrev pub rows_up : ℕ → ℕ → ℕ → ℕ → List RowValue → List RowValue
 rows_up width top bottom n rows = moved_rows width (up_source (length rows) top bottom n) rows
 
--- the region scrolls up by n rows (SU)
+-- The page after its region scrolls up by n rows (SU).
 abbrev pub scrolled_up : ℕ → Page → Page
 scrolled_up n page = record page { rows = rows_up page.width page.top page.bottom n page.rows }

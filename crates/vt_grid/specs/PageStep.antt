@@ -1,4 +1,4 @@
--- The steps of a page that let no row go, and what each makes of the page.
+-- The steps of a page that scroll no row off its top, and what each does to the page.
 use Rattle.std.specs.Prelude.{ℕ, Bool}
 use Rattle.vt_cells.specs.Attrs.{Attrs}
 use Rattle.vt_grid.specs.Page.{Page}
@@ -10,6 +10,7 @@ use Rattle.vt_grid.specs.Shifts.{lines_deleted, chars_inserted, chars_deleted}
 use Rattle.vt_grid.specs.Erasing.{erased_below, erased_above, erased_page, erased_rest}
 use Rattle.vt_grid.specs.Erasing.{erased_start, erased_row, erased_chars}
 
+-- A step of a page that scrolls no row off its top.
 pub data PageStep : Type 0 where
   CarriageReturn : PageStep
   ReverseIndex : PageStep
@@ -38,7 +39,7 @@ pub data PageStep : Type 0 where
   DeleteLines : (count : ℕ) → PageStep
   ScrollDown : (count : ℕ) → PageStep
 
--- the page after a step; what is erased is blank in these attributes
+-- The page after a step. Erased cells become blanks with attributes `attrs`.
 abbrev pub page_after : Attrs → PageStep → Page → Page
 page_after attrs CarriageReturn page = carriage_return page
 page_after attrs ReverseIndex page = reverse_index page

@@ -1,5 +1,5 @@
--- Printing a character: its width decides whether the cursor wraps first,
--- and what becomes of its neighbours (VT510 manual, DECAWM set).
+-- Printing a character: its width decides whether the cursor wraps first, and what becomes of the cells beside it
+-- (VT510 manual, DECAWM set).
 use Rattle.std.specs.Prelude.{ℕ, ◌+◌, ◌-◌, ◌==◌, ◌&&◌, nat_lt, not, Bool, true, false, List}
 use Rattle.std.specs.Prelude.{length, Option, Some, None, zero, suc, if◌then◌else◌}
 use Rattle.std.specs.Char.{encode_utf8}
@@ -11,43 +11,46 @@ use Rattle.vt_rows.specs.Row.{with_cells}
 use Rattle.vt_grid.specs.Page.{Page, row_at, cursor_row, with_row}
 use Rattle.vt_grid.specs.Moves.{line_feed, at_bottom, feeds_out}
 
--- the cells of the cursor's row become others
+-- The page with the cells of the cursor's row replaced.
 abbrev pub with_cursor_cells : List CellValue → Page → Page
 with_cursor_cells cells page = with_row page.row (with_cells (cursor_row page) cells) page
 
--- row r goes on below exactly if `goes_on`
+-- The page with the wrapped flag of row r set to `goes_on`.
 abbrev pub flagged : ℕ → Bool → Page → Page
 flagged r goes_on page = with_row r (record (row_at page r) { wrapped = goes_on }) page
 
--- the row that is left at a wrap: it moved up if the region scrolled, and is gone from a region of one row
+-- The row that a wrap leaves, by its index afterward: one less if the region scrolls, and none in a region of one
+-- row.
 abbrev pub left_row : Page → Option ℕ
 left_row page =
     if at_bottom page then (if page.row == page.top then None else Some (page.row - 1))
     else Some page.row
 
--- the cursor stands in another row than before, or the rows moved
+-- The cursor moves to a different row at a line feed, or the region scrolls.
 abbrev pub goes_down : Page → Bool
 goes_down page = if at_bottom page then true else nat_lt (page.row + 1) (length page.rows)
 
+-- The page in which the wrapped flag of the row that a wrap left, if there is one, is `goes_on`.
 abbrev pub flagged_left : Option ℕ → Bool → Page → Page
 flagged_left (Some r) goes_on page = flagged r goes_on page
 flagged_left None goes_on page = page
 
--- a wrap: to column 0 by a line feed; the row that was left goes on exactly if its last column was not blank and the
--- cursor is now directly below it
+-- The page after a wrap: a line feed to column 0. The row that was left is wrapped exactly if its last cell was not a
+-- blank and the cursor is now on the row below it.
 unfoldable pub wrapped_page : Page → Page
 wrapped_page page =
     record (flagged_left (left_row page) (goes_down page && not (ends_blank (cursor_row page).cells)) (line_feed page))
     { column = 0 }
 
--- there is no room for this many columns at the cursor
+-- There is no room for this many columns at the cursor.
 abbrev pub lacks_room : ℕ → Page → Bool
 lacks_room columns page = nat_lt (page.width - columns) page.column
 
+-- The page after a wrap if there is no room for this many columns.
 unfoldable pub room_made : ℕ → Page → Page
 room_made columns page = if lacks_room columns page then wrapped_page page else page
 
--- a glyph at the cursor, which moves behind it
+-- The page after a glyph is put at the cursor, which moves past it.
 abbrev pub glyph_put : List ℕ → Bool → Attrs → Page → Page
 glyph_put text false attrs page =
     record (with_cursor_cells (put_narrow page.column text attrs (cursor_row page).cells) page)
@@ -56,61 +59,63 @@ glyph_put text true attrs page =
     record (with_cursor_cells (put_wide page.column text attrs (cursor_row page).cells) page)
     { column = page.column + 2 }
 
--- the column of the glyph before the cursor: the left half where a right half stands before it
+-- The column of the glyph before the cursor: its first column, if it is wide.
 abbrev pub mark_column : Page → ℕ
 mark_column page =
     if is_right_half (at (cursor_row page).cells (page.column - 1)) then page.column - 2 else page.column - 1
 
--- the cell before the cursor, a blank as a space, has room for a mark
+-- The cell has room for a combining character; a blank counts as a space.
 abbrev pub takes_mark : CellValue → Bool
 takes_mark cell = if is_blank cell then true else has_room (text_of cell)
 
--- U+FE0F makes the narrow glyph at a pending wrap wide, so that it is carried to the next row
+-- U+FE0F makes the narrow glyph before a pending wrap wide, so that it must move to the next row.
 unfoldable pub carries : ℕ → Page → Bool
 carries mark page =
     let cell = at (cursor_row page).cells (mark_column page) in
     (is_selector mark && (takes_mark cell && not (is_wide cell)))
     && (is_wide_text (text_of (marked mark cell)) && (nat_lt 1 page.width && (page.column == page.width)))
 
--- whether a character goes on in the next row, by the columns that it takes
+-- A character that takes this many columns makes the cursor wrap.
 abbrev pub wraps_for : Option ℕ → ℕ → Page → Bool
 wraps_for None c page = false
 wraps_for (Some zero) c page = if page.column == 0 then false else carries c page
 wraps_for (Some (suc zero)) c page = lacks_room 1 page
 wraps_for (Some (suc (suc n))) c page = nat_lt 1 page.width && lacks_room 2 page
 
+-- Printing the character makes the cursor wrap.
 abbrev pub wraps : ℕ → Page → Bool
 wraps c page = wraps_for (columns_of c) c page
 
--- printing the character scrolls a row off the page
+-- Printing the character scrolls a row off the page.
 abbrev pub pushes : ℕ → Page → Bool
 pushes c page = wraps c page && feeds_out page
 
--- the glyph at column k was taken out, and a blank left
+-- The page with the glyph at column k of the cursor's row removed, leaving a blank.
 abbrev pub lifted_page : ℕ → Attrs → Page → Page
 lifted_page k attrs page = with_cursor_cells (erased k 1 attrs (cursor_row page).cells) page
 
--- a mark is put on the cell at column k, which keeps its width
+-- The page with a combining character added to the cell at column k of the cursor's row, which keeps its width.
 abbrev pub mark_put : ℕ → ℕ → Page → Page
 mark_put k mark page = with_cursor_cells (marked_at k mark (cursor_row page).cells) page
 
--- the glyph at a pending wrap that U+FE0F makes wide: it is taken out, and put with the mark in the next row
+-- The page after the glyph before a pending wrap, which U+FE0F makes wide, is removed and put on the next row with
+-- the combining character.
 unfoldable pub carried : ℕ → Attrs → Page → Page
 carried mark attrs page =
     let k = mark_column page in
     glyph_put (text_of (marked mark (at (cursor_row page).cells k)))
     true attrs (wrapped_page (lifted_page k attrs page))
 
--- the glyph at column k, which got U+FE0F, becomes wide in place
+-- The page after the glyph at column k, to which U+FE0F was added, is made wide in place.
 unfoldable pub made_wide : ℕ → Attrs → Page → Page
 made_wide k attrs page =
     record (with_cursor_cells (widened_at k attrs (cursor_row page).cells) page) { column = page.column + 1 }
 
--- the glyph at column k becomes narrow, and the cursor stays
+-- The page after the glyph at column k is made narrow; the cursor stays.
 abbrev pub made_narrow : ℕ → Attrs → Page → Page
 made_narrow k attrs page = with_cursor_cells (narrowed_at k attrs (cursor_row page).cells) page
 
--- the width of the glyph at column k follows its whole text; on a page of one column it stays narrow
+-- The page after the glyph at column k gets the width of its whole text; on a page of one column it stays narrow.
 unfoldable pub width_followed : ℕ → Attrs → Page → Page
 width_followed k attrs page =
     let cell = at (cursor_row page).cells k in
@@ -118,7 +123,7 @@ width_followed k attrs page =
     if is_wide cell then (if wide then page else made_narrow k attrs page)
     else (if wide then made_wide k attrs page else page)
 
--- a character without columns of its own goes to the glyph before the cursor
+-- The page after a combining character is printed: it is added to the glyph before the cursor.
 unfoldable pub mark_printed : ℕ → Attrs → Page → Page
 mark_printed mark attrs page =
     let k = mark_column page in
@@ -127,7 +132,7 @@ mark_printed mark attrs page =
     then (if is_selector mark then width_followed k attrs (mark_put k mark page) else mark_put k mark page)
     else page
 
--- by the columns that the character takes
+-- The page after a character that takes this many columns is printed.
 abbrev pub printed_by : Option ℕ → ℕ → Attrs → Page → Page
 printed_by None c attrs page = page
 printed_by (Some zero) c attrs page = if page.column == 0 then page else mark_printed c attrs page
@@ -135,6 +140,6 @@ printed_by (Some (suc zero)) c attrs page = glyph_put (encode_utf8 c) false attr
 printed_by (Some (suc (suc n))) c attrs page =
     if nat_lt 1 page.width then glyph_put (encode_utf8 c) true attrs (room_made 2 page) else page
 
--- a character is printed
+-- The page after a character is printed.
 abbrev pub printed : ℕ → Attrs → Page → Page
 printed c attrs page = printed_by (columns_of c) c attrs page

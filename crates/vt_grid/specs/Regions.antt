@@ -1,50 +1,56 @@
--- Further moves of the cursor, some of which regard the scroll region, and the region itself (VT510 manual: CUU, CUD,
--- CNL, CPL, CHA, HPA, VPA, HT, DECSTBM, DECOM).
+-- Cursor movement that regards the scroll region, and the region itself (VT510 manual: CUU, CUD, CNL, CPL, CHA, HPA,
+-- VPA, HT, DECSTBM, DECOM).
 use Rattle.std.specs.Prelude.{ℕ, ◌+◌, ◌-◌, ◌*◌, ◌/◌, ◌&&◌, nat_le, nat_lt, Bool, length, min, max, if◌then◌else◌}
 use Rattle.vt_grid.specs.Page.{Page}
 use Rattle.vt_grid.specs.Moves.{carriage_return, moved_to}
 
--- the cursor is in the scroll region
+-- The cursor is in the scroll region.
 abbrev pub in_region : Page → Bool
 in_region page = nat_le page.top page.row && nat_le page.row page.bottom
 
+-- The index of the last row of a page.
 abbrev pub last_row : Page → ℕ
 last_row page = length page.rows - 1
 
--- up by n rows, from within the region at most to its top, else to the first row (CUU)
+-- The page after the cursor moves up by n rows: from inside the region at most to its top, otherwise to the first row
+-- (CUU).
 unfoldable pub moved_up : ℕ → Page → Page
 moved_up n page = record page { row = max (page.row - n) (if in_region page then page.top else 0) }
 
--- down by n rows, from within the region at most to its bottom, else to the last row (CUD)
+-- The page after the cursor moves down by n rows: from inside the region at most to its bottom, otherwise to the last
+-- row (CUD).
 unfoldable pub moved_down : ℕ → Page → Page
 moved_down n page = record page { row = min (page.row + n) (if in_region page then page.bottom else last_row page) }
 
--- to the first column, n rows below or above (CNL, CPL)
+-- The page after the cursor moves to the first column n rows below (CNL).
 abbrev pub next_line : ℕ → Page → Page
 next_line n page = carriage_return (moved_down n page)
 
+-- The page after the cursor moves to the first column n rows above (CPL).
 abbrev pub previous_line : ℕ → Page → Page
 previous_line n page = carriage_return (moved_up n page)
 
--- to a column or a row, counted from 0, at most the last one (CHA, HPA; VPA)
+-- The page after the cursor moves to a column, counted from 0 and limited to the last one (CHA, HPA).
 abbrev pub moved_to_column : ℕ → Page → Page
 moved_to_column c page = record page { column = min c (page.width - 1) }
 
+-- The page after the cursor moves to a row, counted from 0 and limited to the last one (VPA).
 abbrev pub moved_to_row : ℕ → Page → Page
 moved_to_row r page = record page { row = min r (last_row page) }
 
--- to the next column that is a multiple of 8, at most the last one, also from a pending wrap (HT)
+-- The page after the cursor moves to the next column that is a multiple of 8, at most to the last one, even from a
+-- pending wrap (HT).
 abbrev pub tabbed : Page → Page
 tabbed page = record page { column = min ((page.column / 8 + 1) * 8) (page.width - 1) }
 
--- the region becomes the rows from top to bottom, or the whole page where these are not at least two rows; the cursor
--- goes to its first place (DECSTBM)
+-- The page after its region is set to the rows from top to bottom, or to the whole page if these are fewer than two
+-- rows; the cursor moves to the region's first row and column (DECSTBM).
 unfoldable pub region_set : ℕ → ℕ → Page → Page
 region_set top bottom page =
     if nat_lt top (min bottom (last_row page))
     then record page { top = top; bottom = min bottom (last_row page); row = top; column = 0 }
     else record page { top = 0; bottom = last_row page; row = 0; column = 0 }
 
--- origin mode on or off; the cursor goes to the first place that it then has (DECOM)
+-- The page after origin mode is set or reset; the cursor moves to its home position (DECOM).
 abbrev pub origin_set : Bool → Page → Page
 origin_set on page = moved_to 0 0 (record page { origin = on })

@@ -1,4 +1,4 @@
--- Another size of a page: which rows leave, which come back, and where the cursors are then (xterm's resize).
+-- Resizing a page: which rows scroll off, which come back, and where the cursors are afterward (xterm).
 use Rattle.std.specs.Prelude.{ℕ, ◌+◌, ◌-◌, nat_lt, List, ◌++◌, length, take, map, min, if◌then◌else◌}
 use Rattle.vt_cells.specs.Attrs.{default_attrs}
 use Rattle.vt_rows.specs.Row.{RowValue, blank_row, resized_row}
@@ -6,31 +6,34 @@ use Rattle.vt_grid.specs.Page.{Page, by_row, row_or}
 use Rattle.vt_grid.specs.Scrollback.{Scrollback, pushed, reported}
 use Rattle.vt_grid.specs.Shifts.{unflagged}
 
--- how many rows leave at the top of a page that gets this height: those too many, but first those below the cursor go
+-- The number of rows that scroll off when a page is resized to this height: those in excess, except that rows below
+-- the cursor go first.
 abbrev pub leaving : ℕ → Page → ℕ
 leaving height page = (length page.rows - height) - (length page.rows - (page.row + 1))
 
--- how many come back there: as many as there is room for, of all that left and still count
+-- The number of rows that come back when a page is resized to this height: as many as there is room for, at most
+-- those that scrolled off and are not back.
 abbrev pub returning : ℕ → Scrollback → Page → ℕ
 returning height above page = min (height - length page.rows) above.theoretical
 
--- `height` rows of one list, those above the page and then its own: from `down` rows below the page's first row on, or
--- from `up` rows above it. Before this list stand rows that were lost, and behind it none: both are blank.
--- With one row above, two of the page and `up` 2, five rows are: a lost one, the one above, the two of the page, none
+-- `height` rows of the list of scrollback followed by the page: from `down` rows below the page's first row on, or
+-- from `up` rows above it. Rows before the list, which were not kept, and rows after it are blank. With one row of
+-- scrollback, two of the page and `up` 2, five rows are: one that was not kept, the one of scrollback, the two of the
+-- page, and a blank one.
 unfoldable pub window : (width height down up : ℕ) → (above rows : List RowValue) → List RowValue
 window width height down up above rows =
     by_row height (λ k. if nat_lt (length above + down + k) up then blank_row default_attrs width
     else row_or width (above ++ rows) (length above + down + k - up))
 
--- each row cut or grown; the last one goes on no more
+-- The rows cut or extended to this width; the last one is not wrapped.
 abbrev pub rows_resized : ℕ → List RowValue → List RowValue
 rows_resized width rows = unflagged width (length rows - 1) (map (resized_row width) rows)
 
--- a row number, after rows left above it or came back; at most the last row
+-- The index of a row after `down` rows scrolled off above it and `up` came back; at most the last row.
 abbrev pub row_resized : (height down up : ℕ) → ℕ → ℕ
 row_resized height down up row = min (row - down + up) (height - 1)
 
--- a page of another size: the region is all of it, and no column is pending
+-- The page resized: the region is all of it, and no wrap is pending.
 unfoldable pub page_resized : (height width : ℕ) → Scrollback → Page → Page
 page_resized height width above page =
     let down = leaving height page in
@@ -46,21 +49,21 @@ page_resized height width above page =
       width = width;
     }
 
--- scrollback of which no row is in view
+-- Scrollback of which no row is displayed.
 abbrev pub out_of_view : Scrollback → Scrollback
 out_of_view above = record above { offset = 0 }
 
--- the newest n of the rows that left go back, and count no more
+-- Scrollback after the newest n of the rows that scrolled off went back to the page.
 abbrev pub taken_back : ℕ → Scrollback → Scrollback
 taken_back n above =
     record above { rows = take (length above.rows - n) above.rows; theoretical = above.theoretical - n }
 
--- scrollback above a page that gets this height
+-- Scrollback after its page is resized to this height.
 unfoldable pub scrollback_resized : ℕ → Page → Scrollback → Scrollback
 scrollback_resized height page above =
     taken_back (returning height above page)
     (pushed (length page.rows) page.width (take (leaving height page) page.rows) (out_of_view above))
 
--- the rows that leave then and aren't kept, older first
+-- The rows that scroll off in a resize and are not kept, oldest first.
 abbrev pub resize_reports : ℕ → Page → Scrollback → List RowValue
 resize_reports height page above = reported (take (leaving height page) page.rows) above

@@ -1,16 +1,16 @@
--- A text that is printed character by character, and one that its row has room for as one edit.
+-- Texts that are printed character by character, and texts that fit on the row and are printed as one edit.
 use Rattle.std.specs.Prelude.{ℕ, ◌+◌, List, [], ◌∷◌, length}
 use Rattle.vt_cells.specs.Attrs.{Attrs}
 use Rattle.vt_rows.specs.Texts.{put_text}
 use Rattle.vt_grid.specs.Page.{Page, cursor_row}
 use Rattle.vt_grid.specs.Printing.{printed, with_cursor_cells}
 
--- characters are printed, one after the other
+-- The page after the characters of a text are printed one by one.
 abbrev pub printed_text : List ℕ → Attrs → Page → Page
 printed_text [] attrs page = page
 printed_text (c ∷ text) attrs page = printed_text text attrs (printed c attrs page)
 
--- narrow glyphs at the cursor, which moves behind them
+-- The page after narrow glyphs are put at the cursor, which moves past them.
 abbrev pub text_put : List ℕ → Attrs → Page → Page
 text_put text attrs page =
     record (with_cursor_cells (put_text page.column text attrs (cursor_row page).cells) page)

@@ -1,5 +1,5 @@
-//! One vector with the cells of all rows, and a table that says where each row
-//! is.
+//! The storage of a page: one vector with the cells of all rows, and a table that maps each row to
+//! its place in it.
 
 ghost use Rattle.std.specs.Prelude.{◌≡◌, ◌≢◌, ◌+◌, ◌*◌, ◌<◌, ◌≤◌, ℕ, IfOk};
 ghost use Rattle.std.specs.Prelude.{false, length, slice_set};
@@ -17,15 +17,16 @@ use vt_rows::cells;
 use vt_rows::copies::{blank_cells, copied};
 use vt_rows::shifts::turn;
 
-/// Where the cells of a row are, and whether its text goes on in the row below.
+/// An entry of the row table: the place of the row's cells, and whether the row is wrapped (its
+/// text continues on the next row).
 #[derive(Clone, Copy, Debug)]
 pub struct Line {
     pub(crate) place: u16,
     pub(crate) wrapped: bool,
 }
 
-/// The cells of all rows of a page in one vector, by place, and for each row
-/// its place and its flag.
+/// The rows of a page as one vector of cells, ordered by place, and a table with the place and the
+/// wrapped flag of each row.
 #[derive(Debug, Drop)]
 pub struct Flat {
     pub(crate) cells: Vec<Cell>,
@@ -37,9 +38,11 @@ impl Flat {
     ghost use Rattle.vt_grid.specs.Flat.{IsFlat, cells_at, in_order, rows_of};
     ghost use Rattle.vt_grid.specs.Page.{row_or};
 
-    /// Rows of default blanks, each at the place of its number.
+    /// Creates rows of default blanks, row `k` at place `k`.
     ///
-    /// Fails where memory for them is refused.
+    /// # Errors
+    ///
+    /// Returns [`Error::OutOfMemory`] if the cells or the table cannot be allocated.
     pub fn new(alloc: Global, size: Size) -> Result<Flat, Error>
         ensures cells { IfOk result (λ flat. flat.cells.items ≡ blanks default_attrs (size.rows * size.cols)) }
         ensures lines { IfOk result (λ flat. flat.lines.items ≡ in_order size.rows) }
@@ -54,9 +57,11 @@ impl Flat {
         })
     }
 
-    /// A copy, of the same places.
+    /// Returns a copy with the same places.
     ///
-    /// Fails where its memory is refused.
+    /// # Errors
+    ///
+    /// Returns [`Error::OutOfMemory`] if the cells or the table cannot be allocated.
     pub fn try_clone(&self, alloc: Global) -> Result<Flat, Error>
         ensures cells { IfOk result (λ flat. flat.cells.items ≡ self.now.cells.items) }
         ensures lines { IfOk result (λ flat. flat.lines.items ≡ self.now.lines.items) }
@@ -72,7 +77,8 @@ impl Flat {
         })
     }
 
-    /// Where the cells of a row begin and end.
+    /// Returns the range of a row's cells in the vector: its first index, and the index after its
+    /// last.
     #[tactic(auto, using(crate::proofs::Flats::rows_counted))]
     #[inline]
     pub fn part(&self, row: usize) -> (usize, usize)
@@ -89,7 +95,7 @@ impl Flat {
         (start, start + usize::from(self.width))
     }
 
-    /// Whether a row's text goes on in the row below.
+    /// Returns whether a row is wrapped.
     #[tactic(auto, using(crate::proofs::Flats::rows_counted))]
     #[inline]
     pub fn wrapped(&self, row: usize) -> bool
@@ -99,7 +105,7 @@ impl Flat {
         self.lines[row].wrapped
     }
 
-    /// Says whether a row's text goes on in the row below. No cell changes.
+    /// Sets the wrapped flag of a row. No cell changes.
     #[inline]
     pub fn wrap(&mut self, row: usize, wrapped: bool)
         requires { row < length self.old.lines.items }
@@ -111,8 +117,8 @@ impl Flat {
         self.lines[row].wrapped = wrapped;
     }
 
-    /// Rotates the rows from `from` up to `to` up by `count`, with their flags.
-    /// No cell changes.
+    /// Rotates the rows from `from` up to but excluding `to` up by `count`, with their wrapped
+    /// flags. No cell changes.
     #[tactic(auto, using(crate::proofs::Flats::rows_counted))]
     pub fn rotate(&mut self, from: usize, to: usize, count: usize)
         requires in_order { from + count ≤ to }
@@ -126,8 +132,7 @@ impl Flat {
         turn(&mut self.lines, from, to, count);
     }
 
-    /// Makes a row blank, so that it goes on no more. The cells of every other
-    /// place stay.
+    /// Makes a row blank and no longer wrapped. The cells at all other places are unchanged.
     #[tactic(auto, using(crate::proofs::Flats::rows_counted))]
     pub fn blank(&mut self, row: usize, attrs: Attrs)
         requires flat { IsFlat self.old }
@@ -147,7 +152,7 @@ impl Flat {
         self.wrap(row, false);
     }
 
-    /// Makes all rows blank, so that none goes on.
+    /// Makes all rows blank and no longer wrapped.
     pub fn blank_all(&mut self, attrs: Attrs)
         ensures cells { self.new.cells.items ≡ blanks attrs (length self.old.cells.items) }
         ensures width { self.new.width ≡ self.old.width }
@@ -159,7 +164,11 @@ impl Flat {
         end_all(&mut self.lines);
     }
 
-    /// The table of rows that lie in their order.
+    /// Creates the row table in which row `k` is at place `k`.
+    ///
+    /// # Errors
+    ///
+    /// Returns [`Error::OutOfMemory`] if the table cannot be allocated.
     fn lines_in_order(alloc: Global, rows: u16) -> Result<Vec<Line>, Error>
         ensures ok { IfOk result (λ lines. lines.items ≡ in_order rows) }
         ensures memory { OnlyOutOfMemory result }
@@ -175,7 +184,7 @@ impl Flat {
     }
 }
 
-/// Says that no row goes on.
+/// Clears the wrapped flags of all rows.
 fn end_all(lines: &mut [Line])
     ensures len { length lines.new ≡ length lines.old }
     ensures by_index { (k : ℕ) → k < length lines.old →

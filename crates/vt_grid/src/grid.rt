@@ -1,4 +1,4 @@
-//! A page of rows with its cursor, its scroll region and what was saved.
+//! A page of rows with its cursor, scroll region and saved cursor.
 
 ghost use Rattle.std.specs.Prelude.{◌≡◌, ◌<◌, IfOk, length};
 ghost use Rattle.vt_cells.specs.Refusals.{OnlyOutOfMemory};
@@ -17,11 +17,10 @@ use std::alloc::Global;
 use std::marker::Model;
 use vt_cells::{Attrs, Error, Pos};
 
-/// A page: rows of cells, a cursor, a saved cursor, a scroll region and
-/// origin mode (VT510 manual: DECSC, DECSTBM, DECOM).
+/// A page of the screen: rows of cells, a cursor, a saved cursor, a scroll region and origin mode
+/// (VT510 manual: DECSC, DECSTBM, DECOM).
 ///
-/// The cursor's column is at most the number of columns; there it is a
-/// pending wrap.
+/// The cursor's column is at most the number of columns; if it is equal to that, a wrap is pending.
 #[derive(Debug, Drop)]
 pub struct Grid {
     page_rows: PageRows,
@@ -48,10 +47,12 @@ impl Model for Grid {
 }
 
 impl Grid {
-    /// A page of default blanks with the cursor in the corner, and the whole
-    /// page as its scroll region.
+    /// Creates a page of default blanks with the cursor at the top left and the whole page as
+    /// scroll region.
     ///
-    /// Fails where memory for its rows is refused.
+    /// # Errors
+    ///
+    /// Returns [`Error::OutOfMemory`] if the rows cannot be allocated.
     pub fn new(alloc: Global, size: Size) -> Result<Grid, Error>
         requires rows { 0 < size.rows }
         requires cols { 0 < size.cols }
@@ -71,9 +72,11 @@ impl Grid {
         })
     }
 
-    /// A copy of the page.
+    /// Returns a copy of the page.
     ///
-    /// Fails where its memory is refused.
+    /// # Errors
+    ///
+    /// Returns [`Error::OutOfMemory`] if the rows cannot be allocated.
     pub fn try_clone(&self, alloc: Global) -> Result<Grid, Error>
         ensures ok { IfOk result (λ grid. grid ≡ self.now) }
         ensures memory { OnlyOutOfMemory result }
@@ -90,7 +93,7 @@ impl Grid {
         })
     }
 
-    /// Makes the page as a fresh one of its size is. It takes no memory.
+    /// Resets the page to a new one of its size. Allocates nothing.
     pub fn clear(&mut self)
         ensures { self.new ≡ blank_page (length self.old.rows) self.old.width }
     {
@@ -103,7 +106,7 @@ impl Grid {
         self.saved_origin_mode = false;
     }
 
-    /// How many rows and columns the page has.
+    /// Returns the number of rows and columns of the page.
     #[inline]
     pub fn size(&self) -> Size
         ensures rows { result.rows ≡ length self.now.rows }
@@ -112,7 +115,7 @@ impl Grid {
         self.size
     }
 
-    /// Where the cursor is; a column past the last one is a pending wrap.
+    /// Returns the cursor position. A column past the last one means that a wrap is pending.
     #[inline]
     pub fn pos(&self) -> Pos
         ensures row { result.row ≡ self.now.row }
@@ -121,7 +124,7 @@ impl Grid {
         self.pos
     }
 
-    /// The rows, from the top.
+    /// Returns the rows of the page.
     #[inline]
     pub fn rows(&self) -> &PageRows
         ensures rows { result.now.rows ≡ self.now.rows }
@@ -130,7 +133,8 @@ impl Grid {
         &self.page_rows
     }
 
-    /// Whether the text of a row goes on in the row below; false past the last row.
+    /// Returns whether a row is wrapped (its text continues on the next row); `false` past the last
+    /// row.
     #[inline]
     pub fn row_wrapped(&self, row: u16) -> bool
         ensures { result ≡ (row_at self.now row).wrapped }

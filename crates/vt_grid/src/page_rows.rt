@@ -27,10 +27,10 @@ use vt_cells::{Attrs, Cell, Error};
 use vt_rows::capture::lent;
 use vt_rows::{Leaving, RowContents, cells, shifts};
 
-/// Rows of one width, changed one at a time or put in another order.
+/// The rows of a page, all of one width, which are edited in place and reordered by scrolling.
 ///
-/// A row goes on no more where an edit leaves its last column blank, or where
-/// columns were inserted or deleted.
+/// A row is no longer wrapped after an edit that leaves its last column blank, or after columns are
+/// inserted or deleted.
 #[derive(Debug, Drop)]
 pub struct PageRows {
     flat: Flat,
@@ -48,9 +48,11 @@ impl Model for PageRows {
 }
 
 impl PageRows {
-    /// Rows of default blanks.
+    /// Creates rows of default blanks.
     ///
-    /// Fails where memory for them is refused.
+    /// # Errors
+    ///
+    /// Returns [`Error::OutOfMemory`] if the rows cannot be allocated.
     pub fn new(alloc: Global, size: Size) -> Result<PageRows, Error>
         ensures ok { IfOk result (λ page_rows. page_rows ≡ blank_page_rows size.rows size.cols) }
         ensures memory { OnlyOutOfMemory result }
@@ -59,9 +61,11 @@ impl PageRows {
         Ok(PageRows { flat })
     }
 
-    /// A copy of the page.
+    /// Returns a copy of the rows.
     ///
-    /// Fails where its memory is refused.
+    /// # Errors
+    ///
+    /// Returns [`Error::OutOfMemory`] if the rows cannot be allocated.
     pub fn try_clone(&self, alloc: Global) -> Result<PageRows, Error>
         ensures ok { IfOk result (λ page_rows. page_rows ≡ self.now) }
         ensures memory { OnlyOutOfMemory result }
@@ -70,7 +74,7 @@ impl PageRows {
         Ok(PageRows { flat })
     }
 
-    /// How many rows and columns the page has.
+    /// Returns the number of rows and columns.
     #[inline]
     pub fn size(&self) -> Size
         requires { length self.now.rows < 2 ^ 16 }
@@ -83,7 +87,7 @@ impl PageRows {
         }
     }
 
-    /// How many rows the page has.
+    /// Returns the number of rows.
     #[inline]
     pub fn len(&self) -> usize
         ensures { result ≡ length self.now.rows }
@@ -91,7 +95,7 @@ impl PageRows {
         self.flat.lines.len()
     }
 
-    /// A row, to be read where it lies.
+    /// Borrows a row.
     #[inline]
     pub fn row(&self, row: usize) -> RowContents<'_>
         requires inside { row < length self.now.rows }
@@ -102,7 +106,7 @@ impl PageRows {
         lent(&self.flat.cells[start..end], self.flat.wrapped(row))
     }
 
-    /// Whether the text of a row goes on in the row below.
+    /// Returns whether a row is wrapped (its text continues on the next row).
     #[inline]
     pub fn wrapped(&self, row: u16) -> bool
         requires { row < length self.now.rows }
@@ -111,7 +115,7 @@ impl PageRows {
         self.flat.wrapped(usize::from(row))
     }
 
-    /// The cell at a column of a row.
+    /// Returns the cell at a column of a row.
     #[inline]
     pub fn cell(&self, row: u16, col: u16) -> &Cell
         requires inside { row < length self.now.rows }
@@ -122,7 +126,7 @@ impl PageRows {
         &self.flat.cells[start..end][usize::from(col)]
     }
 
-    /// Whether the last column of a row is blank.
+    /// Returns whether the last cell of a row is a blank.
     #[inline]
     pub fn ends_blank(&self, row: u16) -> bool
         requires { row < length self.now.rows }
@@ -132,7 +136,7 @@ impl PageRows {
         cells::ends_blank(&self.flat.cells[start..end])
     }
 
-    /// Says whether a row goes on in the row below.
+    /// Sets the wrapped flag of a row.
     #[inline]
     #[tactic(auto, using(crate::proofs::Flats::rows_counted))]
     pub fn wrap(&mut self, row: usize, wrapped: bool)
@@ -142,7 +146,7 @@ impl PageRows {
         self.flat.wrap(row, wrapped);
     }
 
-    /// Says whether the row that a wrap left, if there is one, goes on below.
+    /// Sets the wrapped flag of the row that a wrap left, if there is one.
     pub fn wrap_left(&mut self, left: Option<u16>, goes_on: bool)
         requires { IfSome left (λ row. row < length self.old.rows) }
         ensures { self.new ≡ with_page_row_flag left goes_on self.old }
@@ -152,8 +156,7 @@ impl PageRows {
         }
     }
 
-    /// Edits the cells of a row, which goes on no more where its last column is
-    /// left blank.
+    /// Edits the cells of a row, and clears its wrapped flag if the last cell is then a blank.
     #[inline(always)]
     fn edit_row<R, F: FnOnce(&mut [Cell]) -> R>(&mut self, row: u16, edit: F) -> R
         requires inside { row < length self.old.rows }
@@ -172,7 +175,7 @@ impl PageRows {
         edited
     }
 
-    /// Edits the cells of a row, which then goes on if `goes_on`.
+    /// Edits the cells of a row, and sets its wrapped flag to `goes_on`.
     #[inline(always)]
     fn edit_row_and_flag<F: FnOnce(&mut [Cell])>(&mut self, row: usize, goes_on: bool, edit: F)
         requires inside { row < length self.old.rows }
@@ -186,7 +189,7 @@ impl PageRows {
         self.flat.wrap(row, goes_on);
     }
 
-    /// Puts a narrow glyph at a column of a row; see `cells::put_narrow`.
+    /// Puts a narrow glyph at a column of a row, as [`cells::put_narrow`] does.
     #[inline(always)]
     pub fn put_narrow(&mut self, row: u16, col: u16, c: char, attrs: Attrs)
         requires inside { row < length self.old.rows }
@@ -202,8 +205,8 @@ impl PageRows {
         });
     }
 
-    /// Puts a narrow glyph for each byte of a text of printable ASCII, from a
-    /// column of a row on; see `cells::put_text`.
+    /// Puts a narrow glyph at consecutive columns of a row for each byte of printable ASCII, as
+    /// [`cells::put_text`] does.
     #[inline]
     pub fn put_text(&mut self, row: u16, col: u16, text: &[u8], attrs: Attrs)
         requires inside { row < length self.old.rows }
@@ -218,8 +221,8 @@ impl PageRows {
         });
     }
 
-    /// Puts a wide glyph for each character of a text, from a column of a row
-    /// on; see `cells::put_wide_text`.
+    /// Puts a wide glyph at consecutive pairs of columns of a row for each character, as
+    /// [`cells::put_wide_text`] does.
     #[inline]
     pub fn put_wide_text(&mut self, row: u16, col: u16, text: &[char], attrs: Attrs)
         requires inside { row < length self.old.rows }
@@ -235,7 +238,7 @@ impl PageRows {
         });
     }
 
-    /// Puts a wide glyph at a column of a row and the next; see `cells::put_wide`.
+    /// Puts a wide glyph at a column of a row and the next, as [`cells::put_wide`] does.
     #[inline(always)]
     pub fn put_wide(&mut self, row: u16, col: u16, c: char, attrs: Attrs)
         requires inside { row < length self.old.rows }
@@ -251,7 +254,7 @@ impl PageRows {
         });
     }
 
-    /// Puts a mark on the cell at a column of a row; see `cells::append`.
+    /// Adds a combining character to the cell at a column of a row, as [`cells::append`] does.
     pub fn append(&mut self, row: u16, col: u16, mark: char)
         requires inside { row < length self.old.rows }
         requires column { col < length (page_row self.old row).cells }
@@ -262,7 +265,7 @@ impl PageRows {
         self.edit_row(row, |cells| cells::append(cells, usize::from(col), mark));
     }
 
-    /// Makes the glyph at a column of a row wide; see `cells::widen`.
+    /// Makes the glyph at a column of a row wide, as [`cells::widen`] does.
     pub fn widen(&mut self, row: u16, col: u16, attrs: Attrs)
         requires inside { row < length self.old.rows }
         requires paired { IsPaired (page_row self.old row).cells }
@@ -275,7 +278,7 @@ impl PageRows {
         self.edit_row(row, |cells| cells::widen(cells, usize::from(col), attrs));
     }
 
-    /// Makes the glyph at a column of a row narrow; see `cells::narrow`.
+    /// Makes the glyph at a column of a row narrow, as [`cells::narrow`] does.
     pub fn narrow(&mut self, row: u16, col: u16, attrs: Attrs)
         requires inside { row < length self.old.rows }
         requires paired { IsPaired (page_row self.old row).cells }
@@ -287,7 +290,7 @@ impl PageRows {
         self.edit_row(row, |cells| cells::narrow(cells, usize::from(col), attrs));
     }
 
-    /// Takes the cell at a column of a row out; see `cells::lift`.
+    /// Removes the cell at a column of a row and returns it, as [`cells::lift`] does.
     pub fn lift(&mut self, row: u16, col: u16, attrs: Attrs) -> Cell
         requires inside { row < length self.old.rows }
         requires paired { IsPaired (page_row self.old row).cells }
@@ -298,8 +301,8 @@ impl PageRows {
         self.edit_row(row, |cells| cells::lift(cells, usize::from(col), attrs))
     }
 
-    /// Puts a cell that was taken out back at a column of a row, and the row's
-    /// flag; the cells beside it stay.
+    /// Puts a removed cell back at a column of a row, and sets the row's wrapped flag. The cells
+    /// beside it are unchanged.
     pub fn put_back(&mut self, row: u16, col: u16, cell: Cell, goes_on: bool)
         requires inside { row < length self.old.rows }
         requires column { col < length (page_row self.old row).cells }
@@ -312,7 +315,8 @@ impl PageRows {
         });
     }
 
-    /// Puts a wide cell at a column of a row and the next; see `cells::put_wide_cell`.
+    /// Puts a wide cell at a column of a row and its continuation cell at the next, as
+    /// [`cells::put_wide_cell`] does.
     pub fn put_wide_cell(&mut self, row: u16, col: u16, cell: Cell)
         requires inside { row < length self.old.rows }
         requires paired { IsPaired (page_row self.old row).cells }
@@ -326,7 +330,8 @@ impl PageRows {
         });
     }
 
-    /// Makes the columns of a row from `from` up to `to` blank; see `cells::erase`.
+    /// Makes the columns of a row from `from` up to but excluding `to` blanks, as [`cells::erase`]
+    /// does.
     pub fn erase(&mut self, row: u16, from: u16, to: u16, attrs: Attrs)
         requires inside { row < length self.old.rows }
         requires paired { IsPaired (page_row self.old row).cells }
@@ -340,7 +345,8 @@ impl PageRows {
         });
     }
 
-    /// Inserts default blanks at a column of a row; see `shifts::insert`.
+    /// Inserts default blanks at a column of a row, as [`shifts::insert`] does. The row is no
+    /// longer wrapped.
     pub fn insert(&mut self, row: u16, col: u16, count: u16)
         requires inside { row < length self.old.rows }
         requires paired { IsPaired (page_row self.old row).cells }
@@ -352,7 +358,7 @@ impl PageRows {
         });
     }
 
-    /// Deletes columns of a row; see `shifts::delete`.
+    /// Deletes columns of a row, as [`shifts::delete`] does. The row is no longer wrapped.
     pub fn delete(&mut self, row: u16, col: u16, count: u16)
         requires inside { row < length self.old.rows }
         requires paired { IsPaired (page_row self.old row).cells }
@@ -364,7 +370,7 @@ impl PageRows {
         });
     }
 
-    /// Makes a row blank.
+    /// Makes a row blank and no longer wrapped.
     pub fn clear_row(&mut self, row: usize, attrs: Attrs)
         requires inside { row < length self.old.rows }
         ensures { self.new ≡ with_page_row row (blank_row attrs self.old.width) self.old }
@@ -372,7 +378,7 @@ impl PageRows {
         self.flat.blank(row, attrs);
     }
 
-    /// Makes all rows blank.
+    /// Makes all rows blank and no longer wrapped.
     pub fn clear_all(&mut self, attrs: Attrs)
         requires sound { All (IsRow self.old.width) self.old.rows }
         ensures { self.new
@@ -381,7 +387,7 @@ impl PageRows {
         self.flat.blank_all(attrs);
     }
 
-    /// Makes the rows above a row blank.
+    /// Makes the rows above a row blank and no longer wrapped.
     pub fn clear_above(&mut self, row: u16, attrs: Attrs)
         requires inside { row < length self.old.rows }
         requires sound { All (IsRow self.old.width) self.old.rows }
@@ -391,7 +397,7 @@ impl PageRows {
         self.clear_rows(0, usize::from(row), attrs);
     }
 
-    /// Makes the rows below a row blank.
+    /// Makes the rows below a row blank and no longer wrapped.
     pub fn clear_below(&mut self, row: u16, attrs: Attrs)
         requires inside { row < length self.old.rows }
         requires sound { All (IsRow self.old.width) self.old.rows }
@@ -406,10 +412,10 @@ impl PageRows {
         self.clear_rows(usize::from(row) + 1, end, attrs);
     }
 
-    /// Moves the rows from `top` to `bottom` up by `count`; blank rows come in
-    /// below, and what passes `top` is dropped.
+    /// Moves the rows from `top` through `bottom` up by `count`; blank rows come in at the bottom,
+    /// and rows that pass `top` are lost.
     ///
-    /// No cell of a row that stays is moved.
+    /// Only the row table changes for the rows that stay; their cells are not moved.
     pub fn scroll_up(&mut self, top: u16, bottom: u16, count: u16)
         requires in_order { top ≤ bottom }
         requires inside { bottom < length self.old.rows }
@@ -423,11 +429,10 @@ impl PageRows {
         self.clear_rows(end - count, end, Attrs::new());
     }
 
-    /// Moves the rows from `top` to `bottom` down by `count`; blank rows come
-    /// in above, and what passes `bottom` is dropped. The row at `bottom` goes
-    /// on no more.
+    /// Moves the rows from `top` through `bottom` down by `count`; blank rows come in at the top,
+    /// and rows that pass `bottom` are lost. The row at `bottom` is no longer wrapped.
     ///
-    /// No cell of a row that stays is moved.
+    /// Only the row table changes for the rows that stay; their cells are not moved.
     pub fn scroll_down(&mut self, top: u16, bottom: u16, count: u16)
         requires in_order { top ≤ bottom }
         requires inside { bottom < length self.old.rows }
@@ -442,11 +447,12 @@ impl PageRows {
         self.wrap(usize::from(bottom), false);
     }
 
-    /// Moves the rows from the first to `bottom` up by `count`, as `scroll_up`
-    /// does, and hands those that leave to scrollback. The size is the
-    /// page's own.
+    /// Moves the rows from the first through `bottom` up by `count`, as [`PageRows::scroll_up`]
+    /// does, and passes those that leave to scrollback. `size` must be the size of the page.
     ///
-    /// Fails where memory for scrollback is refused, and then nothing has
+    /// # Errors
+    ///
+    /// Returns [`Error::OutOfMemory`] if memory for scrollback cannot be allocated; nothing has
     /// changed and nothing was reported.
     pub fn send_up<L: Leaving>(
         &mut self,
@@ -467,7 +473,7 @@ impl PageRows {
         Ok(())
     }
 
-    /// Makes the rows from `from` up to `to` blank.
+    /// Makes the rows from `from` up to but excluding `to` blank and no longer wrapped.
     fn clear_rows(&mut self, from: usize, to: usize, attrs: Attrs)
         requires in_order { from ≤ to }
         requires inside { to ≤ length self.old.rows }

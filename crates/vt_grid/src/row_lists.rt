@@ -1,5 +1,4 @@
-//! Lists of rows: made anew, all of whose memory is taken at once, turned
-//! over, and reported.
+//! Lists of rows: created in one step, recycled, and reported.
 
 ghost use Rattle.std.specs.Prelude.{◌≡◌, ◌<◌, ◌++◌, [], IfOk, IsErr, OnErr, OnOk};
 ghost use Rattle.std.specs.Prelude.{drop, length, map, replicate, take};
@@ -18,7 +17,11 @@ use vt_cells::Error;
 use vt_rows::capture::trimmed;
 use vt_rows::{Leaving, Row};
 
-/// Rows of default blanks.
+/// Creates a list of rows of default blanks.
+///
+/// # Errors
+///
+/// Returns [`Error::OutOfMemory`] if the rows cannot be allocated.
 pub fn blank_rows(alloc: Global, columns: usize, count: usize) -> Result<Vec<Row>, Error>
     ensures ok { IfOk result (λ rows. rows.items ≡ replicate count (blank_row default_attrs columns)) }
     ensures grows { IsErr result → 0 < count }
@@ -31,8 +34,12 @@ pub fn blank_rows(alloc: Global, columns: usize, count: usize) -> Result<Vec<Row
     Ok(rows)
 }
 
-/// Copies of the first rows of a page, without the default blanks at their
-/// ends.
+/// Creates a list of copies of the first `count` rows of a page, without the default blanks at
+/// their ends.
+///
+/// # Errors
+///
+/// Returns [`Error::OutOfMemory`] if the copies cannot be allocated.
 pub fn trimmed_rows(alloc: Global, page: &PageRows, count: usize) -> Result<Vec<Row>, Error>
     requires { HasRows count page.now }
     ensures ok { IfOk result (λ copies. copies.items ≡ map trimmed_row (take count page.now.rows)) }
@@ -46,7 +53,11 @@ pub fn trimmed_rows(alloc: Global, page: &PageRows, count: usize) -> Result<Vec<
     Ok(copies)
 }
 
-/// Copies of rows.
+/// Returns a copy of a list of rows.
+///
+/// # Errors
+///
+/// Returns [`Error::OutOfMemory`] if the copy cannot be allocated.
 pub fn copied_rows(rows: &VecDeque<Row>, alloc: Global) -> Result<VecDeque<Row>, Error>
     ensures ok { IfOk result (λ copies. copies.items ≡ rows.now.items) }
     ensures memory { OnlyOutOfMemory result }
@@ -59,10 +70,11 @@ pub fn copied_rows(rows: &VecDeque<Row>, alloc: Global) -> Result<VecDeque<Row>,
     Ok(copies)
 }
 
-/// Puts a copy of the first row of a page below other rows, without the default
-/// blanks at its end.
+/// Appends a copy of the first row of a page to `rows`, without the default blanks at its end.
 ///
-/// Fails where memory for it is refused, and then nothing has changed.
+/// # Errors
+///
+/// Returns [`Error::OutOfMemory`] if the copy cannot be allocated; nothing has changed.
 pub fn push_copy(alloc: Global, rows: &mut VecDeque<Row>, page: &PageRows) -> Result<(), Error>
     requires { HasRows 1 page.now }
     ensures rows { OnOk result (rows.new.items ≡ rows.old.items ++ map trimmed_row (take 1 page.now.rows)) }
@@ -76,11 +88,13 @@ pub fn push_copy(alloc: Global, rows: &mut VecDeque<Row>, page: &PageRows) -> Re
     Ok(())
 }
 
-/// Hands the oldest of rows on, and puts a copy of the first row of a page below
-/// the others, without the default blanks at its end, in the memory of that one.
+/// Passes the oldest row to `leaving`, and reuses its memory for a copy of the first row of a page,
+/// which becomes the newest row. The copy is without the default blanks at its end.
 ///
-/// Fails where the copy is longer than the oldest row, and memory for it is
-/// refused; then nothing has changed and nothing was handed on.
+/// # Errors
+///
+/// Returns [`Error::OutOfMemory`] if the copy is longer than the oldest row and the allocation
+/// fails; nothing has changed and nothing was passed to `leaving`.
 pub fn turn_over<L: Leaving>(
     rows: &mut VecDeque<Row>,
     page: &PageRows,
@@ -100,7 +114,7 @@ pub fn turn_over<L: Leaving>(
     Ok(())
 }
 
-/// Gives up and reports all rows, older first.
+/// Removes and reports all rows, oldest first.
 pub fn report_all<L: Leaving>(rows: &mut VecDeque<Row>, leaving: &mut L)
     requires { AreRows rows.old.items }
     ensures rows { rows.new.items ≡ [] }
@@ -111,7 +125,7 @@ pub fn report_all<L: Leaving>(rows: &mut VecDeque<Row>, leaving: &mut L)
     }
 }
 
-/// Reports the first rows of a page without the default blanks at their ends.
+/// Reports the first `count` rows of a page, without the default blanks at their ends.
 pub fn report_trimmed<L: Leaving>(page: &PageRows, count: usize, leaving: &mut L)
     requires { HasRows count page.now }
     ensures { FoldsTo L.leaves leaving.old (map trimmed_row (take count page.now.rows)) leaving.new }

@@ -1,5 +1,5 @@
-//! The rows that left a page at its top, as far as they are kept (xterm's
-//! saved lines).
+//! Scrollback: the rows that scrolled off the top of a page, as far as they are kept (xterm's saved
+//! lines).
 
 ghost use Rattle.std.specs.Prelude.{◌≡◌, ◌+◌, ◌-◌, ◌^◌, ◌==◌, ◌<◌, ◌≤◌, ◌↔◌, ◌++◌, ◌∷◌, [], ℕ};
 ghost use Rattle.std.specs.Prelude.{List, All, IfOk, IfSome, IsErr, IsSome, OnErr, OnOk, if◌then◌else◌};
@@ -30,11 +30,11 @@ use std::mem;
 use vt_cells::Error;
 use vt_rows::{Leaving, Row, RowContents};
 
-/// The rows that left a page at its top, at most as many as its capacity, and
-/// by how many rows a screen is scrolled back (the offset).
+/// The rows that scrolled off the top of a page, at most as many as its capacity, and the offset,
+/// which is the number of rows by which the display is scrolled back.
 ///
-/// It shows the newest rows, as many as the offset, from the oldest of them
-/// on, and the page's below them, as far as it has room.
+/// The display consists of the newest rows of scrollback, as many as the offset, followed by the
+/// rows of the page, as many as fit.
 #[derive(Debug, Drop)]
 pub struct Scrollback {
     alloc: Global,
@@ -57,7 +57,7 @@ impl Model for Scrollback {
 }
 
 impl Scrollback {
-    /// Scrollback without rows. It takes no memory yet.
+    /// Creates an empty scrollback. Allocates nothing.
     pub fn new(alloc: Global, capacity: usize) -> Scrollback
         ensures { result ≡ no_scrollback capacity }
     {
@@ -70,7 +70,11 @@ impl Scrollback {
         }
     }
 
-    /// A copy of the scrollback. Fails where its memory is refused.
+    /// Returns a copy of the scrollback.
+    ///
+    /// # Errors
+    ///
+    /// Returns [`Error::OutOfMemory`] if the copy cannot be allocated.
     pub fn try_clone(&self) -> Result<Scrollback, Error>
         ensures ok { IfOk result (λ above. above ≡ self.now) }
         ensures memory { OnlyOutOfMemory result }
@@ -84,7 +88,7 @@ impl Scrollback {
         })
     }
 
-    /// How many rows are kept.
+    /// Returns the number of rows that are kept.
     #[inline]
     pub fn len(&self) -> usize
         ensures { result ≡ length self.now.rows }
@@ -92,7 +96,7 @@ impl Scrollback {
         self.rows.len()
     }
 
-    /// How many rows are kept at most.
+    /// Returns the maximum number of rows that are kept.
     #[inline]
     pub fn capacity(&self) -> usize
         ensures { result ≡ self.now.capacity }
@@ -100,7 +104,8 @@ impl Scrollback {
         self.capacity
     }
 
-    /// How many rows there would be if all were kept.
+    /// Returns the number of rows that have scrolled off and not come back since scrollback was
+    /// last cleared, whether kept or not.
     #[inline]
     pub fn theoretical_len(&self) -> usize
         ensures value { result ≡ self.now.theoretical }
@@ -109,8 +114,8 @@ impl Scrollback {
         self.theoretical
     }
 
-    /// By how many rows a screen is scrolled back; they may be more than it has
-    /// room for.
+    /// Returns the number of rows by which the display is scrolled back. It may exceed the height
+    /// of the screen.
     #[inline]
     pub fn offset(&self) -> usize
         ensures { result ≡ self.now.offset }
@@ -118,18 +123,20 @@ impl Scrollback {
         self.offset
     }
 
-    /// Takes over copies of the first rows of a page, which leave it at its
-    /// top, older first, without the default blanks at their ends. The size is
-    /// the page's.
+    /// Appends copies of the first `count` rows of a page, which are about to scroll off it, oldest
+    /// first and without the default blanks at their ends. `size` must be the size of the page.
     ///
-    /// The rows that are too many are reported, older first. An offset other
-    /// than 0 grows by the rows that left, at most to all that are kept: the
-    /// rows that are shown stay where they are as long as they are kept. Those
-    /// that are shown then grow to the page's width where they are shorter.
+    /// Rows in excess of the capacity are reported, oldest first. An offset other than 0 grows with
+    /// the rows, at most to the number of rows kept, so that the displayed rows stay in place while
+    /// they are kept. Displayed rows that are shorter than the page are extended to its width.
     ///
-    /// Fails where memory is refused, and then nothing has changed and nothing
-    /// was reported. No row, or a capacity of 0, takes no memory; nor does one
-    /// row that drives out one that is no shorter, where none is in view.
+    /// No memory is allocated if `count` or the capacity is 0, or if one row replaces one that is
+    /// not shorter and the offset is 0.
+    ///
+    /// # Errors
+    ///
+    /// Returns [`Error::OutOfMemory`] if an allocation fails; nothing has changed and nothing was
+    /// reported.
     pub fn push<L: Leaving>(
         &mut self,
         page: &PageRows,
@@ -155,10 +162,12 @@ impl Scrollback {
         self.keep(page, count, size, leaving)
     }
 
-    /// Takes over rows as `push` does, with an offset of 0 before.
+    /// Appends rows as [`Scrollback::push`] does, after the offset is set to 0.
     ///
-    /// Fails where memory is refused, and then nothing has changed and nothing
-    /// was reported.
+    /// # Errors
+    ///
+    /// Returns [`Error::OutOfMemory`] if an allocation fails; nothing has changed, not even the
+    /// offset, and nothing was reported.
     pub fn push_out_of_view<L: Leaving>(
         &mut self,
         page: &PageRows,
@@ -180,12 +189,10 @@ impl Scrollback {
         Ok(())
     }
 
-    /// Gives the newest `up` rows back to the first rows of a blank page, the
-    /// last of these the newest. Where there are too few rows, the first of
-    /// the page stay as they are.
+    /// Moves the newest `up` rows back into the first rows of a blank page, in their order. If
+    /// fewer rows are kept, the topmost of these rows of the page stay blank.
     ///
-    /// All of them count as given back, also those that were not kept. The
-    /// offset must be 0.
+    /// All `up` rows count as returned, even those that were not kept. The offset must be 0.
     pub fn give_back(&mut self, page: &mut PageRows, up: usize)
         requires hidden { self.old.offset ≡ 0 }
         requires inside { up ≤ length page.old.rows }
@@ -200,7 +207,7 @@ impl Scrollback {
         give_rows(&mut self.rows, page, up);
     }
 
-    /// Reports rows that leave, where no row is kept; see `push`.
+    /// Reports rows that scroll off when the capacity is 0; a part of [`Scrollback::push`].
     fn pass<L: Leaving>(&mut self, page: &PageRows, count: usize, leaving: &mut L)
         requires none { self.old.capacity ≡ 0 }
         requires some { 0 < count }
@@ -212,7 +219,12 @@ impl Scrollback {
         self.theoretical = self.theoretical.saturating_add(count);
     }
 
-    /// Takes over rows that leave, where some are kept; see `push`.
+    /// Keeps rows that scroll off when the capacity is not 0; a part of [`Scrollback::push`].
+    ///
+    /// # Errors
+    ///
+    /// Returns [`Error::OutOfMemory`] if an allocation fails; nothing has changed and nothing was
+    /// reported.
     fn keep<L: Leaving>(
         &mut self,
         page: &PageRows,
@@ -241,8 +253,8 @@ impl Scrollback {
         Ok(())
     }
 
-    /// At most how many of the rows that are shown are too short once `count`
-    /// rows have been taken over.
+    /// Returns an upper bound for the number of displayed rows that are too short once `count` rows
+    /// have been appended.
     fn allocations(&self, count: usize, size: Size) -> usize
         requires { count < 2 ^ 63 }
         ensures { (gone : List RowValue) → length gone ≡ count →
@@ -258,11 +270,14 @@ impl Scrollback {
         narrow_rows(&self.rows, first, size) + below.min(end).saturating_sub(len)
     }
 
-    /// Scrolls back by `n` rows, at most by all (the offset). Those that a
-    /// screen of this size then shows grow to its width where they are shorter.
+    /// Sets the offset to `n`, at most the number of rows kept. Rows that a screen of this size
+    /// then displays are extended to its width if they are shorter.
     ///
-    /// Fails where memory is refused, and then nothing has changed. Where no
-    /// row grows it takes no memory.
+    /// No memory is allocated if no row needs to be extended.
+    ///
+    /// # Errors
+    ///
+    /// Returns [`Error::OutOfMemory`] if an allocation fails; nothing has changed.
     pub fn set_offset(&mut self, n: usize, size: Size) -> Result<(), Error>
         ensures ok { OnOk result (self.new ≡ with_view size.rows size.cols n self.old) }
         ensures err { OnErr result (self.new ≡ self.old) }
@@ -277,14 +292,14 @@ impl Scrollback {
         Ok(())
     }
 
-    /// Scrolls back by no row.
+    /// Sets the offset to 0, so that no row of scrollback is displayed.
     pub fn leave_view(&mut self)
         ensures { self.new ≡ out_of_view self.old }
     {
         self.offset = 0;
     }
 
-    /// Gives up and reports all rows, older first, and forgets their number.
+    /// Removes and reports all rows, oldest first, and resets the counts and the offset to 0.
     pub fn clear<L: Leaving>(&mut self, leaving: &mut L)
         ensures rows { self.new ≡ cleared self.old }
         ensures reported { FoldsTo L.leaves leaving.old self.old.rows leaving.new }
@@ -294,8 +309,8 @@ impl Scrollback {
         self.offset = 0;
     }
 
-    /// The row that is shown at a place, if there is one: above are the newest
-    /// rows, as many as the offset, and below them those of the page.
+    /// Returns the displayed row at an index, or `None` past the height of the page. The newest
+    /// rows of scrollback, as many as the offset, come first, then those of the page.
     pub fn visible_row<'a>(&'a self, page: &'a PageRows, row: u16) -> Option<RowContents<'a>>
         requires { All (IsRow page.now.width) page.now.rows }
         ensures inside { IsSome result ↔ (row < length page.now.rows) }
@@ -312,7 +327,7 @@ impl Scrollback {
         Some(page.row(row - self.offset))
     }
 
-    /// How many rows there are with those of the page below.
+    /// Returns the number of rows of scrollback and of the page together.
     pub fn stacked_len(&self, page: &PageRows) -> usize
         requires { length page.now.rows < 2 ^ 16 }
         ensures { result ≡ length self.now.rows + length page.now.rows }
@@ -320,8 +335,8 @@ impl Scrollback {
         self.rows.len() + page.len()
     }
 
-    /// The row at a place, counted from the oldest one, with those of the page
-    /// below.
+    /// Returns the row at an index into the rows of scrollback, oldest first, followed by the rows
+    /// of the page.
     pub fn stacked_row<'a>(&'a self, page: &'a PageRows, index: usize) -> RowContents<'a>
         requires inside { index < length self.now.rows + length page.now.rows }
         requires sound { All (IsRow page.now.width) page.now.rows }
@@ -336,7 +351,7 @@ impl Scrollback {
     }
 }
 
-/// Puts rows below those that are kept, one after the other; see `push_row`.
+/// Appends rows to those that are kept, as [`push_row`] does with each.
 fn push_rows<L: Leaving>(gone: Vec<Row>, kept: &mut VecDeque<Row>, capacity: usize, leaving: &mut L)
     requires some { 0 < capacity }
     requires inside { length kept.old.items ≤ capacity }
@@ -352,8 +367,8 @@ fn push_rows<L: Leaving>(gone: Vec<Row>, kept: &mut VecDeque<Row>, capacity: usi
     }
 }
 
-/// Puts a row below those that are kept. Where they are as many as can be, the
-/// oldest is reported.
+/// Appends a row to those that are kept. If they are at capacity, the oldest row is removed and
+/// reported.
 fn push_row<L: Leaving>(row: Row, kept: &mut VecDeque<Row>, capacity: usize, leaving: &mut L)
     requires some { 0 < capacity }
     requires inside { length kept.old.items ≤ capacity }
@@ -373,7 +388,8 @@ fn push_row<L: Leaving>(row: Row, kept: &mut VecDeque<Row>, capacity: usize, lea
     kept.push_back_reserved(row);
 }
 
-/// Moves the newest rows into blank ones; see `Scrollback::give_back`.
+/// Moves the newest rows into the first rows of a blank page, as [`Scrollback::give_back`]
+/// describes.
 fn give_rows(kept: &mut VecDeque<Row>, page: &mut PageRows, up: usize)
     requires inside { up ≤ length page.old.rows }
     requires blank { All (λ row. row ≡ blank_row default_attrs (length row.cells)) page.old.rows }
@@ -394,7 +410,7 @@ fn give_rows(kept: &mut VecDeque<Row>, page: &mut PageRows, up: usize)
     }
 }
 
-/// The offset after `count` rows were taken over and `len` in all are kept.
+/// Returns the offset after `count` rows were appended and `len` rows are kept.
 fn followed(offset: usize, count: usize, len: usize) -> usize
     ensures { result ≡ (if offset == 0 then 0 else min (offset + count) len) }
 {
@@ -405,8 +421,8 @@ fn followed(offset: usize, count: usize, len: usize) -> usize
     }
 }
 
-/// How many of the rows from `first` on that a screen of this size shows are
-/// shorter than it is wide.
+/// Returns how many of the rows that a screen of this size displays from `first` on are narrower
+/// than the screen.
 fn narrow_rows(rows: &VecDeque<Row>, first: usize, size: Size) -> usize
     requires { first < 2 ^ 64 - 2 ^ 16 }
     ensures value { result ≡ narrow_rows size.cols (window_from first size.rows rows.now.items) }
@@ -420,16 +436,15 @@ fn narrow_rows(rows: &VecDeque<Row>, first: usize, size: Size) -> usize
     count
 }
 
-/// 1 for a row of fewer columns, else 0.
+/// Returns 1 if the row has fewer than `columns` columns, otherwise 0.
 fn narrow(row: &Row, columns: usize) -> usize
     ensures { result ≡ (if nat_lt (length row.now.cells) columns then 1 else 0) }
 {
     if row.cols() < columns { 1 } else { 0 }
 }
 
-/// Grows the rows that a screen of this size shows, scrolled back by `offset`,
-/// where they are shorter than it is wide. The spare rows are blank, and as
-/// wide as the screen.
+/// Extends the rows that a screen of this size displays at this offset, if they are narrower than
+/// the screen. The spare rows are blank and as wide as the screen.
 fn grow_in_view(rows: &mut VecDeque<Row>, offset: usize, size: Size, mut spare: Vec<Row>)
     requires inside { offset ≤ length rows.old.items }
     requires sound { AreRows rows.old.items }
@@ -445,7 +460,7 @@ fn grow_in_view(rows: &mut VecDeque<Row>, offset: usize, size: Size, mut spare: 
     }
 }
 
-/// Grows a row that has fewer columns: a spare row takes over its cells.
+/// Extends a row that has fewer than `columns` columns: a spare row takes over its cells.
 fn grow_row(row: &mut Row, columns: usize, spare: &mut Vec<Row>)
     requires sound { IsRow (length row.old.cells) row.old }
     requires spare { AreSpare columns (row.old ∷ []) spare.old.items }

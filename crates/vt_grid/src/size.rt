@@ -1,11 +1,11 @@
 //! Sizes of screens.
 
-/// How many rows and columns a screen has.
+/// The size of a screen in rows and columns.
 #[derive(Clone, Copy, PartialEq, Eq, Debug)]
 pub struct Size {
-    /// The rows.
+    /// The number of rows.
     pub rows: u16,
 
-    /// The columns.
+    /// The number of columns.
     pub cols: u16,
 }

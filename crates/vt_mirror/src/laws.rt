@@ -55,7 +55,7 @@ pub fn viewers<CB: Callbacks>()
 /// The viewer is as that of [`viewers`], and all its calls of `process` and
 /// `set_size` answer Ok.
 pub fn heals<CB: Callbacks>()
-    ensures { (number : ℕ) (calls : List MirrorCall) (old new : Watching CB) →
+    ensures shows { (number : ℕ) (calls : List MirrorCall) (old new : Watching CB) →
         IsFresh old.mirror → IsNew old → FoldsTo (GoesAny CB.does number) old calls new → ShowsSteady new }
 {}
 

@@ -1,4 +1,4 @@
--- Callbacks that write a capture as rows are reported.
+-- Callbacks that write a capture of the rows that are reported.
 use Rattle.std.proofs.Common.{◌≡◌, ◌⊎◌, inl, inr, ℕ, true, false, List, [], sym, ap, ◌∙◌, rules}
 use Rattle.std.proofs.lemmas.Bool.{false≢true}
 use Rattle.std.proofs.lemmas.List.{append-nil}
@@ -26,7 +26,7 @@ recorder = record {
   state = λ call old new before after t w. ap (λ (r : Recorded). r.state) (written (row_of_call call) old new t.1 w).is;
 }
 
--- a call that reports no row leaves the capture
+-- A call that reports no row leaves the capture unchanged.
 pub with_none : (old : Recorded) → with_rows [] old ≡ old
 with_none old = ap (λ (text : List ℕ). record old { text = text }) (append-nil old.text)
 

@@ -21,7 +21,8 @@ use Rattle.vt_rows.proofs.Folds.{folds_then}
 use Rattle.vt100.proofs.Running.{ran_joined}
 use Rattle.vt_notes.specs.Noting.{Noted, NotesIt, nothing_noted, with_call, with_gap}
 
--- something was done: what it makes of the screen, and that it noted these calls, if none is missing at the end
+-- The effect of an action: the screen that it leaves, and that it noted these calls, unless a note is missing at the
+-- end.
 pub record Done (a : act.State Noted) (calls : List CallValue)
     (screen : ScreenValue) (b : act.State Noted) : Type 0 where
   pub shown : b.screen ≡ screen
@@ -42,7 +43,7 @@ done_then a j b xs ys mid after one two = record {
       ∙ append_assoc a.callbacks.calls xs ys);
 }
 
--- ---- one step
+-- ---- One step
 
 done_quietly : (a b : act.State Noted) (screen : ScreenValue) → b ≡ state a.callbacks screen → Done a [] screen b
 done_quietly a b screen e =
@@ -71,7 +72,7 @@ done_telling call a b t = record {
   noted = was_noted call a.callbacks b.callbacks t.1;
 }
 
--- rows that are reported
+-- The effect of reporting rows.
 done_called : (alternate : Bool) (rows : List RowValue) (old new : Noted) (screen : ScreenValue) →
     FoldsTo (CalledOnScroll NotesIt alternate) old rows new →
     Done (state old screen) (map (λ (row : RowValue). OnScroll row alternate) rows) screen (state new screen)
@@ -108,7 +109,7 @@ done_step LeaveAlternate a b t = done_quietly a b (display_after LeaveAlternate 
 done_step LeaveRestoring a b t = done_quietly a b (display_after LeaveRestoring a.screen) t
 done_step Reset a b t = done_quietly a b (display_after Reset a.screen) t
 
--- ---- steps and events
+-- ---- Steps and events
 
 done_steps : (steps : List Step) (a b : act.State Noted) → FoldsTo (Takes NotesIt) a steps b →
     Done a (calls_of_all steps a.screen) (screen_after_all steps a.screen) b
@@ -120,7 +121,7 @@ done_steps (x ∷ steps) a b t =
     done_then a t.0 b (calls_of x a.screen) (calls_of_all steps (screen_after x a.screen))
     (screen_after x a.screen) (screen_after_all steps (screen_after x a.screen)) one rest
 
--- the steps of all events are those that the model lists
+-- The steps of all events are those that the model lists.
 same_steps : (events : List Event) (a b : act.State Noted) → FoldsTo (Performs NotesIt) a events b →
     FoldsTo (Takes NotesIt) a (steps_of_all events a.screen) b
 same_steps [] a b e = e
@@ -131,7 +132,7 @@ same_steps (event ∷ events) a b t =
     there (same_steps events t.0 b t.2) in
     folds_then (Takes NotesIt) steps (steps_of_all events (screen_after_all steps a.screen)) a t.0 b t.1 rest
 
--- ---- parsers
+-- ---- Parsers
 
 pub done_run : (old new : Parsing Noted) (bytes : List ℕ) (scan : State) →
     Ran NotesIt old bytes new → StandsFor old.scanner scan →
@@ -140,7 +141,7 @@ done_run old new bytes scan ran stands =
     done_steps (steps_in scan old.screen bytes) (stage old) (stage new)
     (same_steps (run scan bytes).events (stage old) (stage new) (ran scan stands).1)
 
--- ---- a fresh parser that read pieces
+-- ---- A new parser that parsed chunks
 
 pub record HasRead (screen : ScreenValue) (bytes : List ℕ) (new : Parsing Noted) : Type 0 where
   pub shown : new.screen ≡ screen_in start screen bytes

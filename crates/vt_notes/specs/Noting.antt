@@ -1,25 +1,25 @@
--- What callbacks that note each call do, exactly.
+-- The exact effect of callbacks that note each call.
 use Rattle.std.specs.Prelude.{◌≡◌, ◌⊎◌, Bool, true, false, List, [], ◌∷◌, ◌++◌}
 use Rattle.vt_screen.specs.Calls.{CallValue}
 use Rattle.vt_screen.specs.Screen.{ScreenValue}
 
--- the calls that were noted, in order, and whether none is missing
+-- The calls that were noted, in order, and whether none is missing.
 pub record Noted : Type 0 where
   pub calls : List CallValue
   pub is_complete : Bool
 
--- nothing noted yet
+-- The state without any notes.
 abbrev pub nothing_noted : Noted
 nothing_noted = record { calls = []; is_complete = true }
 
--- one call more
+-- The notes after one more call is noted.
 abbrev pub with_call : CallValue → Noted → Noted
 with_call call noted = record noted { calls = noted.calls ++ call ∷ [] }
 
--- memory for a call was refused
+-- The notes after an allocation for a call failed.
 abbrev pub with_gap : Noted → Noted
 with_gap noted = record noted { is_complete = false }
 
--- a call, once and with all that it was lent, is noted, or it is known to be missing; the screen stays
+-- A call is noted once with all its arguments, or it is recorded that one is missing; the screen is unchanged.
 abbrev pub NotesIt : CallValue → Noted → ScreenValue → Noted → ScreenValue → Type 0
 NotesIt call old before new after = (after ≡ before) × ((new ≡ with_call call old) ⊎ (new ≡ with_gap old))

@@ -1,5 +1,5 @@
-//! What notes and recorders say after a run, as facts: these functions do nothing, and their clauses
-//! say what is proved.
+//! Theorems about notes and recorders after a run. The functions do nothing; a proof may cite their
+//! clauses.
 
 ghost use Rattle.std.specs.List.{FoldsTo};
 ghost use Rattle.std.specs.Prelude.{◌≡◌, ℕ, List, ◌++◌, false, true};
@@ -13,8 +13,9 @@ ghost use Rattle.vt_screen.specs.Capture.{all_rows, basic_texts};
 ghost use Rattle.vt_screen.specs.Streamed.{HasNoRis};
 ghost use Rattle.vt_screen.specs.CallsOfRun.{calls_in, screen_in};
 
-/// A run whose callbacks note each call: the screen is what the bytes make of it, and where no note
-/// is missing, the new notes are exactly the calls of the bytes, each once and in order.
+/// States that after a run whose callbacks note each call, the screen is what the bytes make of it,
+/// and, if no note is missing, the new notes are exactly the calls that the bytes cause, each once
+/// and in order.
 pub fn runs()
     ensures shown { (old new : Parsing Noted) (bytes : List ℕ) (scan : State) → Ran NotesIt old bytes new →
         StandsFor old.scanner scan → new.screen ≡ screen_in scan old.screen bytes }
@@ -25,9 +26,11 @@ pub fn runs()
         new.callbacks.calls ≡ old.callbacks.calls ++ calls_in scan old.screen bytes }
 {}
 
-/// What a recorder has written, with a full capture behind it, is one text, whatever the capacity of
-/// scrollback, in whatever pieces the bytes came, and wherever the screen was scrolled back in
-/// between: that of all rows which the bytes sent off the main page, and then of the page.
+/// States that what a recorder has written, followed by a full capture, is one text: the rows that
+/// the bytes scrolled off the main page, and then the page.
+///
+/// This text does not depend on the capacity of scrollback, on how the bytes were split, or on how
+/// the screen was scrolled back in between.
 pub fn recorded()
     ensures recorder { IsRecorder Records (λ recorded. recorded.text)
         (λ recorded. recorded.state) (λ recorded. recorded.is_whole) }

@@ -1,5 +1,5 @@
-//! Callbacks that note each call with all that it was lent, for tests and for the replay of cases.
-//! What they have noted after a run is proved to be the calls of the run.
+//! Callbacks that note each call with all its arguments, for tests and for the replay of recorded
+//! cases. The notes after a run are proved to be the calls of the run.
 #![tactic(auto)]
 
 pub mod laws;

@@ -5,7 +5,7 @@ use std::alloc::AllocError;
 use std::convert::AsSlice;
 
 impl Note {
-    /// Appends the line of this call with its end.
+    /// Appends the line of this call, with its line end.
     pub(crate) fn write_line(&self, lines: &mut String) -> Result<(), AllocError> {
         match self {
             Note::AudibleBell => writeln!(lines, "audible_bell()"),
@@ -49,7 +49,8 @@ fn write_texts<T: AsSlice<u8>>(
     writeln!(lines, ")")
 }
 
-/// A row's text in hexadecimal, a dot for none, and 1 for the alternate page.
+/// Appends the line of a row that scrolled off: its text in hexadecimal (a dot if empty), and 1 for
+/// the alternate page.
 fn write_scroll(lines: &mut String, text: &[u8], alternate: bool) -> Result<(), AllocError> {
     write!(lines, "scroll ")?;
     if text.is_empty() {

@@ -1,4 +1,4 @@
-//! Calls that are kept.
+//! Notes of calls.
 
 ghost use Rattle.std.specs.Prelude.{◌≡◌, map, IfOk};
 ghost use Rattle.vt_notes.specs.Meanings.{HasText, value_of};
@@ -9,21 +9,21 @@ use std::alloc::{AllocError, Global};
 use vt100::capture::{BasicFormattedCaptureState, RowContents};
 use vt100::{Call, Cell};
 
-/// A row that left the page.
+/// A row that scrolled off the top of the page.
 #[derive(Drop)]
 pub struct KeptRow {
-    /// Its cells, from left to right.
+    /// The cells, from left to right.
     pub cells: Vec<Cell>,
 
-    /// Whether its text went on in the row that was below it.
+    /// Whether the row is wrapped: its text continued on the row that was below it.
     pub wrapped: bool,
 
-    /// Its basic text, as that of a first row.
+    /// The basic text of the row, as the first row of a capture.
     pub text: String,
 }
 
-/// A call of one of the functions of [`Callbacks`](vt100::Callbacks), each named after its function,
-/// with a copy of what the call lent.
+/// A call of a method of [`Callbacks`](vt100::Callbacks), named after the method, with copies of
+/// its arguments.
 #[derive(Drop)]
 pub enum Note {
     AudibleBell,
@@ -42,7 +42,11 @@ pub enum Note {
 }
 
 impl Note {
-    /// The note of a call. Fails where memory for a copy of what it lends is refused.
+    /// Creates the note of a call.
+    ///
+    /// # Errors
+    ///
+    /// Fails if a copy of an argument cannot be allocated.
     pub fn of_call(alloc: Global, call: Call<'_>) -> Result<Self, AllocError>
         ensures call { IfOk result (λ note. value_of note ≡ call_of call.entry) }
         ensures text { IfOk result HasText }
@@ -76,8 +80,12 @@ impl Note {
         }
     }
 
-    /// The note of a row that scrolled away; `alternate`: from the alternate page. Fails where memory
-    /// for a copy of the cells, or for their text, is refused.
+    /// Creates the note of a row that scrolled off; `alternate` says whether it was on the
+    /// alternate page.
+    ///
+    /// # Errors
+    ///
+    /// Fails if a copy of the cells or their text cannot be allocated.
     pub fn of_scroll(
         alloc: Global,
         row: &RowContents<'_>,
@@ -102,7 +110,7 @@ impl Note {
     }
 }
 
-/// Copies of lists that are lent.
+/// Returns copies of a list of slices.
 fn owned<T: Copy>(alloc: Global, lists: &[&[T]]) -> Result<Vec<Vec<T>>, AllocError>
     ensures { IfOk result (λ copies. map (λ copy. copy.items) copies.items ≡ map (λ list. list.now) lists.now) }
 {

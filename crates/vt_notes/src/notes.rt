@@ -10,7 +10,8 @@ use std::marker::Model;
 use vt100::capture::RowContents;
 use vt100::{Call, Callbacks, Screen};
 
-/// The calls so far. Memory for one may be refused: that call is then missing, which isn't forgotten.
+/// The calls noted so far. If memory for a note cannot be allocated, the call is missing, and
+/// [`Notes::is_complete`] returns `false` from then on.
 pub struct Notes {
     alloc: Global,
     calls: Vec<Note>,
@@ -29,7 +30,8 @@ impl Model for Notes {
     ghost invariant = { λ n. All HasText n.calls.items };
 }
 
-// One call wherever it is given up, as of a screen.
+// Dropping notes is one call: the steps of a derived drop would be repeated at each exit of each
+// caller's proof.
 impl Drop for Notes {
     fn drop(self) {
         let Notes {
@@ -41,7 +43,7 @@ impl Drop for Notes {
 }
 
 impl Notes {
-    /// No call.
+    /// Creates notes without calls.
     pub fn new(alloc: Global) -> Self
         ensures { result ≡ nothing_noted }
     {
@@ -52,8 +54,7 @@ impl Notes {
         }
     }
 
-    /// Returns the calls so far, in order. Each row is noted with its basic
-    /// text (`texts`).
+    /// Returns the calls noted so far, in order. The note of a row has its basic text.
     pub fn calls(&self) -> &[Note]
         ensures calls { map value_of result.now ≡ self.now.calls }
         ensures texts { All HasText result.now }
@@ -61,18 +62,22 @@ impl Notes {
         self.calls.as_slice()
     }
 
-    /// Whether no call is missing.
+    /// Returns whether no call is missing.
     pub fn is_complete(&self) -> bool
         ensures { result ≡ self.now.is_complete }
     {
         self.is_complete
     }
 
-    /// The calls so far, each written as a call in Rust on a line of its own: numbers in decimal,
-    /// bytes as text between double quotes with Rust's escapes. A row that scrolled away is written
-    /// as `scroll`, its basic text in hexadecimal (a dot for none), and 1 for the alternate page.
+    /// Returns the calls noted so far as lines of text, one for each call.
     ///
-    /// Fails where a call is missing, and where memory for the lines is refused.
+    /// Each line is written like a call in Rust: numbers in decimal, and bytes as text in double
+    /// quotes with Rust's escapes. A row that scrolled off is written as `scroll`, its basic text
+    /// in hexadecimal (a dot if empty), and 1 for the alternate page.
+    ///
+    /// # Errors
+    ///
+    /// Fails if a call is missing, and if the lines cannot be allocated.
     pub fn lines(&self, alloc: Global) -> Result<String, AllocError>
         ensures { OnOk result (self.now.is_complete ≡ true) }
     {
@@ -86,7 +91,7 @@ impl Notes {
         Ok(lines)
     }
 
-    /// Adds a note that was made, or remembers that one is missing.
+    /// Appends a note, or records that one is missing.
     fn add(&mut self, note: Result<Note, AllocError>)
         requires { IfOk note HasText }
         ensures made { IfOk note
@@ -103,7 +108,7 @@ impl Notes {
     }
 }
 
-/// Each call is noted once, with all that it lent, and the screen stays.
+/// Each call is noted once with all its arguments; the screen is unchanged.
 impl Callbacks for Notes {
     ghost use Rattle.vt_notes.specs.Noting.{NotesIt};
 

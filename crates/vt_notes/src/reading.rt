@@ -1,4 +1,4 @@
-//! Bytes read with notes of all calls.
+//! A parser that notes all calls.
 
 ghost use Rattle.std.specs.Prelude.{◌≡◌, map, true, IfOk};
 ghost use Rattle.vt100.specs.Parser.{pieces_joined};
@@ -11,10 +11,13 @@ use std::alloc::Global;
 use std::num::NonZeroU16;
 use vt100::{Error, Parser};
 
-/// A parser with a fresh screen of this size, without scrollback, after it read these pieces one
-/// after the other. Its notes are exactly the calls of the bytes.
+/// Creates a parser with a new screen of this size, without scrollback, and feeds the chunks to it
+/// one by one. Its notes are exactly the calls that the bytes cause.
 ///
-/// Fails where memory is refused: for the screen, for the text of a command or for a note.
+/// # Errors
+///
+/// Returns [`Error::OutOfMemory`] if memory for the screen, the text of a command or a note cannot
+/// be allocated.
 pub fn read(
     alloc: Global,
     rows: NonZeroU16,

@@ -1,4 +1,4 @@
-//! Callbacks that write a capture as rows are reported.
+//! Callbacks that write a capture of the rows that are reported.
 
 ghost use Rattle.std.specs.Prelude.{◌≡◌, ◌++◌, false, true, OnErr, OnOk};
 ghost use Rattle.vt_cells.specs.Refusals.{OnlyOutOfMemory};
@@ -10,8 +10,9 @@ use std::marker::Model;
 use vt100::capture::{BasicFormattedCaptureRange, BasicFormattedCaptureState, RowContents};
 use vt100::{Call, Callbacks, Error, Screen};
 
-/// The capture so far: the basic texts of the rows that left the main page and
-/// aren't kept. Memory for one may be refused, which isn't forgotten.
+/// The capture so far: the basic text of the rows that scrolled off the main page and are not kept.
+///
+/// If memory for a row cannot be allocated, the capture is no longer whole, which is remembered.
 pub struct Recorder {
     text: String,
     state: BasicFormattedCaptureState,
@@ -27,7 +28,8 @@ impl Model for Recorder {
     ghost view = { λ r. record { text = string_bytes r.text; state = r.state; is_whole = r.is_whole } };
 }
 
-// One call wherever it is given up, as of a screen.
+// Dropping a recorder is one call: the steps of a derived drop would be repeated at each exit of
+// each caller's proof.
 impl Drop for Recorder {
     fn drop(self) {
         let Recorder {
@@ -39,7 +41,7 @@ impl Drop for Recorder {
 }
 
 impl Recorder {
-    /// Nothing written.
+    /// Creates a recorder without rows.
     pub fn new(alloc: Global) -> Self
         ensures { result ≡ nothing_recorded }
     {
@@ -50,17 +52,19 @@ impl Recorder {
         }
     }
 
-    /// The capture so far.
+    /// Returns the capture so far.
     pub fn text(&self) -> &str
         ensures { result.now ≡ self.now.text }
     {
         self.text.as_str()
     }
 
-    /// Writes the scrollback and the page of a screen behind the rows so far.
+    /// Appends the scrollback and the page of a screen to the capture.
     ///
-    /// Fails where memory is refused, or was refused for a row before; from then
-    /// on the capture isn't whole, since part of the text may stand there.
+    /// # Errors
+    ///
+    /// Returns [`Error::OutOfMemory`] if an allocation fails, or failed for an earlier row. The
+    /// capture is no longer whole then; part of the text may have been appended.
     pub fn capture(&mut self, screen: &Screen) -> Result<(), Error>
         ensures whole { OnOk result (self.old.is_whole ≡ true) }
         ensures text { OnOk result (self.new.text ≡ self.old.text ++ basic_texts self.old.state (all_rows screen.now)) }
@@ -84,7 +88,7 @@ impl Recorder {
     }
 }
 
-/// Each row that is reported of the main page is written once, and the screen stays.
+/// Each row of the main page that is reported is written once; the screen is unchanged.
 impl Callbacks for Recorder {
     ghost use Rattle.vt_notes.specs.Recording.{Records};
 

@@ -2,7 +2,7 @@
 
 use vt_cells::{Attrs, Color, Intensity};
 
-/// Attributes by their six parts, as a table of examples writes them.
+/// The six components of attributes, as a table of examples writes them.
 #[derive(Clone, Copy)]
 pub(crate) struct Parts {
     pub(crate) fgcolor: Color,
@@ -23,7 +23,7 @@ pub(crate) const PLAIN: Parts = Parts {
 };
 
 impl Parts {
-    /// The attributes with these parts.
+    /// Returns the attributes with these components.
     pub(crate) fn attrs(self) -> Attrs {
         let mut attrs = Attrs::new();
         attrs.set_fgcolor(self.fgcolor);

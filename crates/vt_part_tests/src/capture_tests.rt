@@ -1,4 +1,4 @@
-//! The basic texts of rows, written one after another.
+//! The basic text of consecutive rows.
 
 ghost use Rattle.std.specs.Prelude.{◌≡◌, All, IfOk, false};
 ghost use Rattle.vt_cells.specs.Cell.{IsCell};
@@ -23,7 +23,7 @@ const ON_BLUE: Parts = Parts {
     ..PLAIN
 };
 
-/// Puts a character at a column, or a blank for one that takes no column.
+/// Puts a character at a column, or a blank if the character takes no columns.
 fn put(cells: &mut [Cell], column: usize, c: char, attrs: Attrs)
     requires { IsPaired cells.old }
     ensures paired { IsPaired cells.new }
@@ -42,7 +42,7 @@ fn put(cells: &mut [Cell], column: usize, c: char, attrs: Attrs)
     }
 }
 
-/// The cells of a row with characters at some of its columns.
+/// Creates the cells of a row with these characters at these columns.
 fn cells_of(
     alloc: Global,
     columns: usize,
@@ -59,7 +59,8 @@ fn cells_of(
     Ok(cells)
 }
 
-/// The row of these cells. Where it shall go on it does if a glyph is in its last column.
+/// Creates the contents of a row with these cells. With `goes_on` the row is wrapped if its last
+/// column has a glyph.
 fn row_of(cells: &[Cell], goes_on: bool) -> RowContents<'_>
     requires paired { IsPaired cells.now }
     requires sound { All IsCell cells.now }
@@ -67,7 +68,7 @@ fn row_of(cells: &[Cell], goes_on: bool) -> RowContents<'_>
     lent(cells, cells::flag_left(cells, goes_on))
 }
 
-/// The basic text of rows one after the other.
+/// Returns the basic text of consecutive rows.
 fn text_of(alloc: Global, rows: &[RowContents<'_>]) -> Result<String, Error> {
     let mut text = String::new(alloc);
     let mut state = BasicFormattedCaptureState::new();
@@ -77,7 +78,8 @@ fn text_of(alloc: Global, rows: &[RowContents<'_>]) -> Result<String, Error> {
     Ok(text)
 }
 
-/// Whether the row begins with a right half: no row does that is lent.
+/// Returns whether the row begins with a continuation cell. The contract states that no borrowed
+/// row does.
 fn begins_torn(row: &RowContents<'_>) -> bool
     ensures { result ≡ false }
 {
@@ -97,7 +99,7 @@ fn lends_sound_rows(rt: HostRuntime) -> Result<(), Fail> {
     Ok(())
 }
 
-/// How many columns a row has, the characters that are put there, and what it is written as.
+/// The number of columns of a row, the characters put there, and its basic text.
 const WRITTEN: [(usize, &[(usize, char, Parts)], &str); 7] = [
     (3, &[(0, 'a', RED), (2, 'b', PLAIN)], "\x1b[31ma \x1b[mb"),
     (4, &[(0, 'a', PLAIN), (2, '\0', ON_BLUE)], "a \x1b[44m "),
@@ -143,7 +145,8 @@ fn writes_blank_rows_as_line_ends(rt: HostRuntime) -> Result<(), Fail> {
     Ok(())
 }
 
-/// Takes a few pieces of text, refuses the next, and takes all after it.
+/// A sink that accepts a number of strings, fails for the next one, and accepts all strings after
+/// it.
 #[derive(Drop)]
 struct Refusing {
     text: String,
@@ -172,7 +175,7 @@ impl Sink for Refusing {
     }
 }
 
-/// The state after this row, the first one.
+/// Returns the state after this row, as the first row of a capture.
 fn state_after(alloc: Global, row: &RowContents<'_>) -> Result<BasicFormattedCaptureState, Fail> {
     let mut state = BasicFormattedCaptureState::new();
     let mut text = String::new(alloc);
@@ -180,10 +183,11 @@ fn state_after(alloc: Global, row: &RowContents<'_>) -> Result<BasicFormattedCap
     Ok(state)
 }
 
-/// What a row is written as where none of its pieces is refused.
+/// The basic text of a row if no write fails.
 const WHOLE: &str = "\n\x1b[mb\x1b[31mc";
 
-/// Writes this row where so many pieces are taken, and says whether it was taken whole.
+/// Writes a row to a sink that fails after `pieces` strings, and returns whether the row was
+/// written whole.
 fn is_taken(
     rt: &impl Abort,
     alloc: Global,

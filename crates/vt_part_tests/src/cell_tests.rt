@@ -1,10 +1,10 @@
-//! Cells: texts, marks, equality and attributes.
+//! Cells: texts, combining characters, equality and attributes.
 
 use std::test::Fail;
 use vt_cells::runs::same_run;
 use vt_cells::{Attrs, Cell, Color, Intensity, cell, columns};
 
-/// The cell in which a character and the marks after it come to stand.
+/// Returns the cell that holds a character with the combining characters after it.
 fn cell_of_text(text: &str) -> Cell {
     let mut cell = cell::default_blank();
     for c in text.chars() {
@@ -22,25 +22,25 @@ fn cell_of_text(text: &str) -> Cell {
     cell
 }
 
-/// A letter with twelve marks, which are all kept.
+/// A letter with twelve combining characters, all of which are kept.
 const TWELVE: &str = "e\u{301}\u{301}\u{301}\u{301}\u{301}\u{301}\u{301}\u{301}\u{301}\u{301}\
      \u{301}\u{301}";
 
-/// A letter with twenty, and with the thirteen of them that it takes.
+/// A letter with twenty combining characters, of which thirteen are kept.
 const TWENTY: &str = "e\u{301}\u{301}\u{301}\u{301}\u{301}\u{301}\u{301}\u{301}\u{301}\u{301}\
      \u{301}\u{301}\u{301}\u{301}\u{301}\u{301}\u{301}\u{301}\u{301}\u{301}";
 
 const THIRTEEN: &str = "e\u{301}\u{301}\u{301}\u{301}\u{301}\u{301}\u{301}\u{301}\u{301}\u{301}\
      \u{301}\u{301}\u{301}";
 
-/// A wide glyph with twenty, and with the twelve that it takes.
+/// A wide character with twenty combining characters, of which twelve are kept.
 const WIDE_TWENTY: &str = "中\u{301}\u{301}\u{301}\u{301}\u{301}\u{301}\u{301}\u{301}\u{301}\u{301}\
      \u{301}\u{301}\u{301}\u{301}\u{301}\u{301}\u{301}\u{301}\u{301}\u{301}";
 
 const WIDE_TWELVE: &str = "中\u{301}\u{301}\u{301}\u{301}\u{301}\u{301}\u{301}\u{301}\u{301}\u{301}\
      \u{301}\u{301}";
 
-/// A text, what the cell holds of it, whether the cell is wide, and whether its text is.
+/// A text, the part of it that the cell keeps, whether the cell is wide, and whether its text is.
 const KEPT: [(&str, &str, bool, bool); 10] = [
     ("", "", false, false),
     ("a", "a", false, false),
@@ -72,7 +72,7 @@ fn keeps_a_character_and_its_marks(rt: HostRuntime) {
     assert!(rt; TWELVE.len() == 25 && THIRTEEN.len() == 27 && WIDE_TWELVE.len() == 27);
 }
 
-/// A heart that asks for the look of an emoji, and so is of either width.
+/// Returns a heart with U+FE0F, which requests emoji presentation and so allows either width.
 fn heart(wide: bool) -> Cell {
     match (columns('\u{2764}'), columns('\u{fe0f}')) {
         (Some(1), Some(0)) => {

@@ -1,5 +1,5 @@
-//! Tests of the parts of a terminal through the public surface of their crates: values and cells,
-//! the texts of small sequences, the basic texts of rows, and the events of the scanner.
+//! Tests of the parts of a terminal through the public interfaces of their crates: values and
+//! cells, short escape sequences, the basic text of rows, and the events of the scanner.
 #![tactic(auto)]
 
 #[cfg(test)]

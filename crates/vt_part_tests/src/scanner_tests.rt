@@ -72,7 +72,7 @@ fn feed_all(text: &mut String, scanner: &mut Scanner, bytes: &[u8]) -> Result<()
     Ok(())
 }
 
-/// The events of these bytes, in two pieces.
+/// Returns the events of bytes that arrive in two chunks.
 fn shown(alloc: Global, first: &[u8], second: &[u8]) -> Result<String, Fail> {
     let mut text = String::new(alloc);
     let mut scanner = Scanner::new(alloc);
@@ -130,7 +130,7 @@ fn reads_at_every_cut(rt: HostRuntime) -> Result<(), Fail> {
     Ok(())
 }
 
-/// `\e[`, so many times `0;`, and the rest.
+/// Returns `ESC [`, `zeros` times `0;`, and the rest.
 fn many_numbers(alloc: Global, zeros: u8, rest: &[u8]) -> Result<Vec<u8>, Fail> {
     let mut bytes = Vec::new(alloc);
     bytes.extend_from_slice(b"\x1B[")?;
@@ -141,7 +141,7 @@ fn many_numbers(alloc: Global, zeros: u8, rest: &[u8]) -> Result<Vec<u8>, Fail> 
     Ok(bytes)
 }
 
-/// A scanner after these bytes, which end in SGR.
+/// Creates a scanner that has read these bytes, which end in SGR.
 fn after_sgr(rt: &impl Abort, alloc: Global, bytes: &[u8]) -> Result<Scanner, Fail> {
     let mut scanner = Scanner::new(alloc);
     let mut text = String::new(alloc);
@@ -150,7 +150,7 @@ fn after_sgr(rt: &impl Abort, alloc: Global, bytes: &[u8]) -> Result<Scanner, Fa
     Ok(scanner)
 }
 
-/// Aborts where a scanner doesn't hold 32 groups, the last one of this number alone.
+/// Aborts unless the scanner holds 32 groups, the last of which has only this number.
 fn expect_groups(rt: &impl Abort, scanner: &Scanner, last: u16) {
     let groups = scanner.parameters().groups();
     assert_eq!(rt; groups.as_slice().len(), 32);
@@ -193,7 +193,7 @@ fn lends_numbers(rt: HostRuntime) -> Result<(), Fail> {
     Ok(())
 }
 
-/// Bytes that are read many at once end where what they belong to ends.
+/// Checks that a run of bytes which is read in one call ends where the sequence or text ends.
 #[test]
 fn reads_runs(rt: HostRuntime) -> Result<(), Fail> {
     let mut scanner = Scanner::new(rt.alloc());
@@ -210,7 +210,9 @@ fn reads_runs(rt: HostRuntime) -> Result<(), Fail> {
     assert_eq!(rt; scanner.skipped_len(b"a\x9C\r;\x1B\\"), 4);
     feed_all(&mut text, &mut scanner, b"\x1B\\\x1B]")?;
     assert_eq!(rt; scanner.command_text(b"2;\xC3\xA4\x07")?, 4);
+    assert_eq!(rt; scanner.pending_len(), 4);
     feed_all(&mut text, &mut scanner, b"\x07")?;
+    assert_eq!(rt; scanner.pending_len(), 0);
     assert_eq!(rt; text.as_str(), "esc \\,osc <2><\u{C3}\u{A4}>,");
     Ok(())
 }

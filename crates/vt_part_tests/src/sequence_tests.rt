@@ -1,4 +1,4 @@
-//! The texts of sequences.
+//! The text of escape sequences.
 
 use crate::attributes::{PLAIN, Parts};
 use std::alloc::Global;
@@ -14,14 +14,14 @@ use vt_cells::{
     MouseProtocolMode as Mode, Pos,
 };
 
-/// The text of a sequence.
+/// Returns the text of a sequence.
 fn text_of<W: BufWrite>(alloc: Global, sequence: &W) -> Result<String, Error> {
     let mut text = String::new(alloc);
     sequence.write_buf(&mut text)?;
     Ok(text)
 }
 
-/// Fails where the text of a sequence is another one.
+/// Fails if the text of a sequence is not `want`.
 fn expect_text<W: BufWrite>(alloc: Global, sequence: &W, want: &str) -> Result<(), Fail> {
     let text = text_of(alloc, sequence)?;
     if text.as_str() != want {
@@ -65,7 +65,7 @@ fn positions(rt: HostRuntime) -> Result<(), Fail> {
     Ok(())
 }
 
-/// A number of columns, a move to the right by them, and an erasure of them.
+/// A number of columns, the sequence that moves right by it, and the sequence that erases it.
 const COUNTS: [(u16, &str, &str); 4] = [
     (0, "", ""),
     (1, "\x1b[C", "\x1b[X"),
@@ -145,7 +145,7 @@ const LAST: Parts = Parts {
     ..PLAIN
 };
 
-/// What changes from the first attributes to the second.
+/// Two sets of attributes, and the sequence that changes the first to the second.
 const CHANGES: [(Parts, Parts, &str); 11] = [
     (PLAIN, PLAIN, ""),
     (BOLD, BOLD, ""),
@@ -169,7 +169,7 @@ fn attributes(rt: HostRuntime) -> Result<(), Fail> {
     Ok(())
 }
 
-/// Whether a mode is on, and the texts for a keypad, cursor keys and pasting.
+/// Whether a mode is set, and the sequences for the keypad, the cursor keys and bracketed paste.
 const SWITCHES: [(bool, &str, &str, &str); 2] = [
     (true, "\x1b=", "\x1b[?1h", "\x1b[?2004h"),
     (false, "\x1b>", "\x1b[?1l", "\x1b[?2004l"),

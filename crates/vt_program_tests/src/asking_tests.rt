@@ -1,9 +1,9 @@
-//! Runs of the engines of `vtshow` and `vtmirror` as words ask for them.
+//! Runs of the engines of `vtshow` and `vtmirror` with command-line arguments.
 
 use std::alloc::Global;
 use std::test::Fail;
 
-/// The words after a program's name, what it reads, and what it writes.
+/// The command-line arguments, the input, and the output.
 type Example = (&'static [&'static str], &'static str, &'static str);
 
 const SHOWN: [Example; 3] = [
@@ -21,7 +21,7 @@ const MIRRORED: [Example; 2] = [
     ),
 ];
 
-/// Words that ask for nothing.
+/// Command-line arguments that are wrong.
 const WRONG: [&[&str]; 3] = [&[], &["2", "4"], &["2", "4", "0"]];
 
 fn words(alloc: Global, given: &[&str]) -> Result<Vec<String>, Fail> {

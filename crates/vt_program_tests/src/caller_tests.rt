@@ -1,4 +1,4 @@
-//! Runs of the proved callers: what each answers, and what a terminal shows after it.
+//! Runs of the proved callers: what each returns, and what a terminal displays after it.
 
 use crate::numbers::size;
 use std::alloc::Global;
@@ -7,20 +7,20 @@ use vt_callers::{mirroring, multiplexer, recording, screen_test};
 use vt_mirror::{Mirror, Update};
 use vt100::{Error, Parser, Screen};
 
-/// A fresh terminal of this size.
+/// Creates a terminal of this size.
 fn terminal(alloc: Global, rows_and_cols: (u16, u16)) -> Result<Parser, Fail> {
     let (rows, cols) = size(rows_and_cols)?;
     Ok(Parser::new(alloc, rows, cols, 0)?)
 }
 
-/// The screen of two rows and four columns after this text.
+/// Returns the screen of two rows and four columns after this input.
 fn screen_after(alloc: Global, text: &str) -> Result<Screen, Fail> {
     let mut terminal = terminal(alloc, (2, 4))?;
     terminal.process(text.as_bytes())?;
     Ok(terminal.screen().clone()?)
 }
 
-/// Fails where a terminal has another size or another text, or its cursor stands elsewhere.
+/// Fails if a terminal has a different size, text or cursor position.
 fn expect_shown(
     terminal: &Parser,
     rows_and_cols: (u16, u16),
@@ -41,8 +41,8 @@ fn expect_shown(
     Ok(())
 }
 
-/// Fails where a terminal does not show what is sent to it: a screen, what differs in another one, and
-/// both the other way round.
+/// Fails if a terminal does not display what is sent to it: a screen, the difference to a second
+/// one, and both in reverse order.
 fn send(first: &Screen, second: &Screen, remote: &mut Parser) -> Result<(), Fail> {
     if first.size() != second.size() {
         return Err(Fail::new("two sizes"));
@@ -62,7 +62,7 @@ fn sends_a_redraw_and_a_difference(rt: HostRuntime) -> Result<(), Fail> {
     send(&first, &second, &mut terminal(rt.alloc(), (2, 4))?)
 }
 
-/// Has a viewer join a mirror late, and fails where its number or what it shows is another one.
+/// Adds a viewer to a mirror late. Fails if its number or its display is not as expected.
 fn join_late(
     mirror: &mut Mirror,
     output: &str,
@@ -77,7 +77,7 @@ fn join_late(
     expect_shown(terminal, (2, 4), text, cursor)
 }
 
-/// One terminal joins twice, each time as a viewer of its own.
+/// Checks that one terminal can join twice, each time as a separate viewer.
 #[test]
 fn shows_a_late_viewer_what_came_before(rt: HostRuntime) -> Result<(), Fail> {
     let (rows, cols) = size((2, 4))?;
@@ -93,7 +93,7 @@ fn shows_a_late_viewer_what_came_before(rt: HostRuntime) -> Result<(), Fail> {
     join_late(&mut mirror, "\x1b[Hx", &mut terminal, 1, ("x\nc", (0, 1)))
 }
 
-/// An update of so many rows and columns.
+/// Creates a full update of this size.
 fn full(alloc: Global, rows: u16, cols: u16) -> Result<Update, Fail> {
     let text = String::from_str(alloc, "x")?;
     Ok(Update::Full { rows, cols, text })
@@ -115,7 +115,7 @@ fn takes_no_update_without_a_row_or_a_column(rt: HostRuntime) -> Result<(), Fail
     expect_shown(&terminal, (2, 4), "x", (0, 1))
 }
 
-/// A size, what is read in it, and the text of all that was shown.
+/// A size, the input, and the text of everything that was displayed.
 const RECORDED: [((u16, u16), &str, &str); 4] = [
     ((1, 4), "", ""),
     ((1, 4), "ab", "ab"),
@@ -148,8 +148,8 @@ fn expect_recorded(
     Ok(())
 }
 
-/// A row and a column, a text, and whether the cell there has it. Of the wide character the left half
-/// has the text.
+/// A row and a column, a text, and whether the cell there has it. Only the first cell of the wide
+/// character has its text.
 const CELLS: [(u16, u16, &str, bool); 8] = [
     (0, 0, "a", true),
     (0, 0, "b", false),
@@ -189,7 +189,7 @@ fn tells_what_stands_where(rt: HostRuntime) -> Result<(), Fail> {
     Ok(())
 }
 
-/// What is read on two rows of four columns, a text, and whether that is shown then.
+/// Input on two rows of four columns, a text, and whether that is displayed afterward.
 const OUTPUTS: [(&str, &str, bool); 4] = [
     ("ab\r\ncd", "ab\ncd", true),
     ("ab\r\ncd", "ab", false),

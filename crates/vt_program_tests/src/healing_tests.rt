@@ -1,4 +1,4 @@
-//! A viewer that is displayed wrong after an unsteady screen, and then right again.
+//! A viewer that displays the wrong thing after an unsteady screen, and then the right thing again.
 
 use crate::numbers::size;
 use std::alloc::Global;
@@ -6,17 +6,17 @@ use std::test::Fail;
 use vt_mirror::{Mirror, Update};
 use vt100::Parser;
 
-/// U+231A made narrow by U+FE0E and U+FE0F in the last column of the last row, where a
-/// viewer that prints it wraps and scrolls.
+/// Input that leaves U+231A, made narrow by U+FE0E and U+FE0F, in the last column of the last row.
+/// A viewer that prints it wraps and scrolls.
 const UNSTEADY: &str = "one\x1b[2;2H\u{231a}\u{fe0e}\u{fe0f}\x1b[2;1H\x1b[@";
 
-/// What the screen displays next, which is steady, and its redraw.
+/// Input after which the display is steady again.
 const STEADY: &str = "\x1b[2J\x1b[H\x1b[31mab";
 
 const REDRAW: &str = "\x1b[?25h\x1b[m\x1b[H\x1b[J\x1b[31mab";
 
-/// Has the viewer take the mirror's next scrolling update, and returns whether it was a
-/// full one.
+/// Applies the mirror's next scrolling update to the viewer's terminal, and returns whether it was
+/// a full one.
 fn take_update(mirror: &mut Mirror, number: u64, viewer: &mut Parser) -> Result<bool, Fail> {
     match mirror.update_scrolling(number)? {
         Some(Update::Full { text, .. }) => {

@@ -1,5 +1,5 @@
-//! Tests of mirrors, of the proved callers, and of what no clause says of the engines of `vtshow` and
-//! `vtmirror`: that runs succeed, what they write, and the words of the programs.
+//! Tests of mirrors, of the proved callers, and of what the contracts of `vtshow` and `vtmirror`
+//! leave open: that runs succeed, what they write, and the command-line arguments.
 #![tactic(auto)]
 
 #[cfg(test)]

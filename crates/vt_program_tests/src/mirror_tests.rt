@@ -1,48 +1,50 @@
-//! Calls of a mirror, one after the other, and what each answers.
+//! Calls of a mirror in sequence, and what each returns.
 
 use crate::numbers::size;
 use std::alloc::Global;
 use std::test::Fail;
 use vt_mirror::{Mirror, Update};
 
-/// A call, and what it answers; `process` and `set_size` answer Ok.
+/// A call, and what it must return. `process` and `set_size` must succeed.
 #[derive(Clone, Copy, Debug)]
 enum Call {
-    /// A text is read.
+    /// Parses a string.
     Process(&'static str),
 
-    /// The mirror gets this size.
+    /// Resizes the mirror.
     SetSize(u16, u16),
 
-    /// A viewer joins, and gets this number.
+    /// Adds a viewer, which must get this number.
     Join(u64),
 
-    /// The viewer of this number leaves, if there is one.
+    /// Removes the viewer of this number; the flag says whether there is one.
     Leave(u64, bool),
 
-    /// Whether the viewer of this number is up to date.
+    /// Asks for the viewer of this number; the flag says whether it is up to date.
     Current(u64, bool),
 
-    /// The number is nobody's.
+    /// Asks for an update for a number that no viewer has.
     Nobody(u64),
 
-    /// The viewer of this number is told this difference.
+    /// Asks for an update for the viewer of this number; it must be this difference.
     Diff(u64, &'static str),
 
-    /// The viewer of this number is told a size and this text, behind the clear.
+    /// Asks for an update for the viewer of this number; it must be a full one of this size, with
+    /// this text after the clear.
     Full(u64, (u16, u16), &'static str),
 
-    /// As `Nobody`, by `update_scrolling`.
+    /// Asks for a scrolling update for a number that no viewer has.
     NobodyScrolling(u64),
 
-    /// As `Diff`, by `update_scrolling`.
+    /// Asks for a scrolling update for the viewer of this number; it must be this difference.
     DiffScrolling(u64, &'static str),
 
-    /// As `Full`, by `update_scrolling`.
+    /// Asks for a scrolling update for the viewer of this number; it must be a full one of this
+    /// size, with this text after the clear.
     FullScrolling(u64, (u16, u16), &'static str),
 }
 
-/// What a full text begins with.
+/// The beginning of the text of a full update.
 const CLEAR: &str = "\x1b[?25h\x1b[m\x1b[H\x1b[J";
 
 #[rattlefmt::skip]
@@ -65,7 +67,7 @@ const ONE_AND_ANOTHER: [Call; 16] = [
     Call::Join(2),
 ];
 
-/// Each viewer has what it was told itself; numbers go on.
+/// Each viewer is updated from its own state, and numbers are not reused.
 #[rattlefmt::skip]
 const APART: [Call; 19] = [
     Call::Nobody(0),
@@ -89,7 +91,8 @@ const APART: [Call; 19] = [
     Call::Nobody(u64::MAX),
 ];
 
-/// A resize is for all viewers, one to the size before it, too, and one that was told nothing yet.
+/// A resize affects all viewers, even a resize back to the earlier size, and even a viewer without
+/// an update so far.
 #[rattlefmt::skip]
 const RESIZED: [Call; 14] = [
     Call::Process("ab"),
@@ -108,8 +111,8 @@ const RESIZED: [Call; 14] = [
     Call::Diff(1, "c"),
 ];
 
-/// A viewer that is told by differences of both kinds, and one that is told later and of more at once.
-/// Rows move up, down, and above a last row that stays.
+/// A viewer that receives both kinds of differences, and one that is updated later and with more
+/// changes at once. Rows move up, down, and above a last row that stays.
 #[rattlefmt::skip]
 const MIXED: [Call; 21] = [
     Call::Join(0),
@@ -135,8 +138,8 @@ const MIXED: [Call; 21] = [
     Call::NobodyScrolling(0),
 ];
 
-/// A viewer is up to date from its update to the next bytes or the next resize. A resize to the size that
-/// the mirror has is none.
+/// A viewer is up to date from its update to the next input or resize. A resize to the current size
+/// does not count.
 #[rattlefmt::skip]
 const CURRENT: [Call; 22] = [
     Call::Current(0, false),
@@ -163,7 +166,7 @@ const CURRENT: [Call; 22] = [
     Call::Current(0, false),
 ];
 
-/// Viewers that keep up get the same texts as one that is alone, by either call.
+/// Viewers that keep up receive the same text as a single viewer, by either call.
 #[rattlefmt::skip]
 const TOGETHER: [Call; 16] = [
     Call::Join(0),
@@ -184,13 +187,13 @@ const TOGETHER: [Call; 16] = [
     Call::Diff(2, ""),
 ];
 
-/// A mirror of this size, without scrollback.
+/// Creates a mirror of this size, without scrollback.
 fn mirror(alloc: Global, rows_and_cols: (u16, u16)) -> Result<Mirror, Fail> {
     let (rows, cols) = size(rows_and_cols)?;
     Ok(Mirror::new(alloc, rows, cols, 0)?)
 }
 
-/// Makes the calls, and fails where one answers otherwise.
+/// Makes the calls. Fails if one returns something else.
 fn expect_all(mirror: &mut Mirror, calls: &[Call]) -> Result<(), Fail> {
     for (index, call) in calls.iter().enumerate() {
         if !answers(mirror, *call)? {
@@ -200,7 +203,7 @@ fn expect_all(mirror: &mut Mirror, calls: &[Call]) -> Result<(), Fail> {
     Ok(())
 }
 
-/// Makes the call; whether it answers as it should.
+/// Makes a call, and returns whether its result is as expected.
 fn answers(mirror: &mut Mirror, call: Call) -> Result<bool, Fail> {
     match call {
         Call::Process(text) => Ok(mirror.process(text.as_bytes()).is_ok()),

@@ -1,4 +1,4 @@
-//! Runs of the proved callers that send or read in pieces, and of those that copy values.
+//! Runs of the proved callers that send or read in chunks, and of those that copy values.
 
 use crate::numbers::size;
 use std::alloc::Global;
@@ -6,13 +6,13 @@ use std::test::Fail;
 use vt_callers::{multiplexer, screen_test, values};
 use vt100::{Color, CursorStyle, MouseProtocolEncoding, MouseProtocolMode, Parser, Screen};
 
-/// A fresh terminal of two rows and four columns.
+/// Creates a terminal of two rows and four columns.
 fn terminal(alloc: Global) -> Result<Parser, Fail> {
     let (rows, cols) = size((2, 4))?;
     Ok(Parser::new(alloc, rows, cols, 0)?)
 }
 
-/// The screen of such a terminal after this text.
+/// Returns the screen of two rows and four columns after this input.
 fn screen_after(alloc: Global, text: &str) -> Result<Screen, Fail> {
     copy_after(&mut terminal(alloc)?, text)
 }
@@ -22,7 +22,7 @@ fn copy_after(terminal: &mut Parser, text: &str) -> Result<Screen, Fail> {
     Ok(terminal.screen().clone()?)
 }
 
-/// Fails where a terminal has another text, or its cursor stands elsewhere.
+/// Fails if a terminal has a different text or cursor position.
 fn expect_shown(terminal: &Parser, text: &str, cursor: (u16, u16)) -> Result<(), Fail> {
     let found = terminal.screen().contents()?;
     if found.as_str() == text && terminal.screen().cursor_position() == cursor {
@@ -31,7 +31,7 @@ fn expect_shown(terminal: &Parser, text: &str, cursor: (u16, u16)) -> Result<(),
     Err(Fail::new(format_args!("{found:?} and not {text:?}, or another cursor")))
 }
 
-/// Sizes of pieces: bytes one by one, none, and more than there are.
+/// Sizes of chunks: single bytes, none, and more than there are.
 const CUTS: [&[usize]; 4] = [&[], &[1, 1, 0, 2], &[0, 100], &[3, 4, 5, 6, 7, 8]];
 
 fn send_cut(first: &Screen, second: &Screen, remote: &mut Parser) -> Result<(), Fail> {
@@ -54,7 +54,7 @@ fn sends_in_pieces(rt: HostRuntime) -> Result<(), Fail> {
     send_cut(&first, &second, &mut terminal(rt.alloc())?)
 }
 
-/// What an output in pieces shows on two rows of four columns.
+/// Output in chunks on two rows of four columns, a text, and whether that is displayed afterward.
 const PIECES: [(&[&[u8]], &str, bool); 4] = [
     (&[], "", true),
     (&[b"a", b"", b"b\r", b"\ncd"], "ab\ncd", true),

@@ -1,9 +1,10 @@
-//! Readers and writers that give or take little, or fail.
+//! Readers and writers that return or accept little, or fail.
 
 use std::io;
 use std::io::{Read, Write};
 
-/// Gives its bytes at reads of at most so many of them, and fails behind them with this kind of error.
+/// A reader that returns at most `at_once` bytes at a time, and fails with this kind of error after
+/// the last one.
 #[derive(Drop)]
 pub(crate) struct Broken<'a> {
     pub(crate) bytes: &'a [u8],
@@ -21,7 +22,7 @@ impl Read for Broken<'_> {
     }
 }
 
-/// Gives its bytes one at a read.
+/// A reader that returns one byte at a time.
 #[derive(Drop)]
 pub(crate) struct Slow<'a>(pub(crate) &'a [u8]);
 
@@ -32,7 +33,7 @@ impl Read for Slow<'_> {
     }
 }
 
-/// Refuses every write, and counts them.
+/// A writer that fails every write, and counts them.
 #[derive(Drop)]
 pub(crate) struct Closed(pub(crate) u32);
 
@@ -47,7 +48,7 @@ impl Write for Closed {
     }
 }
 
-/// Takes every write, and refuses to flush.
+/// A writer that accepts every write, and fails to flush.
 #[derive(Drop)]
 pub(crate) struct Unflushed(pub(crate) Vec<u8>);
 
@@ -61,7 +62,7 @@ impl Write for Unflushed {
     }
 }
 
-/// Takes this many bytes, and none after them.
+/// A writer that accepts a number of bytes, and none after them.
 #[derive(Drop)]
 pub(crate) struct Full {
     pub(crate) bytes: Vec<u8>,
@@ -80,7 +81,7 @@ impl Write for Full {
     }
 }
 
-/// Takes one byte at a write, and interrupts every other write.
+/// A writer that accepts one byte at a time, and interrupts every other write.
 #[derive(Drop)]
 pub(crate) struct Interrupting {
     pub(crate) bytes: Vec<u8>,

@@ -1,4 +1,4 @@
-//! Runs of the engine of `vtmirror` on 2 rows and 4 columns, and what they write.
+//! Runs of the engine of `vtmirror` on 2 rows and 4 columns, and their output.
 
 use crate::numbers::number;
 use crate::streams::{Broken, Closed, Full, Slow, Unflushed};
@@ -25,13 +25,13 @@ fn run_every<R: Read, W: Write>(
     ))
 }
 
-/// How many bytes are read between updates, an input, and what is written behind the first text, that
-/// of a blank screen.
+/// The number of bytes between updates, the input, and the output after the first text, which is
+/// the redraw of a blank screen.
 type Example = (u16, &'static str, &'static str);
 
 const BLANK: &str = "\x1b[?25h\x1b[m\x1b[H\x1b[J";
 
-/// An update tells what is shown then; what was shown in between is not written.
+/// An update brings the current display; displays in between are not written.
 #[rattlefmt::skip]
 const RUNS: [Example; 8] = [
     (2, "abcd", "abcd"),
@@ -67,7 +67,7 @@ fn writes_the_same_for_short_reads(rt: HostRuntime) -> Result<(), Fail> {
     Ok(())
 }
 
-/// Fails where something else was written behind the blank screen.
+/// Fails if the output after the redraw of the blank screen is not `wanted`.
 fn expect_written(written: &[u8], wanted: &str) -> Result<(), Fail> {
     if written.strip_prefix(BLANK.as_bytes()) == Some(wanted.as_bytes()) {
         return Ok(());
@@ -105,7 +105,7 @@ fn reads_no_further_than_the_update_that_fails(rt: HostRuntime) -> Result<(), Fa
     let mut input = b"abc".as_slice();
     let mut full = Full {
         bytes: Vec::new(rt.alloc()),
-        // The 15 bytes of the first text, and one more.
+        // The first text has 15 bytes, and there is room for one more.
         room: 16,
     };
     let done = run_every(rt.alloc(), &mut input, &mut full, 1)?;

@@ -1,4 +1,4 @@
-//! The words of the programs `vtshow` and `vtmirror`, and how their runs end.
+//! The command-line arguments of `vtshow` and `vtmirror`, and how their runs end.
 
 use crate::numbers::number;
 use std::test::Fail;
@@ -26,7 +26,7 @@ fn vtmirror_takes_words(rt: HostRuntime) -> Result<(), Fail> {
     Ok(())
 }
 
-/// Words that `vtshow` refuses.
+/// Arguments that `vtshow` rejects.
 const NOT_OF_VTSHOW: [&[&str]; 11] = [
     &["0", "80", "plain"],
     &["24", "80", "Plain"],
@@ -41,7 +41,7 @@ const NOT_OF_VTSHOW: [&[&str]; 11] = [
     &["24", "80", "formatted", ""],
 ];
 
-/// Words that `vtmirror` refuses.
+/// Arguments that `vtmirror` rejects.
 const NOT_OF_VTMIRROR: [&[&str]; 11] = [
     &[],
     &["24", "80"],
@@ -66,7 +66,7 @@ fn refuses_words(rt: HostRuntime) {
     }
 }
 
-/// How a run ended, the lines of `vtshow` and of `vtmirror`, and the status of both.
+/// The end of a run, the error lines of `vtshow` and of `vtmirror`, and the exit status of both.
 type Ending = (Option<Fault>, &'static str, &'static str, u8);
 
 #[rattlefmt::skip]

@@ -1,11 +1,13 @@
-//! Makes calls that take memory, one after another, and prints what each answers and what stands
-//! after it. Nothing else here takes memory but what comes first: for each byte of standard input a
-//! allocation that is given back at once. So with the allocation of one number refused, input of another
-//! length has another call refused: that call has to answer so, and all else has to stay as it was.
-//! `tests/refusals` looks at this.
+//! Makes calls that allocate, one after another, and prints the result of each and the state after
+//! it.
 //!
-//! Where the input is an exclamation mark alone, all memory is taken first, and calls are made without
-//! any: `tests/scarce` runs that, with a limit on memory.
+//! The program allocates in no other place, except at first: for each byte of standard input it
+//! makes one allocation and frees it. So if the allocation of a given number fails, the length of
+//! the input decides which call it belongs to. That call must return an error, and everything else
+//! must be unchanged; `tests/refusals` checks this.
+//!
+//! If the input is a single exclamation mark, all memory is allocated first, and then calls are
+//! made without any: `tests/scarce` runs that with a memory limit.
 #![tactic(auto)]
 
 mod mirrors;
@@ -30,7 +32,7 @@ use std::num::NonZeroU16;
 use tally::Tally;
 use vt100::{Error, Parser};
 
-/// How many bytes of standard input are read at most.
+/// The maximum number of bytes of standard input that are read.
 const MOST: usize = 1024;
 
 /// The input that asks for calls without memory.
@@ -48,7 +50,7 @@ fn main(rt: HostRuntime) -> io::Result<()> {
     run_scenes(&rt)
 }
 
-/// Makes so many allocations, and gives each back; false if one is refused.
+/// Makes `count` allocations and frees each; returns `false` if one fails.
 fn has_warmed_up(alloc: Global, count: usize) -> bool {
     for _ in 0..count {
         if Vec::<u8>::with_capacity(alloc, 1).is_err() {
@@ -82,7 +84,7 @@ fn run_scenes<R: AllocGlobal + Print>(rt: &R) -> io::Result<()> {
     mirrors::run_sharing(rt)
 }
 
-/// Makes a parser, and then its calls.
+/// Creates a parser, and makes the calls of a scene.
 fn run<R: AllocGlobal + Print>(rt: &R, scene: &Scene) -> io::Result<()> {
     println!(rt; "-- {}", scene.name)?;
     let Ok(mut parser) = new_parser(rt.alloc(), scene.size, scene.scrollback) else {
@@ -100,7 +102,7 @@ fn run<R: AllocGlobal + Print>(rt: &R, scene: &Scene) -> io::Result<()> {
     Ok(())
 }
 
-/// Makes two parsers of two rows, each with room for one row in scrollback, and then their calls.
+/// Creates two parsers of two rows, each with a scrollback of one row, and makes their calls.
 fn run_pair<R: AllocGlobal + Print>(rt: &R, name: &str, acts: &[Act]) -> io::Result<()> {
     println!(rt; "-- {name}")?;
     let mut pair = match new_pair(rt.alloc()) {
@@ -118,7 +120,7 @@ fn run_pair<R: AllocGlobal + Print>(rt: &R, name: &str, acts: &[Act]) -> io::Res
     Ok(())
 }
 
-/// Two parsers, or the name of the one that was refused.
+/// Creates two parsers; returns the name of the one that could not be allocated.
 fn new_pair(alloc: Global) -> Result<Pair, &'static str> {
     let Ok(first) = new_parser(alloc, (2, 4), 1) else {
         return Err("first");
@@ -129,7 +131,7 @@ fn new_pair(alloc: Global) -> Result<Pair, &'static str> {
     }
 }
 
-/// Prints what stands.
+/// Prints the state after a failed call.
 fn print<R: Print>(rt: &R, standing: Result<Standing, Error>) -> io::Result<()> {
     match standing {
         Ok(standing) => print!(rt; "; {standing}"),
@@ -137,7 +139,7 @@ fn print<R: Print>(rt: &R, standing: Result<Standing, Error>) -> io::Result<()> 
     }
 }
 
-/// A parser of this size that counts calls, with room for so many rows in scrollback.
+/// Creates a parser of this size that counts calls, with a scrollback of this many rows.
 fn new_parser(alloc: Global, size: (u16, u16), scrollback: usize) -> Result<Parser<Tally>, Error> {
     let (rows, cols) = step::size(size);
     Parser::new_with_callbacks(alloc, rows, cols, scrollback, Tally::default())

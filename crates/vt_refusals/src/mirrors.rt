@@ -8,49 +8,49 @@ use vt100::Error;
 /// A call of a mirror.
 #[derive(Clone, Copy)]
 enum Call {
-    /// `process`.
+    /// Calls `process`.
     Process(&'static str),
 
-    /// `set_size`.
+    /// Calls `set_size`.
     SetSize(u16, u16),
 
-    /// `join`.
+    /// Calls `join`.
     Join,
 
-    /// `leave`.
+    /// Calls `leave`.
     Leave(u64),
 
-    /// `update`.
+    /// Calls `update`.
     Update(u64),
 
-    /// `update_scrolling`.
+    /// Calls `update_scrolling`.
     UpdateScrolling(u64),
 }
 
-/// What a call answers.
+/// The result of a call.
 #[derive(Drop)]
 enum Answer {
-    /// Ok.
+    /// The call succeeded.
     Done,
 
-    /// The number of a viewer.
+    /// The number of a new viewer.
     Number(u64),
 
-    /// Whether there was a viewer.
+    /// Whether there was such a viewer.
     Was(bool),
 
     /// An update.
     Update(Update),
 
-    /// The number is no viewer's.
+    /// No viewer has the number.
     Nobody,
 
-    /// An error.
+    /// The call failed.
     Refused(Error),
 }
 
-/// The calls. An update is asked for twice, and so is a size, so that what was refused is made up for.
-/// Only the third line end of the second text sends a row into scrollback.
+/// The calls of the first scene. Each update and each resize is requested twice, so that a failed
+/// one is made up for. Only the third line feed of the second text scrolls a row into scrollback.
 #[rattlefmt::skip]
 const CALLS: [Call; 21] = [
     Call::Join,
@@ -76,8 +76,8 @@ const CALLS: [Call; 21] = [
     Call::Update(0),
 ];
 
-/// Calls of a mirror whose viewer is told by both kinds of difference. The second text scrolls the
-/// screen: a row that has a colour for each glyph moves up, and another one goes into scrollback.
+/// Calls of a mirror whose viewer receives both kinds of differences. The second text scrolls the
+/// screen: a row with a colour for each glyph moves up, and another row goes into scrollback.
 #[rattlefmt::skip]
 const SCROLLING_CALLS: [Call; 9] = [
     Call::Join,
@@ -91,8 +91,10 @@ const SCROLLING_CALLS: [Call; 9] = [
     Call::UpdateScrolling(0),
 ];
 
-/// Calls of a mirror whose viewers share texts and copies. The second viewer of each text needs none of
-/// the memory that keeping it for others takes; where that is refused, nothing is.
+/// Calls of a mirror whose viewers share texts and copies.
+///
+/// The first viewer of a text allocates memory to keep it for others; the second one need not. If
+/// that allocation fails, the call succeeds nevertheless.
 #[rattlefmt::skip]
 const SHARING_CALLS: [Call; 15] = [
     Call::Join,
@@ -112,25 +114,25 @@ const SHARING_CALLS: [Call; 15] = [
     Call::UpdateScrolling(1),
 ];
 
-/// A mirror and viewers that come and go.
+/// Runs a mirror with viewers that come and go.
 pub fn run<R: AllocGlobal + Print>(rt: &R) -> io::Result<()> {
     println!(rt; "-- a mirror and its viewers")?;
     run_calls(rt, &CALLS)
 }
 
-/// A mirror whose rows move.
+/// Runs a mirror whose rows move.
 pub fn run_scrolling<R: AllocGlobal + Print>(rt: &R) -> io::Result<()> {
     println!(rt; "-- a mirror whose rows move")?;
     run_calls(rt, &SCROLLING_CALLS)
 }
 
-/// A mirror whose viewers keep up with it.
+/// Runs a mirror whose viewers keep up with it.
 pub fn run_sharing<R: AllocGlobal + Print>(rt: &R) -> io::Result<()> {
     println!(rt; "-- a mirror whose viewers share")?;
     run_calls(rt, &SHARING_CALLS)
 }
 
-/// Makes a mirror of 2 rows and 4 columns, with room for one row in scrollback, and then its calls.
+/// Creates a mirror of 2 rows and 4 columns with a scrollback of one row, and makes the calls.
 fn run_calls<R: AllocGlobal + Print>(rt: &R, calls: &[Call]) -> io::Result<()> {
     let (rows, cols) = step::size((2, 4));
     let Ok(mut mirror) = Mirror::new(rt.alloc(), rows, cols, 1) else {
@@ -145,7 +147,7 @@ fn run_calls<R: AllocGlobal + Print>(rt: &R, calls: &[Call]) -> io::Result<()> {
 }
 
 impl Call {
-    /// Makes this call.
+    /// Makes the call.
     fn make(self, mirror: &mut Mirror) -> Answer {
         match self {
             Call::Process(text) => match mirror.process(text.as_bytes()) {
@@ -170,7 +172,7 @@ impl Call {
     }
 }
 
-/// The answer of a call that gives an update.
+/// Converts the result of a call that returns an update.
 fn answer_of(made: Result<Option<Update>, Error>) -> Answer {
     match made {
         Ok(Some(update)) => Answer::Update(update),

@@ -1,4 +1,4 @@
-//! Two parsers, and what is done with them.
+//! Two parsers, and actions on them.
 
 use crate::step::{Answer, Change, Step};
 use crate::tally::Tally;
@@ -13,27 +13,27 @@ pub struct Pair {
     pub second: Parser<Tally>,
 }
 
-/// What is done with two parsers.
+/// An action on two parsers.
 #[derive(Clone, Copy)]
 pub enum Act {
-    /// A call of the first one.
+    /// A call of the first parser.
     First(Step),
 
-    /// A call of the second one.
+    /// A call of the second parser.
     Second(Step),
 
-    /// They exchange their screens.
+    /// The parsers exchange their screens.
     Exchange,
 
-    /// The first one gets a `clone` of the screen of the second one.
+    /// The first parser gets a copy of the second one's screen.
     Copy,
 
-    /// What differs in the screen of the first one from that of the second one.
+    /// The difference from the second parser's screen to the first one's.
     Differ(Change),
 }
 
 impl Pair {
-    /// Does this.
+    /// Performs the action.
     pub fn make(&mut self, alloc: Global, act: Act) -> Answer {
         match act {
             Act::First(step) => step.make(alloc, &mut self.first),
@@ -53,7 +53,7 @@ impl Pair {
         }
     }
 
-    /// The parser that this changes; of two the second one.
+    /// Returns the parser that the action changes, the second one if it changes both.
     pub fn changed_by(&self, act: Act) -> &Parser<Tally> {
         match act {
             Act::First(_) | Act::Copy | Act::Differ(_) => &self.first,

@@ -1,4 +1,4 @@
-//! Calls where no memory is left: those that take none are made, and the others are refused.
+//! Calls without any memory left: those that do not allocate succeed, and the others fail.
 
 use crate::shown::Shown;
 use crate::step::{Step, size};
@@ -12,17 +12,17 @@ use vt100::capture::{
 };
 use vt100::{Error, Parser, Screen};
 
-/// How many blocks of memory are taken at most.
+/// The maximum number of blocks of memory that are allocated.
 const MOST: usize = 1 << 14;
 
-/// The sizes of the blocks that are taken, as many of each as there are.
+/// The sizes in bytes of the blocks that are allocated, as many of each as there are.
 const SIZES: [usize; 7] = [1 << 24, 1 << 20, 1 << 16, 1 << 12, 1 << 8, 1 << 4, 1];
 
 /// A capture with colours.
 const CAPTURE: &str = "\x1b[31mabc\x1b[m中\nd";
 
-/// Calls that take no memory: what is read has no operating system command, sends no row into
-/// scrollback, and enters the alternate page, which there is already.
+/// Calls that do not allocate: the input has no operating system command, scrolls no row into
+/// scrollback, and enters an alternate page that exists already.
 #[rattlefmt::skip]
 const FREE: [Step; 14] = [
     Step::Process(b"\x1b[1;31mab\xe4\xb8\xad"),
@@ -41,7 +41,7 @@ const FREE: [Step; 14] = [
     Step::SetScrollback(0),
 ];
 
-/// Calls that take memory.
+/// Calls that allocate.
 const TAKING: [Step; 13] = [
     Step::Redraw,
     Step::Cursor,
@@ -58,8 +58,8 @@ const TAKING: [Step; 13] = [
     Step::Process(b"x\x1b]2;t\x07"),
 ];
 
-/// Makes a parser that keeps no rows, which has entered its alternate page, and then its calls, without
-/// memory; and makes the calls that take memory once more, with memory.
+/// Creates a parser without scrollback that has entered its alternate page, and makes all calls
+/// without memory. Then makes the calls that allocate once more, with memory.
 pub fn run<R: AllocGlobal + Print>(rt: &R) -> io::Result<()> {
     let (rows, cols) = size((2, 4));
     let parser = Parser::new_with_callbacks(rt.alloc(), rows, cols, 0, Tally::default());
@@ -86,7 +86,7 @@ fn run_scarce<R: AllocGlobal + Print>(
     }
 }
 
-/// Takes all memory that there is.
+/// Allocates all memory that there is.
 fn all_memory(alloc: Global) -> Result<Vec<Vec<u8>>, AllocError> {
     let mut blocks = Vec::with_capacity(alloc, MOST)?;
     for size in &SIZES {
@@ -129,7 +129,7 @@ fn make_all<R: AllocGlobal + Print>(
     Ok(())
 }
 
-/// A capture into a text that has room, and a copy of a cell.
+/// Makes a capture into a string with enough capacity, and a copy of a cell.
 fn capture<R: Print>(rt: &R, screen: &Screen, text: &mut String) -> io::Result<()> {
     let mut state = BasicFormattedCaptureState::new();
     let range = BasicFormattedCaptureRange::Full(&mut state);

@@ -8,17 +8,18 @@ use crate::step::{Change, Step};
 pub struct Scene {
     pub name: &'static str,
 
-    /// Rows and columns.
+    /// The number of rows and of columns.
     pub size: (u16, u16),
 
-    /// How many rows scrollback keeps.
+    /// The scrollback capacity in rows.
     pub scrollback: usize,
     pub steps: &'static [Step],
 }
 
-/// The calls of one parser. Where a call can be refused and the parser has not failed by that, it is
-/// made twice, so that what comes after it is seen, too. What takes no memory says that the parser
-/// still reads, or that it does not.
+/// The scenes with one parser.
+///
+/// A call that can fail without making the parser fail is made twice, so that its effect is seen as
+/// well. Calls that do not allocate show whether the parser still accepts input.
 pub const SCENES: [Scene; 8] = [
     Scene {
         name: "a title, collected in memory that grows",
@@ -104,14 +105,15 @@ pub const SCENES: [Scene; 8] = [
     },
 ];
 
-/// The calls of two parsers.
+/// The actions on two parsers.
 ///
-/// The first one enters the alternate page amid other modes, and then the parsers exchange their
-/// screens, so that the second one, which has not failed, reads on with that screen: it says which
-/// cursor was saved, writes on the alternate page and leaves it. As it is resized, a row of the main
-/// page moves into scrollback, and one of the alternate page is reported. The first parser, now with
-/// the other screen, enters the alternate page, too, and its screen is resized; a row of the main
-/// page moves into scrollback. In the end it gets a copy of the screen of the second parser.
+/// The first parser sets several modes, among them that of the alternate page. Then the parsers
+/// exchange their screens, so that the second one, which has not failed, continues with that
+/// screen: it shows which cursor was saved, writes on the alternate page and leaves it. When it is
+/// resized, a row of the main page moves into scrollback, and one of the alternate page is
+/// reported. The first parser, now with the other screen, enters the alternate page, too, and its
+/// screen is resized; a row of the main page moves into scrollback. At the end it gets a copy of
+/// the second parser's screen.
 pub const ACTS: [Act; 12] = [
     Act::First(Step::Process(b"x")),
     Act::First(Step::Process(b"\x1b[2;3H\x1b[?1;1049;2004h")),
@@ -127,10 +129,10 @@ pub const ACTS: [Act; 12] = [
     Act::Copy,
 ];
 
-/// The texts of two screens, each asked for twice.
+/// The output of two screens, each kind requested twice.
 ///
-/// The second one shows a row of scrollback. The first one has a row that goes on in the next one, wide
-/// glyphs, a pending wrap and attributes.
+/// The second screen displays a row of scrollback. The first one has a wrapped row, wide glyphs, a
+/// pending wrap and attributes.
 pub const TEXTS: [Act; 13] = [
     Act::Second(Step::Process(b"a\r\nb\r\n\xe4\xb8\xad")),
     Act::Second(Step::SetScrollback(1)),
@@ -147,11 +149,11 @@ pub const TEXTS: [Act; 13] = [
     Act::Second(Step::Redraw),
 ];
 
-/// Other texts of two screens, each asked for twice; the text of a row also where that of the row before
-/// it was refused.
+/// More output of two screens, each kind requested twice; the text of a row is requested even if
+/// that of the row before it failed.
 ///
-/// The second one has a row in scrollback, and reports mouse events. The first one has a row that goes
-/// on in the next one, wide glyphs, attributes, the keypad's application mode and another cursor.
+/// The second screen has a row in scrollback, and reports mouse events. The first one has a wrapped
+/// row, wide glyphs, attributes, application keypad mode and a different cursor style.
 pub const MORE_TEXTS: [Act; 20] = [
     Act::Second(Step::Process(b"a\r\nb\r\nc\x1b[?1000h")),
     Act::First(Step::Process(b"\x1b[1;31mab\xe4\xb8\xadxy\x1b=\x1b[2 q")),
@@ -175,10 +177,10 @@ pub const MORE_TEXTS: [Act; 20] = [
     Act::Second(Step::Capture),
 ];
 
-/// Differences behind rows that move: both texts are made, and the shorter one is answered. Each is
-/// asked for twice.
+/// Differences that move rows first, requested twice. Both kinds are made, and the shorter one is
+/// returned.
 ///
-/// The second screen has the first one's upper row below, with a colour for each glyph.
+/// The second screen has the upper row of the first one below, with a colour for each glyph.
 pub const MOVED: [Act; 4] = [
     Act::Second(Step::Process(b"x\r\n\x1b[31ma\x1b[32mb\x1b[33mc\x1b[34md")),
     Act::First(Step::Process(b"\x1b[31ma\x1b[32mb\x1b[33mc\x1b[34md\r\nz")),
@@ -186,8 +188,8 @@ pub const MOVED: [Act; 4] = [
     Act::Differ(Change::Scrolling),
 ];
 
-/// The texts of the rows of two screens, each item in its turn: what comes behind a refused item is
-/// the next row's.
+/// The output for the rows of two screens, item by item. The item after a failed one is that of the
+/// next row.
 pub const ROWS: [Act; 4] = [
     Act::Second(Step::Process(b"ab\r\ncd")),
     Act::First(Step::Process(b"\x1b[1;31mxy\r\nzw")),
@@ -195,9 +197,10 @@ pub const ROWS: [Act; 4] = [
     Act::Differ(Change::Rows),
 ];
 
-/// More calls of one parser: rows that are pushed amid a text, a title behind one, and calls on a screen
-/// that has all that a screen may have: two pages with saved cursors, regions and origin modes,
-/// attributes, modes, and scrollback with more rows that have left than it keeps.
+/// More scenes with one parser: rows that scroll off in the middle of the input, a title after
+/// text, and calls on a screen that has everything a screen can have: two pages with saved cursors,
+/// scroll regions and origin modes, attributes, modes, and more rows that scrolled off than
+/// scrollback keeps.
 pub const MORE_SCENES: [Scene; 4] = [
     Scene {
         name: "rows that are pushed while a text is read",

@@ -1,12 +1,12 @@
-//! What a parser holds.
+//! The state of a parser, as text.
 
 use crate::tally::Tally;
 use std::fmt;
 use vt100::{Parser, Screen};
 
-/// The cells that a parser's screen shows, row by row and a dot for each blank, the cursor, the
-/// titles that were counted, the rows of scrollback, how many of them are in view, the reported rows
-/// that were counted, and what else is on.
+/// Displays the state of a parser: the cells of its screen, row by row with a dot for each blank;
+/// the cursor; the number of titles counted; the rows in scrollback and those displayed; the number
+/// of rows reported; and the modes that are set.
 #[derive(Clone, Copy)]
 pub struct Shown<'a>(pub &'a Parser<Tally>);
 
@@ -26,7 +26,7 @@ impl fmt::Display for Shown<'_> {
     }
 }
 
-/// Writes the rows, with a slash between them.
+/// Writes the rows, separated by slashes.
 fn write_cells<W: fmt::Write>(screen: &Screen, f: &mut fmt::Formatter<W>) -> fmt::Result {
     let (rows, cols) = screen.size();
     for row in 0..rows.get() {
@@ -43,7 +43,7 @@ fn write_cells<W: fmt::Write>(screen: &Screen, f: &mut fmt::Formatter<W>) -> fmt
     Ok(())
 }
 
-/// Writes what is on.
+/// Writes the modes that are set.
 fn write_modes<W: fmt::Write>(screen: &Screen, f: &mut fmt::Formatter<W>) -> fmt::Result {
     for (on, word) in [
         (screen.alternate_screen(), "alternate page"),

@@ -1,4 +1,4 @@
-//! What stands once memory was refused.
+//! The state after an allocation failed.
 
 use crate::pair::{Act, Pair};
 use crate::scenes::Scene;
@@ -10,17 +10,17 @@ use std::alloc::Global;
 use std::fmt;
 use vt100::{Error, Parser};
 
-/// What stands after a call whose memory was refused, told by the same calls of other parsers, to which
-/// nothing was refused.
+/// The state after a call that failed, found by making the same calls of other parsers without
+/// failures.
 #[derive(Clone, Copy)]
 pub enum Standing {
-    /// All that stood before the call.
+    /// The state before the call.
     Before,
 
-    /// All that stands after so many steps of what the call reads.
+    /// The state after `taken` of the `of` steps of the call's input.
     After { taken: usize, of: usize },
 
-    /// Something else.
+    /// Any other state.
     Other,
 }
 
@@ -34,8 +34,8 @@ impl fmt::Display for Standing {
     }
 }
 
-/// What is read that has steps of several bytes, or several steps in one sequence, and bytes that do the
-/// same step by step. Of all else each byte is a step.
+/// Inputs whose steps are not single bytes, or that have several steps in one sequence, each with
+/// the inputs that do the same step by step. In all other input each byte is a step.
 #[rattlefmt::skip]
 const STEPS: [(&[u8], &[&[u8]]); 8] = [
     (b"a\x1b[5b", &[b"a", b"a", b"a", b"a", b"a", b"a"]),
@@ -51,7 +51,8 @@ const STEPS: [(&[u8], &[&[u8]]); 8] = [
     ),
 ];
 
-/// What stands after the step of this number was refused to a parser that has made those before it.
+/// Returns the state of a parser after the step of this number failed; `parser` has made the steps
+/// before it.
 pub fn of_scene(
     alloc: Global,
     scene: &Scene,
@@ -68,7 +69,7 @@ pub fn of_scene(
     }
 }
 
-/// What stands after a call that changes nothing where it is refused.
+/// Returns the state after a call that changes nothing if it fails.
 fn of_call(
     alloc: Global,
     control: &Parser<Tally>,
@@ -80,7 +81,8 @@ fn of_call(
     Ok(Standing::Other)
 }
 
-/// What stands of what is read: the fewest steps after which the control is like the parser.
+/// Returns the state after `process` failed: the smallest number of steps after which the control
+/// parser equals the parser.
 fn of_reading(
     alloc: Global,
     bytes: &[u8],
@@ -116,7 +118,7 @@ fn of_pieces(
     Ok(Standing::Other)
 }
 
-/// What stands of what is read, each byte of which is a step.
+/// Returns the state after `process` failed on input in which each byte is a step.
 fn of_bytes(
     alloc: Global,
     bytes: &[u8],
@@ -135,7 +137,8 @@ fn of_bytes(
     Ok(Standing::Other)
 }
 
-/// What stands after the act of this number was refused to a pair that has done those before it.
+/// Returns the state of a pair after the action of this number failed; `pair` has done the actions
+/// before it.
 pub fn of_pair(alloc: Global, acts: &[Act], number: usize, pair: &Pair) -> Result<Standing, Error> {
     let Ok(mut control) = new_pair(alloc) else {
         return Err(Error::OutOfMemory);

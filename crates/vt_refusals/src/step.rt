@@ -1,4 +1,4 @@
-//! Calls that may take memory, and their answers.
+//! Calls that may allocate, and their results.
 
 use crate::tally::Tally;
 use std::alloc::Global;
@@ -7,59 +7,60 @@ use std::num::NonZeroU16;
 use vt100::capture::{BasicFormattedCaptureRange, BasicFormattedCaptureState};
 use vt100::{Error, Parser, Screen};
 
-/// A call.
+/// A call of a parser or its screen.
 #[derive(Clone, Copy)]
 pub enum Step {
-    /// `process` of these bytes.
+    /// Calls `process` with these bytes.
     Process(&'static [u8]),
 
-    /// `contents_formatted` of the screen.
+    /// Calls `contents_formatted` of the screen.
     Redraw,
 
-    /// `contents_formatted_reset` of the screen.
+    /// Calls `contents_formatted_reset` of the screen.
     Reset,
 
-    /// `cursor_state_formatted` of the screen.
+    /// Calls `cursor_state_formatted` of the screen.
     Cursor,
 
-    /// `attributes_formatted` of the screen.
+    /// Calls `attributes_formatted` of the screen.
     Attributes,
 
-    /// `state_formatted` of the screen.
+    /// Calls `state_formatted` of the screen.
     State,
 
-    /// `input_mode_formatted` of the screen.
+    /// Calls `input_mode_formatted` of the screen.
     Modes,
 
-    /// `contents` of the screen.
+    /// Calls `contents` of the screen.
     Contents,
 
-    /// `contents_between` the corner of the screen and its second row's fifth column.
+    /// Calls `contents_between` the top left of the screen and the fifth column of its second row.
     Range,
 
-    /// The item of this row among the `rows` of the screen, whatever those before it are.
+    /// Takes the item of this row from `rows` of the screen, whatever those before it are.
     Row(u16),
 
-    /// `contents_formatted_basic` of the screen.
+    /// Calls `contents_formatted_basic` of the screen.
     Basic,
 
-    /// `write_contents_formatted_basic` of all rows of the screen into a `String`.
+    /// Calls `write_contents_formatted_basic` for all rows of the screen, into a `String`.
     Capture,
 
-    /// `rows_formatted` of the screen, over all columns: each item, and what comes behind them.
+    /// Takes each item of `rows_formatted` of the screen, over all columns, and the one after the
+    /// last.
     Rows,
 
-    /// `set_scrollback` of the screen to this many rows.
+    /// Calls `set_scrollback` of the screen with this number of rows.
     SetScrollback(usize),
 
-    /// `set_size` of the parser to so many rows and columns.
+    /// Calls `set_size` of the parser with this number of rows and columns.
     SetSize(u16, u16),
 
-    /// `set_size` of the screen to so many rows and columns.
+    /// Calls `set_size` of the screen with this number of rows and columns.
     SetScreenSize(u16, u16),
 }
 
-/// Rows and columns, each at least 1.
+/// Converts a number of rows and of columns, raising each to at least 1.
 pub fn size((rows, cols): (u16, u16)) -> (NonZeroU16, NonZeroU16) {
     let rows = NonZeroU16::new(rows.max(1)).unwrap();
     let cols = NonZeroU16::new(cols.max(1)).unwrap();
@@ -85,7 +86,7 @@ impl Step {
         }
     }
 
-    /// The answer of a call that gives a text of the screen.
+    /// Makes a call that returns output of the screen.
     fn text(self, alloc: Global, screen: &Screen) -> Answer {
         match self {
             Step::Redraw => answer_of(screen.contents_formatted()),
@@ -104,7 +105,7 @@ impl Step {
     }
 }
 
-/// The answer of a call without a value.
+/// Converts the result of a call without a value.
 fn done(made: Result<(), Error>) -> Answer {
     match made {
         Ok(()) => Answer::Done,
@@ -112,7 +113,7 @@ fn done(made: Result<(), Error>) -> Answer {
     }
 }
 
-/// The answer of a call with a text.
+/// Converts the result of a call that returns a string.
 fn answer_of(made: Result<String, Error>) -> Answer {
     match made {
         Ok(text) => Answer::Text(text),
@@ -120,7 +121,7 @@ fn answer_of(made: Result<String, Error>) -> Answer {
     }
 }
 
-/// The answer of one item of `rows`.
+/// Returns the result of one item of `rows`.
 fn row_text(screen: &Screen, row: u16) -> Answer {
     let mut rows = screen.rows(0, u16::MAX);
     for _ in 0..row {
@@ -132,7 +133,7 @@ fn row_text(screen: &Screen, row: u16) -> Answer {
     }
 }
 
-/// The basic text of all rows, written into a `String`.
+/// Returns the basic text of all rows, written into a `String`.
 fn captured(alloc: Global, screen: &Screen) -> Answer {
     let mut text = String::new(alloc);
     let mut state = BasicFormattedCaptureState::new();
@@ -143,27 +144,27 @@ fn captured(alloc: Global, screen: &Screen) -> Answer {
     }
 }
 
-/// What differs between two screens.
+/// A kind of output with the difference between two screens.
 #[derive(Clone, Copy)]
 pub enum Change {
-    /// `contents_diff`.
+    /// Calls `contents_diff`.
     Picture,
 
-    /// `contents_diff_scrolling`.
+    /// Calls `contents_diff_scrolling`.
     Scrolling,
 
-    /// `state_diff`.
+    /// Calls `state_diff`.
     State,
 
-    /// `input_mode_diff`.
+    /// Calls `input_mode_diff`.
     Modes,
 
-    /// `rows_diff` over all columns: each item, and what comes behind them.
+    /// Takes each item of `rows_diff` over all columns, and the one after the last.
     Rows,
 }
 
 impl Change {
-    /// The answer of this call, for screens of one size.
+    /// Makes the call; the screens must have the same size.
     pub fn make(self, screen: &Screen, prev: &Screen) -> Answer {
         if !screen.is_sized_as(prev) {
             return Answer::TwoSizes;
@@ -186,7 +187,7 @@ impl Change {
     }
 }
 
-/// The first items of `rows_formatted` over all columns.
+/// Returns the first three items of `rows_formatted` over all columns.
 fn formatted_rows(screen: &Screen) -> Answer {
     let (_rows, _cols) = screen.size();
     let mut rows = screen.rows_formatted(0, u16::MAX);
@@ -197,7 +198,7 @@ fn formatted_rows(screen: &Screen) -> Answer {
     })
 }
 
-/// The items of two rows, and what comes behind them.
+/// The items of two rows, and the one after the last.
 #[derive(Drop)]
 pub struct Items {
     first: Option<Result<String, Error>>,
@@ -258,30 +259,30 @@ impl fmt::Display for Step {
     }
 }
 
-/// What a call answered.
+/// The result of a call.
 #[derive(Drop)]
 pub enum Answer {
-    /// That it was made.
+    /// The call succeeded.
     Done,
 
-    /// A text.
+    /// A string.
     Text(String),
 
     /// The items of an iterator over rows.
     Rows(Items),
 
-    /// That memory was refused, now or before.
+    /// An allocation failed, now or earlier.
     Refused(Error),
 
-    /// Nothing, since two screens are of two sizes.
+    /// No output, because the screens differ in size.
     TwoSizes,
 
-    /// Nothing, since it gives no text.
+    /// No output, because there is no such row.
     NoText,
 }
 
 impl Answer {
-    /// Whether memory was refused now, for the call or for one of the items.
+    /// Returns whether an allocation failed now, for the call or for one of the items.
     pub fn is_refusal(&self) -> bool {
         match self {
             Answer::Refused(Error::OutOfMemory) => true,

@@ -3,14 +3,14 @@
 use vt100::capture::RowContents;
 use vt100::{Call, Callbacks, Screen};
 
-/// How many titles were set, and how many rows were reported.
+/// The number of titles that were set, and of rows that were reported.
 #[derive(Clone, Copy, Default)]
 pub struct Tally {
     pub titles: u64,
     pub reported: u64,
 }
 
-/// No call changes the screen, or takes memory.
+/// No callback changes the screen or allocates.
 impl Callbacks for Tally {
     ghost use Rattle.std.specs.Prelude.{◌≡◌};
 

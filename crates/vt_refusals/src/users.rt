@@ -1,4 +1,4 @@
-//! Allocations of what stands on a parser, and of one in the default size.
+//! Allocations of what is built on a parser, and of a parser of the default size.
 
 use crate::step;
 use std::io;
@@ -7,7 +7,7 @@ use vt_notes::{Notes, Recorder};
 use vt_show::{Fault, Mode};
 use vt100::{Error, Parser};
 
-/// A parser of the default size.
+/// Creates a parser of the default size.
 pub fn run_default<R: AllocGlobal + Print>(rt: &R) -> io::Result<()> {
     println!(rt; "-- a parser of the default size")?;
     match Parser::default(rt.alloc()) {
@@ -19,7 +19,7 @@ pub fn run_default<R: AllocGlobal + Print>(rt: &R) -> io::Result<()> {
     }
 }
 
-/// A parser as a writer; a title is collected in memory.
+/// Uses a parser as a writer; a title is collected in allocated memory.
 pub fn run_writer<R: AllocGlobal + Print>(rt: &R) -> io::Result<()> {
     println!(rt; "-- a parser as a writer")?;
     let (rows, cols) = step::size((1, 4));
@@ -37,7 +37,7 @@ pub fn run_writer<R: AllocGlobal + Print>(rt: &R) -> io::Result<()> {
     Ok(())
 }
 
-/// A parser that notes its calls: the bell, a title and a row that is not kept.
+/// Uses a parser that notes its calls: the bell, a title, and a row that is not kept.
 pub fn run_notes<R: AllocGlobal + Print>(rt: &R) -> io::Result<()> {
     println!(rt; "-- calls that are noted")?;
     let (rows, cols) = step::size((1, 4));
@@ -57,7 +57,7 @@ pub fn run_notes<R: AllocGlobal + Print>(rt: &R) -> io::Result<()> {
     Ok(())
 }
 
-/// The word for an answer.
+/// Returns the word for a result.
 fn word(answer: Result<(), Error>) -> &'static str {
     match answer {
         Ok(()) => "ok",
@@ -67,7 +67,7 @@ fn word(answer: Result<(), Error>) -> &'static str {
     }
 }
 
-/// A capture that is written as rows leave, and behind them the page, twice.
+/// Writes a capture as rows scroll off, and then the page, twice.
 pub fn run_recorder<R: AllocGlobal + Print>(rt: &R) -> io::Result<()> {
     println!(rt; "-- a capture that is written as rows leave")?;
     let (rows, cols) = step::size((1, 8));
@@ -87,7 +87,7 @@ pub fn run_recorder<R: AllocGlobal + Print>(rt: &R) -> io::Result<()> {
     Ok(())
 }
 
-/// Takes every write, and counts the bytes.
+/// A writer that accepts every write, and counts the bytes.
 #[derive(Drop)]
 struct Counted(usize);
 
@@ -102,7 +102,7 @@ impl Write for Counted {
     }
 }
 
-/// From an input to a text.
+/// Runs the engine of `vtshow`.
 pub fn run_show<R: AllocGlobal + Print>(rt: &R) -> io::Result<()> {
     println!(rt; "-- from an input to a text")?;
     let (rows, cols) = step::size((1, 4));
@@ -119,7 +119,8 @@ pub fn run_show<R: AllocGlobal + Print>(rt: &R) -> io::Result<()> {
     println!(rt; "run: {answer}; {} bytes", written.0)
 }
 
-/// From an input to updates: one at the start, one after four bytes, and one at the end.
+/// Runs the engine of `vtmirror`: one update at the start, one after four bytes, and one at the
+/// end.
 pub fn run_mirror<R: AllocGlobal + Print>(rt: &R) -> io::Result<()> {
     println!(rt; "-- from an input to updates")?;
     let (rows, every) = step::size((1, 4));
@@ -136,7 +137,7 @@ pub fn run_mirror<R: AllocGlobal + Print>(rt: &R) -> io::Result<()> {
     println!(rt; "run: {answer}; {} bytes", written.0)
 }
 
-/// The word for how a run ended.
+/// Returns the word for the end of a run.
 fn ending(answer: Result<(), Fault>) -> &'static str {
     match answer {
         Ok(()) => "ok",

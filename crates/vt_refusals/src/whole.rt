@@ -1,4 +1,4 @@
-//! All of a screen, as a text.
+//! The complete state of a screen, as text.
 
 use crate::tally::Tally;
 use std::alloc::Global;
@@ -6,11 +6,11 @@ use std::num::NonZeroU16;
 use vt100::capture::{BasicFormattedCaptureRange, BasicFormattedCaptureState};
 use vt100::{Error, Parser, Screen};
 
-/// What is read before a screen is looked at: it stays as it is, or a page of the two is shown.
+/// Input before a screen is examined: none, or the activation of one of the pages.
 const PAGES: [&[u8]; 3] = [b"", b"\x1b[?47l", b"\x1b[?47h"];
 
-/// What is read then, to bring out what is not shown: nothing, then the saved cursor, the last
-/// character, the ends of the region, origin mode, and that which is saved.
+/// Input that makes hidden state visible: none, and then the saved cursor, the last character, the
+/// top and the bottom of the region, origin mode, and the saved origin mode.
 const PROBES: [&[u8]; 7] = [
     b"",
     b"\x1b8",
@@ -21,12 +21,12 @@ const PROBES: [&[u8]; 7] = [
     b"\x1b8\x1b[2;3r\x1b[H",
 ];
 
-/// How many rows a screen gets, to bring out how many have left.
+/// The number of rows that are added to a screen, which reveals how many rows have scrolled off.
 const MORE_ROWS: u16 = 20;
 
-/// A text that two screens have in common only where they are alike in all that can be seen of them, now
-/// and later: both pages with their cursors, regions and modes, what is saved, all rows of scrollback,
-/// how many of them are in view, may be kept and have left.
+/// Returns a string that two screens share only if they agree in everything that can be observed,
+/// now or later: both pages with their cursors, regions and modes; saved state; the rows in
+/// scrollback, how many of them are displayed, may be kept and have scrolled off.
 pub fn whole(alloc: Global, screen: &Screen) -> Result<String, Error> {
     let mut text = String::new(alloc);
     write_counts(&mut text, screen)?;
@@ -41,7 +41,8 @@ pub fn whole(alloc: Global, screen: &Screen) -> Result<String, Error> {
     Ok(text)
 }
 
-/// Size, and how many rows of scrollback are in view, are kept and may be kept.
+/// Writes the size, and the number of rows of scrollback that are displayed, are kept and may be
+/// kept.
 fn write_counts(text: &mut String, screen: &Screen) -> Result<(), Error> {
     let (rows, cols) = screen.size();
     let (in_view, kept) = (screen.scrollback(), screen.scrollback_len());
@@ -52,14 +53,14 @@ fn write_counts(text: &mut String, screen: &Screen) -> Result<(), Error> {
     }
 }
 
-/// All rows, as they stand.
+/// Writes all rows as they are stored.
 fn write_rows(text: &mut String, screen: &Screen) -> Result<(), Error> {
     let mut state = BasicFormattedCaptureState::new();
     let range = BasicFormattedCaptureRange::Full(&mut state);
     screen.write_contents_formatted_basic(text, range)
 }
 
-/// What a copy of the screen shows that has read something.
+/// Writes what a copy of the screen displays after some input.
 fn write_probed(
     alloc: Global,
     text: &mut String,
@@ -73,7 +74,7 @@ fn write_probed(
     write_shown(text, parser.screen())
 }
 
-/// A text that only screens have in common that show the same and have the same modes.
+/// Writes a text that screens share only if they have the same display and modes.
 fn write_shown(text: &mut String, screen: &Screen) -> Result<(), Error> {
     let shown = screen.state_formatted()?;
     push(text, shown.as_str())?;
@@ -87,7 +88,7 @@ fn push(text: &mut String, piece: &str) -> Result<(), Error> {
     }
 }
 
-/// What is shown with each number of rows of scrollback in view.
+/// Writes the display with each number of rows of scrollback displayed.
 fn write_views(alloc: Global, text: &mut String, screen: &Screen) -> Result<(), Error> {
     let mut parser = with_copy(alloc, screen)?;
     for rows in 0..screen.scrollback_len().saturating_add(1) {
@@ -97,7 +98,7 @@ fn write_views(alloc: Global, text: &mut String, screen: &Screen) -> Result<(), 
     Ok(())
 }
 
-/// What the main page is with more rows.
+/// Writes the display of the main page with more rows.
 fn write_resized(alloc: Global, text: &mut String, screen: &Screen) -> Result<(), Error> {
     let mut parser = with_copy(alloc, screen)?;
     let (rows, cols) = screen.size();
@@ -107,14 +108,15 @@ fn write_resized(alloc: Global, text: &mut String, screen: &Screen) -> Result<()
     write_shown(text, parser.screen())
 }
 
-/// A parser that goes on from a copy of a screen.
+/// Creates a parser with a copy of a screen.
 fn with_copy(alloc: Global, screen: &Screen) -> Result<Parser, Error> {
     let mut parser = Parser::new(alloc, NonZeroU16::MIN, NonZeroU16::MIN, 0)?;
     *parser.screen_mut() = screen.clone()?;
     Ok(parser)
 }
 
-/// Whether two parsers have screens that are alike in all, and callbacks that counted the same.
+/// Returns whether two parsers have screens that agree in everything, and callbacks with the same
+/// counts.
 pub fn are_alike(alloc: Global, one: &Parser<Tally>, other: &Parser<Tally>) -> Result<bool, Error> {
     let (one_tally, other_tally) = (*one.callbacks(), *other.callbacks());
     if one_tally.titles != other_tally.titles || one_tally.reported != other_tally.reported {

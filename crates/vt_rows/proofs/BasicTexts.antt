@@ -1,4 +1,4 @@
--- The attributes of cells in basic texts.
+-- The attributes of cells in basic text.
 use Rattle.std.proofs.Common.{◌≡◌, ℕ, Bool, true, false, List, [], ◌∷◌, ◌++◌, length, ◌≤◌, refl, sym, ap, ◌∙◌, append-nil, append_assoc}
 use Rattle.std.specs.Prelude.{◌||◌, if◌then◌else◌}
 use Rattle.std.proofs.lemmas.Bool.{cond_both}
@@ -16,7 +16,7 @@ no_change : (attrs : Attrs) → change_text attrs attrs ≡ []
 unfolding change_text
 no_change attrs = rw (same_attrs-itself attrs) refl
 
--- the attributes stay, and nothing is written
+-- If the attributes are unchanged, no change is written.
 both : (attrs after : Attrs) → after ≡ attrs → (after ≡ attrs) × (change_text attrs after ≡ [])
 both attrs after e = (e, ap (change_text attrs) e ∙ no_change attrs)
 
@@ -53,19 +53,19 @@ half_shown (blank attrs) e = cc
 half_shown (glyph text wide attrs) e = cc
 half_shown right_half e = refl
 
--- a right half adds nothing to what is gathered
+-- A continuation cell adds no text.
 pub right_adds : (attrs : Attrs) (cell : CellValue) (xs : List ℕ) → is_right_half cell ≡ true →
     xs ≡ xs ++ cell_text attrs cell
 right_adds attrs cell xs e = rw ((kept_right attrs cell e).1, half_shown cell e) (sym (append-nil xs))
 
--- and keeps the attributes
+-- A continuation cell leaves the attributes unchanged.
 pub right_keeps : (attrs : Attrs) (cell : CellValue) → is_right_half cell ≡ true → attrs ≡ attrs_after attrs cell
 right_keeps attrs cell e = sym (kept_right attrs cell e).0
 
--- the attributes behind each kind of cell
+-- The attributes after each kind of cell.
 pub ruleset attrs_kept = (kept_same, kept_default, kept_right, own)
 
--- a sink that stopped within the change of attributes before a cell stopped within the cell's text
+-- If a write of the change of attributes before a cell stopped, the write of the cell's text stopped.
 pub change_stopped : (refuses : List ℕ → List ℕ → List ℕ → Type 0) (before buffer : List ℕ) (attrs new : Attrs)
     (cell : CellValue) (after : List ℕ) → attrs_after attrs cell ≡ new
     → IsStopped refuses before (buffer ++ change_text attrs new) after
@@ -73,7 +73,7 @@ pub change_stopped : (refuses : List ℕ → List ℕ → List ℕ → Type 0) (
 change_stopped refuses before buffer attrs new cell after e stopped =
     rw e (stopped_before refuses before buffer (change_text attrs new) (shown_text cell) after stopped)
 
--- and so one that stopped behind that change
+-- If a write of a cell stopped after its change of attributes, the write of the cell's text stopped.
 pub shown_stopped : (refuses : List ℕ → List ℕ → List ℕ → Type 0) (old mid was buffer : List ℕ) (attrs new : Attrs)
     (cell : CellValue) (shown after : List ℕ) → attrs_after attrs cell ≡ new → shown ≡ shown_text cell
     → gathered mid buffer ≡ gathered old was ++ change_text attrs new → length old ≤ length mid
@@ -82,7 +82,7 @@ pub shown_stopped : (refuses : List ℕ → List ℕ → List ℕ → Type 0) (o
 shown_stopped refuses old mid was buffer attrs new cell shown after e s g le stopped =
     rw (e, sym s) (stopped_behind refuses old mid was buffer (change_text attrs new) shown after g le stopped)
 
--- the text of the first cells is that of one, and of those behind it
+-- The text of a list of cells is that of the first, followed by that of the others.
 pub one_first : (attrs : Attrs) (cells rest : List CellValue) (cell : CellValue) → cells ≡ cell ∷ rest →
     cells_text attrs cells ≡ cell_text attrs cell ++ cells_text (attrs_after attrs cell) rest
 one_first attrs cells rest cell e =

@@ -1,4 +1,4 @@
--- What one more character does to a row of a capture.
+-- The effect of one more character on a row of a capture.
 use Rattle.std.proofs.Common.{◌≡◌, ℕ, ◌+◌, ◌-◌, ◌≤◌, Bool, true, false, not, ◌==◌, List, [], ◌∷◌}
 use Rattle.std.proofs.Common.{◌++◌, length, drop, map, chars, encode_utf8_all, Option, Some, None}
 use Rattle.std.proofs.Common.{refl, sym, ap, subst, ◌∙◌, append_assoc, append-nil, arith}
@@ -36,7 +36,7 @@ pub columns_in-more : (row : List ℕ) (c : ℕ) →
     columns_in (row ++ c ∷ []) ≡ columns_in row + columns_added (ends_within row) c
 columns_in-more row c = columns_more false row c
 
--- the text was read up to `rest`, as the row so far
+-- The text was read up to `rest`; `row` is the current row.
 pub record IsRead (width : ℕ) (text row rest : List ℕ) : Type 0 where
   pub parts : text ≡ encode_utf8_all row ++ rest
   pub utf8 : IsUtf8 rest
@@ -85,7 +85,7 @@ module _ (width : ℕ) (text row rest later : List ℕ) (c : ℕ)
       ∙ sym read.parts in
       record { parts = sym whole; utf8 = IsUtf8-past_char rest later c read.utf8 next; rows = sym step ∙ seen }
 
--- nothing is left to read
+-- If nothing is left to read, the text is the last row.
 pub row_last : (width : ℕ) (text row rest : List ℕ) →
     IsRead width text row rest → length rest ≡ 0 → rows_of width text ≡ text ∷ []
 row_last width text row [] read e =
@@ -95,7 +95,7 @@ row_last width text row [] read e =
     ap (map encode_utf8_all) (sym last) ∙ ap (λ only. only ∷ []) whole
 row_last width text row (b ∷ rest) read e = absurd (omega arith)
 
--- a text in two parts, cut at the length of the first
+-- The first part of a text is the slice of its length.
 pub front_part : (text front back : List ℕ) (n : ℕ) →
     text ≡ front ++ back → n ≡ length front → slice_range text 0 n ≡ front
 front_part text front back n parts e =
@@ -105,7 +105,7 @@ front_part text front back n parts e =
 pub back_part : (text front back : List ℕ) (n : ℕ) → text ≡ front ++ back → n ≡ length front → drop n text ≡ back
 back_part text front back n parts e = rw (parts, e) (drop-append_seam front back)
 
--- behind a line end
+-- A character that ends a row is LF.
 pub line_end : (row : List ℕ) (c : ℕ) → ends_row row c ≡ true → c ≡ 0x0A
 line_end row c ends = eqb-true c 0x0A (and_parts (not (ends_within row)) (c == 0x0A) ends).1
 
@@ -150,7 +150,7 @@ within_bound : (width used added : ℕ) → is_beyond width used added ≡ false
     used ≤ width + 2 → added ≤ 2 → used + added ≤ width + 2
 within_bound width used added fits low most = grind (arith, nat_tests)
 
--- a row that goes on is at most two columns wider than the width
+-- A row that continues is at most two columns wider than the width.
 pub bound_kept : (width : ℕ) (row : List ℕ) (c : ℕ) → overflows width row c ≡ false →
     columns_in row ≤ width + 2 → columns_in (row ++ c ∷ []) ≤ width + 2
 bound_kept width row c fits low =

@@ -28,7 +28,7 @@ length-opened o (right_half ∷ xs) = refl
 length-opened o (blank attrs ∷ xs) = refl
 length-opened o (glyph text wide attrs ∷ xs) = refl
 
--- `shut` changes the last column alone
+-- `shut` changes only the last column.
 pub at-shut : (xs : List CellValue) (k n : ℕ) → length xs ≡ n →
     at (shut xs) k ≡ (if (k + 1 == n) && is_wide (at xs k) then blank (attrs_of (at xs k)) else at xs k)
 at-shut [] k n e = grind (arith, nat_tests)
@@ -37,7 +37,7 @@ at-shut (x ∷ []) (suc k) n e = grind (arith, nat_tests)
 at-shut (x ∷ y ∷ xs) zero n e = grind (arith, nat_tests)
 at-shut (x ∷ y ∷ xs) (suc k) n e = grind (arith, nat_tests, at-shut (y ∷ xs) k (suc (length xs)) refl)
 
--- `opened` changes the first column alone
+-- `opened` changes only the first column.
 pub at-opened : (o : CellValue) (xs : List CellValue) (k : ℕ) →
     at (opened o xs) k ≡ (if (k == 0) && is_right_half (at xs k) then o else at xs k)
 at-opened o [] k = grind (arith, nat_tests)
@@ -95,7 +95,7 @@ at-behind c n k o new cells e le =
     get_or-append_right new (opened o rest) n (k - c) default_blank e i
     ∙ (at-opened o rest (k - c - n) ∙ rw (t, d) refl)
 
--- what a change of some columns leaves at each column, past the end too
+-- The cell at each column after an edit of some columns, even past the end.
 pub put_columns : (c n : ℕ) (o : CellValue) (new cells : List CellValue) (k : ℕ) → length new ≡ n →
     c + n ≤ length cells → at (put_cells c o new n cells) k ≡ column_of c n o new cells k
 unfolding put_cells
@@ -116,7 +116,7 @@ put_columns c n o new cells k e h = elim (cases_lt k c) [
   ]
 ]
 
--- rows of as many columns that agree at each are the same
+-- Rows of the same length that agree at each column are equal.
 pub same_columns : (xs ys : List CellValue) → length xs ≡ length ys → ((k : ℕ) → at xs k ≡ at ys k) → xs ≡ ys
 same_columns xs ys e f = ext_get_or default_blank xs ys e (λ k h. f k)
 

@@ -1,4 +1,4 @@
--- The rows of a capture, by their places.
+-- The rows of a capture, by their indices.
 use Rattle.std.proofs.Common.{◌≡◌, ◌⊎◌, inl, inr, ℕ, zero, suc, ◌+◌, ◌≤◌, Bool, true, false, not, ◌&&◌, ◌==◌, List}
 use Rattle.std.proofs.Common.{[], ◌∷◌, ◌++◌, IsUtf8, length, take, drop, map, get_or, chars, encode_utf8_all, refl}
 use Rattle.std.proofs.Common.{sym, ap, ap₂, subst, ◌∙◌, append_assoc, append-nil, arith, if◌then◌else◌}
@@ -26,7 +26,7 @@ line_end_text : (c : ℕ) → c ≡ 0x0A → encode_utf8 c ≡ 0x0A ∷ []
 unfolding encode_utf8
 line_end_text c lf = ap encode_utf8 lf
 
--- each row with its place, for the characters behind those of `row`, which begins at byte `at`
+-- The rows with their indices, for the characters that follow those of `row`, which begins at byte `at`.
 abbrev pub slices_behind : ℕ → ℕ → List ℕ → List ℕ → List Piece
 slices_behind width at row [] = (at, encode_utf8_all row) ∷ []
 slices_behind width at row (c ∷ text) =
@@ -55,7 +55,7 @@ scalars_more (c ∷ row) text p q =
     let parts = and_parts _ (all_scalars row) p in
     rw (parts.0, scalars_more row text parts.1 q) refl
 
--- a row with one more character
+-- An uncut row with a character that neither ends nor overflows it is uncut.
 uncut_more : (width : ℕ) (row : List ℕ) (c : ℕ) → IsUncut width row →
     ends_row row c ≡ false → overflows width row c ≡ false → IsUncut width (row ++ c ∷ [])
 uncut_more width row c uncut goes fits k lt = by (place k (length row)) where
@@ -75,18 +75,18 @@ uncut_at width before behind c uncut =
     let there = uncut (length before) (omega (arith, length-append before (c ∷ behind))) in
     rw (take-append_seam before (c ∷ behind), get_or-append_seam before c behind 0) at there
 
--- a row of one character
+-- A row of one character is uncut, unless the character is a line end.
 uncut_one : (width c : ℕ) → ends_row [] c ≡ false → IsUncut width (c ∷ [])
 uncut_one width c goes zero lt = (goes, refl)
 uncut_one width c goes (suc k) lt = absurd (omega (arith, lt))
 
--- what is cut behind a row that it overflows does not end a row
+-- A character that overflows a row does not end it.
 full_goes : (width : ℕ) (row : List ℕ) (c : ℕ) → overflows width row c ≡ true → ends_row row c ≡ ends_row [] c
 full_goes width row c full =
     let outside : ends_within row ≡ false = beyond_outside width (columns_in row) (ends_within row) c full in
     ap (λ within. not within && (c == 0x0A)) outside
 
--- the rows from byte `at` on, the first one with the characters of `row`
+-- The rows from byte `at` on, the first of which begins with the characters of `row`.
 record Cut (width : ℕ) (capture : List ℕ) (at : ℕ) (row : List ℕ) (slices : List Piece) : Type 0 where
   first : Piece
   later : List Piece
@@ -243,7 +243,7 @@ rows_are width capture utf8 =
     rw same (are_from width capture 0 [] _
     (cut_at width capture 0 [] utf8.0 (sym utf8.1.1) (omega arith) refl utf8.1.0 (λ k lt. absurd (omega (arith, lt)))))
 
--- ---- no other rows are the rows of a capture
+-- ---- The rows of a capture are unique
 
 read_on : (width at : ℕ) (row back rest : List ℕ) → IsUncut width (row ++ back) →
     slices_behind width at row (back ++ rest) ≡ slices_behind width at (row ++ back) rest
@@ -254,7 +254,7 @@ read_on width at row (c ∷ back) rest uncut =
     let on = read_on width at (row ++ c ∷ []) back rest (rw whole uncut) in
     rw (here.0, here.1) (on ∙ ap (λ front. slices_behind width at front rest) whole)
 
--- the text behind a slice of UTF-8
+-- The text after a slice of UTF-8 is UTF-8.
 utf8_behind : (text : List ℕ) (n : ℕ) → IsUtf8 text → IsUtf8 (take n text) → n ≤ length text → IsUtf8 (drop n text)
 utf8_behind text n whole front le = IsUtf8-drop text n whole (IsCharBoundary-from_take text n whole le front)
 

@@ -1,4 +1,4 @@
--- Rows before and after, each checked by computing.
+-- Rows before and after an edit, each checked by computation.
 use Rattle.std.proofs.Common.{◌≡◌, ℕ, true, false, List, [], ◌∷◌, refl}
 use Rattle.vt_cells.specs.Attrs.{default_attrs, same_attrs, same_color, Attrs}
 use Rattle.vt_cells.specs.Cell.{CellValue, blank, glyph, right_half, default_blank}
@@ -8,7 +8,7 @@ use Rattle.vt_rows.specs.Cells.{narrowed_at, moved, inserted, deleted, resized}
 use Rattle.vt_rows.specs.Plain.{plain_text}
 use Rattle.vt_rows.specs.Row.{with_cells, trimmed, resized_row}
 
--- x, y: narrow; U+4E2D, U+56FD: wide; a: attributes before; b: those that are drawn with
+-- Cells: x and y are narrow, U+4E2D and U+56FD wide; a are attributes from before, b those of the edit.
 abbrev letter : ℕ → Attrs → CellValue
 letter c attrs = glyph (c ∷ []) false attrs
 
@@ -59,7 +59,7 @@ wide_made_narrow : (a b : Attrs) →
 unfolding put_cells
 wide_made_narrow a b = refl
 
--- two halves that are brought together are no pair
+-- A first cell and a continuation cell that are brought together do not form a wide glyph.
 two_pairs_torn : (a b : Attrs) →
     deleted 1 2 (wide a ∷ right_half ∷ other b ∷ right_half ∷ letter 0x78 b ∷ [])
     ≡ blank a ∷ default_blank ∷ letter 0x78 b ∷ default_blank ∷ default_blank ∷ []
@@ -109,7 +109,7 @@ coloured_stays : (a : Attrs) →
 unfolding same_attrs same_color
 coloured_stays a = refl
 
--- the flag falls where the last column is blanked, and stays where a space is put
+-- The wrapped flag is cleared if the last column becomes a blank, and stays if a space is put there.
 flag_falls : (a b : Attrs) →
     with_cells (record { cells = wide a ∷ right_half ∷ []; wrapped = true }) (erased 0 1 b (wide a ∷ right_half ∷ []))
     ≡ record { cells = blank b ∷ default_blank ∷ []; wrapped = false }
@@ -123,28 +123,28 @@ flag_stays : (a b : Attrs) →
 unfolding put_cells
 flag_stays a b = refl
 
--- ---- plain texts
+-- ---- Plain text
 
--- a, a wide glyph, a blank, b, a blank
+-- A row of a, a wide glyph, a blank, b, and a blank.
 abbrev mixed : Attrs → List CellValue
 mixed a = letter 0x61 a ∷ wide a ∷ right_half ∷ coloured ∷ letter 0x62 a ∷ default_blank ∷ []
 
--- blanks at the end are no text, whatever their attributes
+-- Blanks at the end are no text, whatever their attributes.
 whole_text : (a : Attrs) → plain_text 0 6 (mixed a) ≡ 0x61 ∷ 0xE4 ∷ 0xB8 ∷ 0xAD ∷ 0x20 ∷ 0x62 ∷ []
 unfolding plain_text
 whole_text a = refl
 
--- a wide glyph is written whole where its left half is in the last column
+-- A wide glyph is written whole if its first cell is in the last column of the range.
 cut_behind_left_half : (a : Attrs) → plain_text 0 2 (mixed a) ≡ 0x61 ∷ 0xE4 ∷ 0xB8 ∷ 0xAD ∷ []
 unfolding plain_text
 cut_behind_left_half a = refl
 
--- the right half of a glyph that begins before the range is a space
+-- The continuation cell of a wide glyph that begins before the range is a space.
 cut_before_right_half : (a : Attrs) → plain_text 2 6 (mixed a) ≡ 0x20 ∷ 0x20 ∷ 0x62 ∷ []
 unfolding plain_text
 cut_before_right_half a = refl
 
--- where no glyph begins there is no text
+-- If no glyph begins in the range, there is no text.
 halves_alone : (a : Attrs) → plain_text 2 4 (mixed a) ≡ []
 unfolding plain_text
 halves_alone a = refl

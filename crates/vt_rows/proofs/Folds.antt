@@ -1,4 +1,4 @@
--- Folds over lists, one after the other.
+-- Folds over concatenated lists.
 use Rattle.std.proofs.Common.{List, [], ◌∷◌, ◌++◌, sym, subst}
 use Rattle.std.specs.List.{FoldsTo}
 

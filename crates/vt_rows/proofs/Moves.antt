@@ -1,4 +1,4 @@
--- Moves of columns: what stands where, that pairs stay whole, and that cells stay cells.
+-- Moves of columns: where each column comes from, and that wide glyphs stay whole and cells valid.
 use Rattle.std.proofs.Common.{◌≡◌, ℕ, ◌+◌, ◌-◌, ◌<◌, ◌≤◌, ◌==◌, ◌&&◌, nat_lt, not, Bool, true, false}
 use Rattle.std.proofs.Common.{List, length, refl, inl, inr, sym, ap, subst, ◌∙◌, zero-add, arith}
 use Rattle.std.specs.Prelude.{All, if◌then◌else◌}
@@ -27,9 +27,10 @@ pub moved_is : (n : ℕ) (source : ℕ → ℕ) (cells ys : List CellValue) → 
 unfolding moved
 moved_is n source cells ys e f = fill_by_all (moved_at n source cells) ys n default_blank e f
 
--- ---- pairs
+-- ---- Wide glyphs
 
--- t: the right half comes along behind; s: the left half comes along before
+-- A cell after a move is wide if it was and its continuation cell moves along (t); s says whether the first cell
+-- moves along.
 wide_moved : (t s : Bool) (x : CellValue) →
     is_wide (if is_wide x && not t then blank (attrs_of x) else if is_right_half x && not s then default_blank else x)
     ≡ (is_wide x && t)
@@ -51,7 +52,7 @@ right_moved t s (glyph text false attrs) = refl
 right_moved t true right_half = refl
 right_moved t false right_half = refl
 
--- neighbours that come from columns i and j
+-- If column j follows column i, column i holds a wide glyph exactly if column j holds a continuation cell.
 neighbours : (cells : List CellValue) (i j : ℕ) (room : Bool) → IsPaired cells → room ≡ true →
     (is_wide (at cells i) && (room && (j == i + 1))) ≡ (is_right_half (at cells j) && (j == i + 1))
 neighbours cells i j room p r = elim (cases_eq j (i + 1)) [
@@ -111,7 +112,7 @@ IsPaired-moved n source cells p = record { halves = halves; first = first } wher
     | inr over ↦ ap is_right_half (past 0 over)
   ]
 
--- ---- cells
+-- ---- Valid cells
 
 pub IsCell-at : (cells : List CellValue) (k : ℕ) → All IsCell cells → IsCell (at cells k)
 IsCell-at cells k all = elim (cases_lt k (length cells)) [
@@ -131,7 +132,7 @@ All-moved n source cells all = All-from_get_or IsCell (moved n source cells) def
       (cond_both here (blank (attrs_of x)) (if there then default_blank else x) IsCell (λ _. tt)
       (λ _. cond_both there default_blank x IsCell (λ _. tt) (λ _. IsCell-at cells (source k) all)))
 
--- ---- the same number of columns
+-- ---- The number of columns
 
 pub resized-same : (n : ℕ) (cells : List CellValue) → length cells ≡ n → IsPaired cells → resized n cells ≡ cells
 unfolding resized
@@ -150,7 +151,7 @@ resized-same n cells e p = sym (moved_is n (λ k. k) cells cells e same) where
             [ inl z ↦ let r = f z in grind (arith, nat_tests) | inr pos ↦ grind (arith, nat_tests) ]
       ]
 
--- ---- inserted, deleted, resized
+-- ---- Inserted, deleted, resized
 
 pub length-inserted : (c n : ℕ) (cells : List CellValue) → length (inserted c n cells) ≡ length cells
 unfolding inserted
@@ -189,7 +190,7 @@ pub All-resized : (n : ℕ) (cells : List CellValue) → All IsCell cells → Al
 unfolding resized
 All-resized n cells all = All-moved n (λ k. k) cells all
 
--- ---- rows
+-- ---- Rows
 
 pub IsRow-inserted_row : (width c n : ℕ) (row : RowValue) → IsRow width row → IsRow width (inserted_row c n row)
 IsRow-inserted_row width c n row r = record {
@@ -220,7 +221,7 @@ IsRow-resized_row width n row r = record {
   sound = All-resized n row.cells r.sound;
 }
 
--- a row of as many columns as before is the same
+-- A row resized to its own width is unchanged.
 pub resized_row-same : (n : ℕ) (row : RowValue) → length row.cells ≡ n → IsPaired row.cells → resized_row n row ≡ row
 resized_row-same n row e p =
     let t : (length row.cells == n) ≡ true = grind (arith, nat_tests) in
@@ -230,7 +231,7 @@ resized_row-same n row e p =
       kept true = refl
       kept false = refl
 
--- a row of fewer or more columns goes on no more
+-- A row resized to a different width is not wrapped.
 pub resized_row-other : (n : ℕ) (row : RowValue) (cells : List CellValue) → cells ≡ resized n row.cells →
     (length row.cells ≡ n → ⊥) → record { cells = cells; wrapped = false } ≡ resized_row n row
 resized_row-other n row cells e d =

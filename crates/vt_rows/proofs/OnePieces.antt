@@ -1,4 +1,4 @@
--- A capture has one list of pieces.
+-- A capture has exactly one list of pieces.
 use Rattle.std.proofs.Common.{◌≡◌, ◌≢◌, ◌↔◌, inl, inr, ℕ, ◌+◌, ◌<◌, ◌≤◌, List, [], ◌∷◌}
 use Rattle.std.proofs.Common.{length, take, drop, refl, sym, ap, ap₂, ◌∙◌, arith}
 use Rattle.std.proofs.lemmas.List.{length-drop, length-take}
@@ -24,7 +24,7 @@ not_later capture at k (piece ∷ pieces) apart (inl h) = omega (arith, apart.1,
 not_later capture at k (piece ∷ pieces) apart (inr h) =
     omega (arith, apart.1, not_later capture (piece_end piece + 1) k pieces apart.2 h)
 
--- lists of pieces that have the same bytes from byte `at` on
+-- Both lists of pieces contain the same bytes from byte `at` on.
 abbrev Agree : List ℕ → ℕ → List Piece → List Piece → Type 0
 Agree capture at ps qs = (k : ℕ) → at ≤ k → k < length capture → IsInSome k ps ↔ IsInSome k qs
 
@@ -40,7 +40,7 @@ module _ (capture : List ℕ) (at : ℕ) (p : Piece) (ps : List Piece) (q : Piec
       let there = (agree p.0 mine.1 (omega (arith, inside))).0 (inl (omega arith, omega (arith, inside))) in
       not_later capture q.0 p.0 (q ∷ qs) (yours.0, omega arith, yours.2) there
 
-  -- the byte behind the shorter one would be in none
+  -- Pieces that begin at the same byte cannot differ in length: the byte after the shorter one would be in none.
   no_shorter : p.0 ≡ q.0 → piece_end p < piece_end q → ⊥
   no_shorter same less =
       let mine_in = begins_in capture p mine.0 in

@@ -1,4 +1,4 @@
--- The pieces of a text, by the places of its bytes.
+-- The pieces of a text, by the indices of its bytes.
 use Rattle.std.proofs.Common.{◌≡◌, ◌≢◌, ◌↔◌, ◌⊎◌, inl, inr, ℕ, zero, suc, ◌+◌, ◌-◌, ◌<◌, ◌≤◌, Bool}
 use Rattle.std.proofs.Common.{true, false, ◌||◌, List, [], ◌∷◌, ◌++◌, length, take, drop, get_or, refl}
 use Rattle.std.proofs.Common.{sym, true≢false, ap, subst, ◌∙◌, append_assoc, append-nil, arith}
@@ -12,13 +12,13 @@ use Rattle.vt_rows.specs.Pieces.{Piece, piece_end, IsInSome, AreApart, ArePieces
 use Rattle.vt_rows.specs.Pieces.{plain_from, without_stretches}
 use Rattle.vt_rows.specs.Stretches.{IsInStretch, begins_stretch, ends_stretch, ends_within, is_within_after}
 
--- byte k stands in a stretch, for a text that begins within one or not
+-- Byte k is inside an SGR sequence, for a text that begins inside one or not.
 abbrev in_stretch : Bool → List ℕ → ℕ → Bool
 in_stretch within [] k = within
 in_stretch within (b ∷ text) zero = within || begins_stretch b
 in_stretch within (b ∷ text) (suc k) = in_stretch (is_within_after within b) text k
 
--- no `m` before byte k
+-- There is no `m` before byte k.
 abbrev NoEnd : List ℕ → ℕ → Type 0
 NoEnd text k = (j : ℕ) → j < k → get_or text j 0 ≢ 0x6D
 
@@ -44,7 +44,7 @@ goes_on_from true b e ne = rw (ne_eqb b 0x6D ne) refl
 goes_on_from false b (inl e) ne = rw e refl
 goes_on_from false b (inr e) ne = absurd (true≢false (sym e))
 
--- what the test says, by places
+-- The test for being inside an SGR sequence implies the definition by indices.
 pub told : (within : Bool) (text : List ℕ) (k : ℕ) → k ≤ length text →
     in_stretch within text k ≡ true → IsInStretch text k ⊎ ((within ≡ true) × NoEnd text k)
 told within [] k lt e = inr (e, λ j low. absurd (omega (arith, low, lt)))
@@ -79,7 +79,7 @@ tells within (b ∷ text) (suc k) lt (inr s) =
     let first = no_end_first b k text s.1 in
     tells (is_within_after within b) text k (omega (arith, lt)) (inr (goes_on_from within b (inr s.0) first.0, first.1))
 
--- the pieces have all bytes outside stretches, and no other, of a text that begins at byte `at`
+-- The pieces contain exactly the bytes outside SGR sequences of a text that begins at byte `at`.
 abbrev Covers : Bool → ℕ → List ℕ → List Piece → Type 0
 Covers within at text pieces = (k : ℕ) → k < length text → IsInSome (at + k) pieces ↔ (in_stretch within text k ≡ false)
 
@@ -93,7 +93,7 @@ lacks_more c b (x ∷ text) h ne zero lt = h 0 (omega arith)
 lacks_more c b (x ∷ text) h ne (suc i) lt =
     lacks_more c b text (λ j low. h (suc j) (omega (arith, low))) ne i (omega (arith, lt))
 
--- no ESC in the text: none of its bytes stands in a stretch, and what is behind it is as without it
+-- No byte of a text without ESC is inside an SGR sequence.
 free : (text : List ℕ) (k : ℕ) → Lacks 0x1B text → k < length text →
     (rest : List ℕ) → in_stretch false (text ++ rest) k ≡ false
 free [] k h lt rest = absurd (omega (arith, lt))
@@ -115,7 +115,7 @@ behind_free (b ∷ text) rest k h =
     ∙ ap (λ within. in_stretch within (text ++ rest) (length text + k)) goes
     ∙ behind_free text rest k (λ i low. h (suc i) (omega (arith, low)))
 
--- pieces that begin later are no pieces of what is before them
+-- Pieces that begin at byte `at` or later contain no earlier byte.
 none_before : (capture : List ℕ) (at k : ℕ) (pieces : List Piece) →
     AreApart capture at pieces → k < at → ¬ (IsInSome k pieces)
 none_before capture at k [] apart lt h = h
@@ -128,7 +128,7 @@ apart_later : (capture : List ℕ) (at low : ℕ) (pieces : List Piece) →
 apart_later capture at low [] le apart = tt
 apart_later capture at low (piece ∷ pieces) le apart = (apart.0, omega (arith, le, apart.1), apart.2)
 
--- what one more byte changes
+-- The pieces of a text inside an SGR sequence that begins with `m`, which ends the sequence.
 covers_end : (at : ℕ) (text : List ℕ) (pieces : List Piece) (capture : List ℕ) →
     AreApart capture (at + 1) pieces → Covers false (at + 1) text pieces → Covers true at (0x6D ∷ text) pieces
 covers_end at text pieces capture apart covers zero lt =
@@ -168,7 +168,7 @@ not_in_one at k (b ∷ piece) later = (to, λ h. inr h) where
   to (inl h) = absurd (omega (arith, h.1))
   to (inr h) = h
 
--- before byte n, at it, or behind it
+-- Byte k is before byte n, at it, or after it.
 abbrev pub Place : ℕ → ℕ → Type 0
 Place k n = (k < n) ⊎ ((k ≡ n + 0) ⊎ ((j : ℕ) × (k ≡ n + suc j)))
 
@@ -182,7 +182,7 @@ place (suc k) (suc n) = by (place k n) where
   by (inr (inl e)) = inr (inl (omega (arith, e)))
   by (inr (inr j)) = inr (inr (j.0, omega (arith, j.1)))
 
--- a piece, an ESC, and what follows within the stretch
+-- The pieces of a plain piece, an ESC, and the text inside the sequence after it.
 covers_begin : (capture : List ℕ) (at : ℕ) (piece text : List ℕ) (later : List Piece) → Lacks 0x1B piece →
     AreApart capture (at + length piece + 1) later → Covers true (at + length piece + 1) text later →
     Covers false at (piece ++ 0x1B ∷ text) (piece_at at piece ++ later)
@@ -212,7 +212,7 @@ covers_begin capture at piece text later lacks apart covers k lt = by (place k (
   by (inr (inl e)) = rw e (esc, λ f. absurd (true≢false (sym here ∙ f)))
   by (inr (inr j)) = behind j.0 j.1
 
--- the text stands in the capture behind its first bytes
+-- The text is the capture without its first `at` bytes.
 abbrev pub StandsAt : List ℕ → ℕ → List ℕ → Type 0
 StandsAt capture at text = drop at capture ≡ text
 
@@ -240,7 +240,7 @@ good_end capture at piece e lacks =
 begin_differs : (b : ℕ) → begins_stretch b ≡ false → b ≢ 0x1B
 begin_differs b e same = grind (arith, nat_tests)
 
--- one more byte: of the piece, or what begins or ends a stretch
+-- One more byte extends the piece, or begins or ends an SGR sequence.
 module _ (capture : List ℕ) (at b : ℕ) (piece text : List ℕ)
     (stands : StandsAt capture at (piece ++ b ∷ text)) (lacks : Lacks 0x1B piece) where
   abbrev Longer : Type 0
@@ -304,7 +304,7 @@ mutual
       (good_behind capture (at + 1) [] text next (λ i lt. absurd (omega (arith, lt))))
       (good_within capture (at + 1) text next)
 
--- the test says the same as the places
+-- The test for being inside an SGR sequence agrees with the definition by indices.
 in_places : (text : List ℕ) (k : ℕ) → k < length text → (in_stretch false text k ≡ false) ↔ ¬ (IsInStretch text k)
 in_places text k lt = (
   λ e s. true≢false (sym (tells false text k (omega (arith, lt)) (inl s)) ∙ e),
@@ -317,7 +317,7 @@ in_places text k lt = (
     within (inl s) = none s
     within (inr s) = true≢false (sym s.0)
 
--- the test of what a text ends in, by places
+-- A text ends inside an SGR sequence exactly if the test says so for the index after its last byte.
 at_end : (within : Bool) (text : List ℕ) → in_stretch within text (length text) ≡ fold is_within_after within text
 at_end within [] = refl
 at_end within (b ∷ text) = at_end (is_within_after within b) text
@@ -343,7 +343,7 @@ pieces_are capture =
           (λ h. places.0 (here.0 h), λ none. here.1 (places.1 none));
     }
 
--- joined they are the text without its stretches
+-- The pieces, joined, are the text without its SGR sequences.
 joined_piece : (at : ℕ) (piece : List ℕ) (later : List Piece) →
     concat (texts_of (piece_at at piece ++ later)) ≡ piece ++ concat (texts_of later)
 joined_piece at [] later = refl
@@ -382,7 +382,7 @@ mutual
 pub pieces_joined : (capture : List ℕ) → concat (texts_of (pieces_from 0 capture)) ≡ without_stretches capture
 pieces_joined capture = joined_behind 0 [] capture
 
--- what an iterator over a whole capture has still to give
+-- What an iterator over a whole capture has still to return are the pieces of the capture.
 pub whole_are : (capture : List ℕ) (len : ℕ) → len ≡ length capture →
     ArePiecesOf capture (pieces_from (len - length capture) capture)
 whole_are capture len e =

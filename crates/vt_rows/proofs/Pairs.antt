@@ -1,4 +1,4 @@
--- No edit leaves a half without its partner.
+-- Every edit keeps wide glyphs whole.
 use Rattle.std.proofs.Common.{◌≡◌, ℕ, zero, suc, ◌+◌, ◌-◌, ◌<◌, ◌≤◌, ◌==◌, ◌&&◌, nat_lt, Bool, true, false}
 use Rattle.std.proofs.Common.{not, List, [], ◌∷◌, length, refl, inl, inr, sym, ap, ◌∙◌, add-one, arith}
 use Rattle.std.specs.Prelude.{if◌then◌else◌, slice_set}
@@ -12,7 +12,7 @@ use Rattle.vt_rows.specs.Cells.{at, IsPaired, put_cells, column_of, put_narrow, 
 use Rattle.vt_rows.specs.Cells.{erased, blanks, marked_at, widened_at, narrowed_at}
 use Rattle.vt_rows.proofs.Columns.{put_columns, at-past}
 
--- ---- what is a half after a column was repaired
+-- ---- Wide glyphs after a column was prepared for an overwrite
 
 pub not_both : (x : CellValue) → (is_wide x && is_right_half x) ≡ false
 not_both (blank attrs) = refl
@@ -87,7 +87,8 @@ right_column c n o new cells k h =
       right_opened (k == c + n) o (at cells k) h,
     ) refl
 
--- w and r: left and right halves before; v and s: those put in their place, n of them
+-- The cells after n cells are replaced stay paired: w and r say which cells were wide or continuation cells before, v
+-- and s which of the new ones are.
 joined : (c n k : ℕ) (w r v s : ℕ → Bool) → ((j : ℕ) → w j ≡ r (j + 1)) →
     ((j : ℕ) → v j ≡ s (j + 1)) → s 0 ≡ false → ((j : ℕ) → n ≤ j → s j ≡ false) →
     (if nat_lt k c then (not (k + 1 == c) && w k) else if nat_lt k (c + n) then v (k - c) else w k)
@@ -135,7 +136,7 @@ IsPaired-put_cells c n o new cells e h ow or q p =
           ∙ (right_column c n o new cells 0 or ∙ joined_first c n r s p.first q.first);
     }
 
--- ---- what is put
+-- ---- The cells that are put
 
 pub paired_from : (cells : List CellValue) → is_right_half (at cells 0) ≡ false →
     ((k : ℕ) → is_wide (at cells k) ≡ is_right_half (at cells (suc k))) → IsPaired cells
@@ -168,7 +169,7 @@ IsPaired-blanks attrs n =
       right_blanks (suc n) zero = refl
       right_blanks (suc n) (suc k) = right_blanks n k
 
--- ---- the edits
+-- ---- The edits
 
 pub IsPaired-put_narrow : (c : ℕ) (text : List ℕ) (attrs : Attrs) (cells : List CellValue) →
     c < length cells → IsPaired cells → IsPaired (put_narrow c text attrs cells)
@@ -219,7 +220,7 @@ IsPaired-narrowed_at k attrs cells h r p =
     (is_right_half-widened false (at cells k) ∙ r))
     p
 
--- a cell is written in the place of one with the same half
+-- Cells stay paired if a cell is replaced by one of the same kind.
 pub IsPaired-set : (k : ℕ) (x : CellValue) (cells : List CellValue) → is_wide x ≡ is_wide (at cells k) →
     is_right_half x ≡ is_right_half (at cells k) → IsPaired cells → IsPaired (slice_set cells k x)
 IsPaired-set k x cells w r p = record {

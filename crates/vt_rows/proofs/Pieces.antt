@@ -1,4 +1,4 @@
--- The pieces of a text that is cut at its first ESC, or at its first `m`.
+-- The pieces of a text that is split at its first ESC, or at its first `m`.
 use Rattle.std.proofs.Common.{◌≡◌, ◌≢◌, ℕ, suc, ◌+◌, ◌<◌, false, List, [], ◌∷◌, ◌++◌, length}
 use Rattle.std.proofs.Common.{get_or, refl, sym, ap, ◌∙◌, append_assoc, append-nil, arith}
 use Rattle.std.proofs.lemmas.Bool.{ne_eqb}
@@ -6,7 +6,7 @@ use Rattle.vt_rows.specs.Internals.{piece_at, pieces_behind, pieces_within, piec
 use Rattle.vt_rows.specs.Pieces.{Piece}
 use Rattle.vt_rows.specs.Stretches.{begins_stretch, ends_stretch}
 
--- the byte does not stand in the text
+-- The byte does not occur in the text.
 abbrev pub Lacks : ℕ → List ℕ → Type 0
 Lacks c text = (i : ℕ) → i < length text → get_or text i 0 ≢ c
 
@@ -51,7 +51,7 @@ behind_over at piece (b ∷ text) rest h =
     (behind_over at (piece ++ b ∷ []) text rest (others_lack 0x1B b text h)
     ∙ ap (λ whole. piece_at at whole ++ pieces_within (at + length whole + 1) rest) (append_assoc piece (b ∷ []) text))
 
--- a text that is cut at its first ESC
+-- The pieces of a text that is split at its first ESC.
 pub pieces_over : (at : ℕ) (text rest : List ℕ) → Lacks 0x1B text → (later : List Piece) →
     pieces_within (at + length text + 1) rest ≡ later → pieces_from at (text ++ 0x1B ∷ rest) ≡ piece_at at text ++ later
 pieces_over at text rest h later e =

@@ -11,22 +11,22 @@ use Rattle.vt_rows.specs.Cells.{opened}
 use Rattle.vt_rows.specs.Internals.{plain_behind}
 use Rattle.vt_rows.specs.Plain.{up_to_last_glyph}
 
--- where no glyph begins nothing is left
+-- If no glyph begins in the cells, nothing is left of them.
 no_glyph : (cells : List CellValue) → list_any is_glyph cells ≡ false → up_to_last_glyph cells ≡ []
 no_glyph [] e = refl
 no_glyph (x ∷ xs) e = rw e refl
 
--- one space more behind the others
+-- Spaces followed by one more space.
 one_more : (n : ℕ) (rest : List ℕ) → replicate n 0x20 ++ (0x20 ∷ rest) ≡ replicate (n + 1) 0x20 ++ rest
 one_more n rest =
     sym (append_assoc (replicate n 0x20) (0x20 ∷ []) rest) ∙ ap (λ (xs : List ℕ). xs ++ rest) (replicate_more n 0x20)
 
--- the text of cells behind n columns without a glyph
+-- The text of cells after n columns without a glyph.
 abbrev spread : ℕ → List CellValue → List ℕ
 spread n cells =
     if list_any is_glyph cells then replicate n 0x20 ++ flat_map shown_text (up_to_last_glyph cells) else []
 
--- without a gap before them
+-- The text of cells without a gap before them.
 no_gap : (cells : List CellValue) → spread 0 cells ≡ flat_map shown_text (up_to_last_glyph cells)
 no_gap cells = by_any (list_any is_glyph cells) refl where
   by_any : (b : Bool) → list_any is_glyph cells ≡ b →
@@ -58,7 +58,7 @@ behind_glyph n text wide attrs cells =
     sym (ap (λ (xs : List ℕ). (replicate n 0x20 ++ text) ++ xs) (no_gap cells)
     ∙ append_assoc (replicate n 0x20) text (flat_map shown_text (up_to_last_glyph cells)))
 
--- the same cell by cell
+-- The text of cells after a gap agrees with its definition cell by cell.
 is_spread : (n : ℕ) (cells : List CellValue) → plain_behind n cells ≡ spread n cells
 is_spread n [] = refl
 is_spread n (blank attrs ∷ cells) = is_spread (n + 1) cells ∙ sym (behind_blank n attrs cells)
@@ -67,7 +67,7 @@ is_spread n (glyph text wide attrs ∷ cells) =
     ∙ sym (behind_glyph n text wide attrs cells)
 is_spread n (right_half ∷ cells) = is_spread n cells ∙ sym (behind_half n cells)
 
--- behind no columns; a right half in the first column is one without a glyph
+-- The plain text of cells of which the first is no continuation cell.
 pub plain_whole : (cells : List CellValue) → is_right_half (slice_index_or cells 0 default_blank) ≡ false →
     plain_behind 0 cells ≡ flat_map shown_text (up_to_last_glyph (opened default_blank cells))
 plain_whole [] e = refl
@@ -89,7 +89,7 @@ pub plain_cut : (cells : List CellValue) → is_right_half (slice_index_or cells
     ≡ flat_map shown_text (up_to_last_glyph (opened default_blank cells))
 plain_cut cells e = ap (plain_behind 1) (take_rest cells 1) ∙ plain_opened cells e
 
--- sixteen spaces of those that are left
+-- Sixteen spaces written, of those that are left.
 pub sixteen : (old new : List ℕ) (n : ℕ) → 16 ≤ n → new ≡ old ++ replicate 16 0x20 →
     new ++ replicate (n - 16) 0x20 ≡ old ++ replicate n 0x20
 sixteen old new n h e =
@@ -99,5 +99,5 @@ sixteen old new n h e =
     ∙ ap (λ (xs : List ℕ). old ++ xs)
     (replicate-append-replicate 16 (n - 16) 0x20 ∙ ap (λ (m : ℕ). replicate m 0x20) all))
 
--- the cells of a row, whole or cut
+-- The plain text of the cells of a row, whole or cut.
 pub ruleset plain_rows = (plain_whole, plain_cut)

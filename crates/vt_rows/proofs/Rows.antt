@@ -1,4 +1,4 @@
--- What every row of a page is, after each edit.
+-- The invariant of every row of a page, after each edit.
 use Rattle.std.proofs.Common.{◌≡◌, ℕ, ◌+◌, ◌-◌, ◌<◌, ◌≤◌, ◌==◌, ◌&&◌, not, Bool, true, false, List}
 use Rattle.std.proofs.Common.{[], ◌∷◌, length, refl, sym, ap, ◌∙◌, inl, inr, lit<, arith}
 use Rattle.std.specs.Prelude.{◌||◌, All, if◌then◌else◌}
@@ -19,7 +19,7 @@ use Rattle.vt_rows.proofs.Pairs.{IsPaired-widened_at, IsPaired-narrowed_at, IsPa
 use Rattle.vt_rows.proofs.Sound.{All-put_narrow, All-put_wide, All-erased}
 use Rattle.vt_rows.proofs.Sound.{All-marked_at, All-widened_at, All-narrowed_at}
 
--- ---- how many columns
+-- ---- The number of columns
 
 pub length-put_narrow : (c : ℕ) (text : List ℕ) (attrs : Attrs) (cells : List CellValue) →
     c < length cells → length (put_narrow c text attrs cells) ≡ length cells
@@ -49,7 +49,7 @@ pub length-narrowed_at : (k : ℕ) (attrs : Attrs) (cells : List CellValue) →
 length-narrowed_at k attrs cells h =
     length-put_cells k 1 (glyph (0x20 ∷ []) false attrs) (widened false (at cells k) ∷ []) cells refl (omega arith)
 
--- ---- the last column
+-- ---- The last column
 
 last_column : (c n : ℕ) (o : CellValue) (new cells : List CellValue) → 0 < n → c + n ≤ length cells →
     column_of c n o new cells (length cells - 1)
@@ -73,7 +73,7 @@ blank_if : (t : Bool) (x y : CellValue) → is_blank (if t then x else y) ≡ (i
 blank_if true x y = refl
 blank_if false x y = refl
 
--- whether the last column is blank after n columns from c on were changed
+-- Whether the last column is a blank after n columns from c on are replaced.
 pub ends_blank-put_cells : (c n : ℕ) (o : CellValue) (new cells : List CellValue) →
     length new ≡ n → 0 < n → c + n ≤ length cells →
     ends_blank (put_cells c o new n cells)
@@ -88,7 +88,7 @@ ends_blank-put_cells c n o new cells e pos h =
     ∙ ap (λ (b : Bool). if c + n == length cells then is_blank (at new (n - 1)) else b)
     (blank_if torn o (at cells last))))
 
--- a narrow glyph in the last column ends the row in a glyph, and anywhere else it changes nothing at the end
+-- A narrow glyph in the last column makes the row end with a glyph; in any other column, the end is unchanged.
 pub ends_blank-put_narrow : (c : ℕ) (text : List ℕ) (attrs : Attrs) (cells : List CellValue) → c < length cells →
     ends_blank (put_narrow c text attrs cells) ≡ (not (c + 1 == length cells) && ends_blank cells)
 ends_blank-put_narrow c text attrs cells h =
@@ -104,7 +104,7 @@ ends_blank-put_wide c text attrs cells h =
     ends_blank-put_cells c 2 (blank attrs) (glyph text true attrs ∷ right_half ∷ []) cells refl (lit< tt) (omega arith)
     ∙ grind (arith, nat_tests)
 
--- ---- rows
+-- ---- Rows
 
 pub IsRow-with_cells : (width : ℕ) (row : RowValue) (cells : List CellValue) →
     length cells ≡ width → IsPaired cells → All IsCell cells → IsRow width (with_cells row cells)
@@ -170,7 +170,7 @@ IsRow-narrowed_at width row k attrs h e t r =
     IsRow-with_cells width row (narrowed_at k attrs row.cells) (length-narrowed_at k attrs row.cells (omega arith) ∙ l)
     (IsPaired-narrowed_at k attrs row.cells (omega arith) e r.paired) (All-narrowed_at k attrs row.cells t r.sound)
 
--- the flag of a row is set or cleared
+-- A row stays valid when its wrapped flag is cleared, or set while the last column is not a blank.
 pub IsRow-wrapped : (width : ℕ) (row : RowValue) (wrapped : Bool) → (wrapped ≡ true → ends_blank row.cells ≡ false) →
     IsRow width row → IsRow width (record row { wrapped = wrapped })
 IsRow-wrapped width row wrapped h r = record { columns = r.columns; paired = r.paired; flagged = h; sound = r.sound }

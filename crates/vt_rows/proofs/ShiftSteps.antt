@@ -1,4 +1,4 @@
--- What the code of a shift makes of a row is the move of its columns.
+-- The steps of the code for a shift of columns make the move of columns that the definition says.
 use Rattle.std.proofs.Common.{◌≡◌, ℕ, ◌+◌, ◌-◌, ◌<◌, ◌≤◌, ◌==◌, ◌&&◌, nat_lt, not, Bool, true, false}
 use Rattle.std.proofs.Common.{List, ◌++◌, length, min, refl, inl, inr, sym, ap, ◌∙◌, arith}
 use Rattle.std.specs.Prelude.{◌⊎◌, if◌then◌else◌, slice_set}
@@ -81,7 +81,7 @@ pub end_blanked-none : (cells : List CellValue) →
 unfolding end_blanked
 end_blanked-none cells e = rw e refl
 
--- a move that tears a pair at the end alone, or before columns that come from elsewhere
+-- A move that cuts a wide glyph only at the end, or before columns that come from elsewhere.
 settle : (last t s : Bool) (x : CellValue) → (last ≡ true → t ≡ false) →
     (last ≡ false → is_wide x ≡ true → t ≡ true) → (is_right_half x ≡ true → s ≡ true) →
     (if last && is_wide x then blank (attrs_of x) else x)
@@ -92,7 +92,7 @@ settle false t s (glyph text true attrs) a b r = let e = b refl refl in grind (a
 settle last t s (glyph text false attrs) a b r = grind (arith)
 settle last t s right_half a b r = let e = r refl in grind (arith)
 
--- ---- cut or grown
+-- ---- Cut or extended
 
 pub resized_is : (n : ℕ) (cells ys : List CellValue) → IsPaired cells → length ys ≡ n →
     ((k : ℕ) → k < n → at ys k ≡ at cells k) → end_blanked ys ≡ resized n cells
@@ -119,7 +119,7 @@ at-grown n k cells = elim (cases_lt k (length cells)) [
       ∙ (at-blanks n (k - length cells) ∙ sym (at-past cells k ge))
 ]
 
--- default blanks behind a row are what it grows by
+-- A row is extended by default blanks after it.
 pub grown_is : (n : ℕ) (cells : List CellValue) → IsPaired cells → length cells ≤ n →
     cells ++ blanks default_attrs (n - length cells) ≡ resized n cells
 grown_is n cells p le =
@@ -136,7 +136,7 @@ grown_is n cells p le =
     absurd (omega arith)) in
     sym (end_blanked-none ys w) ∙ resized_is n cells ys p l (λ k h. at-grown (n - length cells) k cells)
 
--- ---- inserted
+-- ---- Inserted
 
 pub inserted_behind : (c : ℕ) (cells : List CellValue) → IsPaired cells →
     is_right_half (at cells (insert_column c cells)) ≡ false
@@ -145,7 +145,7 @@ inserted_behind c cells p = by_half (is_right_half (at cells c)) refl where
   by_half true e = let h = p.halves c in let n = not_both (at cells c) in grind (arith)
   by_half false e = e
 
--- the cells behind a place between pairs move right, and what comes from past the end is blank
+-- The cells after a column between wide glyphs move right, and what comes from past the end is blank.
 pub insert_steps : (s n : ℕ) (cells ys : List CellValue) → IsPaired cells →
     s ≤ length cells → is_right_half (at cells s) ≡ false → length ys ≡ length cells →
     ((k : ℕ) → k < length cells → at ys k ≡ at cells (insert_source (length cells) s n k)) →
@@ -220,7 +220,7 @@ insert_steps s n cells ys p le rs e f =
           (at cells (insert_source (length cells) s n k))
           (λ l. grind (arith, nat_tests)) (λ l w. behind k h l w) (λ r. before k h r))
 
--- what the rotation and the blanks leave at each column
+-- The cell at each column after the rotation and the blanks.
 inserted_column : (s n m k : ℕ) (cells turned new : List CellValue) → s ≤ length cells →
     m ≡ min n (length cells - s) → length turned ≡ length cells → k < length cells →
     ((j : ℕ) → at turned j ≡ at cells (turn_source s (length cells) (length cells - s - m) j)) →
@@ -268,7 +268,7 @@ insert_code c n s m cells turned new p is le e l t b =
     (λ k h. inserted_column s n m k cells turned new le e l h t b)
     ∙ ap (λ (j : ℕ). moved (length cells) (insert_source (length cells) j n) cells) is
 
--- ---- deleted
+-- ---- Deleted
 
 pub deleted-none : (c n : ℕ) (cells : List CellValue) → IsPaired cells →
     c ≤ length cells → min n (length cells - c) ≡ 0 → cells ≡ deleted c n cells
@@ -309,7 +309,7 @@ deleted-none c n cells p le e = moved_is (length cells) (delete_source c n) cell
       (delete_source c n k == delete_source c n (k - 1) + 1) (at cells (delete_source c n k))
       (λ l. cc) (λ l w. behind k h w) (λ r. before k h r)
 
--- a move that tears a pair at the first of the columns that come from elsewhere
+-- A move that cuts a wide glyph only at the first of the columns that come from elsewhere.
 settle_opened : (first t s : Bool) (x : CellValue) → (is_wide x ≡ true → t ≡ true) →
     (first ≡ true → s ≡ false) → (first ≡ false → is_right_half x ≡ true → s ≡ true) →
     (if first && is_right_half x then default_blank else x)
@@ -320,7 +320,7 @@ settle_opened first t s (glyph text false attrs) a b r = grind (arith)
 settle_opened true t s right_half a b r = let e = b refl in grind (arith)
 settle_opened false t s right_half a b r = let e = r refl refl in grind (arith)
 
--- the neighbours of the columns that are deleted, repaired
+-- The cell at each column after the cells beside the deleted columns were prepared.
 repaired_column : (c m j : ℕ) (cells : List CellValue) → IsPaired cells → c < length cells → 0 < m →
     at (right_replaced (c + m - 1) default_blank (left_blanked c cells)) j
     ≡ (if (j == c + m - 1 + 1) && is_wide (at cells (c + m - 1)) then default_blank

@@ -1,4 +1,4 @@
--- The cells that an edit leaves are cells, if those before and those put are.
+-- An edit leaves valid cells if the cells before and those that are put are valid.
 use Rattle.std.proofs.Common.{ℕ, true, false, List, [], ◌∷◌, take, drop}
 use Rattle.std.specs.Prelude.{All}
 use Rattle.std.proofs.lemmas.List.Elements.{All-nil, All-cons, All-head, All-tail, All-append}
@@ -37,7 +37,7 @@ All-put_cells c n o new cells i h all =
     (All-append IsCell new (opened o rest) h
     (All-opened o rest i (All-drop IsCell n (drop c cells) (All-drop IsCell c cells all))))
 
--- ---- the edits
+-- ---- The edits
 
 pub All-put_narrow : (c : ℕ) (text : List ℕ) (attrs : Attrs) (cells : List CellValue) →
     IsGlyphText text false → All IsCell cells → All IsCell (put_narrow c text attrs cells)

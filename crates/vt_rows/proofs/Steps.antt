@@ -1,4 +1,4 @@
--- What the code's steps make of a row, column by column.
+-- The steps of the code for an edit of a row, column by column.
 use Rattle.std.proofs.Common.{◌≡◌, ℕ, ◌+◌, ◌-◌, ◌<◌, ◌≤◌, ◌==◌, ◌&&◌, nat_lt, not, Bool, true, false, List, []}
 use Rattle.std.proofs.Common.{◌∷◌, ◌++◌, length, take, drop, get_or, refl, inl, inr, sym, ap, ◌∙◌, arith}
 use Rattle.std.specs.Prelude.{if◌then◌else◌, slice_set}
@@ -81,7 +81,7 @@ at-right_replaced c k x cells h = by_half (is_wide (at cells c)) refl where
   by_half true e = let s = at-set cells (c + 1) k x (h e) in grind (arith, nat_tests)
   by_half false e = grind (arith, nat_tests)
 
--- a left half at column c has its right half behind it, also after the column before was repaired
+-- The first cell of a wide glyph at column c is followed by its continuation cell.
 pub HasRoom-paired : (c : ℕ) (cells : List CellValue) → IsPaired cells → HasRoom c cells
 HasRoom-paired c cells p = λ w. elim (cases_lt (c + 1) (length cells)) [
   | inl lt ↦ lt
@@ -99,7 +99,7 @@ HasRoom-left_blanked c d cells p h = λ w.
     HasRoom-paired d cells p (and_parts (not (d + 1 == c)) (is_wide (at cells d)) both).1 in
     omega arith
 
--- ---- a narrow glyph
+-- ---- A narrow glyph
 
 narrow_cases : (c k : ℕ) (x g : CellValue) (cells : List CellValue) → IsPaired cells →
     (if k == c then g
@@ -149,7 +149,7 @@ narrow_steps c x g cells p h =
     (put_cells c x (g ∷ []) 1 cells) (omega arith)
     (λ k. narrow_column c k x g cells p h ∙ sym (put_columns c 1 x (g ∷ []) cells k refl (omega arith)))
 
--- ---- columns that are erased
+-- ---- Columns that are erased
 
 pub at-put_mid : (a n k : ℕ) (xs ys : List CellValue) → length ys ≡ n → a + n ≤ length xs →
     at (put_mid a n xs ys) k ≡ (if nat_lt k a then at xs k else if nat_lt k (a + n) then at ys (k - a) else at xs k)
@@ -224,7 +224,7 @@ erase_steps s e x ys cells p f h le =
     ) (erase_cases s e k x ys cells p h)
     ∙ sym (put_columns s (e - s) x ys cells k f (omega arith))))
 
--- ---- two columns: a wide glyph and its right half
+-- ---- Two columns: a wide glyph and its continuation cell
 
 wide_cases : (c k : ℕ) (x g : CellValue) (cells : List CellValue) → IsPaired cells →
     (if k == c + 1 then right_half else if k == c then g
@@ -279,13 +279,13 @@ wide_steps c x g cells p h =
     ) (wide_cases c k x g cells p)
     ∙ sym (put_columns c 2 x (g ∷ right_half ∷ []) cells k refl (omega arith)))
 
--- where no right half stands there is no left half to repair
+-- If column c holds no continuation cell, preparing it changes nothing.
 pub left_blanked-none : (c : ℕ) (cells : List CellValue) →
     is_right_half (at cells c) ≡ false → left_blanked c cells ≡ cells
 unfolding left_blanked
 left_blanked-none c cells e = rw e refl
 
--- the repairs of the neighbours leave the column itself, unless it lost its right half
+-- Preparing the column after changes no cell at an earlier column.
 pub at-right_replaced_same : (c d : ℕ) (x : CellValue) (cells : List CellValue) →
     IsPaired cells → c ≤ d → at (right_replaced d x cells) c ≡ at cells c
 at-right_replaced_same c d x cells p h =
@@ -298,14 +298,14 @@ at-repaired c x cells p h =
     (at-right_replaced c c x (left_blanked c cells) (HasRoom-left_blanked c c cells p h), at-left_blanked c c cells p h)
     (grind (arith, nat_tests))
 
--- a wide cell is the glyph of its text
+-- A wide cell is the wide glyph of its text.
 pub wide_is : (x : CellValue) → is_wide x ≡ true → x ≡ glyph (text_of x) true (attrs_of x)
 wide_is (blank attrs) e = cc
 wide_is (glyph text true attrs) e = refl
 wide_is (glyph text false attrs) e = cc
 wide_is right_half e = cc
 
--- what is read at a column whose neighbours were repaired, by any default
+-- The cell at a column whose neighbors were prepared is unchanged.
 pub read-repaired : (c : ℕ) (x d : CellValue) (cells : List CellValue) → IsPaired cells →
     c < length cells → get_or (right_replaced c x (left_blanked c cells)) c d ≡ at cells c
 read-repaired c x d cells p h =

@@ -1,4 +1,4 @@
--- A text of printable ASCII in a row: one edit is an edit for each byte.
+-- Runs of printable ASCII in a row: one edit equals an edit for each byte.
 use Rattle.std.proofs.Common.{◌≡◌, ℕ, zero, suc, ◌+◌, ◌-◌, ◌<◌, ◌≤◌, ◌==◌, ◌&&◌, false, List}
 use Rattle.std.proofs.Common.{[], ◌∷◌, ◌++◌, length, take, get_or, refl, inl, inr, sym, ap, ◌∙◌, arith}
 use Rattle.std.specs.List.{slice_range}
@@ -24,9 +24,9 @@ use Rattle.vt_rows.proofs.Pairs.{IsPaired-put_cells}
 use Rattle.vt_rows.proofs.Rows.{IsRow-with_cells}
 use Rattle.vt_rows.proofs.Sound.{All-put_cells}
 
--- ---- one byte after the other
+-- ---- One byte after the other
 
--- column k after one cell was put at column c, and more behind it
+-- The cell at column k after one cell is put at column c and further ones after it.
 split_column : (c n k : ℕ) (o x : CellValue) (xs cells : List CellValue) → is_wide x ≡ false → is_right_half o ≡ false →
     column_of c (suc n) o (x ∷ xs) cells k
     ≡ (let y = column_of c 1 o (x ∷ []) cells k in
@@ -52,7 +52,7 @@ split_column c n k o x xs cells w r = elim (cases_lt k c) [
   ]
 ]
 
--- what is put from a column on may be put in two edits, the first one of a single narrow cell
+-- Cells that are put from a column on may be put in two edits, the first with a single narrow cell.
 pub put_cells_after : (c n : ℕ) (o x : CellValue) (xs cells : List CellValue) →
     is_wide x ≡ false → is_right_half o ≡ false → length xs ≡ n → c + suc n ≤ length cells →
     put_cells c o (x ∷ xs) (suc n) cells ≡ put_cells (c + 1) o xs n (put_cells c o (x ∷ []) 1 cells)
@@ -71,7 +71,7 @@ put_cells_after c n o x xs cells w r e h =
 pub length-glyphs_of : (attrs : Attrs) (text : List ℕ) → length (glyphs_of attrs text) ≡ length text
 length-glyphs_of attrs text = length-map text (narrow_glyph attrs)
 
--- the first character of a text is put, and then the others
+-- Putting a text equals putting its first character and then the others.
 pub put_text_after : (c b : ℕ) (text : List ℕ) (attrs : Attrs) (cells : List CellValue) →
     c + suc (length text) ≤ length cells →
     put_text c (b ∷ text) attrs cells ≡ put_text (c + 1) text attrs (put_narrow c (encode_utf8 b) attrs cells)
@@ -79,7 +79,7 @@ put_text_after c b text attrs cells h =
     put_cells_after c (length text) (glyph (0x20 ∷ []) false attrs) (narrow_glyph attrs b)
     (glyphs_of attrs text) cells refl refl (length-glyphs_of attrs text) h
 
--- ---- what it leaves
+-- ---- What the edit keeps
 
 pub length-put_text : (c : ℕ) (text : List ℕ) (attrs : Attrs) (cells : List CellValue) →
     c + length text ≤ length cells → length (put_text c text attrs cells) ≡ length cells
@@ -106,7 +106,7 @@ IsPaired-put_text c text attrs cells h p =
     IsPaired-put_cells c (length text) (glyph (0x20 ∷ []) false attrs) (glyphs_of attrs text)
     cells (length-glyphs_of attrs text) h refl refl (IsPaired-glyphs_of attrs text) p
 
--- printable ASCII is the text of a narrow glyph
+-- Printable ASCII is the text of a narrow glyph.
 pub IsGlyphText-printable : (b : ℕ) → 0x20 ≤ b → b < 0x7F → IsGlyphText (encode_utf8 b) false
 IsGlyphText-printable b low high =
     IsGlyphText-first b false (low_scalar b (omega arith))
@@ -133,7 +133,7 @@ IsRow-put_text width row c text attrs h t r =
     (length-put_text c text attrs row.cells (omega arith) ∙ l)
     (IsPaired-put_text c text attrs row.cells (omega arith) r.paired) (All-put_text c text attrs row.cells t r.sound)
 
--- cells that are the glyphs of a text, one by one
+-- Cells that are the glyphs of a text, one by one, are its list of glyphs.
 pub glyphs_of_is : (attrs : Attrs) (text : List ℕ) (cells : List CellValue) → length cells ≡ length text →
     ((k : ℕ) → k < length text → at cells k ≡ narrow_glyph attrs (get_or text k 0)) → cells ≡ glyphs_of attrs text
 glyphs_of_is attrs text cells e f =
@@ -141,7 +141,8 @@ glyphs_of_is attrs text cells e f =
     (λ k h. let lt : k < length text =
     omega arith in f k lt ∙ sym (get_or-map (narrow_glyph attrs) text k 0 default_blank lt))
 
--- the glyphs of the bytes before `from`, and those of the piece behind them
+-- The glyphs of the bytes before `from`, followed by those of the next chunk, are the glyphs of the bytes before
+-- `to`.
 pub glyphs_on : (attrs : Attrs) (text : List ℕ) (from to : ℕ) → from ≤ to →
     glyphs_of attrs (take from text) ++ glyphs_of attrs (slice_range text from to) ≡ glyphs_of attrs (take to text)
 glyphs_on attrs text from to le =

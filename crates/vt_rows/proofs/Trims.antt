@@ -20,7 +20,7 @@ default_is (blank attrs) e = refl
 default_is (glyph text wide attrs) e = cc
 default_is right_half e = cc
 
--- a default blank is the one
+-- There is only one default blank.
 pub default_same : (x : CellValue) → is_default_blank x ≡ true → x ≡ default_blank
 default_same (blank attrs) e = ap blank (attrs_of-same attrs default_attrs e)
 default_same (glyph text wide attrs) e = cc
@@ -50,7 +50,7 @@ not_all cells k h e =
     false_from_ne_true (list_all is_default_blank cells)
     (λ t. let a = ap is_default_blank (all_default-at cells k t) ∙ is_default-itself in cc)
 
--- cut where only default blanks follow, behind a cell that is none
+-- Cells cut before the default blanks at the end, after a cell that is none, are the trimmed cells.
 pub trimmed_is : (cells : List CellValue) (n : ℕ) → n ≤ length cells → ((k : ℕ) → n ≤ k → at cells k ≡ default_blank) →
     ((j : ℕ) → n ≡ suc j → is_default_blank (at cells j) ≡ false) → take n cells ≡ trimmed cells
 trimmed_is [] zero h f g = refl
@@ -91,7 +91,7 @@ All-trimmed (x ∷ xs) all =
     cond_both (list_all is_default_blank (x ∷ xs)) [] (x ∷ trimmed xs) (All IsCell)
     (λ _. All-nil IsCell) (λ _. All-cons IsCell x (trimmed xs) (All-head IsCell x xs all) ih)
 
--- where the last cell isn't blank nothing is trimmed
+-- If the last cell is not a blank, trimming changes nothing.
 pub trimmed-none : (cells : List CellValue) → ends_blank cells ≡ false → trimmed cells ≡ cells
 trimmed-none cells e =
     sym (trimmed_is cells (length cells) (omega arith) (λ k le. at-past cells k le) (λ j l. last j l))
@@ -112,7 +112,7 @@ IsRow-trimmed_row width row r = record {
   sound = All-trimmed row.cells r.sound;
 }
 
--- four default blanks, one by one
+-- Four default blanks, one by one, are a list of them.
 pub four_blanks : (cells : List CellValue) → length cells ≡ 4 → at cells 0 ≡ default_blank → at cells 1 ≡ default_blank →
     at cells 2 ≡ default_blank → at cells 3 ≡ default_blank → cells ≡ blanks default_attrs 4
 four_blanks cells l a b c d = blanks_is default_attrs 4 cells l each
@@ -124,7 +124,7 @@ four_blanks cells l a b c d = blanks_is default_attrs 4 cells l each
     each (suc (suc (suc zero))) lt = d
     each (suc (suc (suc (suc k)))) lt = absurd (omega arith)
 
--- default blanks from `i` on, where eight stand before those that are known
+-- If all cells from i + 8 on are default blanks, and so are the eight before them, then all from i on are.
 pub eight_more : (cells : List CellValue) (i : ℕ) → slice_range cells i (i + 8) ≡ blanks default_attrs 8 →
     ((k : ℕ) → i + 8 ≤ k → at cells k ≡ default_blank) → (k : ℕ) → i ≤ k → at cells k ≡ default_blank
 eight_more cells i eight behind k le =

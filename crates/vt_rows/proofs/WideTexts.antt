@@ -1,4 +1,4 @@
--- A text of wide characters in a row: one edit is an edit for each character.
+-- Runs of wide characters in a row: one edit equals an edit for each character.
 use Rattle.std.proofs.Common.{◌≡◌, ℕ, zero, suc, ◌+◌, ◌-◌, ◌*◌, ◌<◌, ◌≤◌, ◌==◌, ◌&&◌, true, false, List}
 use Rattle.std.proofs.Common.{[], ◌∷◌, length, get_or, refl, inl, inr, sym, ap, ◌∙◌, arith}
 use Rattle.std.specs.Prelude.{All, nat_lt, if◌then◌else◌}
@@ -52,7 +52,7 @@ split_pair c n k o x xs cells r = elim (cases_lt k c) [
   ]
 ]
 
--- what is put from a column on may be put in two edits, the first one of a pair
+-- Cells that are put from a column on may be put in two edits, the first with one wide glyph.
 pub put_cells_after_pair : (c n : ℕ) (o x : CellValue) (xs cells : List CellValue) →
     is_right_half o ≡ false → length xs ≡ n → c + suc (suc n) ≤ length cells →
     put_cells c o (x ∷ right_half ∷ xs) (suc (suc n)) cells
@@ -74,7 +74,7 @@ pub length-wide_glyphs_of : (attrs : Attrs) (text : List ℕ) → length (wide_g
 length-wide_glyphs_of attrs [] = refl
 length-wide_glyphs_of attrs (x ∷ text) = let l = length-wide_glyphs_of attrs text in omega (arith, l)
 
--- the first character of a text is put, and then the others
+-- Putting a text of wide characters equals putting its first character and then the others.
 pub put_wide_text_after : (c x : ℕ) (text : List ℕ) (attrs : Attrs) (cells : List CellValue) →
     c + 2 * suc (length text) ≤ length cells →
     put_wide_text c (x ∷ text) attrs cells ≡ put_wide_text (c + 2) text attrs (put_wide c (encode_utf8 x) attrs cells)
@@ -91,7 +91,7 @@ length-put_wide_text c text attrs cells h =
     length-put_cells c (2 * length text) (blank attrs) (wide_glyphs_of attrs text) cells
     (length-wide_glyphs_of attrs text) h
 
--- a whole text: one edit is the edit of each character, one after the other
+-- Putting a whole text of wide characters equals putting one character after the other.
 pub put_wide_text_each : (c : ℕ) (text : List ℕ) (attrs : Attrs) (cells : List CellValue) → 0 < length text →
     c + 2 * length text ≤ length cells → put_wide_text c text attrs cells ≡ put_each_wide c text attrs cells
 put_wide_text_each c [] attrs cells some h = absurd (omega (arith, some))
@@ -102,7 +102,7 @@ put_wide_text_each c (x ∷ y ∷ text) attrs cells some h =
     put_wide_text_after c x (y ∷ text) attrs cells h
     ∙ put_wide_text_each (c + 2) (y ∷ text) attrs one (omega arith) (omega arith)
 
--- ---- what it leaves
+-- ---- What the edit keeps
 
 IsPaired-wide_glyphs_of : (attrs : Attrs) (text : List ℕ) → IsPaired (wide_glyphs_of attrs text)
 IsPaired-wide_glyphs_of attrs text = paired_from (wide_glyphs_of attrs text) (first text) (halves text) where
@@ -147,7 +147,7 @@ IsRow-put_wide_text width row c text attrs h t r =
     (length-put_wide_text c text attrs row.cells (omega arith) ∙ l)
     (IsPaired-put_wide_text c text attrs row.cells (omega arith) r.paired) (All-put_wide_text c text attrs row.cells t r.sound)
 
--- cells that are the halves of a text, pair by pair
+-- Cells that are the wide glyphs of a text, two by two, are its list of cells.
 pub wide_glyphs_of_is : (attrs : Attrs) (text : List ℕ) (cells : List CellValue) → length cells ≡ 2 * length text →
     ((k : ℕ) → k < length text →
     (at cells (2 * k) ≡ wide_glyph attrs (get_or text k 0)) × (at cells (2 * k + 1) ≡ right_half)) →

@@ -1,38 +1,39 @@
--- The rows of a capture on a terminal of some width.
+-- The rows of a capture on a terminal of a given width.
 use Rattle.std.specs.Prelude.{◌≡◌, ◌⊎◌, ℕ, Bool, true, false, not, ◌==◌, ◌&&◌, nat_lt, List, []}
 use Rattle.std.specs.Prelude.{◌∷◌, ◌+◌, ◌<◌, IsUtf8, chars, get_or, length, take, drop}
 use Rattle.vt_rows.specs.Pieces.{Piece, piece_end}
 use Rattle.vt_rows.specs.Stretches.{columns_added, columns_in, ends_within}
 
--- the character is a line end behind the row: LF outside a stretch
+-- The character is a line end after the row: LF outside an SGR sequence.
 abbrev pub ends_row : List ℕ → ℕ → Bool
 ends_row row c = not (ends_within row) && (c == 0x0A)
 
--- the character takes columns, and would make a row that has some already wider than the width
+-- A character that adds `added` columns to `used` ones would make a row that has some columns too wide.
 abbrev pub is_beyond : ℕ → ℕ → ℕ → Bool
 is_beyond width used added = nat_lt 0 used && (nat_lt 0 added && nat_lt width (used + added))
 
+-- The character would make the row too wide.
 abbrev pub overflows : ℕ → List ℕ → ℕ → Bool
 overflows width row c = is_beyond width (columns_in row) (columns_added (ends_within row) c)
 
--- no character k of the row ends or overflows what stands before it in the row
+-- No character of the row ends or overflows the part of the row before it.
 abbrev pub IsUncut : ℕ → List ℕ → Type 0
 IsUncut width row =
     (k : ℕ) → k < length row →
     (ends_row (take k row) (get_or row k 0) ≡ false) × (overflows width (take k row) (get_or row k 0) ≡ false)
 
--- a row is the slice of the capture at its place, of whole characters, and uncut
+-- A row is the slice of the capture at its index, consists of whole characters, and is uncut.
 pub record IsRowOf (width : ℕ) (capture : List ℕ) (row : Piece) : Type 0 where
   pub slice : take (length row.1) (drop row.0 capture) ≡ row.1
   pub utf8 : IsUtf8 row.1
   pub uncut : IsUncut width (chars row.1)
 
--- the next row begins behind the one byte that ends this one
+-- The next row begins after the line end that ends this one.
 pub record IsBehindEnd (capture : List ℕ) (row next : Piece) : Type 0 where
   pub place : next.0 ≡ piece_end row + 1
   pub ends : ends_row (chars row.1) (get_or capture (piece_end row) 0) ≡ true
 
--- the next row begins at the end of this one, with a character that overflows it
+-- The next row begins at the end of this one, with a character that overflows it.
 pub record IsBehindFull (width : ℕ) (row next : Piece) : Type 0 where
   pub place : next.0 ≡ piece_end row
   pub first : ℕ
@@ -40,7 +41,7 @@ pub record IsBehindFull (width : ℕ) (row next : Piece) : Type 0 where
   pub begins : chars next.1 ≡ first ∷ rest
   pub overflows : overflows width (chars row.1) first ≡ true
 
--- rows from byte `at` on, one behind the other; the last one goes to the end of the capture
+-- Consecutive rows from byte `at` on, of which the last one ends with the capture.
 abbrev pub AreRowsFrom : ℕ → List ℕ → ℕ → List Piece → Type 0
 AreRowsFrom width capture at [] = ⊥
 AreRowsFrom width capture at (row ∷ []) = (row.0 ≡ at) × IsRowOf width capture row × (piece_end row ≡ length capture)
@@ -48,6 +49,6 @@ AreRowsFrom width capture at (row ∷ next ∷ rows) =
     (row.0 ≡ at) × IsRowOf width capture row × (IsBehindEnd capture row next ⊎ IsBehindFull width row next)
     × AreRowsFrom width capture next.0 (next ∷ rows)
 
--- the rows of a capture
+-- The pieces are all the rows of a capture, in order.
 abbrev pub AreRowsOf : ℕ → List ℕ → List Piece → Type 0
 AreRowsOf width capture rows = AreRowsFrom width capture 0 rows

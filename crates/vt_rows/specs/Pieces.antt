@@ -1,49 +1,50 @@
--- The plain text of a capture: the longest pieces that stand outside each stretch of SGR.
+-- The plain text of a capture: the longest pieces outside all SGR sequences.
 use Rattle.std.specs.Prelude.{◌≡◌, ◌≢◌, ◌<◌, ◌≤◌, ◌↔◌, ◌⊎◌, ℕ, Bool, true, false, List, []}
 use Rattle.std.specs.Prelude.{◌∷◌, ◌+◌, length, take, drop, map, if◌then◌else◌, ⊤}
 use Rattle.vt_rows.specs.Stretches.{IsInStretch, begins_stretch, is_within_after}
 
--- a slice of a capture, with the number of bytes before it
+-- A slice of a capture, with the number of bytes before it.
 abbrev pub Piece : Type 0
 Piece = ℕ × List ℕ
 
--- the number of bytes before its end
+-- The number of bytes before the end of a piece.
 abbrev pub piece_end : Piece → ℕ
 piece_end piece = piece.0 + length piece.1
 
--- byte k of the capture stands in the piece, or in one of the pieces
+-- Byte k of the capture is in the piece.
 abbrev pub IsIn : ℕ → Piece → Type 0
 IsIn k piece = (piece.0 ≤ k) × (k < piece_end piece)
 
+-- Byte k of the capture is in one of the pieces.
 abbrev pub IsInSome : ℕ → List Piece → Type 0
 IsInSome k [] = ⊥
 IsInSome k (piece ∷ pieces) = IsIn k piece ⊎ IsInSome k pieces
 
--- a piece has text, and is the slice of the capture at its place
+-- The piece is not empty, and is the slice of the capture at its index.
 abbrev pub IsPieceOf : List ℕ → Piece → Type 0
 IsPieceOf capture piece = (piece.1 ≢ []) × (take (length piece.1) (drop piece.0 capture) ≡ piece.1)
 
--- pieces in order, from byte `at` on, with a byte at least between one and the next
+-- The pieces are in order from byte `at` on, with at least one byte between one and the next.
 abbrev pub AreApart : List ℕ → ℕ → List Piece → Type 0
 AreApart capture at [] = ⊤
 AreApart capture at (piece ∷ pieces) =
     IsPieceOf capture piece × (at ≤ piece.0) × AreApart capture (piece_end piece + 1) pieces
 
--- the pieces of a capture: a byte stands in one of them exactly if it stands in no stretch
+-- The pieces of a capture: a byte is in one of them exactly if it is in no SGR sequence.
 pub record ArePiecesOf (capture : List ℕ) (pieces : List Piece) : Type 0 where
   pub apart : AreApart capture 0 pieces
   pub plain : (k : ℕ) → k < length capture → IsInSome k pieces ↔ ¬ (IsInStretch capture k)
 
--- the texts of pieces
+-- The texts of a list of pieces.
 abbrev pub texts_of : List Piece → List (List ℕ)
 texts_of pieces = map (λ p. p.1) pieces
 
--- the bytes outside each stretch, for a text that begins within one or not
+-- The bytes of a text outside all SGR sequences; `within` says whether it begins inside one.
 abbrev pub plain_from : Bool → List ℕ → List ℕ
 plain_from within [] = []
 plain_from true (b ∷ text) = plain_from (is_within_after true b) text
 plain_from false (b ∷ text) = if begins_stretch b then plain_from true text else b ∷ plain_from false text
 
--- a capture without each stretch
+-- A capture without its SGR sequences.
 abbrev pub without_stretches : List ℕ → List ℕ
 without_stretches capture = plain_from false capture

@@ -1,22 +1,23 @@
--- A text of printable ASCII in a row, a narrow glyph for each byte.
+-- Runs of printable ASCII in a row, a narrow glyph for each byte.
 use Rattle.std.specs.Prelude.{ℕ, ◌<◌, ◌≤◌, false, List, [], ◌∷◌, length, map, All}
 use Rattle.std.specs.Char.{encode_utf8}
 use Rattle.vt_cells.specs.Attrs.{Attrs}
 use Rattle.vt_cells.specs.Cell.{CellValue, glyph}
 use Rattle.vt_rows.specs.Cells.{put_cells}
 
--- bytes of printable ASCII, each a character of one column
+-- The bytes are printable ASCII, each a character of one column.
 abbrev pub IsPrintableAscii : List ℕ → Type 0
 IsPrintableAscii text = All (λ b. (0x20 ≤ b) × (b < 0x7F)) text
 
--- the narrow glyph of a character
+-- The narrow glyph of a character.
 abbrev pub narrow_glyph : Attrs → ℕ → CellValue
 narrow_glyph attrs c = glyph (encode_utf8 c) false attrs
 
+-- The narrow glyphs of the characters of a text.
 abbrev pub glyphs_of : Attrs → List ℕ → List CellValue
 glyphs_of attrs text = map (narrow_glyph attrs) text
 
--- a narrow glyph for each character from column c on; on a left half in the last of these columns, the right half
--- becomes a space in the glyphs' attributes
+-- The cells after a narrow glyph for each character is put from column c on. If that cuts a wide glyph at the end,
+-- its continuation cell becomes a space with the attributes of the new glyphs.
 abbrev pub put_text : ℕ → List ℕ → Attrs → List CellValue → List CellValue
 put_text c text attrs cells = put_cells c (glyph (0x20 ∷ []) false attrs) (glyphs_of attrs text) (length text) cells

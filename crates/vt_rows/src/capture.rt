@@ -1,4 +1,4 @@
-//! Rows that are lent to be read, and their texts.
+//! Borrowed rows, and their text with or without attributes.
 
 ghost use Rattle.std.specs.Prelude.{◌≡◌, ◌<◌, ◌↔◌, length, IfSome, IsSome};
 ghost use Rattle.vt_rows.specs.Cells.{at};
@@ -24,8 +24,10 @@ pub use state::BasicFormattedCaptureState;
 use std::marker::Model;
 use vt_cells::Cell;
 
-/// The contents of a row: its cells, and whether its text goes on in the row
-/// below. It is as a row of a page is, in its own width.
+/// The contents of a row: a reference to its cells, and whether the row is wrapped (its text
+/// continues on the next row).
+///
+/// The row has its own width, which need not be that of the page.
 #[derive(Drop)]
 pub struct RowContents<'a> {
     cells: &'a [Cell],
@@ -47,7 +49,7 @@ impl<'a> RowContents<'a> {
     ghost use Rattle.std.specs.Prelude.{◌≡◌, length};
     ghost use Rattle.vt_rows.specs.Row.{IsRow};
 
-    /// The cells, from left to right.
+    /// Returns the cells, from left to right.
     #[inline]
     pub fn cells(&self) -> &[Cell]
         ensures value { result.now ≡ self.now.cells }
@@ -56,7 +58,8 @@ impl<'a> RowContents<'a> {
         self.cells
     }
 
-    /// Whether its text goes on in the row that was below it.
+    /// Returns whether the row is wrapped, that is, its text continues on the row that was below
+    /// it.
     #[inline]
     pub fn wrapped(&self) -> bool
         ensures { result ≡ self.now.wrapped }
@@ -65,7 +68,7 @@ impl<'a> RowContents<'a> {
     }
 }
 
-/// Cells and a flag as a row to be read.
+/// Creates the contents of a row from its cells and its wrapped flag.
 #[inline]
 pub fn lent<'a>(cells: &'a [Cell], wrapped: bool) -> RowContents<'a>
     requires { IsRow (length cells.now) (record { cells = cells.now; wrapped = wrapped }) }
@@ -74,7 +77,7 @@ pub fn lent<'a>(cells: &'a [Cell], wrapped: bool) -> RowContents<'a>
     RowContents { cells, wrapped }
 }
 
-/// The cells of a row, for as long as they are lent.
+/// Returns the cells of a row, for the lifetime of the borrow.
 #[inline]
 pub fn cells_of<'a>(row: &RowContents<'a>) -> &'a [Cell]
     ensures { result.now ≡ row.now.cells }
@@ -82,8 +85,7 @@ pub fn cells_of<'a>(row: &RowContents<'a>) -> &'a [Cell]
     row.cells
 }
 
-/// The cell at a column of a row, if the row has it, for as long as the row is
-/// lent.
+/// Returns the cell at a column of a row, or `None` if the row has no such column.
 #[inline]
 pub fn cell_of<'a>(row: &RowContents<'a>, column: usize) -> Option<&'a Cell>
     ensures inside { IsSome result ↔ (column < length row.now.cells) }
@@ -96,7 +98,7 @@ pub fn cell_of<'a>(row: &RowContents<'a>, column: usize) -> Option<&'a Cell>
     }
 }
 
-/// A row without the default blanks at its end.
+/// Returns a row without the default blanks at its end.
 pub fn trimmed<'a>(row: &RowContents<'a>) -> RowContents<'a>
     ensures { result ≡ trimmed_row row.now }
 {
@@ -107,7 +109,7 @@ pub fn trimmed<'a>(row: &RowContents<'a>) -> RowContents<'a>
 }
 
 impl Row {
-    /// The row as it stands.
+    /// Borrows the contents of the row.
     #[inline]
     pub fn contents(&self) -> RowContents<'_>
         requires { IsRow (length self.now.cells) self.now }

@@ -1,8 +1,8 @@
-//! Edits of the cells of a row, in place.
+//! In-place edits of the cells of a row.
 //!
-//! A wide glyph takes two columns, its left and its right half. No edit leaves
-//! a half alone: each one says what becomes of the partner of a half that it
-//! overwrites.
+//! A wide glyph takes two columns: its first cell holds the text, and the next column is its
+//! continuation cell. No edit leaves one without the other; each function says what becomes of the
+//! partner of a cell that it overwrites.
 
 ghost use Rattle.std.specs.Prelude.{◌≡◌, ◌≢◌, ◌<◌, ◌≤◌, ◌+◌, ◌-◌, ◌*◌, ◌&&◌, ◌∷◌, [], All};
 ghost use Rattle.std.specs.Prelude.{Some, encode_utf8, false, true, length, not};
@@ -19,19 +19,18 @@ ghost use Rattle.vt_rows.specs.WideTexts.{IsWideText, put_wide_text, wide_glyphs
 use std::mem;
 use vt_cells::{Attrs, Cell, cell};
 
-/// How many default blanks are made at a time: so few that the C library sets
-/// them by vector instructions.
+/// The number of default blanks written at a time: few enough that the C library copies them with
+/// vector instructions.
 const RUN: usize = 40;
 
-/// How many glyphs of a text are written at a time: so many that the loop over
-/// them is laid out one by one.
+/// The number of glyphs written at a time: few enough that the compiler unrolls the loop over them.
 const GLYPHS: usize = 8;
 
 /// Puts a narrow glyph at a column.
 ///
-/// Of a wide glyph whose right half stood there the left half becomes blank,
-/// in its own attributes. Of one whose left half stood there the right half
-/// becomes a space in `attrs`.
+/// If the column held the continuation cell of a wide glyph, the first cell of that glyph becomes a
+/// blank with its own attributes. If the column held the first cell, the continuation cell becomes
+/// a space with attributes `attrs`.
 #[inline(always)]
 pub fn put_narrow(cells: &mut [Cell], column: usize, c: char, attrs: Attrs)
     requires paired { IsPaired cells.old }
@@ -48,13 +47,12 @@ pub fn put_narrow(cells: &mut [Cell], column: usize, c: char, attrs: Attrs)
     cell::set_glyph(cell, c, false, attrs);
 }
 
-/// Puts a narrow glyph for each byte of a text of printable ASCII, from a
-/// column on, one after the other.
+/// Puts a narrow glyph at consecutive columns for each byte of printable ASCII.
 ///
-/// The row is what `put_narrow` makes of it byte by byte. Of a wide glyph
-/// whose right half stood at the first column the left half becomes blank, in
-/// its own attributes. Of one whose left half stood at the last the right half
-/// becomes a space in `attrs`.
+/// The result is that of [`put_narrow`] for each byte. If the first column held the continuation
+/// cell of a wide glyph, the first cell of that glyph becomes a blank with its own attributes. If
+/// the last column held the first cell of one, its continuation cell becomes a space with
+/// attributes `attrs`.
 #[inline]
 pub fn put_text(cells: &mut [Cell], column: usize, text: &[u8], attrs: Attrs)
     requires paired { IsPaired cells.old }
@@ -71,7 +69,7 @@ pub fn put_text(cells: &mut [Cell], column: usize, text: &[u8], attrs: Attrs)
     write_text(&mut cells[column..end], text, attrs);
 }
 
-/// Makes each cell the narrow glyph of a byte of printable ASCII, many at a time.
+/// Makes each cell the narrow glyph of a byte of printable ASCII, in groups of [`GLYPHS`].
 #[inline]
 fn write_text(cells: &mut [Cell], text: &[u8], attrs: Attrs)
     requires same { length cells.old ≡ length text.now }
@@ -103,9 +101,9 @@ fn write_each(cells: &mut [Cell], text: &[u8], attrs: Attrs)
 
 /// Puts a wide glyph at a column and the next.
 ///
-/// Of a wide glyph whose right half stood at the first the left half becomes
-/// blank, in its own attributes. Of one whose left half stood at the second
-/// the right half becomes blank, in `attrs`.
+/// If the first column held the continuation cell of a wide glyph, the first cell of that glyph
+/// becomes a blank with its own attributes. If the second column held the first cell of one, its
+/// continuation cell becomes a blank with attributes `attrs`.
 #[inline(always)]
 pub fn put_wide(cells: &mut [Cell], column: usize, c: char, attrs: Attrs)
     requires paired { IsPaired cells.old }
@@ -119,8 +117,9 @@ pub fn put_wide(cells: &mut [Cell], column: usize, c: char, attrs: Attrs)
     put_wide_cell(cells, column, cell::glyph(c, true, attrs));
 }
 
-/// Puts a wide cell at a column, and its right half at the next; neighbours as
-/// under `put_wide`, in the attributes of the cell.
+/// Puts a wide cell at a column and its continuation cell at the next.
+///
+/// Wide glyphs that are cut are treated as by [`put_wide`], with the attributes of `cell`.
 #[inline(always)]
 pub fn put_wide_cell(cells: &mut [Cell], column: usize, cell: Cell)
     requires paired { IsPaired cells.old }
@@ -136,13 +135,12 @@ pub fn put_wide_cell(cells: &mut [Cell], column: usize, cell: Cell)
     cells[column + 1] = cell::right_half();
 }
 
-/// Puts a wide glyph for each character of a text, from a column on, one after
-/// the other.
+/// Puts a wide glyph at consecutive pairs of columns for each character of a text.
 ///
-/// The row is what `put_wide` makes of it character by character. Of a wide
-/// glyph whose right half stood at the first column the left half becomes
-/// blank, in its own attributes. Of one whose left half stood at the last the
-/// right half becomes blank, in `attrs`.
+/// The result is that of [`put_wide`] for each character. If the first column held the continuation
+/// cell of a wide glyph, the first cell of that glyph becomes a blank with its own attributes. If
+/// the last column held the first cell of one, its continuation cell becomes a blank with
+/// attributes `attrs`.
 #[inline]
 pub fn put_wide_text(cells: &mut [Cell], column: usize, text: &[char], attrs: Attrs)
     requires paired { IsPaired cells.old }
@@ -159,7 +157,7 @@ pub fn put_wide_text(cells: &mut [Cell], column: usize, text: &[char], attrs: At
     write_wide(&mut cells[column..end], text, attrs);
 }
 
-/// Makes each two cells the halves of the wide glyph of a character.
+/// Makes each pair of cells the wide glyph of a character and its continuation cell.
 #[inline]
 fn write_wide(cells: &mut [Cell], text: &[char], attrs: Attrs)
     requires same { length cells.old ≡ 2 * length text.now }
@@ -173,8 +171,10 @@ fn write_wide(cells: &mut [Cell], text: &[char], attrs: Attrs)
     }
 }
 
-/// Takes the cell at a column out, and leaves a blank; a half whose partner
-/// goes becomes blank too, in its own attributes.
+/// Removes the cell at a column and returns it, leaving a blank with attributes `attrs`.
+///
+/// If the cell was one of the two cells of a wide glyph, the other one becomes a blank with its own
+/// attributes.
 pub fn lift(cells: &mut [Cell], column: usize, attrs: Attrs) -> Cell
     requires paired { IsPaired cells.old }
     requires inside { column < length cells.old }
@@ -188,10 +188,10 @@ pub fn lift(cells: &mut [Cell], column: usize, attrs: Attrs) -> Cell
     mem::replace(&mut cells[column], cell::blank(attrs))
 }
 
-/// Puts a mark, a character of width 0, on the cell at a column.
+/// Adds the combining character `mark`, of width 0, to the cell at a column.
 ///
-/// A blank becomes a space glyph first, and keeps its attributes. From
-/// [`MARK_LIMIT`](vt_cells::MARK_LIMIT) bytes of text on nothing happens.
+/// A blank first becomes a glyph of a space with the same attributes. A cell with
+/// [`MARK_LIMIT`](vt_cells::MARK_LIMIT) bytes of text or more stays as it is.
 pub fn append(cells: &mut [Cell], column: usize, mark: char)
     requires inside { column < length cells.old }
     requires shown { is_right_half (at cells.old column) ≡ false }
@@ -204,10 +204,10 @@ pub fn append(cells: &mut [Cell], column: usize, mark: char)
     cell::append(cell, mark);
 }
 
-/// Makes the glyph at a column wide, and the next column its right half.
+/// Makes the glyph at a column wide, and the next column its continuation cell.
 ///
-/// Of a wide glyph whose left half stood there the right half becomes blank,
-/// in `attrs`.
+/// If the next column held the first cell of a wide glyph, the continuation cell of that glyph
+/// becomes a blank with attributes `attrs`.
 pub fn widen(cells: &mut [Cell], column: usize, attrs: Attrs)
     requires paired { IsPaired cells.old }
     requires inside { column + 1 < length cells.old }
@@ -224,8 +224,8 @@ pub fn widen(cells: &mut [Cell], column: usize, attrs: Attrs)
     cells[column + 1] = cell::right_half();
 }
 
-/// Makes the glyph at a column narrow; its right half becomes a space in
-/// `attrs`.
+/// Makes the glyph at a column narrow. If it was wide, its continuation cell becomes a space with
+/// attributes `attrs`.
 pub fn narrow(cells: &mut [Cell], column: usize, attrs: Attrs)
     requires paired { IsPaired cells.old }
     requires inside { column < length cells.old }
@@ -240,7 +240,7 @@ pub fn narrow(cells: &mut [Cell], column: usize, attrs: Attrs)
     cell::set_wide(cell, false);
 }
 
-/// Makes all columns blank.
+/// Makes all cells blanks with attributes `attrs`.
 #[inline]
 pub fn clear(cells: &mut [Cell], attrs: Attrs)
     ensures { cells.new ≡ blanks attrs (length cells.old) }
@@ -252,8 +252,9 @@ pub fn clear(cells: &mut [Cell], attrs: Attrs)
     }
 }
 
-/// Makes all columns default blanks, many at a time. Within a caller the
-/// compiler would make one great piece of them.
+/// Makes all cells default blanks, [`RUN`] at a time.
+///
+/// It is kept out of line: inlined into a caller, the loop is compiled to one large unrolled block.
 #[inline(never)]
 fn clear_default(cells: &mut [Cell])
     ensures { cells.new ≡ blanks default_attrs (length cells.old) }
@@ -267,7 +268,7 @@ fn clear_default(cells: &mut [Cell])
     clear_each(&mut cells[done..len], Attrs::new());
 }
 
-/// Makes all columns blank, one by one.
+/// Makes all cells blanks, one by one.
 #[inline]
 fn clear_each(cells: &mut [Cell], attrs: Attrs)
     ensures { cells.new ≡ blanks attrs (length cells.old) }
@@ -277,9 +278,9 @@ fn clear_each(cells: &mut [Cell], attrs: Attrs)
     }
 }
 
-/// Makes the columns from `start` up to `end` blank.
+/// Makes the columns from `start` up to but excluding `end` blanks with attributes `attrs`.
 ///
-/// A half whose partner is erased becomes blank too, in its own attributes.
+/// If one cell of a wide glyph is erased, the other one becomes a blank with its own attributes.
 pub fn erase(cells: &mut [Cell], start: usize, end: usize, attrs: Attrs)
     requires paired { IsPaired cells.old }
     requires some { start < end }
@@ -293,7 +294,7 @@ pub fn erase(cells: &mut [Cell], start: usize, end: usize, attrs: Attrs)
     clear(&mut cells[start..end], attrs);
 }
 
-/// Whether the last column is blank.
+/// Returns whether the last cell is a blank. A row without columns counts as ending with one.
 #[inline]
 pub fn ends_blank(cells: &[Cell]) -> bool
     ensures { result ≡ ends_blank cells.now }
@@ -304,8 +305,8 @@ pub fn ends_blank(cells: &[Cell]) -> bool
     }
 }
 
-/// The wrapped flag of a row after a print or an erase left these cells: it
-/// falls where the last column is blank.
+/// Returns the wrapped flag of a row after a print or an erase has left these cells: a row whose
+/// last cell is blank is no longer wrapped.
 #[inline]
 pub fn flag_left(cells: &[Cell], wrapped: bool) -> bool
     ensures { result ≡ (wrapped && not (ends_blank cells.now)) }
@@ -313,7 +314,8 @@ pub fn flag_left(cells: &[Cell], wrapped: bool) -> bool
     wrapped && !ends_blank(cells)
 }
 
-/// Before a column is overwritten: blanks the left half of a right half there.
+/// Prepares a column to be overwritten: if it holds a continuation cell, makes the first cell of
+/// that wide glyph a blank.
 #[tactic(auto, unfolding(crate::specs::Internals::left_blanked))]
 #[inline]
 pub(crate) fn blank_left(cells: &mut [Cell], column: usize)
@@ -327,8 +329,8 @@ pub(crate) fn blank_left(cells: &mut [Cell], column: usize)
     }
 }
 
-/// Before a column is overwritten: makes the right half of a left half there a
-/// space.
+/// Prepares a column to be overwritten: if it holds the first cell of a wide glyph, makes its
+/// continuation cell a space with attributes `attrs`.
 #[tactic(auto, unfolding(crate::specs::Internals::right_replaced))]
 #[inline]
 fn space_right(cells: &mut [Cell], column: usize, attrs: Attrs)
@@ -341,7 +343,8 @@ fn space_right(cells: &mut [Cell], column: usize, attrs: Attrs)
     }
 }
 
-/// Before a column is overwritten: blanks the right half of a left half there.
+/// Prepares a column to be overwritten: if it holds the first cell of a wide glyph, makes its
+/// continuation cell a blank with attributes `attrs`.
 #[tactic(auto, unfolding(crate::specs::Internals::right_replaced))]
 #[inline]
 pub(crate) fn blank_right(cells: &mut [Cell], column: usize, attrs: Attrs)

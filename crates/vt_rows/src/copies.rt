@@ -1,4 +1,4 @@
-//! Copies of cells, as memory.
+//! Bulk copies of cells.
 
 ghost use Rattle.std.specs.Prelude.{◌≡◌, ◌≤◌, ◌+◌, ◌++◌, IfOk, length, vec_capacity, vec_len};
 ghost use Rattle.vt_cells.specs.Attrs.{default_attrs};
@@ -8,16 +8,19 @@ ghost use Rattle.vt_rows.specs.Cells.{blanks};
 use std::alloc::Global;
 use vt_cells::{Cell, Error, cell};
 
-/// How many cells are copied at a time: so few that the C library moves them by
-/// vector instructions.
+/// The number of cells copied at a time: few enough that the C library copies them with vector
+/// instructions.
 const PIECE: usize = 96;
 
-/// How many blanks are made at a time, for the same reason.
+/// The number of blanks written at a time: few enough that the C library copies them with vector
+/// instructions.
 const BLANKS: usize = 48;
 
-/// A copy of cells.
+/// Returns a copy of the cells.
 ///
-/// Fails where its memory is refused.
+/// # Errors
+///
+/// Returns [`Error::OutOfMemory`] if the copy cannot be allocated.
 pub fn copied(alloc: Global, cells: &[Cell]) -> Result<Vec<Cell>, Error>
     ensures ok { IfOk result (λ copies. copies.items ≡ cells.now) }
     ensures memory { OnlyOutOfMemory result }
@@ -27,9 +30,11 @@ pub fn copied(alloc: Global, cells: &[Cell]) -> Result<Vec<Cell>, Error>
     Ok(copies)
 }
 
-/// Default blanks.
+/// Returns a vector of `count` default blanks.
 ///
-/// Fails where their memory is refused.
+/// # Errors
+///
+/// Returns [`Error::OutOfMemory`] if the vector cannot be allocated.
 pub fn blank_cells(alloc: Global, count: usize) -> Result<Vec<Cell>, Error>
     ensures ok { IfOk result (λ cells. cells.items ≡ blanks default_attrs count) }
     ensures memory { OnlyOutOfMemory result }
@@ -42,7 +47,7 @@ pub fn blank_cells(alloc: Global, count: usize) -> Result<Vec<Cell>, Error>
     Ok(cells)
 }
 
-/// Appends copies of cells, for which there is room.
+/// Appends copies of the cells `from`. The vector must have the capacity for them.
 pub fn push_copies(cells: &mut Vec<Cell>, from: &[Cell])
     requires { vec_len cells.old + length from.now ≤ vec_capacity cells.old }
     ensures { cells.new.items ≡ cells.old.items ++ from.now }
@@ -55,7 +60,7 @@ pub fn push_copies(cells: &mut Vec<Cell>, from: &[Cell])
     }
 }
 
-/// Copies cells over as many others.
+/// Overwrites `cells` with the cells `from`, which are as many.
 pub fn copy_over(cells: &mut [Cell], from: &[Cell])
     requires { length cells.old ≡ length from.now }
     ensures { cells.new ≡ from.now }

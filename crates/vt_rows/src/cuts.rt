@@ -10,7 +10,7 @@ ghost use Rattle.vt_rows.specs.Row.{trimmed};
 use crate::copies::copy_over;
 use vt_cells::{Attrs, Cell, cell};
 
-/// How many columns are left without the default blanks at the end.
+/// Returns the number of columns without the default blanks at the end.
 pub fn trimmed_len(cells: &[Cell]) -> usize
     ensures inside { result ≤ length cells.now }
     ensures value { take result cells.now ≡ trimmed cells.now }
@@ -25,8 +25,8 @@ pub fn trimmed_len(cells: &[Cell]) -> usize
     len
 }
 
-/// Whether eight cells are default blanks. All are looked at, without a branch
-/// between them.
+/// Returns whether eight cells are all default blanks. It tests all of them, without branches in
+/// between.
 #[inline(always)]
 fn eight_default(cells: &[Cell]) -> bool
     requires { length cells.now ≡ 8 }
@@ -35,7 +35,7 @@ fn eight_default(cells: &[Cell]) -> bool
     four_default(&cells[..4]) & four_default(&cells[4..])
 }
 
-/// Whether four cells are default blanks.
+/// Returns whether four cells are all default blanks.
 #[inline(always)]
 fn four_default(cells: &[Cell]) -> bool
     requires { length cells.now ≡ 4 }
@@ -44,10 +44,9 @@ fn four_default(cells: &[Cell]) -> bool
     is_default(&cells[0]) & is_default(&cells[1]) & is_default(&cells[2]) & is_default(&cells[3])
 }
 
-/// Copies the cells of one row into another, a blank one of any width, as far
-/// as they fit.
+/// Copies the cells of a row into another row, a blank one of any width, up to the shorter width.
 ///
-/// A left half in the last column that is left becomes blank, in its own
+/// If the last column then holds the first cell of a wide glyph, it becomes a blank with its own
 /// attributes.
 pub fn refit(cells: &mut [Cell], from: &[Cell])
     requires blank { cells.old ≡ blanks default_attrs (length cells.old) }
@@ -59,7 +58,7 @@ pub fn refit(cells: &mut [Cell], from: &[Cell])
     blank_end(cells);
 }
 
-/// Blanks a left half in the last column, in its own attributes.
+/// Makes the last cell a blank with its own attributes if it is the first cell of a wide glyph.
 #[tactic(auto, unfolding(crate::specs::Internals::end_blanked))]
 pub fn blank_end(cells: &mut [Cell])
     ensures { cells.new ≡ end_blanked cells.old }
@@ -74,7 +73,7 @@ pub fn blank_end(cells: &mut [Cell])
     }
 }
 
-/// Whether the cell is a default blank.
+/// Returns whether the cell is a default blank.
 #[inline]
 pub(crate) fn is_default(cell: &Cell) -> bool
     ensures { result ≡ is_default_blank cell.now }

@@ -1,4 +1,4 @@
-//! Rows of cells, and what happens within a row.
+//! Rows of cells, edits within a row, and captures.
 #![tactic(auto)]
 
 pub mod capture;

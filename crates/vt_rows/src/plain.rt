@@ -1,4 +1,4 @@
-//! The plain text of columns of a row.
+//! The plain text of the columns of a row.
 
 ghost use Rattle.std.specs.Prelude.{◌≡◌, ◌<◌, ◌≤◌, ◌+◌, ◌++◌, drop, length, replicate, take, IfOk, IsErr, OnErr, OnOk};
 ghost use Rattle.vt_rows.specs.Internals.{Gathers, gap_behind, plain_behind, text_behind};
@@ -6,17 +6,21 @@ ghost use Rattle.vt_rows.specs.Plain.{has_glyph, plain_text};
 
 use vt_cells::{Buffer, Cell, Sink};
 
-/// As many spaces as are written at once.
+/// The spaces that are written at a time.
 const SPACES: &str = "                ";
 
-/// Writes the text of the columns from `start` up to `stop`, as far as the row
-/// has them, without attributes.
+/// Writes the plain text of the columns from `start` up to but excluding `stop`, without
+/// attributes. Columns beyond the row are ignored.
 ///
-/// It ends with the last glyph that begins in these columns; before and
-/// between glyphs a column is a space. A wide glyph that begins in the last of
-/// these columns is written whole, and the right half of one that begins
-/// before the first is a space. An error is the sink's own; then part of the
-/// text may have been appended. An empty text is never refused.
+/// The text ends with the last glyph that begins in these columns; a column without a glyph before
+/// that is written as a space. A wide glyph that begins in the last of these columns is written
+/// whole. The continuation cell of a wide glyph that begins before the first column is written as a
+/// space.
+///
+/// # Errors
+///
+/// Returns the sink's error. Part of the text may have been written by then. An empty text never
+/// fails.
 #[tactic(auto, unfolding(crate::specs::Plain::plain_text), using(crate::proofs::PlainTexts::plain_rows))]
 pub fn write_contents<S: Sink>(
     sink: &mut S,
@@ -35,7 +39,7 @@ pub fn write_contents<S: Sink>(
     }
 }
 
-/// Whether a glyph begins in the columns from `start` up to `stop`.
+/// Returns whether a glyph begins in the columns from `start` up to but excluding `stop`.
 pub fn has_contents(cells: &[Cell], start: usize, stop: usize) -> bool
     ensures { result ≡ has_glyph start stop cells.now }
 {
@@ -48,7 +52,8 @@ pub fn has_contents(cells: &[Cell], start: usize, stop: usize) -> bool
     false
 }
 
-/// The columns from `start` up to `stop`, as far as the row has them.
+/// Returns the cells of the columns from `start` up to but excluding `stop`, limited to those that
+/// the row has.
 #[inline]
 #[tactic(auto, using(std::proofs::lemmas::List::take_min, std::proofs::lemmas::List::drop_min))]
 fn columns_between(cells: &[Cell], start: usize, stop: usize) -> &[Cell]
@@ -58,7 +63,7 @@ fn columns_between(cells: &[Cell], start: usize, stop: usize) -> &[Cell]
     &left[start.min(left.len())..]
 }
 
-/// Writes the text of cells behind `gap` columns without a glyph.
+/// Writes the text of cells that follow `gap` columns without a glyph.
 #[tactic(auto, using(vt_cells::proofs::Buffers::nothing_gathered))]
 fn write_behind<S: Sink>(sink: &mut S, cells: &[Cell], gap: usize) -> Result<(), S::Error>
     requires { gap + length cells.now ≤ 18446744073709551615 }
@@ -74,8 +79,8 @@ fn write_behind<S: Sink>(sink: &mut S, cells: &[Cell], gap: usize) -> Result<(),
     Ok(())
 }
 
-/// Adds a cell behind `gap` columns without a glyph, if it is one, and answers
-/// how many such columns there are behind it.
+/// Appends a cell that follows `gap` columns without a glyph, if it is a glyph. Returns the number
+/// of such columns after the cell.
 #[inline(always)]
 fn add_cell<S: Sink>(
     sink: &mut S,
@@ -100,7 +105,7 @@ fn add_cell<S: Sink>(
     }
 }
 
-/// Adds a number of spaces: mostly none.
+/// Appends `count` spaces. The usual count is 0, which is handled inline.
 #[inline(always)]
 fn add_spaces<S: Sink>(sink: &mut S, buffer: &mut Buffer, count: usize) -> Result<(), S::Error>
     ensures added { OnOk result
@@ -113,7 +118,7 @@ fn add_spaces<S: Sink>(sink: &mut S, buffer: &mut Buffer, count: usize) -> Resul
     add_gap(sink, buffer, count)
 }
 
-/// Adds the spaces of a gap.
+/// Appends `count` spaces, 16 at a time while that many are left.
 #[inline(never)]
 fn add_gap<S: Sink>(sink: &mut S, buffer: &mut Buffer, count: usize) -> Result<(), S::Error>
     ensures added { OnOk result

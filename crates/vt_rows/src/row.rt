@@ -1,4 +1,4 @@
-//! One row of a screen.
+//! An owned row of cells.
 
 ghost use Rattle.std.specs.Prelude.{◌≡◌, ◌&&◌, ◌<◌, IfOk, IsErr, OnErr, OnOk, length};
 ghost use Rattle.vt_cells.specs.Attrs.{default_attrs};
@@ -13,7 +13,7 @@ use std::alloc::Global;
 use std::marker::Model;
 use vt_cells::{Cell, Error};
 
-/// A row: its cells, and whether its text goes on in the row below.
+/// An owned row: its cells, and whether the row is wrapped (its text continues on the next row).
 #[derive(Debug, Drop)]
 pub struct Row {
     cells: Vec<Cell>,
@@ -29,9 +29,11 @@ impl Model for Row {
 }
 
 impl Row {
-    /// A row of default blanks, not wrapped.
+    /// Creates a row of default blanks that is not wrapped.
     ///
-    /// Fails where its memory is refused.
+    /// # Errors
+    ///
+    /// Returns [`Error::OutOfMemory`] if the cells cannot be allocated.
     pub fn new(alloc: Global, columns: usize) -> Result<Row, Error>
         ensures ok { IfOk result (λ row. row ≡ blank_row default_attrs columns) }
         ensures memory { OnlyOutOfMemory result }
@@ -43,9 +45,11 @@ impl Row {
         })
     }
 
-    /// A copy of the row.
+    /// Returns a copy of the row.
     ///
-    /// Fails where its memory is refused.
+    /// # Errors
+    ///
+    /// Returns [`Error::OutOfMemory`] if the cells cannot be allocated.
     pub fn try_clone(&self, alloc: Global) -> Result<Row, Error>
         ensures ok { IfOk result (λ row. row ≡ self.now) }
         ensures memory { OnlyOutOfMemory result }
@@ -57,9 +61,11 @@ impl Row {
         })
     }
 
-    /// A row of cells and a flag, without the default blanks at its end.
+    /// Creates a row that is a copy of `cells` without the default blanks at their end.
     ///
-    /// Fails where its memory is refused.
+    /// # Errors
+    ///
+    /// Returns [`Error::OutOfMemory`] if the cells cannot be allocated.
     pub fn trimmed_copy(alloc: Global, cells: &[Cell], wrapped: bool) -> Result<Row, Error>
         ensures ok { IfOk result (λ row. row ≡ trimmed_row (record { cells = cells.now; wrapped = wrapped })) }
         ensures memory { OnlyOutOfMemory result }
@@ -69,7 +75,7 @@ impl Row {
         Ok(Row { cells, wrapped })
     }
 
-    /// How many columns the row has.
+    /// Returns the number of columns of the row.
     #[inline]
     pub fn cols(&self) -> usize
         ensures { result ≡ length self.now.cells }
@@ -77,7 +83,7 @@ impl Row {
         self.cells.len()
     }
 
-    /// The cells, from the first column on.
+    /// Returns the cells, from left to right.
     #[inline]
     pub fn cells(&self) -> &[Cell]
         ensures { result.now ≡ self.now.cells }
@@ -85,7 +91,7 @@ impl Row {
         &self.cells
     }
 
-    /// Whether the text goes on in the row below.
+    /// Returns whether the row is wrapped, that is, its text continues on the next row.
     #[inline]
     pub fn wrapped(&self) -> bool
         ensures { result ≡ self.now.wrapped }
@@ -93,11 +99,13 @@ impl Row {
         self.wrapped
     }
 
-    /// Hands the row on, and is then a copy of other cells and their flag,
-    /// without the default blanks at their end, in the memory that it has.
+    /// Passes the row to `leaving` and then reuses its memory: the row becomes a copy of `cells`
+    /// without the default blanks at their end.
     ///
-    /// Fails where they are more than its own cells, and memory for them is
-    /// refused; then the row is as it was and was not handed on.
+    /// # Errors
+    ///
+    /// Returns [`Error::OutOfMemory`] if more cells are needed than the row has and the allocation
+    /// fails. The row is then unchanged and was not passed to `leaving`.
     pub fn leave_for<L: Leaving>(
         &mut self,
         cells: &[Cell],
@@ -121,11 +129,11 @@ impl Row {
         Ok(())
     }
 
-    /// Takes over the cells of another row, as far as they fit; this one is
-    /// blank before, of any width.
+    /// Takes over the cells of the row `from`, up to the shorter width. This row must be blank and
+    /// may have any width.
     ///
-    /// A left half that comes to stand in the last column becomes blank, in
-    /// its own attributes. The flag stays where the widths are equal.
+    /// If the last column then holds the first cell of a wide glyph, it becomes a blank with its
+    /// own attributes. The row is wrapped if `from` is and both widths are equal.
     pub fn refit(&mut self, from: Row)
         requires blank { self.old ≡ blank_row default_attrs (length self.old.cells) }
         requires paired { IsPaired from.cells }
@@ -136,7 +144,7 @@ impl Row {
     }
 }
 
-/// The flag of a row that got another width, or the same.
+/// Returns the wrapped flag of a row that was resized; `same` says whether its width is unchanged.
 pub fn flag_kept(wrapped: bool, same: bool) -> bool
     ensures { result ≡ (wrapped && same) }
 {

@@ -1,4 +1,4 @@
-//! Moves of cells within a row: columns inserted and deleted.
+//! Insertion and deletion of columns within a row.
 
 ghost use Rattle.std.specs.Prelude.{◌≡◌, ◌≤◌, ◌+◌, ℕ, All, length, slice_index_or};
 ghost use Rattle.vt_cells.specs.Cell.{IsCell};
@@ -8,10 +8,10 @@ ghost use Rattle.vt_rows.specs.Internals.{turn_source};
 use crate::{cells, cuts};
 use vt_cells::{Attrs, Cell};
 
-/// Inserts default blanks at a column; what passes the end is lost (ICH).
+/// Inserts `count` default blanks at a column; cells that are pushed past the end are lost (ICH).
 ///
-/// On a right half they are inserted behind it. A left half that comes to
-/// stand in the last column becomes blank, in its own attributes.
+/// If the column holds a continuation cell, the blanks are inserted after it. If the last column
+/// then holds the first cell of a wide glyph, it becomes a blank with its own attributes.
 pub fn insert(cells: &mut [Cell], column: usize, count: usize)
     requires paired { IsPaired cells.old }
     requires inside { column ≤ length cells.old }
@@ -27,10 +27,10 @@ pub fn insert(cells: &mut [Cell], column: usize, count: usize)
     cuts::blank_end(cells);
 }
 
-/// Deletes columns, at most to the end; what stands behind them moves left,
-/// and default blanks fill up (DCH).
+/// Deletes `count` columns, at most to the end of the row; the cells after them move left, and
+/// default blanks fill the end (DCH).
 ///
-/// A half whose partner is deleted becomes blank, in its own attributes.
+/// If one cell of a wide glyph is deleted, the other one becomes a blank with its own attributes.
 pub fn delete(cells: &mut [Cell], column: usize, count: usize)
     requires paired { IsPaired cells.old }
     requires inside { column ≤ length cells.old }
@@ -49,7 +49,7 @@ pub fn delete(cells: &mut [Cell], column: usize, count: usize)
     cells::clear(&mut cells[len - count..len], Attrs::new());
 }
 
-/// Rotates the part of a slice from `from` up to `to` left by `count`.
+/// Rotates the items from index `from` up to but excluding `to` left by `count`.
 pub fn turn<T>(items: &mut [T], from: usize, to: usize, count: usize)
     requires in_order { from + count ≤ to }
     requires inside { to ≤ length items.old }
@@ -60,7 +60,8 @@ pub fn turn<T>(items: &mut [T], from: usize, to: usize, count: usize)
     items[from..to].rotate_left(count);
 }
 
-/// The column at which cells are inserted: behind a pair, not within it.
+/// Returns the column at which cells are inserted: after the two cells of a wide glyph, not between
+/// them.
 fn insert_column(cells: &[Cell], column: usize) -> usize
     requires paired { IsPaired cells.now }
     requires inside { column ≤ length cells.now }

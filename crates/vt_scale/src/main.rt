@@ -1,8 +1,9 @@
-//! `vt_scale WHAT CALL ROWS COLS CAPACITY VIEWERS EVERY FILE`: has a mirror with many viewers read FILE,
-//! so that its memory and its instructions can be measured (`bench/mirrors`).
+//! `vt_scale WHAT CALL ROWS COLS CAPACITY VIEWERS EVERY FILE`: feeds FILE to a mirror with many
+//! viewers, so that its memory and its instructions can be measured (`bench/mirrors`).
 //!
-//! WHAT says when viewers are updated (see [`Work`]), CALL is `update` or `update_scrolling`. Prints how
-//! many updates there were, how many of them were full, and how many bytes the differences had.
+//! WHAT says when viewers are updated (see [`Work`]), and CALL is `update` or `update_scrolling`.
+//! Prints the number of updates, the number of full ones among them, and the total length of the
+//! differences in bytes.
 #![tactic(auto)]
 
 use anyhow::{Context, Result, bail};
@@ -12,26 +13,26 @@ use std::rt::{Env, Files};
 use std::{env, fs};
 use vt_mirror::{Mirror, Update};
 
-/// How many groups of viewers take turns in [`Work::Lag`].
+/// The number of groups of viewers that take turns in [`Work::Lag`].
 const GROUPS: u64 = 16;
 
-/// When viewers are updated.
+/// The schedule by which viewers are updated.
 #[derive(Clone, Copy)]
 enum Work {
-    /// All viewers after each EVERY bytes.
+    /// All viewers are updated after every EVERY bytes.
     Step,
 
-    /// One of sixteen groups of viewers after each EVERY bytes, in turn.
+    /// One of sixteen groups of viewers, in turn, is updated after every EVERY bytes.
     Lag,
 
-    /// All viewers EVERY times after the whole file.
+    /// All viewers are updated EVERY times after the whole file.
     Idle,
 
-    /// No viewers: the file is only read, EVERY bytes at a time.
+    /// There are no viewers: the file is only parsed, EVERY bytes at a time.
     Read,
 }
 
-/// What the command line asks for.
+/// The measurement that the command-line arguments specify.
 #[derive(Clone, Copy)]
 struct Task {
     work: Work,
@@ -40,7 +41,7 @@ struct Task {
     every: usize,
 }
 
-/// What was measured.
+/// The counts that were measured.
 #[derive(Drop)]
 struct Totals {
     updates: u64,
@@ -88,7 +89,7 @@ fn run<R: AllocGlobal + Env + Files + Print>(rt: &R) -> Result<()> {
     Ok(())
 }
 
-/// Returns the work of a name.
+/// Returns the work of this name.
 fn work_named(name: &str) -> Option<Work> {
     match name {
         "step" => Some(Work::Step),
@@ -99,7 +100,7 @@ fn work_named(name: &str) -> Option<Work> {
     }
 }
 
-/// Returns a mirror with the viewers of a task.
+/// Creates a mirror with the viewers of a task.
 fn mirror_with(
     alloc: Global,
     rows: NonZeroU16,
@@ -116,7 +117,7 @@ fn mirror_with(
     Ok(mirror)
 }
 
-/// Does the work of a task.
+/// Does the work of a task, and returns the counts.
 fn measured(mut mirror: Mirror, task: Task, bytes: &[u8]) -> Result<Totals> {
     let mut totals = Totals {
         updates: 0,

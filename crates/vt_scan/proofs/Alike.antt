@@ -1,4 +1,4 @@
--- States of the automaton that read alike: one and the same scanner may be in both, and no byte ever tells them apart.
+-- Equivalent states of the automaton: one scanner may be in either, and no byte ever distinguishes them.
 use Rattle.std.proofs.Common.{◌≡◌, ◌≢◌, ℕ, Bool, true, false, not, ◌⊎◌, List, [], ◌∷◌, ◌++◌}
 use Rattle.std.proofs.Common.{take, filter, inl, inr, refl, sym, subst, ◌∙◌, ap, rules}
 use Rattle.std.proofs.Math.Logic.{⊎_elim}
@@ -24,7 +24,7 @@ use Rattle.vt_scan.proofs.Stepping.{step_in-table}
 abbrev pub at : Kind → List ℕ → State
 at kind collected = record { kind = kind; collected = collected }
 
--- what a scanner holds that has read just this
+-- What a scanner holds that has read exactly the bytes collected in a state.
 abbrev pub held_of : State → Held
 held_of state = record {
   kind = state.kind;
@@ -37,7 +37,7 @@ held_of state = record {
 abbrev pub Alike : State → State → Type 0
 Alike s t = StandsFor (held_of s) t
 
--- of one kind, by the collected bytes
+-- Two collected texts are equivalent in a kind of state.
 abbrev pub AlikeIn : Kind → List ℕ → List ℕ → Type 0
 AlikeIn kind a b = Reads (held_of (at kind a)) kind b
 
@@ -77,7 +77,7 @@ other_reads CsiIgnore held a b e r = tt
 other_reads OscString held a b e r = r ∙ e
 other_reads Skip held a b e r = tt
 
--- states that one scanner may be in are alike
+-- States that one scanner may be in are equivalent.
 pub both_stand : (held : Held) (s t : State) → StandsFor held s → StandsFor held t → Alike s t
 both_stand held s t p q =
     record {
@@ -87,7 +87,7 @@ both_stand held s t p q =
           (both_read held.kind held s.collected t.collected p.reads q.reads);
     }
 
--- and a scanner that may be in one of them may be in the other
+-- A scanner that may be in a state may be in every equivalent one.
 pub other_stands : (held : Held) (s t : State) → Alike s t → StandsFor held s → StandsFor held t
 other_stands held s t e p =
     record {
@@ -97,9 +97,9 @@ other_stands held s t e p =
           (subst (λ (k : Kind). AlikeIn k s.collected t.collected) (sym p.kind) e.reads) p.reads;
     }
 
--- one byte
+-- ---- One byte
 
--- alike, with the same events on the way
+-- Two steps lead to equivalent states with the same events.
 pub record Same (x y : Step) : Type 0 where
   pub alike : Alike x.state y.state
   pub events : x.events ≡ y.events
@@ -107,11 +107,11 @@ pub record Same (x y : Step) : Type 0 where
 same_itself : (x : Step) → Same x x
 same_itself x = record { alike = itself x.state; events = refl }
 
--- what all turns of the table have in common
+-- Every transition of the table has the shared property.
 turn_fits : (kind : Kind) (class : Class) → Fits kind (turn_of kind class)
 turn_fits kind class = search rules
 
--- of two texts that are alike within a sequence, also those with one more byte are
+-- If two texts are equivalent inside a sequence, so are both with one more byte.
 sequence_more : (kind next : Kind) (a b : List ℕ) (x : ℕ) → ReadsSequence (held_of (at kind a)) b →
     ReadsSequence (held_of (at next (a ++ x ∷ []))) (b ++ x ∷ [])
 sequence_more kind next a b x r = by (is_parameter x) refl
@@ -132,7 +132,7 @@ sequence_more kind next a b x r = by (is_parameter x) refl
           ∙ ap (take 2) (sym (filter-yes (λ y. not (is_parameter y)) b x (ap not is)));
     }
 
--- within the text of a command both are the same
+-- Equivalent texts of an operating system command are equal.
 same_text : (kind : Kind) (a b : List ℕ) → kind ≡ OscString → AlikeIn kind a b → a ≡ b
 same_text kind a b is r = subst (λ (k : Kind). AlikeIn k a b) is r
 
@@ -189,7 +189,7 @@ step_alike kind a b x r =
     (λ (other : kind ≢ Ground). in_table kind a b x other r)
     (ground_or_not kind)
 
--- many bytes
+-- Runs from equivalent states lead to equivalent states with the same events.
 pub runs_alike : (s t : State) (bytes : List ℕ) → Alike s t → Same (run s bytes) (run t bytes)
 runs_alike s t [] e = record { alike = e; events = refl }
 runs_alike s t (x ∷ bytes) e =

@@ -7,7 +7,7 @@ use Rattle.std.specs.List.{slice_split}
 use Rattle.vt_scan.proofs.Lists.{on_last, on_last-push, slice_split-push, slice_split-push_cut}
 use Rattle.vt_scan.proofs.Rows.{part-last}
 
--- all ends with the part that ends at i
+-- The parts of the text are those so far, with the last one ending at i.
 abbrev pub Cuts : List (List ℕ) → ℕ → ℕ → List ℕ → Type 0
 Cuts all start i text = all ++ take (i - start) (drop start text) ∷ [] ≡ slice_split (λ b. b == 0x3B) (take i text)
 

@@ -1,4 +1,4 @@
--- What is held after a byte stands for the state that follows.
+-- What the scanner holds after a byte represents the next state.
 use Rattle.std.proofs.Common.{◌≡◌, ◌≢◌, ℕ, ◌==◌, ◌<◌, ◌≤◌, length, map, true, false, List, [], ◌∷◌, ◌++◌}
 use Rattle.std.proofs.Common.{Some, None, inl, refl, sym, subst, ◌∙◌, ap}
 use Rattle.std.specs.Option.{option_to_list}
@@ -35,12 +35,12 @@ one_event e = record { first = Some e; second = None }
 pub some_from : (text : List ℕ) → false ≡ (length text == 0) → text ≢ []
 some_from text e none = false≢true (e ∙ ap (λ (t : List ℕ). length t == 0) none)
 
--- a step that is known
+-- What follows a step follows an equal step.
 pub follows_as : (new : Held) (answer : Events) (step known : Step) →
     step ≡ known → Follows new answer known → Follows new answer step
 follows_as new answer step known e f = subst (λ (s : Step). Follows new answer s) (sym e) f
 
--- in Ground an unfinished character is all that is held
+-- In the ground state, the bytes of an incomplete character are all that matters.
 pub stands_at : (held : Held) (text : List ℕ) → held.kind ≡ Ground →
     held.unfinished ≡ text → StandsFor held (record { kind = Ground; collected = text })
 stands_at held text is same = record { kind = is; reads = subst (λ (k : Kind). Reads held k text) (sym is) same }
@@ -80,14 +80,14 @@ fed_character unfinished now new b code answer same some is extends e =
     subst (λ (l : List ℕ). Follows new answer (step_in Ground l b))
     same (character unfinished new b code answer some is extends e)
 
--- an answer of one event, behind another one
+-- The events of an answer with one event, after another event.
 alone : (held : Held) (e : automaton.Event) (events : Events) → events.second ≡ None
     → e ∷ map (event_of held) (option_to_list events.first) ≡ e ∷ events_in held events
 alone held e events s =
     ap (λ l. e ∷ map (event_of held) l)
     (sym (ap (λ o. option_to_list events.first ++ option_to_list o) s ∙ append-nil (option_to_list events.first)))
 
--- the second event of an answer is the first one of another
+-- The step for a byte that breaks an incomplete character: a U+FFFD, and then the event of the byte itself.
 pub fed_broken : (unfinished : List ℕ) (new : Held) (b : ℕ) (events answer : Events) (left : List ℕ)
     → unfinished ≢ [] → Extends unfinished b Broken left
     → Follows new events (fresh_step b) → events.second ≡ None
@@ -104,7 +104,7 @@ fed_broken unfinished new b events answer left some extends f single e =
           ∙ ap (λ l. automaton.Character 0xFFFD ∷ l) f.means;
     })
 
--- a byte where no character is unfinished
+-- The step for a printable byte when no character is incomplete.
 pub fresh_character : (held : Held) (b code : ℕ) (answer : Events)
     → held.kind ≡ Ground → held.unfinished ≡ [] → 0x20 ≤ b → b < 0x80 → code ≡ b
     → answer ≡ one_event (given.Character code) → Follows held answer (fresh_step b)
@@ -155,7 +155,7 @@ fresh_broken held b answer is none high broken e =
     (gives Ground [] (automaton.Character 0xFFFD ∷ [])) (fresh_step-broken b high broken)
     (subst (λ (a : Events). Follows held a (gives Ground [] (automaton.Character 0xFFFD ∷ []))) (sym e) known)
 
--- a printable character in plain text leaves all as it is
+-- A printable byte in the ground state leaves what is held unchanged.
 pub text_feeds : (held : Held) (b : ℕ) → held.kind ≡ Ground → held.unfinished ≡ [] →
     0x20 ≤ b → b < 0x80 → Feeds held b held (one_event (given.Character b))
 text_feeds held b is none low high = λ s stands.
@@ -166,7 +166,7 @@ text_feeds held b is none low high = λ s stands.
     (subst (λ (c : List ℕ). Follows held (one_event (given.Character b)) (step_in Ground c b)) (sym collected)
     (fresh_character held b b (one_event (given.Character b)) is none low high refl refl))
 
--- and so does a control function of one byte
+-- A control character in the ground state leaves what is held unchanged.
 pub control_feeds : (held : Held) (b : ℕ) → held.kind ≡ Ground → held.unfinished ≡ [] →
     b < 0x20 → b ≢ 0x1B → Feeds held b held (one_event (given.Executed b))
 control_feeds held b is none low other = λ s stands.
@@ -177,7 +177,7 @@ control_feeds held b is none low other = λ s stands.
     (subst (λ (c : List ℕ). Follows held (one_event (given.Executed b)) (step_in Ground c b)) (sym collected)
     (fresh_control held b (one_event (given.Executed b)) is none low other refl))
 
--- what an ending of a sequence gives: nothing that its events are read from is cleared by what begins
+-- The events at the end of a sequence: entering the next state clears nothing that they refer to.
 given_by : (old new : Held) (next : Kind) (end : ending.Ending) (text : List ℕ) (b : ℕ) → old.kind ≢ Ground
     → FitsEnding old.kind next end → Begins old new next → Reads old old.kind text
     → events_in new (answer_of end b) ≡ automaton.given end text b
@@ -199,7 +199,7 @@ given_by old new next ends.OscDispatchAndExecuted text b other fits begun reads 
     let was : old.text ≡ text = subst (λ (k : Kind). Reads old k text) fits.0 reads in
     ap (λ t. automaton.OscDispatch (parts_of t) ∷ automaton.Executed b ∷ []) (begun.text (inl fits.1) ∙ was)
 
--- a byte that ends a sequence, by the table
+-- A byte that ends a sequence according to the table makes the step of the automaton.
 pub fed_end : (old new : Held) (next : Kind) (end : ending.Ending) (b : ℕ) (answer : Events) → old.kind ≢ Ground
     → turn_of old.kind (class_of b) ≡ End next end → Fits old.kind (End next end) → Begins old new next
     → answer ≡ answer_of end b → Feeds old b new answer

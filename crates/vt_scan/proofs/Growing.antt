@@ -1,5 +1,5 @@
--- What is kept of a text tells what is kept of it with one more byte:
--- the table of a parameter text, and the first two intermediates.
+-- What is kept of a text determines what is kept of it with one more byte: the table of the parameters, and the first
+-- two intermediates.
 use Rattle.std.proofs.Common.{◌≡◌, ℕ, zero, suc, ◌<◌, ◌≤◌, nat_lt, true, List, []}
 use Rattle.std.proofs.Common.{◌∷◌, ◌++◌, take, refl, sym, subst, ◌∙◌, ap, arith}
 use Rattle.std.proofs.Math.Logic.{⊎_elim}
@@ -14,7 +14,7 @@ use Rattle.vt_scan.proofs.Rows.{total-append, total-digit, total-number, first_n
 use Rattle.vt_scan.proofs.Rows.{first_numbers-number, first_numbers-groups}
 use Rattle.vt_scan.proofs.Tables.{table, whole, cut, whole_is, is_cut}
 
--- a byte of the parameter text is a digit, `:` or `;`
+-- A parameter byte is a digit, `:` or `;`.
 parameter_cases : (P : ℕ → Type 0) (b : ℕ) → is_parameter b ≡ true → (b < 0x3A → P b) → P 0x3A → P 0x3B → P b
 parameter_cases P b is digit colon semicolon =
     let most : b < 0x3C = grind (arith, nat_tests) in
@@ -27,7 +27,7 @@ parameter_cases P b is digit colon semicolon =
     (cases_lt b 0x3B))
     (cases_lt b 0x3A)
 
--- the table goes by the groups alone
+-- The table depends only on the groups.
 table-groups : (text other : List ℕ) → groups_of text ≡ groups_of other → table_of text ≡ table_of other
 unfolding table_of
 table-groups text other e = ap (λ g. table (first_numbers 32 g) (nat_lt 32 (total g))) e
@@ -41,7 +41,7 @@ groups-more text other b is e =
     (groups_of-colon text ∙ ap (on_last with_number) e ∙ sym (groups_of-colon other))
     (groups_of-semicolon text ∙ ap (λ g. g ++ (0 ∷ []) ∷ []) e ∙ sym (groups_of-semicolon other))
 
--- where more than 32 numbers stand before a byte, it changes nothing
+-- If a text has more than 32 numbers, one more byte does not change its table.
 stays : (text : List ℕ) (b : ℕ) (groups : List (List ℕ)) → groups_of (text ++ b ∷ []) ≡ groups
     → 32 < total (groups_of text) → total (groups_of text) ≤ total groups
     → first_numbers 32 groups ≡ first_numbers 32 (groups_of text) → table_of (text ++ b ∷ []) ≡ table_of text

@@ -1,4 +1,4 @@
--- Lanes that are printable bytes of ASCII.
+-- Lanes of printable ASCII.
 use Rattle.std.proofs.Common.{◌≡◌, ℕ, ◌+◌, ◌-◌, ◌*◌, ◌%◌, ◌^◌, ◌<◌, ◌≤◌, leb, Bool, true, false}
 use Rattle.std.proofs.Common.{not, cond, List, [], ◌∷◌}
 use Rattle.std.proofs.Common.{map, length, get_or, take, replicate, refl, sym, ap, ◌∙◌, arith}
@@ -35,7 +35,7 @@ odd_mask v long =
     (length-map v (λ x. wrapped x 0x7F) ∙ long) (omega arith)
     ∙ ap mask_l (map-map (λ x. leb x 0xA0) (λ x. wrapped x 0x7F) v)
 
--- the bytes up to here are printable
+-- The bytes before this index are printable.
 abbrev pub IsRun : List ℕ → ℕ → Type 0
 IsRun bytes n = (k : ℕ) → k < n → IsPrintableByte (get_or bytes k 0)
 
@@ -66,7 +66,7 @@ all_pass (x ∷ xs) e =
     none_fails (is_odd x) _ (length xs) _ (prefix_len-le-length (λ y. not (is_odd y)) xs) (omega arith)
     (all_pass xs)
 
--- where a lane is odd, the run ends at the first one that is
+-- If a lane is not printable, the run ends at the first such lane.
 module _ (bytes : List ℕ) (i mask : ℕ) (small : (k : ℕ) → get_or bytes k 0 < 256)
     (room : i + 16 ≤ length bytes) (run : IsRun bytes i)
     (is : mask ≡ mask_l (map is_odd (chunk i 16 bytes))) (some : 0 < mask) where

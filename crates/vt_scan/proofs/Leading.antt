@@ -1,4 +1,4 @@
--- Bytes that lead into a sequence have no event; and the bytes that end one.
+-- Bytes that introduce a sequence have no event, and the bytes that end one.
 use Rattle.std.proofs.Common.{◌≡◌, ◌⊎◌, ℕ, ◌≤◌, true, not, List, [], ◌∷◌, ◌++◌, take}
 use Rattle.std.proofs.Common.{◌≢◌, ◌<◌, ◌==◌, false, length, filter, inl, inr, refl, sym, subst, ◌∙◌, ap, arith}
 use Rattle.std.specs.List.{AllByRecursion}
@@ -81,7 +81,7 @@ intermediate_feeds old new b was tells is same pushed = λ s stands.
       means = refl;
     })
 
--- ---- the parameter text
+-- ---- Parameter bytes
 
 step_entry : (text : List ℕ) (b : ℕ) → 0x30 ≤ b → b ≤ 0x3B →
     step_in CsiEntry text b ≡ gives CsiParam (text ++ b ∷ []) []
@@ -171,7 +171,7 @@ parameters_none old new within kind same pushed = λ s stands.
       refl,
     )
 
--- ---- the final byte
+-- ---- The final byte
 
 final_turn : (kind : Kind) (b : ℕ) → InParameters kind → is_final b ≡ true →
     turn_of kind (class_of b) ≡ End Ground CsiDispatch
@@ -199,7 +199,7 @@ final_feeds old new b within final begun =
     fed_end old new Ground CsiDispatch b (one_event (event.Csi b)) fits.0
     (final_turn old.kind b within final) fits.1 begun refl
 
--- ---- the last byte of an escape sequence
+-- ---- The last byte of an escape sequence
 
 escape_other : (kind : Kind) → Fits kind (End Ground EscDispatch) → kind ≢ Ground
 escape_other kind fits = λ is.
@@ -211,7 +211,7 @@ pub escape_byte_feeds : (old new : Held) (b : ℕ) → EndsEscape old.kind b →
 escape_byte_feeds old new b ends fits begun =
     fed_end old new Ground EscDispatch b (one_event (event.Escape b)) (escape_other old.kind fits) ends fits begun refl
 
--- ---- strings that are passed over
+-- ---- Strings that are ignored
 
 skip_step : (text : List ℕ) (b : ℕ) → IsUnended b → step_in Skip text b ≡ gives Skip text []
 skip_step text b (can, sub, esc) =
@@ -244,7 +244,7 @@ skip_feeds held bytes is all = λ s stands.
     (sym kind) (run_skip s.collected bytes all) in
     subst (λ (step : Step). StandsFor held step.state × (step.events ≡ [])) (sym known) (stands, refl)
 
--- ---- the text of a command
+-- ---- The text of an operating system command
 
 text_turn : (b : ℕ) → 0x20 ≤ b → turn_of OscString (class_of b) ≡ Collect OscString
 text_turn b low =
@@ -285,7 +285,7 @@ command_turn kind (b ∷ bytes) zero is some inside all = absurd (omega (arith, 
 command_turn kind (b ∷ bytes) (suc n) is some inside all =
     (omega arith, ap (λ (k : Kind). turn_of k (class_of b)) is ∙ text_turn b all.0)
 
--- ---- bytes one after the other
+-- ---- Several bytes
 
 pub feeds_none : (held : Held) → FeedsAll held [] held []
 feeds_none held = λ s stands. (stands, refl)
@@ -298,7 +298,7 @@ feeds_first old middle new b bytes first second = λ s stands.
     let rest = second step.state follows.stands in
     (rest.0, ap (λ (l : List automaton.Event). l ++ (run step.state bytes).events) (sym follows.means) ∙ rest.1)
 
--- ESC and `[` at once: what is held between the two
+-- What is held after ESC, between ESC and `[`.
 abbrev pub opened : Held → Held
 opened old = record {
   kind = Escape;

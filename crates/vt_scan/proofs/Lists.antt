@@ -1,4 +1,4 @@
--- Lists that change at their last element, and texts that are split and grow at their end.
+-- Lists that change at their last item, and texts that are split while they grow at their end.
 use Rattle.std.proofs.Common.{ℕ, suc, ◌+◌, ◌-◌, drop, get_or, take}
 use Rattle.std.proofs.Math.Seq.{take-add}
 use Rattle.std.proofs.lemmas.List.{append_assoc, length-drop, take_all, take_more}
@@ -6,7 +6,7 @@ use Rattle.std.proofs.Common.{◌≡◌, ◌<◌, Bool, true, false, cond, List,
 use Rattle.std.proofs.Common.{◌++◌, map, length, refl, sym, ◌∙◌, ap, arith}
 use Rattle.std.specs.List.{slice_split, onto_first}
 
--- the list with its last element changed
+-- The list with its last item changed.
 abbrev pub on_last : {A : Type 0} → (A → A) → List A → List A
 on_last f [] = []
 on_last f (x ∷ []) = f x ∷ []
@@ -17,7 +17,7 @@ on_last-push f [] x = refl
 on_last-push f (y ∷ []) x = refl
 on_last-push f (y ∷ z ∷ xs) x = ap (λ l. y ∷ l) (on_last-push f (z ∷ xs) x)
 
--- changed before or after a map
+-- Changing the last item commutes with a map.
 pub map-on_last : {A B : Type 0} (h : A → B) (f : A → A) (g : B → B) →
     ((x : A) → h (f x) ≡ g (h x)) → (xs : List A) → map h (on_last f xs) ≡ on_last g (map h xs)
 map-on_last h f g e [] = refl
@@ -34,7 +34,7 @@ pub on_last-front : {A : Type 0} (f : A → A) (x : A) (xs : List A) →
 on_last-front f x [] h = absurd (omega arith)
 on_last-front f x (y ∷ ys) h = refl
 
--- a further front element stays in front
+-- An item added in front of the first part stays there when the last part changes.
 on_last-onto_first : {A : Type 0} (b c : A) (parts : List (List A)) → 0 < length parts →
     onto_first b (on_last (λ part. part ++ c ∷ []) parts) ≡ on_last (λ part. part ++ c ∷ []) (onto_first b parts)
 on_last-onto_first b c [] h = absurd (omega arith)
@@ -58,7 +58,7 @@ slice_split-some {A = A} p (x ∷ xs) = by (p x)
     by true = omega arith
     by false = length-onto_first x (slice_split p xs)
 
--- an element that doesn't cut joins the last part
+-- An item that is no separator joins the last part.
 pub slice_split-push : {A : Type 0} (p : A → Bool) (xs : List A) (c : A) → p c ≡ false →
     slice_split p (xs ++ c ∷ []) ≡ on_last (λ part. part ++ c ∷ []) (slice_split p xs)
 slice_split-push p [] c h = rw h refl
@@ -71,7 +71,7 @@ slice_split-push {A = A} p (x ∷ xs) c h = by (p x) (slice_split-push p xs c h)
         ap (λ l. [] ∷ l) e ∙ sym (on_last-front (λ part. part ++ c ∷ []) [] (slice_split p xs) (slice_split-some p xs))
     by false e = ap (onto_first x) e ∙ on_last-onto_first x c (slice_split p xs) (slice_split-some p xs)
 
--- an element that cuts begins an empty part
+-- A separator begins an empty part.
 pub slice_split-push_cut : {A : Type 0} (p : A → Bool) (xs : List A) (c : A) →
     p c ≡ true → slice_split p (xs ++ c ∷ []) ≡ slice_split p xs ++ [] ∷ []
 slice_split-push_cut p [] c h = rw h refl
@@ -83,11 +83,11 @@ slice_split-push_cut {A = A} p (x ∷ xs) c h = by (p x) (slice_split-push_cut p
     by true e = ap (λ l. [] ∷ l) e
     by false e = ap (onto_first x) e ∙ onto_first-append x (slice_split p xs) ([] ∷ []) (slice_split-some p xs)
 
--- a slice up to the end is what is left
+-- A slice up to the end is the rest of the list.
 pub all_left : (bytes : List ℕ) (k : ℕ) → take (length bytes - k) (drop k bytes) ≡ drop k bytes
 all_left bytes k = take_all (length bytes - k) (drop k bytes) (omega (arith, length-drop k bytes))
 
--- some bytes, the next one, and some behind it
+-- The bytes before index k, the byte there, and some after it are a longer prefix.
 pub take_past : (bytes : List ℕ) (k n : ℕ) → k < length bytes →
     take (k + (1 + n)) bytes ≡ take k bytes ++ get_or bytes k 0 ∷ take n (drop (k + 1) bytes)
 take_past bytes k n h =

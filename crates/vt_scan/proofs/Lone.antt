@@ -4,12 +4,12 @@ use Rattle.std.proofs.Common.{map, take, drop, refl, sym, ◌∙◌, ap, arith}
 use Rattle.std.proofs.lemmas.List.{drop_more}
 use Rattle.vt_scan.specs.Internals.{groups_from, Ascends}
 
--- each place is above the one before it
+-- The end of the last group exceeds the start of the first by at least the number of groups.
 rises_by : (from : ℕ) (ends : List ℕ) (len : ℕ) → Ascends from ends len → from + length ends + 1 ≤ len
 rises_by from [] len a = omega (arith, a)
 rises_by from (to ∷ ends) len a = omega (arith, a.0, rises_by to ends len a.1)
 
--- where there are as many numbers as groups, each group has its one number
+-- If there are as many numbers as groups, each group has exactly one number.
 pub lone_groups : (from : ℕ) (ends : List ℕ) (len : ℕ) (numbers : List ℕ) → Ascends from ends len →
     len ≤ length numbers → len ≡ from + length ends + 1 →
     groups_from from ends len numbers ≡ map (λ (number : ℕ). number ∷ []) (take (len - from) (drop from numbers))

@@ -1,4 +1,4 @@
--- Characters, controls and escape sequences that are written whole are read as they were meant.
+-- Complete characters, control characters and escape sequences are read as they were written.
 use Rattle.std.proofs.Common.{◌≡◌, ◌≢◌, ℕ, ◌+◌, ◌/◌, ◌<◌, ◌≤◌, ◌==◌, nat_lt, true, false, List, [], ◌∷◌}
 use Rattle.std.proofs.Common.{◌++◌, map, encode_utf8_all, refl, ◌∙◌, ap, ◌⊎◌, inl, inr, arith}
 use Rattle.std.proofs.Math.Logic.{⊎_elim}
@@ -18,26 +18,26 @@ use Rattle.vt_scan.proofs.Stepping.{gives, either, class_of-text, fresh_step-cha
 use Rattle.vt_scan.proofs.Stepping.{fresh_step-escape, fresh_step-begun, character_step-whole, character_step-further}
 use Rattle.vt_scan.proofs.Running.{events_then, run-append}
 
--- a run whose first step is known
+-- A run whose first step is known.
 pub run-known : (state : State) (b : ℕ) (bytes : List ℕ) (known : Step) →
     step_in state.kind state.collected b ≡ known → run state (b ∷ bytes) ≡ events_then known.events (run known.state bytes)
 run-known state b bytes known e = ap (λ (s : Step). events_then s.events (run s.state bytes)) e
 
--- a printable byte of ASCII is that character
+-- A printable ASCII byte is read as that character.
 pub read_ascii : (b : ℕ) → 0x20 ≤ b → b ≤ 0x7F → run start (b ∷ []) ≡ back_with (Character b ∷ [])
 read_ascii b low high =
     run-known start b [] (gives Ground [] (Character b ∷ [])) (fresh_step-character b low (omega arith))
 
--- a control function of one byte is executed
+-- A control character is executed.
 pub read_control : (b : ℕ) → b < 0x20 → b ≢ 0x1B → run start (b ∷ []) ≡ back_with (Executed b ∷ [])
 read_control b high other = run-known start b [] (gives Ground [] (Executed b ∷ [])) (fresh_step-control b high other)
 
--- ESC begins a sequence
+-- ESC begins a sequence.
 pub read_escape_start : (bytes : List ℕ) →
     run start (0x1B ∷ bytes) ≡ run (record { kind = Escape; collected = [] }) bytes
 read_escape_start bytes = run-known start 0x1B bytes (gives Escape [] []) fresh_step-escape
 
--- an escape sequence of two bytes
+-- An escape sequence of two bytes is dispatched.
 pub read_escape : (b : ℕ) → 0x30 ≤ b → b ≤ 0x7E → b ≢ 0x5B → b ≢ 0x5D → b ≢ 0x50 → b ≢ 0x58 →
     b ≢ 0x5E → b ≢ 0x5F → run start (0x1B ∷ b ∷ []) ≡ back_with (EscDispatch [] b ∷ [])
 read_escape b low high csi osc dcs sos pm apc =
@@ -55,7 +55,7 @@ read_escape b low high csi osc dcs sos pm apc =
     (class_of-text P b (omega arith)
     (rw (t0, t1, t2, t3, t4, t5, t6, t7) (either P (nat_lt b 0x3C) _ _ refl (either P (nat_lt b 0x40) _ _ refl refl))))
 
--- UTF-8, byte by byte
+-- ---- UTF-8, byte by byte
 
 pub read_last : (text : List ℕ) (a b code : ℕ) → is_character (a ∷ (text ++ b ∷ [])) ≡ true
     → character_of (a ∷ (text ++ b ∷ [])) ≡ code
@@ -117,7 +117,7 @@ read_four c low high =
     ∙ read_next (next (c / 4096) ∷ []) a (next (c / 64)) (next c ∷ []) n3 b3
     ∙ read_last (next (c / 4096) ∷ next (c / 64) ∷ []) a (next c) c w (omega arith)
 
--- a character above ASCII that is written as UTF-8 is read as itself
+-- A character above ASCII in UTF-8 is read as itself.
 pub read_character : (c : ℕ) → IsScalar c → 0x80 ≤ c → run start (encode_utf8 c) ≡ back_with (Character c ∷ [])
 unfolding encode_utf8
 read_character c scalar high =
@@ -135,7 +135,7 @@ read_character c scalar high =
     (cases_lt c 0x10000))
     (cases_lt c 0x800)
 
--- a character that is no control function, whatever its length
+-- A character that is no control character is read as itself, whatever its length.
 pub read_written : (c : ℕ) → IsScalar c → 0x20 ≤ c → run start (encode_utf8 c) ≡ back_with (Character c ∷ [])
 unfolding encode_utf8
 read_written c scalar low =
@@ -145,7 +145,7 @@ read_written c scalar low =
     (λ (large : 0x80 ≤ c). read_character c scalar large)
     (cases_lt c 0x80)
 
--- a text of such characters, one event each
+-- A text of characters that are no control characters is read as one event for each.
 pub read_text : (cs : List ℕ) → AllByRecursion (λ c. IsScalar c × (0x20 ≤ c)) cs →
     run start (encode_utf8_all cs) ≡ back_with (map Character cs)
 read_text [] all = refl

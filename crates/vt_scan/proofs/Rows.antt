@@ -1,4 +1,4 @@
--- The first numbers of groups that grow at their end, and groups in an array with the places of their ends.
+-- The first numbers of groups that grow at their end, and groups in an array with the indices of their ends.
 use Rattle.std.proofs.Common.{◌≡◌, ℕ, zero, suc, ◌+◌, ◌-◌, ◌<◌, ◌≤◌, ◌==◌, true, false, nat_lt, cond, List, [], ◌∷◌, ◌++◌, length, get_or}
 use Rattle.std.proofs.Common.{set, take, drop, refl, sym, subst, ◌∙◌, ap, ◌⊎◌, inl, inr, arith, length-append}
 use Rattle.std.proofs.Math.Logic.{⊎_elim}
@@ -29,7 +29,7 @@ pub first_numbers-zero : (groups : List (List ℕ)) → first_numbers 0 groups �
 first_numbers-zero [] = refl
 first_numbers-zero (group ∷ groups) = refl
 
--- one step, by whether numbers are still kept
+-- The first n numbers of a group and further groups, for n above 0.
 first_numbers-step : (n : ℕ) (group : List ℕ) (groups : List (List ℕ)) → 0 < n →
     first_numbers n (group ∷ groups) ≡ take n group ∷ first_numbers (n - length group) groups
 first_numbers-step n group groups h = let e : (n == 0) ≡ false = grind (arith, nat_tests) in rw e refl
@@ -38,7 +38,7 @@ none_or_some : (n : ℕ) → (n ≡ 0) ⊎ (0 < n)
 none_or_some zero = inl refl
 none_or_some (suc n) = inr (omega arith)
 
--- all numbers are kept
+-- If there are at most n numbers, all of them are kept.
 pub first_numbers-all : (n : ℕ) (groups : List (List ℕ)) →
     AllSome groups → total groups ≤ n → first_numbers n groups ≡ groups
 first_numbers-all n [] s h = refl
@@ -61,7 +61,7 @@ first_numbers-at_zero n groups others e =
     ap (λ k. first_numbers k groups) e ∙ first_numbers-zero groups
     ∙ sym (ap (λ k. first_numbers k others) e ∙ first_numbers-zero others)
 
--- a digit behind the kept numbers changes nothing
+-- A digit after the kept numbers changes nothing.
 pub first_numbers-digit : (f : ℕ → ℕ) (n : ℕ) (groups : List (List ℕ)) → n < total groups →
     first_numbers n (on_last (on_last f) groups) ≡ first_numbers n groups
 first_numbers-digit f n [] h = refl
@@ -83,7 +83,7 @@ first_numbers-digit f n (group ∷ other ∷ groups) h =
     ∙ sym (first_numbers-step n group (other ∷ groups) some))
     (none_or_some n)
 
--- nor does a further number
+-- A number after the kept ones changes nothing.
 pub first_numbers-number : (n : ℕ) (groups : List (List ℕ)) → n ≤ total groups →
     first_numbers n (on_last with_number groups) ≡ first_numbers n groups
 first_numbers-number n [] h = refl
@@ -103,7 +103,7 @@ first_numbers-number n (group ∷ other ∷ groups) h =
     ∙ sym (first_numbers-step n group (other ∷ groups) some))
     (none_or_some n)
 
--- nor do further groups
+-- Groups after the kept numbers change nothing.
 pub first_numbers-groups : (n : ℕ) (groups more : List (List ℕ)) →
     n ≤ total groups → first_numbers n (groups ++ more) ≡ first_numbers n groups
 first_numbers-groups n [] more h =
@@ -116,7 +116,7 @@ first_numbers-groups n (group ∷ groups) more h =
     ∙ sym (first_numbers-step n group groups some))
     (none_or_some n)
 
--- a part of a list before its place i doesn't see a change there
+-- A part of a list before index i is unaffected by a change at i.
 part-set : (from to i : ℕ) (xs : List ℕ) (v : ℕ) → to ≤ i → from ≤ to →
     take (to - from) (drop from (set xs i v)) ≡ take (to - from) (drop from xs)
 part-set from to i xs v h l =
@@ -125,7 +125,7 @@ part-set from to i xs v h l =
     ∙ ap (take (to - from)) (drop-set-add from xs (i - from) v)
     ∙ take-set-le (to - from) (drop from xs) (i - from) v (omega arith)
 
--- one more place
+-- A part of a list with one more item, which was just set.
 part-more : (from to : ℕ) (xs : List ℕ) (v : ℕ) → from ≤ to → to < length xs →
     take (to + 1 - from) (drop from (set xs to v)) ≡ take (to - from) (drop from xs) ++ v ∷ []
 part-more from to xs v l h =
@@ -155,8 +155,7 @@ pub Ascends-below : (from : ℕ) (ends : List ℕ) (len : ℕ) → Ascends from 
 Ascends-below from [] len a = a
 Ascends-below from (to ∷ ends) len a = omega (arith, Ascends-below to ends len a.1)
 
--- the last number changes
--- one group more than are closed
+-- There is one group more than ends.
 pub length-groups_from : (from : ℕ) (ends : List ℕ) (len : ℕ) (numbers : List ℕ) →
     length (groups_from from ends len numbers) ≡ length ends + 1
 length-groups_from from [] len numbers = refl
@@ -182,7 +181,7 @@ groups_from-digit f from (to ∷ ends) len at numbers e a h =
     ∙ ap (λ l. take (to - from) (drop from numbers) ∷ l) (groups_from-digit f to ends len at numbers e a.1 h)
     ∙ sym (groups_from-front (on_last f) (take (to - from) (drop from numbers)) to ends len numbers)
 
--- the last group gets a further number
+-- Adding a number at the end of the array adds it to the last group.
 pub groups_from-number : (from : ℕ) (ends : List ℕ) (len : ℕ) (numbers : List ℕ) →
     Ascends from ends len → len < length numbers →
     groups_from from ends (len + 1) (set numbers len 0) ≡ on_last with_number (groups_from from ends len numbers)
@@ -197,7 +196,7 @@ groups_from-number from (to ∷ ends) len numbers a h =
     ∙ ap (λ l. take (to - from) (drop from numbers) ∷ l) (groups_from-number to ends len numbers a.1 h)
     ∙ sym (groups_from-front with_number (take (to - from) (drop from numbers)) to ends len numbers)
 
--- the last group ends, and a further one begins
+-- Adding an end and a number begins a new group.
 pub groups_from-group : (from : ℕ) (ends : List ℕ) (len : ℕ) (numbers : List ℕ) →
     Ascends from ends len → len < length numbers →
     groups_from from (ends ++ len ∷ []) (len + 1) (set numbers len 0)
@@ -216,7 +215,7 @@ groups_from-group from (to ∷ ends) len numbers a h =
     (part-set from to len numbers 0 (omega arith) (omega arith))
     ∙ ap (λ l. take (to - from) (drop from numbers) ∷ l) (groups_from-group to ends len numbers a.1 h)
 
--- there are as many numbers as places
+-- There are as many numbers as the array has in use.
 pub groups_from-total : (from : ℕ) (ends : List ℕ) (len : ℕ) (numbers : List ℕ) →
     Ascends from ends len → len ≤ length numbers → total (groups_from from ends len numbers) ≡ len - from
 groups_from-total from [] len numbers a h =
@@ -231,7 +230,7 @@ groups_from-total from (to ∷ ends) len numbers a h =
       groups_from-total to ends len numbers a.1 h,
     )
 
--- the places still rise
+-- The ends are still ascending with one more number.
 pub Ascends-number : (from : ℕ) (ends : List ℕ) (len : ℕ) → Ascends from ends len → Ascends from ends (len + 1)
 Ascends-number from [] len a = omega arith
 Ascends-number from (to ∷ ends) len a = (a.0, Ascends-number to ends len a.1)
@@ -241,7 +240,7 @@ pub Ascends-group : (from : ℕ) (ends : List ℕ) (len : ℕ) →
 Ascends-group from [] len a = (a, omega arith)
 Ascends-group from (to ∷ ends) len a = (a.0, Ascends-group to ends len a.1)
 
--- the place where group i ends, read from the array
+-- The end of group i, read from the array.
 next_place : (ends : List ℕ) (i closed : ℕ) → i < closed → closed ≤ length ends →
     drop i (take closed ends) ≡ get_or ends i 0 ∷ drop (i + 1) (take closed ends)
 next_place ends i closed below fits =
@@ -270,9 +269,9 @@ last_group start ends closed len numbers =
     ap (λ l. groups_from start l len numbers)
     (drop_all closed (take closed ends) (omega (arith, length-take closed ends)))
 
--- ---- one group, by its number
+-- ---- One group, by its index
 
--- where group i ends
+-- The index at which group i ends.
 abbrev pub end_at : List ℕ → ℕ → ℕ → ℕ
 end_at [] len i = len
 end_at (to ∷ ends) len zero = to
@@ -321,7 +320,7 @@ end_is ends closed len i fits h =
     rw test (sym (end_last (take closed ends) len i (omega (arith, size, last)))))
     (cases_lt i closed)
 
--- a group is the numbers between its places, and has one
+-- A group consists of the numbers between its start and its end, and has at least one.
 pub record Lies (start end len : ℕ) (numbers group : List ℕ) : Type 0 where
   pub rises : start < end
   pub inside : end ≤ len

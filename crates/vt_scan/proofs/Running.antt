@@ -1,10 +1,10 @@
--- Runs over bytes.
+-- Runs of the automaton.
 use Rattle.std.proofs.Common.{◌≡◌, ℕ, List, [], ◌∷◌, ◌++◌, refl, sym, ◌∙◌, ap}
 use Rattle.std.proofs.lemmas.List.{append_assoc}
 use Rattle.vt_scan.specs.Automaton.{State, Step, Event, step_in}
 use Rattle.vt_scan.specs.Run.{run}
 
--- a step whose events follow others
+-- A step with further events in front.
 abbrev pub events_then : List Event → Step → Step
 events_then events step = record { state = step.state; events = events ++ step.events }
 

@@ -19,7 +19,7 @@ use Rattle.vt_scan.specs.declared.table.Turn.{Turn}
 use Rattle.vt_scan.specs.declared.table.Turn.TheVariants.{Collect, Drop, Execute, End}
 use Rattle.vt_scan.proofs.Stepping.{step_in-table}
 
--- a character to print is a code point
+-- If the event is a character, it is a code point.
 abbrev pub IsCoded : Event → Type 0
 IsCoded (Character c) = IsScalar c
 IsCoded _ = Unit {0}
@@ -31,7 +31,7 @@ coded_then : (xs ys : List Event) → AreCoded xs → AreCoded ys → AreCoded (
 coded_then [] ys a b = b
 coded_then (x ∷ xs) ys a b = (a.0, coded_then xs ys a.1 b)
 
--- ---- characters of more than one byte
+-- ---- Characters of more than one byte
 
 high_scalar : (c : ℕ) → 57344 ≤ c → c < 1114112 → scalar c ≡ true
 high_scalar c l h = grind (arith, nat_tests)
@@ -57,9 +57,9 @@ coded_character (a ∷ b ∷ c ∷ []) e = three_bytes a b c e
 coded_character (a ∷ b ∷ c ∷ d ∷ []) e = four_bytes a b c d e
 coded_character (a ∷ b ∷ c ∷ d ∷ x ∷ xs) e = low_scalar 0 (omega arith)
 
--- ---- one byte
+-- ---- One byte
 
--- a turn of the table that prints a character
+-- A transition of the table prints a character only in the ground state.
 abbrev PrintsIn : Kind → Turn → Type 0
 PrintsIn kind (End next ends.Character) = kind ≡ Ground
 PrintsIn kind _ = Unit {0}
@@ -122,7 +122,7 @@ coded_step CsiIgnore text b = coded_table CsiIgnore text b (λ e. cc)
 coded_step OscString text b = coded_table OscString text b (λ e. cc)
 coded_step Skip text b = coded_table Skip text b (λ e. cc)
 
--- ---- bytes, one after the other
+-- ---- Several bytes
 
 pub coded_run : (state : State) (bytes : List ℕ) → AreCoded (run state bytes).events
 coded_run state [] = tt

@@ -1,4 +1,4 @@
--- Bytes in which EF B8 8F stands nowhere read no U+FE0F: a character's bytes stand beside each other.
+-- Bytes without EF B8 8F yield no U+FE0F, because the bytes of a character are consecutive.
 use Rattle.std.proofs.Common.{◌≡◌, ◌≢◌, ℕ, ◌+◌, ◌*◌, ◌%◌, ◌<◌, nat_lt, Bool, true, false}
 use Rattle.std.proofs.Common.{suc, List, [], ◌∷◌, ◌++◌, take, refl, sym, subst, ◌∙◌, ap, rules, arith}
 use Rattle.std.specs.List.{AllByRecursion}
@@ -40,7 +40,7 @@ others_then : (xs ys : List Event) → AreOthers xs → AreOthers ys → AreOthe
 others_then [] ys a b = b
 others_then (x ∷ xs) ys a b = (a.0, others_then xs ys a.1 b)
 
--- ---- the bytes of U+FE0F
+-- ---- The bytes of U+FE0F
 
 three_bytes : (a b c : ℕ) → is_character (a ∷ b ∷ c ∷ []) ≡ true → a % 16 * 4096 + b % 64 * 64 + c % 64 ≡ 0xFE0F →
     (a ≡ 0xEF) × (b ≡ 0xB8) × (c ≡ 0x8F)
@@ -66,9 +66,9 @@ selector_bytes (a ∷ b ∷ c ∷ []) e is =
 selector_bytes (a ∷ b ∷ c ∷ d ∷ []) e is = absurd (four_bytes a b c d e is)
 selector_bytes (a ∷ b ∷ c ∷ d ∷ x ∷ xs) e is = absurd (omega (arith, is))
 
--- ---- one byte
+-- ---- One byte
 
--- what is asked of a state and the bytes behind it: they spell no U+FE0F, nor with the character that is unfinished
+-- Neither the bytes to come, nor they after the bytes of an incomplete character, contain the encoding of U+FE0F.
 record IsFree (state : State) (bytes : List ℕ) : Type 0 where
   pub rest : SpellsNoSelector bytes
   pub begun : state.kind ≡ Ground → SpellsNoSelector (state.collected ++ bytes)
@@ -79,11 +79,11 @@ behind b bytes h = λ i. h (suc i)
 free_start : (bytes : List ℕ) → SpellsNoSelector bytes → IsFree start bytes
 free_start bytes h = record { rest = h; begun = λ e. h }
 
--- no U+FE0F so far, and none to come
+-- The step yields no U+FE0F, and the bytes to come cannot yield one.
 abbrev GoesOn : Step → List ℕ → Type 0
 GoesOn step bytes = AreOthers step.events × IsFree step.state bytes
 
--- a turn of the table prints in plain text alone, and collects no character
+-- A transition of the table prints only in the ground state, and collects no bytes of a character.
 abbrev TurnsIn : Kind → Turn → Type 0
 TurnsIn kind (End next ends.Character) = kind ≡ Ground
 TurnsIn kind (Collect next) = next ≢ Ground
@@ -173,7 +173,7 @@ step_goes CsiIgnore text b bytes h all = table_goes CsiIgnore text b bytes (λ e
 step_goes OscString text b bytes h all = table_goes OscString text b bytes (λ e. cc) (behind b bytes h)
 step_goes Skip text b bytes h all = table_goes Skip text b bytes (λ e. cc) (behind b bytes h)
 
--- ---- bytes, one after the other
+-- ---- Several bytes
 
 run_reads : (state : State) (bytes : List ℕ) → IsFree state bytes → ReadsNoSelector state bytes
 run_reads state [] free = tt

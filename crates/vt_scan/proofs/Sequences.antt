@@ -1,4 +1,4 @@
--- Control sequences that are written whole are read as they were meant.
+-- Complete control sequences are read as they were written.
 use Rattle.std.proofs.Common.{◌≡◌, ℕ, ◌≤◌, ◌==◌, ◌||◌, nat_lt, not, true, false, cond, List}
 use Rattle.std.proofs.Common.{[], ◌∷◌, ◌++◌, filter, take, refl, sym, ◌∙◌, ap, arith}
 use Rattle.std.proofs.lemmas.Bool.Decides.{nat_tests}
@@ -31,7 +31,7 @@ class_of-final P b low high p q r s =
     (either P (b == 0x5B) _ _ p
     (either P (b == 0x5D) _ _ q (either P (b == 0x50 || (b == 0x58 || (b == 0x5E || b == 0x5F))) _ _ r s))))
 
--- what a collected text gives with this final byte
+-- The event of a collected text with this final byte.
 abbrev pub sequence : List ℕ → ℕ → List Event
 sequence text final = CsiDispatch (table_of (parameter_text text)).groups (intermediates_of text) final ∷ []
 
@@ -55,7 +55,7 @@ step_final_at_once b low high =
     class_of-final (λ k. step_after CsiEntry [] b (turn_of CsiEntry k) ≡ gives Ground [] (sequence [] b))
     b low high refl refl refl refl
 
--- the rest of a sequence, after what was collected
+-- The rest of a sequence after the bytes collected so far.
 read_rest : (before text : List ℕ) (final : ℕ) → IsParameterText text → 0x40 ≤ final → final ≤ 0x7E
     → run (record { kind = CsiParam; collected = before }) (text ++ final ∷ [])
     ≡ back_with (sequence (before ++ text) final)
@@ -94,7 +94,7 @@ intermediate_is text final is =
     ap (λ t. CsiDispatch (table_of t).groups (intermediates_of (0x3F ∷ text)) final ∷ []) (parameters_only text is)
     ∙ ap (λ m. CsiDispatch (table_of text).groups (take 2 (0x3F ∷ m)) final ∷ []) (no_intermediates text is)
 
--- CSI begins with nothing collected
+-- CSI begins with nothing collected.
 read_csi_start : (bytes : List ℕ) →
     run start (0x1B ∷ 0x5B ∷ bytes) ≡ run (record { kind = CsiEntry; collected = [] }) bytes
 unfolding class_of
@@ -119,13 +119,13 @@ unfolding class_of
 read_marker bytes =
     run-known (record { kind = CsiEntry; collected = [] }) 0x3F bytes (gives CsiParam (0x3F ∷ []) []) refl
 
--- a control sequence without intermediates
+-- A control sequence without intermediates is dispatched with its parameters.
 pub read_csi : (text : List ℕ) (final : ℕ) → IsParameterText text → 0x40 ≤ final → final ≤ 0x7E
     → run start (0x1B ∷ 0x5B ∷ (text ++ final ∷ [])) ≡ back_with (CsiDispatch (table_of text).groups [] final ∷ [])
 read_csi text final is low high =
     read_csi_start (text ++ final ∷ []) ∙ read_entry text final is low high ∙ ap back_with (sequence_is text final is)
 
--- one of the private sequences, with `?` in front
+-- A control sequence with the private marker `?` is dispatched with its parameters.
 pub read_private : (text : List ℕ) (final : ℕ) → IsParameterText text → 0x40 ≤ final → final ≤ 0x7E
     → run start (0x1B ∷ 0x5B ∷ 0x3F ∷ (text ++ final ∷ []))
     ≡ back_with (CsiDispatch (table_of text).groups (0x3F ∷ []) final ∷ [])

@@ -1,4 +1,4 @@
--- The kept numbers of a parameter text that grows at its end.
+-- The kept numbers of parameters that grow at their end.
 use Rattle.std.proofs.Common.{◌≡◌, ℕ, ◌+◌, ◌-◌, ◌<◌, ◌≤◌, ◌≢◌, Bool, true, false, nat_lt, List, []}
 use Rattle.std.proofs.Common.{◌∷◌, ◌++◌, length, get_or, set, take, refl, sym, ◌∙◌, ap, arith}
 use Rattle.std.proofs.Common.{zero, suc}
@@ -16,7 +16,7 @@ use Rattle.vt_scan.proofs.Rows.{groups_from-group, groups_from-total, Ascends-gr
 abbrev pub table : List (List ℕ) → Bool → GroupTable
 table groups is_cut = record { groups = groups; is_cut = is_cut }
 
--- all numbers are kept
+-- If a text has at most 32 numbers, all of them are kept.
 pub whole : (text : List ℕ) → total (groups_of text) ≤ 32 → table_of text ≡ table (groups_of text) false
 unfolding table_of
 whole text h =
@@ -25,7 +25,7 @@ whole text h =
     (first_numbers-all 32 (groups_of text) (groups_of-all_some text) h)
     ∙ ap (table (groups_of text)) test
 
--- some aren't
+-- If a text has more than 32 numbers, the first 32 are kept.
 pub cut : (text : List ℕ) → 32 < total (groups_of text) → table_of text ≡ table (first_numbers 32 (groups_of text)) true
 unfolding table_of
 cut text h =
@@ -85,7 +85,7 @@ digit_cut groups text b h e =
     ap (λ g. table g true) (first_is groups true text e ∙ sym same ∙ ap (first_numbers 32) (sym more))
     ∙ sym (cut (text ++ b ∷ []) passes)
 
--- where a table is full, the text has at least 32 numbers
+-- If a table is full, its text has at least 32 numbers.
 full : (groups : List (List ℕ)) (b : Bool) (text : List ℕ) →
     table groups b ≡ table_of text → 32 ≤ total groups → 32 ≤ total (groups_of text)
 full groups true text e h = let many = is_cut groups text e in omega arith
@@ -135,7 +135,7 @@ group_full groups b text h e =
     ap (λ g. table g true) (first_is groups b text e ∙ sym same ∙ ap (first_numbers 32) (sym more))
     ∙ sym (cut (text ++ 0x3B ∷ []) passes)
 
--- the steps of the array
+-- ---- The steps of the array
 
 pub step_clear : (numbers : List ℕ) → 0 < length numbers →
     table (groups_from 0 [] 1 (set numbers 0 0)) false ≡ table_of []
@@ -158,7 +158,7 @@ set_twice [] i a b = refl
 set_twice (x ∷ xs) zero a b = refl
 set_twice (x ∷ xs) (suc i) a b = ap (λ l. x ∷ l) (set_twice xs i a b)
 
--- one more digit of a number that is not stored yet
+-- One more digit of a number that is not yet stored.
 pub more_digits : (numbers ends : List ℕ) (len last n v : ℕ) (is_cut : Bool) (text bytes : List ℕ) (k : ℕ) →
     len ≡ last + 1 → len ≤ length numbers → Ascends 0 ends len → is_cut ≡ false →
     k < length bytes → get_or bytes k 0 < 0x3A → v ≡ with_digit (get_or bytes k 0) n →
@@ -177,7 +177,7 @@ more_digits numbers ends len last n v is_cut text bytes k at fits rises whole in
     ∙ ap table_of (append_assoc text (take k bytes) (get_or bytes k 0 ∷ [])
     ∙ ap (λ t. text ++ t) (sym (take_more bytes k 0 inside)))
 
--- and before the first one
+-- A number that is not yet stored, before its first digit.
 pub no_digits : (numbers ends : List ℕ) (len last n : ℕ) (is_cut : Bool) (text : List ℕ) →
     n ≡ get_or numbers last 0 → table (groups_from 0 ends len numbers) is_cut ≡ table_of text →
     table (groups_from 0 ends len (set numbers last n)) is_cut ≡ table_of (text ++ [])

@@ -49,7 +49,7 @@ four a b c d e =
     ∙ read_next (b ∷ []) a c (d ∷ []) n3 b3
     ∙ read_last (b ∷ c ∷ []) a d (character_of (a ∷ b ∷ c ∷ d ∷ [])) e refl
 
--- a whole character is read as itself
+-- A whole character is read as itself.
 read_whole : (text : List ℕ) → is_character text ≡ true →
     run start text ≡ back_with (Character (character_of text) ∷ [])
 unfolding is_character
@@ -76,7 +76,7 @@ pub found_fed : (held : Held) (bytes : List ℕ) (found : Option (ℕ × ℕ)) �
 found_fed held bytes None is none e means = tt
 found_fed held bytes (Some f) is none e means = whole_fed held (take f.1 bytes) f.0 is none e means
 
--- ---- only its last byte has an event
+-- ---- Only the last byte has an event
 
 read_before : (text : List ℕ) → is_character text ≡ true → (run start (take (length text - 1) text)).events ≡ []
 unfolding is_character is_beginning
@@ -129,7 +129,7 @@ pub found_before : (held : Held) (bytes : List ℕ) (found : Option (ℕ × ℕ)
 found_before held bytes None is none e inside = tt
 found_before held bytes (Some f) is none e inside = before_fed held bytes f.1 is none e inside.1
 
--- ---- what a text has that begins with a whole character
+-- ---- Texts that begin with a whole character
 
 pub record Begun (bytes : List ℕ) : Type 0 where
   pub two : 2 ≤ length bytes

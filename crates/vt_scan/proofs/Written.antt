@@ -1,4 +1,4 @@
--- Numbers that are written in decimal, and joined by `;`, are read as they were.
+-- Decimal numbers, joined by `;`, are read as they were written.
 use Rattle.std.proofs.Common.{◌≡◌, ℕ, zero, suc, ◌+◌, ◌-◌, ◌*◌, ◌%◌, ◌^◌, ◌<◌, ◌≤◌, ◌==◌, false, List}
 use Rattle.std.proofs.Common.{[], ◌∷◌, ◌++◌, map, min, length, decimal, refl, ◌∙◌, ap, arith}
 use Rattle.std.specs.List.{All, slice_split}
@@ -12,7 +12,7 @@ use Rattle.vt_scan.specs.Texts.{IsParameterText, place_groups}
 use Rattle.vt_scan.proofs.Reading.{number_of-push, number_of-empty, groups_of-empty}
 use Rattle.vt_scan.proofs.Tables.{whole}
 
--- the digits of ASCII
+-- The byte is an ASCII digit.
 abbrev pub IsDigit : ℕ → Type 0
 IsDigit b = (0x30 ≤ b) × (b ≤ 0x39)
 
@@ -62,7 +62,7 @@ groups_of-further n text small =
     ap (map numbers_of) (slice_split_at (λ b. b == 0x3B) (decimal n) 0x3B text (decimal_no_semicolon n small) refl)
     ∙ ap (λ g. g ∷ map numbers_of (slice_split (λ b. b == 0x3B) text)) (decimal_numbers n small)
 
--- a group for each number
+-- A group for each number.
 abbrev pub alone : List ℕ → List (List ℕ)
 alone ns = map (λ n. n ∷ []) ns
 
@@ -82,7 +82,7 @@ kept text groups e few =
     let fits : total (groups_of text) ≤ 32 = rw e few in
     ap (λ t. t.groups) (whole text fits) ∙ e
 
--- the empty text has the one number 0
+-- The empty text has the one number 0.
 pub empty_groups : (table_of []).groups ≡ (0 ∷ []) ∷ []
 empty_groups = kept [] ((0 ∷ []) ∷ []) groups_of-empty (omega arith)
 
@@ -101,14 +101,14 @@ two_groups n m small fits =
     kept (decimal n ++ 0x3B ∷ decimal m) ((n ∷ []) ∷ (m ∷ []) ∷ [])
     (groups_of-further n (decimal m) small ∙ ap (λ g. (n ∷ []) ∷ g) (groups_of-decimal m fits)) (omega arith)
 
--- CUP's text, for a position on a screen
+-- The groups of CUP's parameters for a position on a screen.
 pub place_groups_are : (row col : ℕ) → row < 65535 → col < 65535 →
     (table_of (place row col)).groups ≡ place_groups row col
 place_groups_are zero zero r c = empty_groups
 place_groups_are zero (suc col) r c = two_groups (zero + 1) (suc col + 1) (omega arith) (omega arith)
 place_groups_are (suc row) col r c = two_groups (suc row + 1) (col + 1) (omega arith) (omega arith)
 
--- these texts are parameter texts
+-- ---- The numbers are parameter bytes
 
 parameters_from : (text : List ℕ) → All IsDigit text → IsParameterText text
 parameters_from [] all = tt

@@ -1,6 +1,5 @@
--- The state of the automaton, and what a byte makes of it: the state that follows, and at most two events.
--- A state is a kind and the bytes collected in it; sequences are read from all of these at once, when their last byte
--- comes.
+-- The state of the automaton, and its step on a byte: the next state, and at most two events. A state consists of its
+-- kind and the bytes collected in it; a sequence is read from all of these at once, when its last byte arrives.
 use Rattle.std.specs.Prelude.{ℕ, Bool, not, ◌&&◌, ◌==◌, nat_lt, nat_le, List}
 use Rattle.std.specs.Prelude.{[], ◌∷◌, ◌++◌, take, filter, if◌then◌else◌}
 use Rattle.std.specs.List.{slice_split}
@@ -14,46 +13,50 @@ use Rattle.vt_scan.specs.declared.table.Turn.TheVariants.{Collect, Drop, Execute
 use Rattle.vt_scan.specs.declared.table.Ending as ending
 use Rattle.vt_scan.specs.declared.table.Ending.TheVariants as ends
 
+-- A state of the automaton: its kind, and the bytes collected in it.
 pub record State : Type 0 where
   pub kind : Kind
   pub collected : List ℕ
 
+-- An event of the automaton.
 pub data Event : Type 0 where
-  -- a character to print
+  -- A character to print.
   Character : (code : ℕ) → Event
-  -- a control function of one byte
+  -- A control character.
   Executed : (byte : ℕ) → Event
-  -- an escape sequence: its intermediates and its last byte
+  -- An escape sequence: its intermediates and its last byte.
   EscDispatch : (intermediates : List ℕ) (byte : ℕ) → Event
-  -- a control sequence: its groups of numbers, its marker and intermediates, and its final byte
+  -- A control sequence: its groups of numbers, its private marker and its intermediates, and its final byte.
   CsiDispatch : (groups : List (List ℕ)) (intermediates : List ℕ) (byte : ℕ) → Event
-  -- an operating system command: its parts
+  -- An operating system command: its parts.
   OscDispatch : (parts : List (List ℕ)) → Event
 
+-- The result of a step: the next state and the events.
 pub record Step : Type 0 where
   pub state : State
   pub events : List Event
 
--- nothing begun
+-- The ground state with nothing collected.
 abbrev pub start : State
 start = record { kind = Ground; collected = [] }
 
--- a byte of the parameter text: a digit, `:` or `;`
+-- A parameter byte: a digit, `:` or `;`.
 abbrev pub is_parameter : ℕ → Bool
 is_parameter b = nat_le 0x30 b && nat_le b 0x3B
 
+-- The parameter bytes of a collected text.
 abbrev pub parameter_text : List ℕ → List ℕ
 parameter_text text = filter is_parameter text
 
--- the first two of marker and intermediates
+-- The private marker and the intermediates of a collected text: the first two bytes that are not parameter bytes.
 abbrev pub intermediates_of : List ℕ → List ℕ
 intermediates_of text = take 2 (filter (λ b. not (is_parameter b)) text)
 
--- the first 16 parts of an operating system command, parted by `;`
+-- The first 16 parts of an operating system command, which are separated by `;`.
 abbrev pub parts_of : List ℕ → List (List ℕ)
 parts_of text = take 16 (slice_split (λ b. b == 0x3B) text)
 
--- what the last byte b of a collected text gives
+-- The events when byte b ends a collected text.
 abbrev pub given : ending.Ending → List ℕ → ℕ → List Event
 given ends.Nothing text b = []
 given ends.Character text b = Character b ∷ []
@@ -63,21 +66,23 @@ given ends.CsiDispatch text b = CsiDispatch (table_of (parameter_text text)).gro
 given ends.OscDispatch text b = OscDispatch (parts_of text) ∷ []
 given ends.OscDispatchAndExecuted text b = OscDispatch (parts_of text) ∷ Executed b ∷ []
 
+-- The step of a state that makes a transition of the table.
 abbrev pub step_after : Kind → List ℕ → ℕ → Turn → Step
 step_after kind text b (Collect next) = record { state = record { kind = next; collected = text ++ b ∷ [] }; events = [] }
 step_after kind text b Drop = record { state = record { kind = kind; collected = text }; events = [] }
 step_after kind text b Execute = record { state = record { kind = kind; collected = text }; events = Executed b ∷ [] }
 step_after kind text b (End next end) = record { state = record { kind = next; collected = [] }; events = given end text b }
 
--- no character is unfinished: a byte from 80 on begins one, or is a U+FFFD by itself
+-- The step in the ground state when no character is incomplete: a byte from 80 on begins a character, or is a U+FFFD
+-- by itself.
 unfoldable pub fresh_step : ℕ → Step
 fresh_step b =
     if nat_lt b 0x80 then step_after Ground [] b (turn_of Ground (class_of b))
     else if is_beginning (b ∷ []) then record { state = record { kind = Ground; collected = b ∷ [] }; events = [] }
     else record { state = start; events = Character 0xFFFD ∷ [] }
 
--- a character is unfinished: a byte that can't go on it ends it as one U+FFFD, and is read anew (Unicode 3.9, the
--- greatest part that begins a well-formed sequence is replaced as one)
+-- The step in the ground state when a character is incomplete: a byte that cannot continue it ends it as one U+FFFD
+-- and is read anew (Unicode 3.9: the longest part that begins a well-formed sequence is replaced as one).
 unfoldable pub character_step : List ℕ → ℕ → Step
 character_step text b =
     if is_character (text ++ b ∷ [])
@@ -86,7 +91,7 @@ character_step text b =
     then record { state = record { kind = Ground; collected = text ++ b ∷ [] }; events = [] }
     else record { state = (fresh_step b).state; events = Character 0xFFFD ∷ (fresh_step b).events }
 
--- one byte
+-- The step of the automaton on one byte.
 abbrev pub step_in : Kind → List ℕ → ℕ → Step
 step_in Ground [] b = fresh_step b
 step_in Ground (x ∷ xs) b = character_step (x ∷ xs) b

@@ -17,12 +17,12 @@ use Rattle.vt_scan.specs.declared.unfinished.Bytes.TheVariants.{Zero, One, Two, 
 use Rattle.vt_scan.specs.declared.unfinished.Extended.{Extended}
 use Rattle.vt_scan.specs.declared.unfinished.Extended.TheVariants.{Further, Character, Broken}
 
--- what the parts of a scanner hold
+-- What a scanner with these fields holds.
 abbrev pub held : Kind → List ℕ → GroupTable → List ℕ → List ℕ → Held
 held kind unfinished table intermediates text =
     record { kind = kind; unfinished = unfinished; table = table; intermediates = intermediates; text = text }
 
--- a kind in which numbers and intermediates are collected
+-- The kind is one in which numbers and intermediates are collected.
 abbrev pub InSequence : Kind → Type 0
 InSequence kinds.Ground = ⊥
 InSequence kinds.CsiIgnore = ⊥
@@ -30,7 +30,7 @@ InSequence kinds.OscString = ⊥
 InSequence kinds.Skip = ⊥
 InSequence _ = Unit {0}
 
--- what can end, and in which kinds
+-- The ending can occur in a transition between these two kinds of state.
 abbrev pub FitsEnding : Kind → Kind → Ending → Type 0
 FitsEnding old new ending.Nothing = Unit {0}
 FitsEnding old new ending.Character = (old ≡ kinds.Ground) × (new ≡ kinds.Ground)
@@ -40,26 +40,26 @@ FitsEnding old new ending.CsiDispatch = InSequence old × (new ≡ kinds.Ground)
 FitsEnding old new ending.OscDispatch = (old ≡ kinds.OscString) × ((new ≡ kinds.Ground) ⊎ (new ≡ kinds.Escape))
 FitsEnding old new ending.OscDispatchAndExecuted = (old ≡ kinds.OscString) × (new ≡ kinds.Ground)
 
--- what all turns of the table have in common
+-- The property that all transitions of the table share.
 abbrev pub Fits : Kind → Turn → Type 0
 Fits old (Collect new) = (InSequence old × InSequence new) ⊎ ((old ≡ kinds.OscString) × (new ≡ kinds.OscString))
 Fits old Drop = Unit {0}
 Fits old Execute = Unit {0}
 Fits old (End new ending) = FitsEnding old new ending
 
--- the bytes of an unfinished character
+-- The bytes of an incomplete character.
 abbrev pub bytes_in : Bytes → List ℕ
 bytes_in Zero = []
 bytes_in (One a) = a ∷ []
 bytes_in (Two a b) = a ∷ b ∷ []
 bytes_in (Three a b c) = a ∷ b ∷ c ∷ []
 
--- nothing, or a proper beginning of a character
+-- The bytes are empty or a proper prefix of a character.
 abbrev pub is_unfinished : List ℕ → Bool
 is_unfinished [] = true
 is_unfinished (x ∷ xs) = is_beginning (x ∷ xs)
 
--- one more byte of an unfinished character
+-- The result of adding one byte to an incomplete character, and the bytes that are left.
 abbrev pub Extends : List ℕ → ℕ → Extended → List ℕ → Type 0
 Extends old b Further new =
     (is_character (old ++ b ∷ []) ≡ false) × (is_beginning (old ++ b ∷ []) ≡ true) × (new ≡ old ++ b ∷ [])
@@ -67,31 +67,31 @@ Extends old b (Character c) new =
     (is_character (old ++ b ∷ []) ≡ true) × (c ≡ character_of (old ++ b ∷ [])) × (new ≡ [])
 Extends old b Broken new = (is_character (old ++ b ∷ []) ≡ false) × (is_beginning (old ++ b ∷ []) ≡ false) × (new ≡ [])
 
--- a decimal digit
+-- A decimal digit.
 abbrev pub is_digit : ℕ → Bool
 is_digit b = nat_le 0x30 b && nat_le b 0x39
 
--- a byte that ends no string: none of CAN, SUB and ESC
+-- A byte that cannot end a string: not CAN, SUB or ESC.
 abbrev pub IsUnended : ℕ → Type 0
 IsUnended b = (b ≢ 0x18) × (b ≢ 0x1A) × (b ≢ 0x1B)
 
--- bytes that begin with ESC and `[`
+-- The bytes begin with ESC and `[`.
 pub record Opens (bytes : List ℕ) : Type 0 where
   pub long : 2 ≤ length bytes
   pub first : slice_index_or bytes 0 0 ≡ 0x1B
   pub second : slice_index_or bytes 1 0 ≡ 0x5B
 
--- the groups of numbers that end at these places, and the last one that ends at len
+-- The groups of numbers that end at these indices, and the last one, which ends at `len`.
 abbrev pub groups_from : ℕ → List ℕ → ℕ → List ℕ → List (List ℕ)
 groups_from from [] len numbers = take (len - from) (drop from numbers) ∷ []
 groups_from from (to ∷ ends) len numbers = take (to - from) (drop from numbers) ∷ groups_from to ends len numbers
 
--- the places rise, each group has a number, and so has the last one
+-- The indices are ascending, so that each group has a number, and so has the last one.
 abbrev pub Ascends : ℕ → List ℕ → ℕ → Type 0
 Ascends from [] len = from < len
 Ascends from (to ∷ ends) len = (from < to) × Ascends to ends len
 
--- what the end of a collected text is answered with
+-- The events that the scanner returns when a byte ends a collected text.
 abbrev pub answer_of : Ending → ℕ → Events
 answer_of ending.Nothing b = record { first = None; second = None }
 answer_of ending.Character b = record { first = Some (event.Character b); second = None }
@@ -101,7 +101,7 @@ answer_of ending.CsiDispatch b = record { first = Some (event.Csi b); second = N
 answer_of ending.OscDispatch b = record { first = Some event.Osc; second = None }
 answer_of ending.OscDispatchAndExecuted b = record { first = Some event.Osc; second = Some (event.Executed b) }
 
--- nothing is collected in the kind that begins; what an event may still lend stays
+-- The scanner entered a state with nothing collected; the lists that an event may still refer to are unchanged.
 pub record Begins (old : Held) (new : Held) (begun : Kind) : Type 0 where
   pub kind : new.kind ≡ begun
   pub reads : Reads new begun []

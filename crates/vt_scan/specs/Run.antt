@@ -1,8 +1,8 @@
--- Bytes one after the other.
+-- Runs of the automaton over several bytes.
 use Rattle.std.specs.Prelude.{ℕ, List, [], ◌∷◌, ◌++◌}
 use Rattle.vt_scan.specs.Automaton.{State, Step, step_in}
 
--- the state after these bytes, and all events on the way
+-- The state after these bytes, and all their events.
 abbrev pub run : State → List ℕ → Step
 run state [] = record { state = state; events = [] }
 run state (b ∷ bytes) =

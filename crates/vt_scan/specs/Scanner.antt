@@ -1,5 +1,5 @@
--- What the scanner holds of the bytes that it has read, which states of the automaton that stands for, and what its
--- answer means.
+-- What the scanner holds of the bytes that it has read, which states of the automaton it represents by that, and what
+-- the events that it returns mean.
 use Rattle.std.specs.Prelude.{◌≡◌, ◌≢◌, ℕ, ◌<◌, ◌≤◌, ◌==◌, ◌&&◌, ◌||◌, nat_le, Bool, false, List, [], ◌++◌, length, map, option_to_list}
 use Rattle.vt_scan.specs.Parameters.{GroupTable, table_of}
 use Rattle.vt_scan.specs.Automaton as automaton
@@ -15,23 +15,24 @@ use Rattle.vt_scan.specs.declared.event.Event as event
 use Rattle.vt_scan.specs.declared.event.Event.TheVariants as given
 use Rattle.vt_scan.specs.declared.event.Events.{Events}
 
--- all that is held; what its kind doesn't use is left over from before
+-- All that a scanner holds. Fields that its kind does not use have old values.
 pub record Held : Type 0 where
   pub kind : Kind
-  -- the bytes of an unfinished character
+  -- The bytes of an incomplete character.
   pub unfinished : List ℕ
-  -- the numbers of a sequence
+  -- The numbers of a sequence.
   pub table : GroupTable
-  -- the first two of its marker and intermediates
+  -- The private marker and the intermediates, at most two bytes.
   pub intermediates : List ℕ
-  -- the text of an operating system command
+  -- The text of an operating system command.
   pub text : List ℕ
 
+-- The numbers and intermediates that are held are those of the collected bytes `text`.
 pub record ReadsSequence (held : Held) (text : List ℕ) : Type 0 where
   pub table : held.table ≡ table_of (parameter_text text)
   pub intermediates : held.intermediates ≡ intermediates_of text
 
--- in this kind, what is held is the reading of these collected bytes
+-- In this kind, what is held is the reading of the collected bytes `text`.
 abbrev pub Reads : Held → Kind → List ℕ → Type 0
 Reads held Ground text = held.unfinished ≡ text
 Reads held CsiIgnore text = Unit {0}
@@ -39,12 +40,17 @@ Reads held OscString text = held.text ≡ text
 Reads held Skip text = Unit {0}
 Reads held _ text = ReadsSequence held text
 
--- a state that a scanner which holds this may be in: what is held tells all that the state's future events need
+-- A scanner that holds this may be in this state: what is held is all that the state's future events depend on.
 pub record StandsFor (held : Held) (state : State) : Type 0 where
   pub kind : held.kind ≡ state.kind
   pub reads : Reads held held.kind state.collected
 
--- what an event of the answer means; the lists are those that the scanner lends until its next byte
+-- The bytes of an operating system command that has not ended; nothing else is kept byte by byte.
+abbrev pub unfinished_command : Kind → List ℕ → List ℕ
+unfinished_command OscString text = text
+unfinished_command _ text = []
+
+-- The event of the automaton that an event of the scanner means; its lists are those that the scanner holds.
 abbrev pub event_of : Held → event.Event → automaton.Event
 event_of held (given.Character c) = automaton.Character c
 event_of held (given.Executed b) = automaton.Executed b
@@ -52,47 +58,49 @@ event_of held (given.Escape b) = automaton.EscDispatch held.intermediates b
 event_of held (given.Csi b) = automaton.CsiDispatch held.table.groups held.intermediates b
 event_of held given.Osc = automaton.OscDispatch (parts_of held.text)
 
--- the events of an answer, in their order
+-- The events of the automaton that the events of the scanner mean, in their order.
 abbrev pub events_in : Held → Events → List automaton.Event
 events_in held events = map (event_of held) (option_to_list events.first ++ option_to_list events.second)
 
--- what is held stands for the step's state, and the answer means exactly its events
+-- The scanner represents the state after a step, and its events mean exactly those of the step.
 pub record Follows (new : Held) (answer : Events) (step : Step) : Type 0 where
   pub stands : StandsFor new step.state
   pub means : events_in new answer ≡ step.events
 
--- a printable byte of ASCII
+-- The byte is printable ASCII.
 abbrev pub IsPrintableByte : ℕ → Type 0
 IsPrintableByte b = (0x20 ≤ b) × (b < 0x7F)
 
--- plain text with nothing unfinished, and a printable byte of ASCII
+-- The scanner is in the ground state with nothing incomplete, and the byte is printable ASCII.
 abbrev pub ReadsItself : Held → ℕ → Type 0
 ReadsItself held b = (held.kind ≡ Ground) × (held.unfinished ≡ []) × (0x20 ≤ b) × (b < 0x7F)
 
--- plain text with nothing unfinished, and a control function of one byte that is not ESC
+-- The scanner is in the ground state with nothing incomplete, and the byte is a control character other than ESC.
 abbrev pub ExecutesItself : Held → ℕ → Type 0
 ExecutesItself held b = (held.kind ≡ Ground) × (held.unfinished ≡ []) × (b < 0x20) × (b ≢ 0x1B)
 
--- whatever state the scanner was in, it is then in the one that follows by this byte
+-- Feeding byte b makes the step of the automaton from every state that the scanner represents, and returns its
+-- events.
 abbrev pub Feeds : Held → ℕ → Held → Events → Type 0
 Feeds old b new answer =
     (state : State) → StandsFor old state → Follows new answer (step_in state.kind state.collected b)
 
--- the same for bytes, one after the other, and all their events
+-- Feeding these bytes one by one makes the run of the automaton from every state that the scanner represents, with
+-- exactly these events.
 abbrev pub FeedsAll : Held → List ℕ → Held → List automaton.Event → Type 0
 FeedsAll old bytes new events =
     (state : State) → StandsFor old state → StandsFor new (run state bytes).state × ((run state bytes).events ≡ events)
 
--- these bytes have no event, whatever state the scanner was in
+-- These bytes cause no event, in any state that the scanner represents.
 abbrev pub HasNoEvent : Held → List ℕ → Type 0
 HasNoEvent held bytes = (state : State) → StandsFor held state → (run state bytes).events ≡ []
 
--- an intermediate byte (ECMA-48, section 5.4, and ECMA-35)
+-- An intermediate byte (ECMA-48, section 5.4, and ECMA-35).
 abbrev pub is_intermediate : ℕ → Bool
 is_intermediate b = nat_le 0x20 b && nat_le b 0x2F
 
--- a byte that leads into a sequence: ESC in plain text with nothing unfinished, then an intermediate,
--- or `[` and then what is of the parameter text
+-- A byte that introduces a sequence: ESC in the ground state with nothing incomplete, then an intermediate, or `[`
+-- and then parameter bytes.
 abbrev pub leads_in : Kind → List ℕ → ℕ → Bool
 leads_in Ground unfinished b = (length unfinished == 0) && (b == 0x1B)
 leads_in Escape unfinished b = (b == 0x5B) || is_intermediate b
@@ -100,16 +108,16 @@ leads_in CsiEntry unfinished b = is_parameter b
 leads_in CsiParam unfinished b = is_parameter b
 leads_in _ unfinished b = false
 
--- a final byte of a control sequence (ECMA-48, section 5.4)
+-- A final byte of a control sequence (ECMA-48, section 5.4).
 abbrev pub is_final : ℕ → Bool
 is_final b = nat_le 0x40 b && nat_le b 0x7E
 
--- a byte that ends a control sequence without intermediates, which is then dispatched
+-- A byte that ends a control sequence without intermediates, which is then dispatched.
 abbrev pub ends_sequence : Kind → ℕ → Bool
 ends_sequence CsiEntry b = is_final b
 ends_sequence CsiParam b = is_final b
 ends_sequence _ b = false
 
--- a byte that ends an escape sequence, which is then dispatched
+-- A byte that ends an escape sequence, which is then dispatched.
 abbrev pub EndsEscape : Kind → ℕ → Type 0
 EndsEscape kind b = turn_of kind (class_of b) ≡ End Ground EscDispatch

@@ -1,13 +1,13 @@
--- Bytes without U+FE0F, which UTF-8 spells EF B8 8F (Unicode 3.9, Table 3-6), and bytes that read none.
+-- Bytes that contain no U+FE0F, which is EF B8 8F in UTF-8 (Unicode 3.9, Table 3-6), and bytes that yield none.
 use Rattle.std.specs.Prelude.{◌≢◌, ℕ, List, [], ◌∷◌, take, drop}
 use Rattle.std.specs.List.{AllByRecursion}
 use Rattle.vt_scan.specs.Automaton.{State, Character}
 use Rattle.vt_scan.specs.Run.{run}
 
--- EF B8 8F stands at no place of these bytes
+-- The bytes contain EF B8 8F nowhere.
 abbrev pub SpellsNoSelector : List ℕ → Type 0
 SpellsNoSelector bytes = (i : ℕ) → take 3 (drop i bytes) ≢ 0xEF ∷ 0xB8 ∷ 0x8F ∷ []
 
--- no event of a run over bytes is the character U+FE0F
+-- No event of a run over these bytes is the character U+FE0F.
 abbrev pub ReadsNoSelector : State → List ℕ → Type 0
 ReadsNoSelector state bytes = AllByRecursion (λ event. event ≢ Character 0xFE0F) (run state bytes).events

@@ -1,25 +1,25 @@
--- Characters of three bytes and two columns, one after the other.
+-- Runs of characters of three bytes and two columns.
 use Rattle.std.specs.Prelude.{◌≡◌, ◌≢◌, ℕ, ◌+◌, ◌*◌, ◌<◌, true, List, [], ◌∷◌, slice_index_or, Some}
 use Rattle.std.specs.Char.{IsScalar}
 use Rattle.vt_cells.specs.Glyph.{columns_of}
 use Rattle.vt_scan.specs.Characters.{character_of, is_character}
 
--- a character that is drawn in two columns
+-- The character is drawn in two columns.
 abbrev pub IsWideCharacter : ℕ → Type 0
 IsWideCharacter c = IsScalar c × ((c ≢ 0xFFFD) × (columns_of c ≡ Some 2))
 
--- three bytes that are such a character
+-- These three bytes are the character c, which takes two columns.
 pub record IsWideThree (bytes : List ℕ) (c : ℕ) : Type 0 where
   pub whole : is_character bytes ≡ true
   pub means : c ≡ character_of bytes
   pub low : c < 0xFFFD
   pub wide : columns_of c ≡ Some 2
 
--- the bytes of character k
+-- The three bytes of character k.
 abbrev pub three_at : List ℕ → ℕ → List ℕ
 three_at bytes k =
     slice_index_or bytes (3 * k) 0 ∷ slice_index_or bytes (3 * k + 1) 0 ∷ slice_index_or bytes (3 * k + 2) 0 ∷ []
 
--- the first n characters of a text, and the bytes that they are
+-- The first n characters of a text, with the bytes that encode them.
 abbrev pub AreWideThrees : ℕ → List ℕ → List ℕ → Type 0
 AreWideThrees n bytes text = (k : ℕ) → k < n → IsWideThree (three_at bytes k) (slice_index_or text k 0)

@@ -1,12 +1,12 @@
-//! The scanner: from bytes to events.
+//! The scanner, which turns bytes into events.
 
 ghost use Rattle.std.specs.Prelude.{◌≡◌, ◌≢◌, ℕ};
-ghost use Rattle.std.specs.Prelude.{List, [], ◌∷◌, ◌++◌, IfOk};
+ghost use Rattle.std.specs.Prelude.{List, [], ◌∷◌, ◌++◌, IfOk, length};
 ghost use Rattle.std.specs.Prelude.{IsErr, None, OnErr, OnOk};
 ghost use Rattle.vt_cells.specs.Refusals.{OnlyOutOfMemory};
 ghost use Rattle.vt_scan.specs.Automaton.{State, fresh_step, parts_of, start, step_in};
 ghost use Rattle.vt_scan.specs.Internals.{Begins, Fits, answer_of};
-ghost use Rattle.vt_scan.specs.Scanner.{Feeds, Follows, Reads, StandsFor};
+ghost use Rattle.vt_scan.specs.Scanner.{Feeds, Follows, Reads, StandsFor, unfinished_command};
 ghost use Rattle.vt_scan.specs.Table.{class_of, turn_of};
 ghost use Rattle.vt_scan.specs.declared.table.Kind.{Kind};
 ghost use Rattle.vt_scan.specs.declared.table.Turn.{Turn};
@@ -23,12 +23,12 @@ use std::alloc::Global;
 use std::marker::Model;
 use vt_cells::Error;
 
-/// Reads the bytes of a terminal one by one. It follows Williams' parser for
-/// ANSI terminals, with UTF-8 as the Unicode Standard's Table 3-7 has it.
+/// A parser that reads the bytes of a terminal one by one and returns events.
 ///
-/// Of a sequence it keeps the first 32 numbers, each at most 65535, the first
-/// two of marker and intermediates, and the first 16 parts of an operating
-/// system command. Only the text of such a command takes memory.
+/// It follows Paul Williams' parser for ANSI terminals, with UTF-8 as in Table 3-7 of the Unicode
+/// Standard. Of a sequence it keeps the first 32 numbers, each at most 65535; the first two bytes
+/// among the private marker and the intermediates; and the first 16 parts of an operating system
+/// command. Only the text of such a command allocates memory.
 pub struct Scanner {
     kind: Kind,
     unfinished: Unfinished,
@@ -52,8 +52,8 @@ impl Model for Scanner {
         ∥ ((state : State) × StandsFor (held s.kind s.unfinished s.parameters s.intermediates s.text.items) state) ∥₁ };
 }
 
-// One call wherever a scanner is given up: a derived drop is taken apart field by field in each
-// caller's proof, at each of its exits.
+// Dropping a scanner is one call: the steps of a derived drop would be repeated, field by field, at
+// each exit of each caller's proof.
 impl Drop for Scanner {
     fn drop(self) {
         let Scanner {
@@ -67,7 +67,7 @@ impl Drop for Scanner {
 }
 
 impl Scanner {
-    /// A scanner that has read nothing. It takes no memory yet.
+    /// Creates a scanner that has read nothing. Allocates nothing.
     pub fn new(alloc: Global) -> Self
         ensures { StandsFor result start }
     {
@@ -80,12 +80,16 @@ impl Scanner {
         }
     }
 
-    /// Reads one byte and answers its events. The lists of a sequence are
-    /// lent by `parameters`, `intermediates` and `parts` until the next byte.
+    /// Parses one byte and returns its events, at most two.
     ///
-    /// Memory is taken only for a byte of the text of an operating system
-    /// command; where that is refused, the answer is `OutOfMemory`, nothing
-    /// is changed, and the same byte may be given again.
+    /// Until the next byte, `parameters`, `intermediates` and `parts` return the lists of the
+    /// sequence that an event ended.
+    ///
+    /// # Errors
+    ///
+    /// Returns [`Error::OutOfMemory`] if the byte belongs to the text of an operating system
+    /// command and the allocation fails. The scanner is unchanged, and the same byte may be passed
+    /// again.
     #[inline]
     pub fn feed(&mut self, byte: u8) -> Result<Events, Error>
         ensures fed { IfOk result (Feeds self.old byte self.new) }
@@ -99,16 +103,16 @@ impl Scanner {
         }
     }
 
-    /// Says that the scanner stands for at least one state of the automaton,
-    /// as every scanner does.
+    /// States that the scanner represents at least one state of the automaton, as every scanner
+    /// does.
     pub fn stands(&self)
         ensures { ∥ ((state : State) × StandsFor self.now state) ∥₁ }
     {
-        // For the proof: a field is touched, so that the invariant is known.
+        // Only for the proof: reading a field makes the type's invariant available.
         let _kind = self.kind;
     }
 
-    /// The numbers of a control sequence, after its event.
+    /// Returns the numbers of the control sequence that the last event ended.
     #[inline]
     pub fn parameters(&self) -> &Parameters
         ensures { result.now ≡ self.now.table }
@@ -116,8 +120,8 @@ impl Scanner {
         &self.parameters
     }
 
-    /// The marker and the intermediates of a sequence, after its event: the
-    /// first two.
+    /// Returns the private marker and the intermediates of the sequence that the last event ended,
+    /// at most the first two of these bytes.
     #[inline]
     pub fn intermediates(&self) -> &[u8]
         ensures { result.now ≡ self.now.intermediates }
@@ -125,8 +129,7 @@ impl Scanner {
         self.intermediates.as_slice()
     }
 
-    /// The parts of an operating system command, after its event: the first
-    /// 16.
+    /// Returns the first 16 parts of the operating system command that the last event ended.
     #[inline]
     pub fn parts(&self) -> Parts<'_>
         ensures { result ≡ parts_of self.now.text }
@@ -134,7 +137,22 @@ impl Scanner {
         Parts::of(&self.text)
     }
 
-    /// Reads a byte outside of sequences.
+    /// Returns the number of bytes kept of an incomplete operating system command, those after its
+    /// introducer. Returns 0 outside such a command: other strings are dropped as they are read, and
+    /// other sequences take a fixed amount of memory.
+    #[inline]
+    pub fn pending_len(&self) -> usize
+        ensures held { result ≡ length (unfinished_command self.now.kind self.now.text) }
+        ensures collected { (state : State) → StandsFor self.now state
+            → result ≡ length (unfinished_command state.kind state.collected) }
+    {
+        match self.kind {
+            Kind::OscString => self.text.len(),
+            _ => 0,
+        }
+    }
+
+    /// Parses a byte outside sequences.
     #[inline]
     fn feed_ground(&mut self, byte: u8) -> Events
         requires { self.old.kind ≡ Kind.Ground }
@@ -153,7 +171,7 @@ impl Scanner {
         }
     }
 
-    /// A byte where no character is unfinished.
+    /// Parses a byte outside sequences when no character is incomplete.
     #[inline]
     fn feed_fresh(&mut self, byte: u8) -> Events
         requires kind { self.old.kind ≡ Kind.Ground }
@@ -177,10 +195,12 @@ impl Scanner {
         }
     }
 
-    /// Reads a byte within a sequence.
+    /// Parses a byte inside a sequence.
     ///
-    /// Fails where the byte is one of an OSC text and memory for it is refused;
-    /// then nothing has changed.
+    /// # Errors
+    ///
+    /// Returns [`Error::OutOfMemory`] if the byte belongs to the text of an operating system
+    /// command and the allocation fails; nothing has changed.
     fn feed_sequence(&mut self, byte: u8) -> Result<Events, Error>
         requires { self.old.kind ≢ Kind.Ground }
         ensures fed { IfOk result (Feeds self.old byte self.new) }
@@ -202,7 +222,12 @@ impl Scanner {
         }
     }
 
-    /// Collects a byte, in this kind from now on.
+    /// Collects a byte and enters the state `kind`.
+    ///
+    /// # Errors
+    ///
+    /// Returns [`Error::OutOfMemory`] if the byte belongs to the text of an operating system
+    /// command and the allocation fails; nothing has changed.
     fn collect(&mut self, kind: Kind, byte: u8) -> Result<(), Error>
         requires { Fits self.old.kind (Turn.Collect kind) }
         ensures kind { OnOk result (self.new.kind ≡ kind) }
@@ -227,7 +252,8 @@ impl Scanner {
         Ok(())
     }
 
-    /// Begins with nothing collected, in this kind. What it doesn't use stays.
+    /// Enters the state `kind` with nothing collected. Fields that this state does not use are
+    /// unchanged.
     fn begin(&mut self, kind: Kind)
         ensures { Begins self.old self.new kind }
     {
@@ -244,7 +270,7 @@ impl Scanner {
     }
 }
 
-/// The events of an ending.
+/// Returns the events that the byte `byte` causes by ending what was collected.
 #[inline]
 fn answer(ending: Ending, byte: u8) -> Events
     ensures { result ≡ answer_of ending byte }

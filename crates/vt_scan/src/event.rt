@@ -1,40 +1,41 @@
-//! What the scanner answers to a byte.
+//! The events that the scanner returns for a byte.
 
 ghost use Rattle.std.specs.Prelude.{◌≡◌, None, Some};
 
-/// One thing that the bytes said. The numbers, intermediates and parts of a sequence
-/// are lent by the scanner until its next byte.
+/// An event of the scanner: a character, a control character, or a complete sequence.
+///
+/// The numbers, intermediates and parts of a sequence can be read from the scanner until its next
+/// byte.
 #[derive(Clone, Copy, PartialEq, Eq, Debug)]
 pub enum Event {
     /// A character to print.
     Character(char),
 
-    /// A control function of one byte.
+    /// A control character to execute.
     Executed(u8),
 
-    /// An escape sequence with this last byte; the scanner has its intermediates.
+    /// An escape sequence with its last byte. The scanner holds its intermediates.
     Escape(u8),
 
-    /// A control sequence with this final byte; the scanner has its groups
-    /// and intermediates.
+    /// A control sequence with its final byte. The scanner holds its numbers and intermediates.
     Csi(u8),
 
-    /// An operating system command; the scanner has its parts.
+    /// An operating system command. The scanner holds its parts.
     Osc,
 }
 
 /// The events of one byte, at most two.
 #[derive(Clone, Copy, PartialEq, Eq, Debug)]
 pub struct Events {
-    /// What comes first.
+    /// The first event.
     pub first: Option<Event>,
 
-    /// What comes after it; None where nothing came first.
+    /// The second event; `None` if there is no first one.
     pub second: Option<Event>,
 }
 
 impl Events {
-    /// No event.
+    /// Returns the empty list of events.
     #[inline]
     pub fn none() -> Self
         ensures { result ≡ record { first = None; second = None } }
@@ -45,7 +46,7 @@ impl Events {
         }
     }
 
-    /// One event.
+    /// Returns a list of one event.
     #[inline]
     pub fn one(event: Event) -> Self
         ensures { result ≡ record { first = Some event; second = None } }
@@ -56,7 +57,7 @@ impl Events {
         }
     }
 
-    /// This event, and after it the first of these.
+    /// Returns `event` followed by the first event of `events`.
     #[inline]
     pub fn after(event: Event, events: Events) -> Self
         ensures { result ≡ record { first = Some event; second = events.first } }

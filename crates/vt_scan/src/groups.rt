@@ -1,13 +1,14 @@
-//! The groups of numbers of a control sequence, as slices.
+//! The parameter groups of a control sequence as slices.
 
 ghost use Rattle.std.specs.Prelude.{◌≡◌, ℕ, ◌<◌, ◌≤◌, List, [], ◌∷◌, ◌++◌, length, map, take};
 
 use std::marker::Model;
 
-/// How many numbers of a control sequence are kept; there are no more groups.
+/// The maximum number of parameters that are kept of a control sequence, and so of groups.
 pub(crate) const MAX_NUMBERS: usize = 32;
 
-/// At most 32 groups, in a table of their own: no memory is taken.
+/// The parameter groups of a control sequence as slices, at most 32. Held in an array; nothing is
+/// allocated.
 #[derive(Drop)]
 pub struct Groups<'a> {
     table: [&'a [u16]; MAX_NUMBERS],
@@ -23,7 +24,7 @@ impl<'a> Model for Groups<'a> {
 }
 
 impl<'a> Groups<'a> {
-    /// No groups.
+    /// Creates an empty list of groups.
     #[inline]
     pub fn new() -> Groups<'a>
         ensures { result ≡ [] }
@@ -34,7 +35,7 @@ impl<'a> Groups<'a> {
         }
     }
 
-    /// One more group.
+    /// Appends a group. There must be fewer than 32.
     #[inline]
     pub fn push(&mut self, group: &'a [u16])
         requires { length self.old < 32 }
@@ -44,7 +45,7 @@ impl<'a> Groups<'a> {
         self.len += 1;
     }
 
-    /// The groups, each with its numbers.
+    /// Returns the groups, each as a slice of its numbers.
     #[inline]
     pub fn as_slice(&self) -> &[&'a [u16]]
         ensures { map (λ r. r.now) result.now ≡ self.now }

@@ -1,13 +1,13 @@
-//! The marker and the intermediates of a sequence.
+//! The private marker and the intermediates of a sequence.
 
 ghost use Rattle.std.specs.Prelude.{◌≡◌, ℕ, ◌≤◌, List, [], ◌∷◌, ◌++◌, take};
 
 use std::marker::Model;
 
-/// How many intermediates are kept.
+/// The maximum number of intermediates that are kept, private marker included.
 const MAX_MARKS: usize = 2;
 
-/// The first two of the intermediates that were pushed.
+/// The first two of the intermediates that were pushed, private marker included.
 #[derive(Drop)]
 pub struct Intermediates {
     bytes: [u8; MAX_MARKS],
@@ -23,7 +23,7 @@ impl Model for Intermediates {
 }
 
 impl Intermediates {
-    /// No intermediates.
+    /// Creates an empty list of intermediates.
     pub fn new() -> Self
         ensures { result ≡ [] }
     {
@@ -33,7 +33,7 @@ impl Intermediates {
         }
     }
 
-    /// Forgets the intermediates.
+    /// Removes all intermediates.
     #[inline]
     pub fn clear(&mut self)
         ensures { self.new ≡ [] }
@@ -41,7 +41,7 @@ impl Intermediates {
         self.len = 0;
     }
 
-    /// Keeps one more intermediate, if there are fewer than two.
+    /// Appends an intermediate, unless there are two already.
     #[inline]
     pub fn push(&mut self, byte: u8)
         ensures { (all : List ℕ) → self.old ≡ take 2 all → self.new ≡ take 2 (all ++ byte ∷ []) }
@@ -52,7 +52,7 @@ impl Intermediates {
         }
     }
 
-    /// The intermediates that are kept, in their order.
+    /// Returns the intermediates in their order.
     #[inline]
     pub fn as_slice(&self) -> &[u8]
         ensures { result.now ≡ self.now }

@@ -1,8 +1,8 @@
-//! What holds of the automaton, as facts: these functions do nothing, and
-//! their clauses say what is proved. `run` reads bytes one after the other
-//! from a state, and answers the state after them with all events; `start` is
-//! plain text with nothing unfinished, and `back_with` says that it is reached
-//! again, with these events.
+//! Theorems about the byte automaton. The functions do nothing; a proof may cite their clauses.
+//!
+//! `run` parses bytes from a state and returns the state after them with all events. `start` is the
+//! ground state with nothing incomplete. `back_with` says that this state is reached again, with
+//! the given events.
 
 ghost use Rattle.std.specs.Char.{IsScalar, encode_utf8};
 ghost use Rattle.std.specs.List.{All, AllByRecursion};
@@ -15,17 +15,18 @@ ghost use Rattle.vt_scan.specs.Scanner.{Held, StandsFor};
 ghost use Rattle.vt_scan.specs.Selectors.{ReadsNoSelector, SpellsNoSelector};
 ghost use Rattle.vt_scan.specs.Texts.{IsParameterText, back_with, place_groups};
 
-/// Bytes may come in pieces: those of the second piece are read from the
-/// state after the first one, and its events follow.
+/// States that input may be split anywhere: the second chunk is parsed from the state after the
+/// first one, and its events follow those of the first.
 pub fn pieces()
     ensures state { (state : State) (a b : List ℕ) → (run state (a ++ b)).state ≡ (run (run state a).state b).state }
     ensures events { (state : State) (a b : List ℕ) →
         (run state (a ++ b)).events ≡ (run state a).events ++ (run (run state a).state b).events }
 {}
 
-/// What a scanner holds tells all that follows. Of the states that it may be
-/// in, each gives the same events for the same bytes; and what stands for one
-/// of them after these bytes stands for the others.
+/// States that what a scanner holds determines all that follows.
+///
+/// All states that a scanner may represent yield the same events for the same bytes, and a scanner
+/// that represents one of them after these bytes represents the others.
 pub fn futures()
     ensures events { (held : Held) (s t : State) (bytes : List ℕ) → StandsFor held s →
         StandsFor held t → (run s bytes).events ≡ (run t bytes).events }
@@ -33,8 +34,7 @@ pub fn futures()
         StandsFor held t → StandsFor after (run s bytes).state → StandsFor after (run t bytes).state }
 {}
 
-/// A character that is written as UTF-8 is read as itself, and so are the
-/// control functions of one byte.
+/// States that a character in UTF-8 is read as itself, and so is a control character.
 pub fn characters()
     ensures ascii { (b : ℕ) → 0x20 ≤ b → b ≤ 0x7F → run start (b ∷ []) ≡ back_with (Character b ∷ []) }
     ensures unicode { (c : ℕ) → IsScalar c → 0x20 ≤ c → run start (encode_utf8 c) ≡ back_with (Character c ∷ []) }
@@ -43,15 +43,14 @@ pub fn characters()
     ensures control { (b : ℕ) → b < 0x20 → b ≢ 0x1B → run start (b ∷ []) ≡ back_with (Executed b ∷ []) }
 {}
 
-/// Bytes in which EF B8 8F stands nowhere read no U+FE0F, from plain text with
-/// nothing unfinished on; no other bytes spell it (Unicode 3.9).
+/// States that bytes which do not contain EF B8 8F, the encoding of U+FE0F, never yield that
+/// character when parsed from the ground state (Unicode 3.9).
 pub fn selectors()
     ensures { (bytes : List ℕ) → SpellsNoSelector bytes → ReadsNoSelector start bytes }
 {}
 
-/// A sequence that is written whole is read as it was meant: ESC and a last
-/// byte that begins no other sequence, and CSI, with or without `?`, any
-/// parameter text and a final byte.
+/// States that a complete sequence is read as it was written: ESC with a last byte that introduces
+/// no other sequence, and CSI with or without `?`, any parameter bytes and a final byte.
 pub fn sequences()
     ensures escape { (b : ℕ) → 0x30 ≤ b → b ≤ 0x7E → b ≢ 0x5B → b ≢ 0x5D → b ≢ 0x50 → b ≢ 0x58 →
         b ≢ 0x5E → b ≢ 0x5F → run start (0x1B ∷ b ∷ []) ≡ back_with (EscDispatch [] b ∷ []) }
@@ -61,8 +60,8 @@ pub fn sequences()
         run start (csi (0x3F ∷ text) final) ≡ back_with (CsiDispatch (table_of text).groups (0x3F ∷ []) final ∷ []) }
 {}
 
-/// Numbers that are written in decimal, up to 65535, are read as they were:
-/// none as 0, several that `;` joins each as a group of its own.
+/// States that decimal numbers up to 65535 are read as they were written: an empty parameter as 0,
+/// and numbers joined by `;` each as a group of its own.
 pub fn numbers()
     ensures empty { (table_of []).groups ≡ (0 ∷ []) ∷ [] }
     ensures one { (n : ℕ) → n ≤ 65535 → (table_of (decimal n)).groups ≡ (n ∷ []) ∷ [] }
@@ -72,7 +71,7 @@ pub fn numbers()
         (table_of (place row col)).groups ≡ place_groups row col }
 {}
 
-/// Such numbers are parameter texts.
+/// States that decimal numbers joined by `;` are parameter bytes.
 pub fn parameter_texts()
     ensures one { (n : ℕ) → n ≤ 65535 → IsParameterText (decimal n) }
     ensures several { (ns : List ℕ) → All (λ n. n ≤ 65535) ns → IsParameterText (joined ns) }

@@ -1,4 +1,4 @@
-//! The byte automaton of a terminal: bytes in, characters and sequences out.
+//! The byte automaton of a terminal: it turns bytes into characters and sequences.
 #![tactic(auto)]
 
 pub mod automaton;

@@ -1,4 +1,4 @@
-//! The numbers of a control sequence.
+//! The parameters of a control sequence.
 
 ghost use Rattle.std.specs.Prelude.{◌≡◌, ℕ, ◌+◌, ◌*◌, ◌<◌, ◌≤◌, List, [], ◌∷◌, ◌++◌};
 ghost use Rattle.std.specs.Prelude.{IfSome, None, false, if◌then◌else◌, length, map, min, nat_lt};
@@ -11,18 +11,18 @@ ghost use Rattle.vt_scan.specs.Texts.{IsParameterText};
 use crate::groups::{Groups, MAX_NUMBERS};
 use std::marker::Model;
 
-/// The first 32 numbers of a parameter text, each at most 65535, in their
+/// The first 32 numbers of the parameters of a control sequence, each at most 65535, in their
 /// groups (ECMA-48, section 5.4.2).
 #[derive(Drop)]
 pub struct Parameters {
     numbers: [u16; MAX_NUMBERS],
     len: usize,
 
-    /// The places where the groups end, but for the last group.
+    /// The indices at which the groups end, except for the last group.
     ends: [usize; MAX_NUMBERS],
     closed: usize,
 
-    /// Whether there were more numbers.
+    /// Whether there were more than 32 numbers.
     is_cut: bool,
 }
 
@@ -36,7 +36,7 @@ impl Model for Parameters {
 }
 
 impl Parameters {
-    /// Those of the empty text: one group with the number 0.
+    /// Returns the parameters of a sequence without parameter bytes: one group with the number 0.
     pub fn new() -> Self
         ensures { result ≡ table_of [] }
     {
@@ -49,7 +49,7 @@ impl Parameters {
         }
     }
 
-    /// Begins with the empty text again.
+    /// Resets to one group with the number 0.
     #[inline]
     pub fn clear(&mut self)
         ensures { self.new ≡ table_of [] }
@@ -60,8 +60,8 @@ impl Parameters {
         self.is_cut = false;
     }
 
-    /// Reads one more byte of the text: a digit, `:` or `;`. Numbers above
-    /// 65535 stay there, and what follows the 32nd number is not kept.
+    /// Reads one parameter byte: a digit, `:` or `;`. Numbers above 65535 become 65535, and numbers
+    /// after the 32nd are dropped.
     #[inline]
     pub fn push(&mut self, byte: u8)
         requires from { 0x30 ≤ byte }
@@ -75,7 +75,7 @@ impl Parameters {
         }
     }
 
-    /// Reads a digit of the last number.
+    /// Appends a digit to the last number.
     fn push_digit(&mut self, byte: u8)
         requires from { 0x30 ≤ byte }
         requires to { byte < 0x3A }
@@ -88,7 +88,7 @@ impl Parameters {
         self.numbers[last] = with_digit(self.numbers[last], byte - b'0');
     }
 
-    /// Begins one more number in the same group, if there is room.
+    /// Begins a new number in the same group, if there is room.
     fn end_number(&mut self)
         ensures { (text : List ℕ) → self.old ≡ table_of text → self.new ≡ table_of (text ++ 0x3A ∷ []) }
     {
@@ -100,7 +100,7 @@ impl Parameters {
         self.len += 1;
     }
 
-    /// Begins one more number in a group of its own, if there is room.
+    /// Begins a new number in a new group, if there is room.
     fn end_group(&mut self)
         ensures { (text : List ℕ) → self.old ≡ table_of text → self.new ≡ table_of (text ++ 0x3B ∷ []) }
     {
@@ -114,8 +114,7 @@ impl Parameters {
         self.len += 1;
     }
 
-    /// Reads the bytes of the parameter text that come first of these, and
-    /// answers how many they were.
+    /// Reads the leading bytes that are parameter bytes, and returns their number.
     #[inline]
     pub fn push_all(&mut self, bytes: &[u8]) -> usize
         ensures inside { result ≤ length bytes.now }
@@ -133,9 +132,8 @@ impl Parameters {
         count
     }
 
-    /// Reads a byte of the text, and the digits behind it that come first of
-    /// these bytes. Answers how many digits they were; those of a further
-    /// group's number may be left where there is no room.
+    /// Reads a parameter byte and the leading digits of `bytes`, and returns the number of digits
+    /// read. If there is no room for the number of a new group, its digits may be left unread.
     #[inline(always)]
     fn push_some(&mut self, byte: u8, bytes: &[u8]) -> usize
         requires from { 0x30 ≤ byte }
@@ -152,9 +150,10 @@ impl Parameters {
         self.push_digits(bytes)
     }
 
-    /// Begins one more number in a group of its own, if there is room, and
-    /// reads its digits, which come first of these bytes. The group is stored
-    /// when its number is known. Answers how many digits were read.
+    /// Begins a new number in a new group, if there is room, and reads its digits from the start of
+    /// `bytes`. Returns the number of digits read.
+    ///
+    /// The group is stored only after its number is complete.
     #[inline(always)]
     fn push_group(&mut self, bytes: &[u8]) -> usize
         ensures inside { result ≤ length bytes.now }
@@ -180,8 +179,8 @@ impl Parameters {
         count
     }
 
-    /// Reads the digits that come first of these bytes, and answers how many
-    /// they were. Their number is stored once.
+    /// Reads the leading digits and returns their number. The value is stored only once, after the
+    /// last digit.
     #[inline(always)]
     fn push_digits(&mut self, bytes: &[u8]) -> usize
         ensures inside { result ≤ length bytes.now }
@@ -203,7 +202,7 @@ impl Parameters {
         count
     }
 
-    /// How many groups there are: 1 to 32.
+    /// Returns the number of groups, 1 to 32.
     #[inline]
     pub fn group_count(&self) -> usize
         ensures { result ≡ length self.now.groups }
@@ -211,7 +210,7 @@ impl Parameters {
         self.closed + 1
     }
 
-    /// The numbers of a group, counted from 0.
+    /// Returns the numbers of group `i`, counted from 0.
     #[inline]
     pub fn group(&self, i: usize) -> &[u16]
         requires { i < length self.now.groups }
@@ -222,8 +221,7 @@ impl Parameters {
         &self.numbers[start..end]
     }
 
-    /// The first number of a group, counted from 0; 0 where there is no such
-    /// group.
+    /// Returns the first number of group `i`, counted from 0, or 0 if there is no such group.
     #[inline]
     pub fn number(&self, i: usize) -> u16
         ensures { result ≡ slice_index_or (slice_index_or self.now.groups i []) 0 0 }
@@ -234,7 +232,7 @@ impl Parameters {
         self.numbers[group_start(&self.ends, i)]
     }
 
-    /// The numbers, one after the other, where no group has more than one.
+    /// Returns the numbers as one slice if each group has exactly one, or `None` otherwise.
     #[inline(always)]
     pub fn lone_numbers(&self) -> Option<&[u16]>
         ensures some { IfSome result (λ numbers. self.now.groups ≡ map (λ number. number ∷ []) numbers.now) }
@@ -247,7 +245,7 @@ impl Parameters {
         Some(&self.numbers[..count])
     }
 
-    /// The groups, lent until the next byte.
+    /// Returns the groups, which borrow the numbers.
     pub fn groups(&self) -> Groups<'_>
         ensures { result ≡ self.now.groups }
     {
@@ -263,7 +261,7 @@ impl Parameters {
     }
 }
 
-/// The place where a group begins.
+/// Returns the index at which group `i` begins.
 #[inline(always)]
 fn group_start(ends: &[usize; MAX_NUMBERS], i: usize) -> usize
     requires { i < 32 }
@@ -272,8 +270,7 @@ fn group_start(ends: &[usize; MAX_NUMBERS], i: usize) -> usize
     if i == 0 { 0 } else { ends[i - 1] }
 }
 
-/// The place where a group ends, if so many are closed; the last one ends with
-/// the numbers.
+/// Returns the index at which group `i` ends; the last group ends at `len`.
 #[inline(always)]
 fn group_end(ends: &[usize; MAX_NUMBERS], closed: usize, len: usize, i: usize) -> usize
     requires { closed ≤ 32 }
@@ -282,7 +279,7 @@ fn group_end(ends: &[usize; MAX_NUMBERS], closed: usize, len: usize, i: usize) -
     if i < closed { ends[i] } else { len }
 }
 
-/// Whether the byte is one of the parameter text.
+/// Returns whether `byte` is a parameter byte: a digit, `:` or `;`.
 #[inline(always)]
 pub(crate) fn is_parameter_byte(byte: u8) -> bool
     ensures { result ≡ is_parameter byte }
@@ -290,7 +287,7 @@ pub(crate) fn is_parameter_byte(byte: u8) -> bool
     byte >= 0x30 && byte <= 0x3B
 }
 
-/// Whether the byte is a decimal digit.
+/// Returns whether `byte` is a decimal digit.
 #[inline(always)]
 fn is_digit_byte(byte: u8) -> bool
     ensures { result ≡ is_digit byte }
@@ -298,7 +295,7 @@ fn is_digit_byte(byte: u8) -> bool
     byte >= 0x30 && byte <= 0x39
 }
 
-/// A number with one more digit, at most 65535.
+/// Returns `number` with `digit` appended, at most 65535.
 #[inline]
 fn with_digit(number: u16, digit: u8) -> u16
     ensures { result ≡ min 65535 (10 * number + digit) }

@@ -1,14 +1,15 @@
-//! The parts of an operating system command, as slices.
+//! The parts of an operating system command as slices.
 
 ghost use Rattle.std.specs.Prelude.{◌≡◌, ℕ, ◌≤◌, List, [], ◌∷◌, ◌++◌, map, take};
 ghost use Rattle.vt_scan.specs.Automaton.{parts_of};
 
 use std::marker::Model;
 
-/// How many parts of an operating system command are kept.
+/// The maximum number of parts that are kept of an operating system command.
 const MAX_PARTS: usize = 16;
 
-/// At most 16 parts, in a table of their own: no memory is taken.
+/// The parts of an operating system command as slices, at most 16. Held in an array; nothing is
+/// allocated.
 #[derive(Drop)]
 pub struct Parts<'a> {
     table: [&'a [u8]; MAX_PARTS],
@@ -24,7 +25,7 @@ impl<'a> Model for Parts<'a> {
 }
 
 impl<'a> Parts<'a> {
-    /// The first 16 parts of a text, which `;` parts.
+    /// Splits a text at `;` and returns the first 16 parts.
     pub fn of(text: &'a [u8]) -> Parts<'a>
         ensures { result ≡ parts_of text.now }
     {
@@ -43,7 +44,7 @@ impl<'a> Parts<'a> {
         parts
     }
 
-    /// Keeps one more part, if there are fewer than 16.
+    /// Appends a part, unless there are 16 already.
     fn push(&mut self, part: &'a [u8])
         ensures { (all : List (List ℕ)) → self.old ≡ take 16 all → self.new ≡ take 16 (all ++ part.now ∷ []) }
     {
@@ -53,7 +54,7 @@ impl<'a> Parts<'a> {
         }
     }
 
-    /// The parts, in their order.
+    /// Returns the parts in their order.
     #[inline]
     pub fn as_slice(&self) -> &[&'a [u8]]
         ensures { map (λ r. r.now) result.now ≡ self.now }

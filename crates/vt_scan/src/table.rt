@@ -1,13 +1,13 @@
-//! What each byte does in each kind of state.
+//! The transition table of the automaton.
 
 ghost use Rattle.std.specs.Prelude.{◌≡◌};
 ghost use Rattle.vt_scan.specs.Internals.{Fits};
 ghost use Rattle.vt_scan.specs.Table.{class_of, turn_of};
 
-/// Which kind of text the scanner is in.
+/// The state of the automaton.
 #[derive(Clone, Copy, PartialEq, Eq, Debug)]
 pub enum Kind {
-    /// Plain text.
+    /// Outside sequences.
     Ground,
 
     /// After ESC.
@@ -19,7 +19,7 @@ pub enum Kind {
     /// After CSI.
     CsiEntry,
 
-    /// In a control sequence, after a marker or a byte of the parameter text.
+    /// In a control sequence, after a private marker or a parameter byte.
     CsiParam,
 
     /// In a control sequence, after an intermediate.
@@ -31,14 +31,14 @@ pub enum Kind {
     /// In an operating system command.
     OscString,
 
-    /// In a string that is read and dropped: DCS, SOS, PM or APC.
+    /// In a string that is ignored: DCS, SOS, PM or APC.
     Skip,
 }
 
-/// The bytes that the table doesn't tell apart.
+/// A class of bytes that the transition table treats alike.
 #[derive(Clone, Copy, PartialEq, Eq, Debug)]
 pub enum Class {
-    /// `00..1F` but for those with a class of their own.
+    /// `00` to `1F`, except those with a class of their own.
     Control,
 
     /// BEL, `07`.
@@ -50,16 +50,16 @@ pub enum Class {
     /// ESC, `1B`.
     Introducer,
 
-    /// `20..2F`.
+    /// `20` to `2F`.
     Intermediate,
 
-    /// `30..3B`: digits, `:` and `;`.
+    /// `30` to `3B`: digits, `:` and `;`.
     Parameter,
 
-    /// `3C..3F`.
+    /// `3C` to `3F`: private markers.
     Marker,
 
-    /// `40..7E` but for the next three.
+    /// `40` to `7E`, except those with a class of their own.
     Final,
 
     /// `[`.
@@ -74,11 +74,11 @@ pub enum Class {
     /// DEL, `7F`.
     Delete,
 
-    /// `80..FF`.
+    /// `80` to `FF`.
     High,
 }
 
-/// What ends with a byte, and is handed over.
+/// The event or events that a byte causes by ending what was collected.
 #[derive(Clone, Copy, PartialEq, Eq, Debug)]
 pub enum Ending {
     /// No event.
@@ -87,7 +87,7 @@ pub enum Ending {
     /// The byte as a character.
     Character,
 
-    /// The byte as a control function.
+    /// The byte as a control character.
     Executed,
 
     /// An escape sequence.
@@ -99,27 +99,27 @@ pub enum Ending {
     /// An operating system command.
     OscDispatch,
 
-    /// An operating system command, and then the byte as a control function.
+    /// An operating system command, followed by the byte as a control character.
     OscDispatchAndExecuted,
 }
 
-/// What a byte does.
+/// A transition of the automaton.
 #[derive(Clone, Copy, PartialEq, Eq, Debug)]
 pub enum Turn {
-    /// It joins the collected bytes, in this kind.
+    /// Collects the byte and enters the state.
     Collect(Kind),
 
-    /// Nothing.
+    /// Ignores the byte.
     Drop,
 
-    /// It is a control function in the midst of what is collected.
+    /// Executes the byte as a control character; the state is unchanged.
     Execute,
 
-    /// It ends what was collected, and this kind begins with nothing collected.
+    /// Ends what was collected and enters the state with nothing collected.
     End(Kind, Ending),
 }
 
-/// The class of a byte.
+/// Returns the class of a byte.
 #[inline]
 #[tactic(auto, using(std::proofs::lemmas::Bool::Decides::nat_tests), unfolding(crate::specs::Table::class_of))]
 pub fn classify(byte: u8) -> Class
@@ -142,7 +142,7 @@ pub fn classify(byte: u8) -> Class
     }
 }
 
-/// What a byte does in this kind of state.
+/// Returns the transition for a byte in the state `kind`.
 #[inline(always)]
 #[tactic(auto, using(std::proofs::lemmas::Bool::Decides::nat_tests), unfolding(crate::specs::Table::class_of))]
 pub fn turn_at(kind: Kind, byte: u8) -> Turn
@@ -155,7 +155,7 @@ pub fn turn_at(kind: Kind, byte: u8) -> Turn
     }
 }
 
-/// What a byte of this class does in this kind of state.
+/// Returns the transition for a class of bytes in the state `kind`.
 #[inline]
 pub fn look_up(kind: Kind, class: Class) -> Turn
     ensures turn { result ≡ turn_of kind class }

@@ -1,4 +1,4 @@
-//! The bytes of a character that isn't finished.
+//! The bytes of an incomplete UTF-8 character.
 #![tactic(auto, unfolding(crate::specs::Characters::is_character, crate::specs::Characters::is_beginning))]
 
 ghost use Rattle.std.specs.Prelude.{◌≡◌, ◌≢◌, ℕ, ◌*◌, ◌<◌, ◌≤◌, ◌==◌, true, List, [], ◌∷◌};
@@ -10,7 +10,7 @@ ghost use Rattle.vt_scan.specs.WideTexts.{AreWideThrees, IsWideThree};
 use std::marker::Model;
 use vt_cells::columns;
 
-/// The bytes so far.
+/// The bytes read so far of an incomplete character.
 #[derive(Clone, Copy, PartialEq, Eq, Debug)]
 enum Bytes {
     Zero,
@@ -19,20 +19,20 @@ enum Bytes {
     Three(u8, u8, u8),
 }
 
-/// What one more byte makes of an unfinished character.
+/// The result of adding one byte to an incomplete character.
 #[derive(Clone, Copy, PartialEq, Eq, Debug)]
 pub enum Extended {
-    /// It goes on, and isn't finished.
+    /// The character is still incomplete.
     Further,
 
-    /// It is finished.
+    /// The character is complete.
     Character(char),
 
-    /// The byte can't go on it.
+    /// The byte cannot continue the character.
     Broken,
 }
 
-/// Nothing, or a proper beginning of a character in UTF-8.
+/// The bytes read so far of an incomplete UTF-8 character, or none.
 #[derive(Drop)]
 pub struct Unfinished {
     bytes: Bytes,
@@ -47,14 +47,14 @@ impl Model for Unfinished {
 }
 
 impl Unfinished {
-    /// Nothing.
+    /// Creates the value for no incomplete character.
     pub fn new() -> Self
         ensures { result ≡ [] }
     {
         Unfinished { bytes: Bytes::Zero }
     }
 
-    /// Forgets the bytes.
+    /// Drops the bytes of the incomplete character, if any.
     #[inline]
     pub fn clear(&mut self)
         ensures { self.new ≡ [] }
@@ -62,7 +62,7 @@ impl Unfinished {
         self.bytes = Bytes::Zero;
     }
 
-    /// Whether there is no byte.
+    /// Returns whether there are no bytes.
     #[inline]
     pub fn is_empty(&self) -> bool
         ensures { result ≡ (length self.now == 0) }
@@ -73,7 +73,8 @@ impl Unfinished {
         }
     }
 
-    /// Begins a character with its first byte, if one begins so.
+    /// Stores `byte` if it is the first byte of a character of more than one byte, and returns
+    /// whether it is.
     pub fn begin(&mut self, byte: u8) -> bool
         requires { self.old ≡ [] }
         ensures answers { result ≡ is_beginning (byte ∷ []) }
@@ -86,8 +87,7 @@ impl Unfinished {
         is_first
     }
 
-    /// Takes one more byte. Nothing is left where the character is finished
-    /// or broken.
+    /// Adds one byte. No bytes are left if the character is complete or cannot be continued.
     pub fn extend(&mut self, byte: u8) -> Extended
         requires { self.old ≢ [] }
         ensures { Extends self.old byte result self.new }
@@ -98,8 +98,8 @@ impl Unfinished {
     }
 }
 
-/// The character of more than one byte that these bytes begin with, and how
-/// many bytes it takes, if all of them are here.
+/// Returns the first character and its length in bytes, if it takes more than one byte and all of
+/// them are present.
 pub fn first_character(bytes: &[u8]) -> Option<(char, usize)>
     ensures inside { IfSome result (λ found. (1 < found.1) × (found.1 ≤ length bytes.now)) }
     ensures is { IfSome result (λ found. is_character (take found.1 bytes.now) ≡ true) }
@@ -124,9 +124,10 @@ pub fn first_character(bytes: &[u8]) -> Option<(char, usize)>
     Some((join_four(bytes[0], bytes[1], bytes[2], bytes[3]), 4))
 }
 
-/// How many of the characters that these bytes begin with have three bytes and
-/// two columns each, from the first on, as far as there is room for them; they
-/// are left in `text`. There may be more.
+/// Decodes leading characters of three bytes and two columns each into `text`, as many as fit, and
+/// returns their number.
+///
+/// Characters below U+3000 end the run, even wide ones.
 #[inline]
 pub fn wide_characters(bytes: &[u8], text: &mut [char]) -> usize
     ensures same { length text.new ≡ length text.old }
@@ -147,7 +148,7 @@ pub fn wide_characters(bytes: &[u8], text: &mut [char]) -> usize
     done
 }
 
-/// The character of three bytes, if it takes two columns: one from U+3000 on.
+/// Decodes a character of three bytes, if it is U+3000 or above and takes two columns.
 #[inline(always)]
 fn wide_character(a: u8, b: u8, c: u8) -> Option<char>
     ensures { IfSome result (IsWideThree (a ∷ b ∷ c ∷ [])) }
@@ -162,7 +163,8 @@ fn wide_character(a: u8, b: u8, c: u8) -> Option<char>
     }
 }
 
-/// One more byte behind those of a character.
+/// Adds a byte to those of an incomplete character, and returns the bytes that are left with the
+/// result.
 fn extend_bytes(bytes: Bytes, byte: u8) -> (Bytes, Extended)
     requires begun { is_beginning (bytes_in bytes) ≡ true }
     ensures extends { Extends (bytes_in bytes) byte result.1 (bytes_in result.0) }
@@ -176,7 +178,7 @@ fn extend_bytes(bytes: Bytes, byte: u8) -> (Bytes, Extended)
     }
 }
 
-/// A second byte.
+/// Adds a byte to a character of which one byte was read.
 fn extend_one(first: u8, byte: u8) -> (Bytes, Extended)
     requires { is_beginning (first ∷ []) ≡ true }
     ensures extends { Extends (first ∷ []) byte result.1 (bytes_in result.0) }
@@ -191,7 +193,7 @@ fn extend_one(first: u8, byte: u8) -> (Bytes, Extended)
     (Bytes::Two(first, byte), Extended::Further)
 }
 
-/// A third byte.
+/// Adds a byte to a character of which two bytes were read.
 fn extend_two(first: u8, second: u8, byte: u8) -> (Bytes, Extended)
     requires { is_beginning (first ∷ second ∷ []) ≡ true }
     ensures extends { Extends (first ∷ second ∷ []) byte result.1 (bytes_in result.0) }
@@ -209,7 +211,7 @@ fn extend_two(first: u8, second: u8, byte: u8) -> (Bytes, Extended)
     (Bytes::Three(first, second, byte), Extended::Further)
 }
 
-/// A fourth byte.
+/// Adds a byte to a character of which three bytes were read.
 fn extend_three(first: u8, second: u8, third: u8, byte: u8) -> (Bytes, Extended)
     requires { is_beginning (first ∷ second ∷ third ∷ []) ≡ true }
     ensures extends { Extends (first ∷ second ∷ third ∷ []) byte result.1 (bytes_in result.0) }
@@ -224,7 +226,7 @@ fn extend_three(first: u8, second: u8, third: u8, byte: u8) -> (Bytes, Extended)
     )
 }
 
-/// Whether this can be the second byte after the first.
+/// Returns whether `byte` can be the second byte after `first`.
 fn may_be_second(first: u8, byte: u8) -> bool
     ensures { result ≡ is_second first byte }
 {
@@ -237,14 +239,14 @@ fn may_be_second(first: u8, byte: u8) -> bool
     }
 }
 
-/// Whether this can be a third or fourth byte.
+/// Returns whether `byte` can be a third or fourth byte.
 fn may_continue(byte: u8) -> bool
     ensures { result ≡ continues byte }
 {
     byte >= 0x80 && byte <= 0xBF
 }
 
-/// The character of two bytes.
+/// Decodes a character of two bytes.
 fn join_two(a: u8, b: u8) -> char
     requires { is_character (a ∷ b ∷ []) ≡ true }
     ensures { result ≡ character_of (a ∷ b ∷ []) }
@@ -253,7 +255,7 @@ fn join_two(a: u8, b: u8) -> char
     char::from_u32(code).unwrap()
 }
 
-/// The character of three bytes.
+/// Decodes a character of three bytes.
 fn join_three(a: u8, b: u8, c: u8) -> char
     requires { is_character (a ∷ b ∷ c ∷ []) ≡ true }
     ensures { result ≡ character_of (a ∷ b ∷ c ∷ []) }
@@ -262,7 +264,7 @@ fn join_three(a: u8, b: u8, c: u8) -> char
     char::from_u32(code).unwrap()
 }
 
-/// The character of four bytes.
+/// Decodes a character of four bytes.
 fn join_four(a: u8, b: u8, c: u8, d: u8) -> char
     requires { is_character (a ∷ b ∷ c ∷ d ∷ []) ≡ true }
     ensures { result ≡ character_of (a ∷ b ∷ c ∷ d ∷ []) }

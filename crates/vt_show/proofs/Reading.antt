@@ -1,4 +1,4 @@
--- Reading an input bit by bit.
+-- Reading the input chunk by chunk.
 use Rattle.std.proofs.Common.{◌≡◌, ℕ, Ok, Err, false, List, [], ◌++◌, Option}
 use Rattle.std.proofs.Common.{refl, subst, ap, ◌∙◌}
 use Rattle.std.proofs.KnownBytes.{Consumes-nil, Consumes-trans}
@@ -41,7 +41,7 @@ pub ok_ran : {E : Type 0} (r : Result (Unit {0}) E) (P : Type 0) → is_err r �
 ok_ran (Ok x) P e h = h
 ok_ran (Err x) P e h = cc
 
--- what holds of a text holds of that of the screen after the bytes that were read
+-- What holds for the output of a mode holds for that of the screen after the bytes that were read.
 pub for_text : (mode : Mode) (rows cols : ℕ) (left rest : Option (List ℕ)) (p q : Parsing (Unit {0}))
     (screen : ScreenValue) (text : List ℕ) (Holds : List ℕ → Type 0)
     → StandsFor p.scanner start → p ≡ parsing p.scanner (fresh_screen rows cols 0) p.callbacks

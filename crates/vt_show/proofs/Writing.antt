@@ -1,4 +1,4 @@
--- Writing a text bit by bit.
+-- Writing a text chunk by chunk.
 use Rattle.std.proofs.Common.{◌≡◌, ℕ, ◌-◌, List, [], ◌++◌, Option, length, take, drop}
 use Rattle.std.proofs.Common.{refl, sym, subst, ap, ◌∙◌, append_assoc, take-append-drop}
 use Rattle.std.proofs.KnownBytes.{Appends-kept, Appends-nil, Appends-trans}
@@ -42,7 +42,7 @@ written_part all rest old mid new so keeps = record {
   appends = Appends-kept old mid new so.taken so.appends keeps;
 }
 
--- a whole text is a part of itself
+-- Writing a whole text is writing a part of it.
 pub whole_part : (all : List ℕ) (old mid new : Option (List ℕ)) → Appends old mid all → Keeps mid new →
     AppendsPart old new all
 whole_part all old mid new appends keeps = record {

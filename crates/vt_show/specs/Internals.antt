@@ -4,13 +4,13 @@ use Rattle.std.specs.Io.KnownBytes.{Appends, Consumes}
 use Rattle.std.specs.declared.option.Option.{Option}
 use Rattle.vt100.specs.Parser.{Parsing, Ran, quietly}
 
--- bytes were read, and the parser has done what they say
+-- Bytes were read, and the parser has parsed them.
 pub record HasReadBytes (left rest : Option (List ℕ)) (old new : Parsing (Unit {0})) : Type 0 where
   pub bytes : List ℕ
   pub reads : Consumes left rest bytes
   pub ran : Ran quietly old bytes new
 
--- of bytes to write these are left, and those before them were written
+-- Of the bytes to write, `rest` is left, and those before it were written.
 pub record HasWrittenTo (all rest : List ℕ) (old new : Option (List ℕ)) : Type 0 where
   pub taken : List ℕ
   pub parts : all ≡ taken ++ rest

@@ -1,4 +1,4 @@
--- What is written for an input: the text, by the mode, of the screen that a fresh terminal shows after reading it.
+-- The output for an input: that of the mode for the screen of a new terminal that has parsed the input.
 use Rattle.std.specs.Prelude.{◌≡◌, ◌≢◌, ℕ, List, [], ◌++◌, Err, IsErr, OnOk}
 use Rattle.std.specs.List.{FoldsTo}
 use Rattle.std.specs.Io.KnownBytes.{Appends, Consumes, IsAtEnd, Keeps}
@@ -19,31 +19,31 @@ use Rattle.vt_show.specs.declared.faults.Fault.TheVariants.{Write}
 use Rattle.vt_show.specs.declared.mode.Mode.{Mode}
 use Rattle.vt_show.specs.declared.mode.Mode.TheVariants.{Plain, Formatted, Basic}
 
--- the screen of a run over the input, from a fresh terminal of this size without scrollback
+-- The screen after a run over the input, from a new terminal of this size without scrollback.
 abbrev pub ShowsAfter : ℕ → ℕ → List ℕ → ScreenValue → Type 0
 ShowsAfter rows cols input screen =
     FoldsTo (Performs quietly) (state tt (fresh_screen rows cols 0)) (scan.run start input).events (state tt screen)
 
--- the text that `Screen::contents`, `Screen::contents_formatted` or `Screen::contents_formatted_basic` returns
+-- The output that `Screen::contents`, `Screen::contents_formatted` or `Screen::contents_formatted_basic` returns.
 abbrev pub screen_text : Mode → ScreenValue → List ℕ
 screen_text Plain screen = contents_of screen
 screen_text Formatted screen = shown_text screen
 screen_text Basic screen = basic_texts unwritten (visible_rows screen)
 
--- what the text of a mode may contain: line ends; what draws; line ends and SGR
+-- The control characters that the output of a mode may contain: line ends; sequences that draw; or line ends and SGR.
 abbrev pub IsOfMode : Mode → List ℕ → Type 0
 IsOfMode Plain text = IsMadeOf [] plain_controls text
 IsOfMode Formatted text = IsMadeOf drawing_finals drawing_controls text
 IsOfMode Basic text = IsMadeOf capture_finals plain_controls text
 
--- what is written grew by the beginning of a text, or by all of it
+-- What was written grew by a prefix of a text, or by all of it.
 pub record AppendsPart (old new : Option (List ℕ)) (text : List ℕ) : Type 0 where
   pub taken : List ℕ
   pub lost : List ℕ
   pub parts : text ≡ taken ++ lost
   pub appends : Appends old new taken
 
--- an input was read, all of it where it is known and none is left, and this holds of the text for it
+-- An input was read, all of it if it is known and none is left, and this holds for its output.
 pub record ReadsForText (mode : Mode) (rows cols : ℕ) (left rest : Option (List ℕ))
     (Holds : List ℕ → Type 0) : Type 0 where
   pub input : List ℕ
@@ -53,9 +53,9 @@ pub record ReadsForText (mode : Mode) (rows cols : ℕ) (left rest : Option (Lis
   pub text : Holds (screen_text mode screen)
   pub controls : IsOfMode mode (screen_text mode screen)
 
--- the input is read to its end, and the text for it is written and nothing else; after a fault of writing the input was
--- read to its end as well and a beginning of the text is written, and after any other fault nothing is. `error` is how
--- a fault is returned
+-- The input is read to its end, and the output for it is written, and nothing else. After a fault of writing, the
+-- input was read to its end as well, and a prefix of the output is written; after any other fault, nothing is.
+-- `error` says how a fault is returned.
 pub record ShowsOrFails {E : Type 0} (error : Fault → E) (mode : Mode) (rows cols : ℕ)
     (left rest written grown : Option (List ℕ)) (result : Result (Unit {0}) E) : Type 0 where
   pub end : OnOk result (IsAtEnd rest)

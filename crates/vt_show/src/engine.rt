@@ -1,4 +1,4 @@
-//! From an input to the text of what a terminal shows after it.
+//! The engine of `vtshow`: from the input of a terminal to the output for its screen.
 
 ghost use Rattle.std.specs.Int.NonZero.{non_zero_u16_get};
 ghost use Rattle.std.specs.Io.KnownBytes.{Appends, IsAtEnd, Keeps};
@@ -17,20 +17,19 @@ use std::io::{ErrorKind, Read, Write};
 use std::num::NonZeroU16;
 use vt100::{Parser, Screen};
 
-/// How many bytes are read at once.
+/// The number of bytes that are read at once.
 const BUFFER_SIZE: usize = 8192;
 
-/// Reads the input to its end into a fresh terminal of this size without
-/// scrollback, and writes the text that the mode names, and nothing else.
+/// Reads the input to its end into a new terminal of this size without scrollback, and writes the
+/// output that `mode` selects, and nothing else.
 ///
 /// # Errors
 ///
-/// - `Memory` if an allocation fails. Nothing was written.
-/// - `Read` after any error of a read, also an interrupted one. Nothing was
-///   written.
-/// - `Write` after any error of a write or of the flush at the end, or if the
-///   writer takes no bytes. An interrupted write is tried again. The input was
-///   read to its end, and a beginning of the text, or all of it, was written.
+/// - [`Fault::Memory`] if an allocation fails. Nothing was written.
+/// - [`Fault::Read`] after any error of a read, even an interrupted one. Nothing was written.
+/// - [`Fault::Write`] after any error of a write or of the final flush, or if the writer accepts no
+///   bytes. An interrupted write is tried again. The input was read to its end, and a prefix of the
+///   output, or all of it, was written.
 pub fn run<R: Read, W: Write>(
     alloc: Global,
     reader: &mut R,
@@ -50,9 +49,12 @@ pub fn run<R: Read, W: Write>(
     write_text(writer, text.as_str())
 }
 
-/// Does as [`run`] what the words after the program's name ask for. For words
-/// that ask for nothing (see [`arguments`](crate::arguments)) the answer is
-/// `None` in place of a fault, and nothing is read or written.
+/// Parses the command-line arguments, and calls [`run`] with them.
+///
+/// # Errors
+///
+/// Returns the fault of [`run`], or `None` if the arguments are wrong (see
+/// [`arguments`](crate::arguments)); nothing was read or written then.
 pub fn run_words<R: Read, W: Write>(
     alloc: Global,
     words: &[String],
@@ -75,7 +77,8 @@ pub fn run_words<R: Read, W: Write>(
     }
 }
 
-/// Reads the input to its end into the parser; `Memory` only where the parser failed.
+/// Reads the input to its end into the parser. Fails with [`Fault::Memory`] only if the parser has
+/// failed.
 fn read_all<R: Read>(parser: &mut Parser, reader: &mut R) -> Result<(), Fault>
     ensures end { OnOk result (IsAtEnd (R.remaining reader.new)) }
     ensures ran { OnOk result (HasReadBytes (R.remaining reader.old) (R.remaining reader.new) parser.old parser.new) }
@@ -97,7 +100,7 @@ fn read_all<R: Read>(parser: &mut Parser, reader: &mut R) -> Result<(), Fault>
     Err(Fault::Read)
 }
 
-/// The text that the mode names.
+/// Returns the output that `mode` selects.
 fn text(screen: &Screen, mode: Mode) -> Result<String, Fault>
     ensures text { IfOk result (λ text. string_bytes text ≡ screen_text mode screen.now) }
     ensures controls { IfOk result (λ text. IsOfMode mode (string_bytes text)) }
@@ -111,13 +114,12 @@ fn text(screen: &Screen, mode: Mode) -> Result<String, Fault>
     text.map_err(|_| Fault::Memory)
 }
 
-/// Writes and flushes `text`.
+/// Writes `text` and flushes the writer.
 ///
 /// # Errors
 ///
-/// `Write` if a write or the flush fails, or if the writer takes no bytes: a
-/// beginning of the text, or all of it, was written. An interrupted write is
-/// tried again.
+/// Returns [`Fault::Write`] if a write or the flush fails, or if the writer accepts no bytes. A
+/// prefix of the text, or all of it, was written. An interrupted write is tried again.
 pub fn write_text<W: Write>(writer: &mut W, text: &str) -> Result<(), Fault>
     ensures text { OnOk result (Appends (W.contents writer.old) (W.contents writer.new) text.now) }
     ensures part { OnErr result (AppendsPart (W.contents writer.old) (W.contents writer.new) text.now) }
@@ -130,8 +132,8 @@ pub fn write_text<W: Write>(writer: &mut W, text: &str) -> Result<(), Fault>
     Ok(())
 }
 
-/// Writes all of `bytes`, as `Write::write_all`, whose clauses say nothing of
-/// what a writer holds after an error.
+/// Writes all of `bytes`. It replaces `Write::write_all`, whose contract does not say what a writer
+/// holds after an error.
 fn write_bytes<W: Write>(writer: &mut W, bytes: &[u8]) -> Result<(), Fault>
     ensures all { OnOk result (Appends (W.contents writer.old) (W.contents writer.new) bytes.now) }
     ensures part { OnErr result (AppendsPart (W.contents writer.old) (W.contents writer.new) bytes.now) }

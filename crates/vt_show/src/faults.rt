@@ -3,21 +3,21 @@
 ghost use Rattle.std.specs.Prelude.{◌≡◌};
 ghost use Rattle.vt_show.specs.Endings.{line_of, status_of};
 
-/// Why a run wrote no whole text.
+/// The reason why a run did not write its whole output.
 #[derive(Clone, Copy, PartialEq, Eq, Debug)]
 pub enum Fault {
-    /// There was not enough memory.
+    /// An allocation failed.
     Memory,
 
     /// The input could not be read.
     Read,
 
-    /// The text could not be written.
+    /// The output could not be written.
     Write,
 }
 
-/// The line for standard error, without its end, and the exit status: those of
-/// a fault, or of wrong arguments where there is none.
+/// Returns the line for standard error, without its line end, and the exit status. `None` stands
+/// for wrong arguments.
 ///
 /// ```text
 /// assert_eq!(ending(Some(Fault::Read)), ("vtshow: read failed", 1));

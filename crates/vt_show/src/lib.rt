@@ -1,6 +1,5 @@
-//! The engine of the program `vtshow`: what a terminal shows after reading an
-//! input, as a text. What the engine of `vtmirror` does in the same way is
-//! public, too.
+//! The engine of the program `vtshow`, which writes what a terminal displays after its input. The
+//! parts that the engine of `vtmirror` shares are public, too.
 #![tactic(auto)]
 
 mod engine;

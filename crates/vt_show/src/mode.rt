@@ -1,14 +1,14 @@
-//! What the program writes.
+//! The kinds of output of `vtshow`.
 
-/// The text that is written of the screen.
+/// The kind of output that is written for the screen.
 #[derive(Clone, Copy, PartialEq, Eq, Debug)]
 pub enum Mode {
     /// The text, without attributes.
     Plain,
 
-    /// The redraw, which shows the screen on a fresh terminal of its size.
+    /// The escape sequences that display the screen on a new terminal of its size.
     Formatted,
 
-    /// The text and its attributes, and nothing else.
+    /// The text with SGR sequences, and no other escape sequences.
     Basic,
 }

@@ -1,4 +1,4 @@
-//! The words after a program's name, and what they ask for.
+//! Command-line arguments, and their meaning.
 
 ghost use Rattle.std.specs.Int.NonZero.{non_zero_u16_get};
 ghost use Rattle.std.specs.Prelude.{◌≡◌, ◌==◌, ℕ, map, slice_index, string_bytes, IfErr, IfNone, IfSome};
@@ -12,9 +12,11 @@ use std::env::Env;
 use std::num::NonZeroU16;
 use std::{env, io};
 
-/// Copies the words after the program's name; the program `vtmirror` takes them
-/// so, too. A word that is not UTF-8 is a wrong argument, which `None` says;
-/// the only fault is `Memory`.
+/// Copies the command-line arguments. `vtmirror` uses this function, too.
+///
+/// # Errors
+///
+/// Returns `None` if an argument is not UTF-8, and [`Fault::Memory`] if an allocation fails.
 pub fn given_words<R: Env + AllocGlobal>(rt: &R) -> Result<Vec<String>, Option<Fault>>
     ensures { IfErr result (λ error. IfSome error (λ fault. fault ≡ Fault.Memory)) }
 {
@@ -32,10 +34,10 @@ pub fn given_words<R: Env + AllocGlobal>(rt: &R) -> Result<Vec<String>, Option<F
     Ok(words)
 }
 
-/// Rows, columns and mode, from exactly three words; `None` for other words.
+/// Parses rows, columns and mode from exactly three arguments; returns `None` if they are wrong.
 ///
-/// Rows and columns are decimal digits with a value from 1 to 65535, leading
-/// zeros allowed. The modes are `plain`, `formatted` and `basic`.
+/// Rows and columns are decimal digits with a value from 1 to 65535; leading zeros are allowed. The
+/// modes are `plain`, `formatted` and `basic`.
 ///
 /// ```text
 /// assert_eq!(arguments(&["0", "80", "formatted"]), None);
@@ -54,7 +56,7 @@ pub fn arguments(words: &[&str]) -> Option<(NonZeroU16, NonZeroU16, Mode)>
     Some((rows, cols, mode))
 }
 
-/// What words that are owned ask for, as `arguments` reads them.
+/// Parses rows, columns and mode from owned strings, as [`arguments`] does.
 pub(crate) fn asked(words: &[String]) -> Option<(NonZeroU16, NonZeroU16, Mode)>
     ensures some { IfSome result (λ a.
         AsksToShow (map (λ word. string_bytes word) words.now) (non_zero_u16_get a.0) (non_zero_u16_get a.1) a.2) }
@@ -66,8 +68,8 @@ pub(crate) fn asked(words: &[String]) -> Option<(NonZeroU16, NonZeroU16, Mode)>
     arguments(&[rows.as_str(), cols.as_str(), mode.as_str()])
 }
 
-/// A number of rows or columns: decimal digits with a value from 1 to 65535,
-/// leading zeros allowed; `None` for any other word.
+/// Parses a number of rows or columns: decimal digits with a value from 1 to 65535; leading zeros
+/// are allowed. Returns `None` for any other string.
 ///
 /// ```text
 /// assert_eq!(size("080"), NonZeroU16::new(80));
@@ -86,7 +88,7 @@ pub fn size(word: &str) -> Option<NonZeroU16>
     }
 }
 
-/// Whether the word begins with a sign, which `parse` would take.
+/// Returns whether the string begins with `+`, which `parse` would accept.
 fn has_sign(word: &str) -> bool
     ensures { result ≡ (slice_index word.now 0 == 43) }
 {
@@ -96,7 +98,7 @@ fn has_sign(word: &str) -> bool
     }
 }
 
-/// The mode of this name.
+/// Returns the mode of this name.
 fn mode_named(word: &str) -> Option<Mode>
     ensures some { IfSome result (λ mode. word.now ≡ name_of mode) }
     ensures none { IfNone result ((mode : Mode) → word.now ≡ name_of mode → ⊥) }

@@ -1,10 +1,10 @@
-//! Random input: plain text, characters of two columns and none, controls, sequences of all kinds, and
-//! bytes that are none of these.
+//! Random input: plain text, characters of two columns and of none, control characters, sequences
+//! of all kinds, and bytes that are none of these.
 
 use crate::dice::Dice;
 use std::alloc::AllocError;
 
-/// Characters of one column and of two, marks, and characters that draw nothing.
+/// Characters of one column and of two, combining characters, and characters that draw nothing.
 const CHARACTERS: [&str; 28] = [
     "é",
     "中",
@@ -38,10 +38,10 @@ const CHARACTERS: [&str; 28] = [
 
 const CONTROLS: [u8; 10] = [b'\r', b'\n', b'\r', b'\n', 8, 9, 7, 11, 14, 5];
 
-/// Bytes that end a control sequence, those of moves, erasures and shifts more than once.
+/// Final bytes of control sequences; those that move, erase and shift occur more than once.
 const ENDS: &[u8] = b"ABCDEFGHIJKLMPSTX@`abdefghlmnqrstuABCDHJKLMPSTX@";
 
-/// Bytes behind an escape. RIS is among them, once.
+/// Bytes after an ESC. RIS is among them, once.
 const ESCAPES: &[u8] = b"7878=>MMMcgDEHZ(#\\";
 
 const RENDITIONS: [&str; 24] = [
@@ -101,7 +101,7 @@ const COMMANDS: [&str; 8] = [
     "",
 ];
 
-/// Appends some input.
+/// Appends some random input.
 pub fn push_some(bytes: &mut Vec<u8>, dice: &mut Dice) -> Result<(), AllocError> {
     let most = if dice.is_one_in(8) { 160 } else { 12 };
     for _ in 0..dice.up_to(most) {
@@ -139,7 +139,8 @@ fn push_word(bytes: &mut Vec<u8>, word: Option<&str>) -> Result<(), AllocError> 
     bytes.extend_from_slice(word.unwrap_or("").as_bytes())
 }
 
-/// A control sequence: seldom with a marker or an intermediate, with up to three numbers.
+/// Appends a control sequence: seldom with a private marker or an intermediate, and with up to
+/// three numbers.
 fn push_sequence(bytes: &mut Vec<u8>, dice: &mut Dice) -> Result<(), AllocError> {
     push_word(bytes, Some("\x1b["))?;
     if dice.is_one_in(8) {
@@ -157,7 +158,7 @@ fn push_sequence(bytes: &mut Vec<u8>, dice: &mut Dice) -> Result<(), AllocError>
     push_byte(bytes, dice.pick(ENDS))
 }
 
-/// A number: none, one digit, or now and then more.
+/// Appends a number: mostly of one digit, sometimes of none or of more.
 fn push_number(bytes: &mut Vec<u8>, dice: &mut Dice) -> Result<(), AllocError> {
     let digits = match dice.below(16) {
         0 => 0,
@@ -193,7 +194,7 @@ fn push_modes(bytes: &mut Vec<u8>, dice: &mut Dice) -> Result<(), AllocError> {
     push_byte(bytes, dice.pick(b"hl"))
 }
 
-/// An escape sequence, or an operating system command or another string.
+/// Appends an escape sequence, an operating system command or another string.
 fn push_escape(bytes: &mut Vec<u8>, dice: &mut Dice) -> Result<(), AllocError> {
     push_byte(bytes, Some(0x1b))?;
     match dice.below(8) {

@@ -10,14 +10,14 @@ pub struct Dice {
 }
 
 impl Dice {
-    /// The numbers that this seed gives.
+    /// Creates a generator with this seed.
     pub fn new(seed: u64) -> Self {
         Dice {
             generator: Xoshiro256PlusPlus::seed_from_u64(seed),
         }
     }
 
-    /// A number below `end`, or 0 where that is 0.
+    /// Returns a number below `end`, or 0 if `end` is 0.
     pub fn below(&mut self, end: u32) -> u32 {
         if end == 0 {
             return 0;
@@ -25,17 +25,17 @@ impl Dice {
         self.generator.next_u32() % end
     }
 
-    /// A number from 1 to `most`, or 1 where that is 0.
+    /// Returns a number from 1 to `most`, or 1 if `most` is 0.
     pub fn up_to(&mut self, most: u32) -> u32 {
         self.below(most).saturating_add(1)
     }
 
-    /// A byte.
+    /// Returns a byte.
     pub fn byte(&mut self) -> u8 {
         (self.generator.next_u32() >> 24) as u8
     }
 
-    /// A place before `end`, or 0 where that is 0.
+    /// Returns an index below `end`, or 0 if `end` is 0.
     pub fn place(&mut self, end: usize) -> usize {
         if end == 0 {
             return 0;
@@ -43,12 +43,12 @@ impl Dice {
         self.generator.next_u32() as usize % end
     }
 
-    /// True once in so many times.
+    /// Returns `true` once in `times` times.
     pub fn is_one_in(&mut self, times: u32) -> bool {
         self.below(times) == 0
     }
 
-    /// One of these, or none where there is none.
+    /// Returns one of the items, or `None` if there are none.
     pub fn pick<T: Copy>(&mut self, items: &[T]) -> Option<T> {
         let place = self.place(items.len());
         items.get(place).copied()

@@ -1,9 +1,9 @@
-//! Callbacks that remember what they were called with, as one number.
+//! Callbacks that reduce all calls to one number.
 
 use vt100::capture::RowContents;
 use vt100::{Call, Callbacks, Screen};
 
-/// A number that all calls so far give, and how many there were.
+/// A hash of all calls so far, and their number.
 #[derive(Clone, Copy, Default, PartialEq, Eq)]
 pub struct Digest {
     calls: u64,
@@ -11,7 +11,7 @@ pub struct Digest {
 }
 
 impl Digest {
-    /// Takes a number in (FNV-1a, with a whole number where that has a byte).
+    /// Adds a number to the hash (FNV-1a, applied to whole numbers instead of bytes).
     fn take(&mut self, number: u64) {
         self.sum = (self.sum ^ number).wrapping_mul(0x0100_0000_01b3);
     }
@@ -78,7 +78,7 @@ impl Digest {
     }
 }
 
-/// No call changes the screen.
+/// No callback changes the screen.
 impl Callbacks for Digest {
     ghost use Rattle.std.specs.Prelude.{◌≡◌};
 

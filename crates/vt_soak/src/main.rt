@@ -1,11 +1,11 @@
-//! `vt_soak SEED STEPS`: a long random run. Two terminals read the same random bytes in other pieces,
-//! and get the same calls in between; a third one is kept equal to them by differences, and a fourth
-//! one by redraws. Both read the texts of unsteady screens, too, after which nothing is expected of what
-//! they show until the next steady screen.
+//! `vt_soak SEED STEPS`: a long random run. Two terminals parse the same random bytes, split
+//! differently, and get the same calls in between. A third terminal is kept equal to them by
+//! differences, and a fourth one by redraws. Both also parse the output of screens that are not
+//! steady; nothing is expected of their display until the next steady screen.
 //!
-//! A line with the counts is printed at the end, or one that says what differs first, after which
-//! step. The status is 1 where something differs. Where standard error is a terminal, a line there
-//! tells every so often how far the run is.
+//! At the end a line with the counts is printed, or one with the first difference and its step. The
+//! status is 1 if something differs. If standard error is a terminal, the progress is printed there
+//! from time to time.
 #![tactic(auto)]
 
 mod bytes;
@@ -30,10 +30,11 @@ use std::process::ExitCode;
 use std::rt::Env;
 use tally::Tally;
 
-/// After how many steps a line tells how far the run is.
+/// The number of steps between two lines of progress.
 const PACE: u64 = 100_000;
 
-/// After how many steps all terminals are made anew, with another size and capacity of scrollback.
+/// The number of steps after which all terminals are replaced, with a different size and scrollback
+/// capacity.
 const ROUND: u64 = 2000;
 
 fn words<R: AllocGlobal + Env>(rt: &R) -> Result<(u64, u64)> {
@@ -46,7 +47,7 @@ fn words<R: AllocGlobal + Env>(rt: &R) -> Result<(u64, u64)> {
     Ok((seed, steps))
 }
 
-/// Runs rounds until all steps are done, or something differs.
+/// Runs rounds until all steps are done or something differs.
 fn soak<R: AllocGlobal + Env + Eprint>(rt: &R, is_terminal: bool) -> Result<Tally> {
     let (seed, steps) = words(rt)?;
     let mut tally = Tally::new(seed);

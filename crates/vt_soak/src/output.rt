@@ -1,13 +1,13 @@
-//! What texts for a terminal may contain.
+//! The sequences that output for terminals may contain.
 
 use std::str::Chars;
 
-/// The last bytes of control sequences in these texts: CUP, CUF, ECH, EL, ED, SGR,
-/// and IL and DL of differences that move rows.
+/// The final bytes of the control sequences in output for terminals: CUP, CUF, ECH, EL, ED, SGR,
+/// and IL and DL in differences that move rows.
 const FINALS: &str = "HCXKJmLM";
 
-/// Whether a text has no controls but line ends, backspaces, and the escape
-/// sequences that draw.
+/// Returns whether a text contains no control characters other than line ends, backspaces, and the
+/// escape sequences that draw.
 pub fn is_drawn(text: &str) -> bool {
     let mut chars = text.chars();
     for _ in 0..text.len() {
@@ -26,7 +26,7 @@ pub fn is_drawn(text: &str) -> bool {
     true
 }
 
-/// Whether what follows an escape is one of the sequences that draw.
+/// Returns whether the characters after an ESC are one of the sequences that draw.
 fn is_sequence(chars: &mut Chars<'_>) -> bool {
     match chars.next() {
         Some('7' | '8') => true,
@@ -35,8 +35,8 @@ fn is_sequence(chars: &mut Chars<'_>) -> bool {
     }
 }
 
-/// Whether what follows CSI are decimal numbers and a listed last byte, or shows or
-/// hides the cursor.
+/// Returns whether the characters after CSI are decimal numbers and one of the final bytes, or show
+/// or hide the cursor.
 fn is_control_sequence(chars: &mut Chars<'_>) -> bool {
     match chars.next() {
         Some('?') => is_cursor_mode(chars),
@@ -46,13 +46,14 @@ fn is_control_sequence(chars: &mut Chars<'_>) -> bool {
     }
 }
 
-/// Whether what follows `CSI ?` is mode 25, set or reset.
+/// Returns whether the characters after `CSI ?` are mode 25, set or reset.
 fn is_cursor_mode(chars: &mut Chars<'_>) -> bool {
     let mode = (chars.next(), chars.next(), chars.next());
     matches!(mode, (Some('2'), Some('5'), Some('h' | 'l')))
 }
 
-/// Whether the rest of a control sequence are decimal numbers and a listed last byte.
+/// Returns whether the rest of a control sequence consists of decimal numbers and one of the final
+/// bytes.
 fn ends_listed(chars: &mut Chars<'_>) -> bool {
     for c in chars {
         if !is_parameter(c) {
@@ -66,7 +67,7 @@ fn is_parameter(c: char) -> bool {
     c.is_ascii_digit() || c == ';'
 }
 
-/// Whether a character is a control of C0 or C1, or DEL.
+/// Returns whether a character is a C0 or C1 control character, or DEL.
 fn is_control(c: char) -> bool {
     c < ' ' || matches!(c, '\u{7f}'..='\u{9f}')
 }

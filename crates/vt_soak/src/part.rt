@@ -1,51 +1,51 @@
-//! Two screens, compared.
+//! Comparison of two screens.
 
 use std::fmt;
 use vt100::{Color, Screen};
 
-/// What may differ.
+/// A part in which screens or terminals may differ.
 #[derive(Clone, Copy)]
 pub enum Part {
     /// The number of rows or of columns.
     Size,
 
-    /// A cell, or what it is drawn with.
+    /// A cell or its attributes.
     Cells,
 
-    /// Whether a row goes on in the next one.
+    /// The wrapped flag of a row.
     Flags,
 
-    /// The cursor, or whether it is hidden.
+    /// The cursor position, or whether the cursor is hidden.
     Cursor,
 
-    /// What is drawn with.
+    /// The current attributes.
     Attributes,
 
-    /// Input modes, the look of the cursor, or which page is shown.
+    /// The input modes, the cursor style, or which page is active.
     Modes,
 
-    /// How many rows scrollback has, shows or may keep.
+    /// The number of rows in scrollback, of those displayed, or its capacity.
     Counts,
 
-    /// The rows of scrollback, or those of the page below rows that are in view.
+    /// The rows of scrollback, or those of the page that displayed scrollback hides.
     Rows,
 
-    /// The calls of functions.
+    /// The calls of callbacks.
     Calls,
 
-    /// What a screen always has.
+    /// An invariant of every screen.
     Soundness,
 
-    /// What a terminal shows that has read differences.
+    /// The display of a terminal that parsed differences.
     Difference,
 
-    /// What a terminal shows that has read a redraw.
+    /// The display of a terminal that parsed a redraw.
     Redraw,
 
-    /// The redraw of a terminal that shows the same.
+    /// The redraw of a terminal with the same display.
     Text,
 
-    /// A control in a text that is written for terminals.
+    /// A control character in output for terminals.
     Output,
 
     /// Whether the screen is steady.
@@ -74,8 +74,8 @@ impl fmt::Display for Part {
     }
 }
 
-/// What two screens have not in common. Cells are compared to the end of each row that is shown, also
-/// past the columns of the screen.
+/// Returns the part in which two screens differ, if any. Cells are compared to the end of each
+/// displayed row, even past the columns of the screen.
 pub fn differing(one: &Screen, other: &Screen) -> Option<Part> {
     if !one.is_sized_as(other) {
         return Some(Part::Size);
@@ -101,7 +101,7 @@ pub fn differing(one: &Screen, other: &Screen) -> Option<Part> {
     None
 }
 
-/// How many rows scrollback shows, has and may keep.
+/// Returns the number of displayed rows of scrollback, of rows in scrollback, and its capacity.
 pub fn counts(screen: &Screen) -> (usize, usize, usize) {
     (
         screen.scrollback(),
@@ -143,12 +143,12 @@ fn have_same_flags(one: &Screen, other: &Screen) -> bool {
     true
 }
 
-/// The cursor, and whether it is hidden.
+/// Returns the cursor position, and whether the cursor is hidden.
 pub fn cursor(screen: &Screen) -> ((u16, u16), bool) {
     (screen.cursor_position(), screen.hide_cursor())
 }
 
-/// What is drawn with.
+/// Returns the current attributes.
 pub fn attributes(screen: &Screen) -> (Color, Color, [bool; 5]) {
     let switches = [
         screen.bold(),
@@ -160,7 +160,7 @@ pub fn attributes(screen: &Screen) -> (Color, Color, [bool; 5]) {
     (screen.fgcolor(), screen.bgcolor(), switches)
 }
 
-/// Whether two screens have the same input modes and look of the cursor.
+/// Returns whether two screens have the same input modes and cursor style.
 pub fn have_same_modes(one: &Screen, other: &Screen) -> bool {
     switched_modes(one) == switched_modes(other)
         && one.mouse_protocol_mode() == other.mouse_protocol_mode()

@@ -1,9 +1,9 @@
-//! Bytes, read in random pieces.
+//! Bytes that are split at random.
 
 use crate::dice::Dice;
 use vt100::{Callbacks, Error, Parser};
 
-/// Has a parser read bytes: in one piece, in two, or one by one.
+/// Feeds bytes to a parser: at once, in two chunks, or one by one.
 pub fn feed<CB: Callbacks>(
     parser: &mut Parser<CB>,
     dice: &mut Dice,

@@ -1,4 +1,4 @@
-//! Terminals that are kept equal to another one by texts alone.
+//! Terminals that are kept equal to another one by escape sequences alone.
 
 use crate::dice::Dice;
 use crate::output::is_drawn;
@@ -9,9 +9,11 @@ use crate::tally::Tally;
 use anyhow::{Result, bail};
 use vt100::{Parser, Screen};
 
-/// Has a terminal read what differs between this screen and the one before it, by one kind of difference
-/// or the other, and answers what is not as on the screen then. If the terminal does not show the screen
-/// before, which it may have passed over, or has another size, it reads a redraw.
+/// Feeds the difference from `prev` to `screen`, of either kind, to a terminal, and returns what
+/// then differs from the screen.
+///
+/// If the terminal does not display `prev`, because it skipped a step, or has a different size, it
+/// gets a redraw instead.
 pub fn read_difference(
     dice: &mut Dice,
     tally: &mut Tally,
@@ -30,8 +32,8 @@ pub fn read_difference(
     Ok(missing(reader.screen(), screen, Part::Difference))
 }
 
-/// Has a terminal, whatever it shows, read the redraw of a screen, and answers what is not as on the
-/// screen then.
+/// Feeds the redraw of a screen to a terminal, whatever it displays, and returns what then differs
+/// from the screen.
 pub fn read_redraw(
     dice: &mut Dice,
     tally: &mut Tally,
@@ -49,8 +51,9 @@ pub fn read_redraw(
     Ok(missing(reader.screen(), screen, Part::Redraw))
 }
 
-/// Has two terminals read a difference and a redraw of a screen that is not steady, so that they may
-/// show anything afterwards. They are plain again all the same: the next redraws are as expected.
+/// Feeds a difference and a redraw of a screen that is not steady to two terminals, after which
+/// they may display anything. They are plain nevertheless, so that later redraws have the expected
+/// effect.
 pub fn read_unsteady(
     dice: &mut Dice,
     tally: &mut Tally,
@@ -74,8 +77,8 @@ pub fn read_unsteady(
     Ok(None)
 }
 
-/// Has a terminal that has the modes of `prev` read what differs in the modes, and answers whether it
-/// then has those of the screen.
+/// Feeds the difference of the modes to a terminal that has those of `prev`, and returns what then
+/// differs from those of the screen.
 pub fn read_modes(
     dice: &mut Dice,
     reader: &mut Parser,
@@ -90,13 +93,14 @@ pub fn read_modes(
     Ok(None)
 }
 
-/// Whether the terminal and both screens have one size, and it shows the one before.
+/// Returns whether the terminal and both screens have the same size, and the terminal displays
+/// `prev`.
 fn is_at(reader: &Screen, screen: &Screen, prev: &Screen) -> bool {
     reader.is_sized_as(screen) && prev.is_sized_as(screen) && shows(reader, prev)
 }
 
-/// Two differences that are drawn, then two that may move rows first, and so on: each kind comes behind
-/// itself and behind the other one.
+/// Returns the difference between two screens. Two differences that only draw alternate with two
+/// that may move rows first, so that each kind follows each.
 fn difference(tally: &mut Tally, screen: &Screen, prev: &Screen) -> Result<String> {
     if !screen.is_sized_as(prev) {
         bail!("screens of two sizes");

@@ -1,4 +1,4 @@
-//! A round: terminals that are made, and steps.
+//! A round: new terminals, and a number of steps.
 
 use crate::dice::Dice;
 use crate::digest::Digest;
@@ -14,13 +14,13 @@ use std::alloc::Global;
 use vt100::capture::{BasicFormattedCaptureRange, BasicFormattedCaptureState};
 use vt100::{Parser, Screen};
 
-/// How many rows scrollback keeps: one of these in a round.
+/// The scrollback capacities, one of which is chosen for each round.
 const CAPACITIES: [usize; 6] = [0, 1, 3, 20, 1000, usize::MAX];
 
-/// All rows of scrollback are compared once in so many steps.
+/// All rows of scrollback are compared once in this many steps.
 const WHOLE: u32 = 16;
 
-/// The terminals of a round, and the bytes that two of them read last.
+/// The terminals of a round, and the bytes that two of them parsed last.
 #[derive(Drop)]
 struct Round {
     one: Terminal,
@@ -30,7 +30,7 @@ struct Round {
     bytes: Vec<u8>,
 }
 
-/// Makes all terminals, and takes so many steps, or those up to one after which something differs.
+/// Creates all terminals, and takes this many steps, or fewer if something differs.
 pub fn run(alloc: Global, dice: &mut Dice, tally: &mut Tally, steps: u64) -> Result<()> {
     let mut round = Round::new(alloc, dice)?;
     for _ in 0..steps {
@@ -43,7 +43,8 @@ pub fn run(alloc: Global, dice: &mut Dice, tally: &mut Tally, steps: u64) -> Res
 }
 
 impl Round {
-    /// Two fresh terminals that are alike, a third one, which may be on its alternate page, and a fourth.
+    /// Creates two equal terminals, a third one, which may be on its alternate page, and a fourth
+    /// one.
     fn new(alloc: Global, dice: &mut Dice) -> Result<Round> {
         let (rows, cols) = size(dice);
         let capacity = dice.pick(&CAPACITIES).unwrap_or(0);
@@ -65,7 +66,7 @@ impl Round {
         })
     }
 
-    /// One step, and what differs after it.
+    /// Takes one step, and returns what differs after it.
     fn step(&mut self, alloc: Global, dice: &mut Dice, tally: &mut Tally) -> Result<Option<Part>> {
         let prev = self.one.screen().clone()?;
         take_step(dice, tally, &mut self.bytes, &mut self.one, &mut self.other)?;
@@ -82,7 +83,8 @@ impl Round {
     }
 }
 
-/// What differs in two terminals that read the same, or in one of them from what every screen has.
+/// Returns what differs between two terminals that parsed the same, or an invariant of every screen
+/// that one of them breaks.
 fn twins_part(
     alloc: Global,
     dice: &mut Dice,
@@ -106,7 +108,7 @@ fn twins_part(
     Ok(None)
 }
 
-/// The basic text of all rows.
+/// Returns the basic text of all rows.
 fn all_rows(alloc: Global, screen: &Screen) -> Result<String> {
     let mut text = String::new(alloc);
     let mut state = BasicFormattedCaptureState::new();
@@ -115,7 +117,8 @@ fn all_rows(alloc: Global, screen: &Screen) -> Result<String> {
     Ok(text)
 }
 
-/// What is wrong with the redraw of the screen, or with what it says of its steadiness.
+/// Returns what is wrong with the redraw of a screen, or with its own statement whether it is
+/// steady.
 fn screen_part(alloc: Global, screen: &Screen) -> Result<Option<Part>> {
     if !is_drawn(screen.contents_formatted()?.as_str()) {
         return Ok(Some(Part::Output));
@@ -126,7 +129,7 @@ fn screen_part(alloc: Global, screen: &Screen) -> Result<Option<Part>> {
     Ok(None)
 }
 
-/// What differs in terminals that read texts of the screen, from what it shows.
+/// Returns what differs between the screen and terminals that parsed its output.
 fn readers_part(
     dice: &mut Dice,
     tally: &mut Tally,

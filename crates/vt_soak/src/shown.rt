@@ -1,12 +1,14 @@
-//! Whether a terminal shows what another screen shows.
+//! Comparison of a terminal with the display of a screen.
 
 use crate::part::{attributes, cursor};
 use vt100::{Cell, Color, Screen};
 
-/// Whether the page of a terminal, none of whose scrollback is in view, has the cells and flags that
-/// a screen of its size shows, and the same cursor and attributes. A row of scrollback that is longer
-/// than the screen is cut to its columns: a wide glyph cut in two is a blank, and a flag counts only in
-/// front of a last column that isn't blank, and never in the last row.
+/// Returns whether the page of a terminal, which displays no scrollback, has the cells, wrapped
+/// flags, cursor and attributes that a screen of its size displays.
+///
+/// A row of scrollback that is longer than the screen is cut to its columns: a wide glyph that is
+/// cut becomes a blank, and a wrapped flag counts only if the last column is not blank, and never
+/// in the last row.
 pub fn shows(reader: &Screen, screen: &Screen) -> bool {
     let (rows, _cols) = screen.size();
     if !reader.is_sized_as(screen) || reader.scrollback() != 0 {
@@ -36,7 +38,8 @@ fn shows_row(reader: &Screen, screen: &Screen, row: u16) -> bool {
     shows_last(read, cell) && reader.row_wrapped(row) == goes_on
 }
 
-/// Whether a cell in the last column is shown: half a wide glyph as a blank in its attributes.
+/// Returns whether a cell in the last column is displayed; the first cell of a wide glyph must
+/// appear as a blank with its attributes.
 fn shows_last(read: &Cell, cell: &Cell) -> bool {
     if cell.is_wide() {
         return !read.has_contents()

@@ -1,12 +1,14 @@
-//! What every screen has, as far as it can be seen.
+//! The observable invariants of every screen.
 
 use crate::part::counts;
 use vt100::{Cell, Screen};
 
-/// Whether the cursor is on the screen or at a pending wrap; each row that is shown is as long as the
-/// screen is wide, a row of scrollback at least so long; halves of wide glyphs stand together; no row
-/// goes on behind a blank last column, nor the last row at all; and no more rows of scrollback are in
-/// view than there are, nor are there more than it may keep.
+/// Returns whether the observable invariants of a screen hold.
+///
+/// The cursor is on the screen or has a pending wrap. Each displayed row is as long as the screen
+/// is wide, a row of scrollback at least as long. A wide glyph is followed by its continuation
+/// cell. No row with a blank last column is wrapped, nor is the last row. The number of displayed
+/// rows of scrollback is at most that of the rows kept, and that is at most the capacity.
 pub fn is_sound(screen: &Screen) -> bool {
     let (rows, cols) = screen.size();
     let (row, col) = screen.cursor_position();
@@ -37,7 +39,8 @@ fn are_rows_sound(screen: &Screen) -> bool {
     true
 }
 
-/// How many cells a row has, if the halves of its wide glyphs stand together.
+/// Returns the number of cells of a row, or `None` if a wide glyph lacks its continuation cell, a
+/// continuation cell its wide glyph, or a cell is not valid.
 fn sound_length(screen: &Screen, row: u16) -> Option<u16> {
     let mut is_due = false;
     for col in 0..u16::MAX {
@@ -52,7 +55,8 @@ fn sound_length(screen: &Screen, row: u16) -> Option<u16> {
     None
 }
 
-/// A glyph has a text of 29 bytes at most, and a right half has none.
+/// Returns whether a cell is valid: a glyph has at most 29 bytes of text, and a continuation cell
+/// has none.
 fn is_sound_cell(cell: &Cell) -> bool {
     let length = cell.contents().len();
     let is_right_half = cell.is_wide_continuation();
@@ -62,7 +66,8 @@ fn is_sound_cell(cell: &Cell) -> bool {
         && !(cell.is_wide() && length == 0)
 }
 
-/// Whether the last cell of a row isn't blank; of a page's own rows the last one never goes on.
+/// Returns whether a row may be wrapped: its last cell is not blank, and it is a row of scrollback
+/// or not the last row of the page.
 fn may_go_on(screen: &Screen, row: u16, length: u16, is_kept: bool) -> bool {
     let (rows, _cols) = screen.size();
     let is_last = screen.scrollback() == 0 && row == rows.get().saturating_sub(1);

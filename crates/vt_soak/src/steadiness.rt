@@ -5,8 +5,8 @@ use std::alloc::Global;
 use std::num::NonZeroU16;
 use vt100::{Cell, Parser, Screen};
 
-/// Whether each visible glyph, printed on a blank row of the screen's width, gives
-/// just itself. Only glyphs with U+FE0F are printed; all others do.
+/// Returns whether every visible glyph reproduces itself when printed on a blank row of the
+/// screen's width. Only glyphs with U+FE0F are printed; all others do.
 pub fn prints_itself(alloc: Global, screen: &Screen) -> Result<bool> {
     let (rows, cols) = screen.size();
     for row in 0..rows.get() {
@@ -24,8 +24,8 @@ pub fn prints_itself(alloc: Global, screen: &Screen) -> Result<bool> {
     Ok(true)
 }
 
-/// Whether a glyph's text, printed on a blank row, gives the glyph in the first
-/// columns, blanks after it, and the cursor behind it.
+/// Returns whether the text of a glyph, printed on a blank row, leaves the glyph in the first
+/// columns, blanks after it, and the cursor directly after it.
 fn is_printed_alike(alloc: Global, cols: NonZeroU16, glyph: &Cell) -> Result<bool> {
     let mut parser = Parser::new(alloc, NonZeroU16::MIN, cols, 0)?;
     parser.process(glyph.contents().as_bytes())?;
@@ -38,7 +38,7 @@ fn is_printed_alike(alloc: Global, cols: NonZeroU16, glyph: &Cell) -> Result<boo
     Ok(is_alike && screen.cursor_position() == (0, width) && is_blank_from(screen, width))
 }
 
-/// Whether all cells of the first row from a column on are blank.
+/// Returns whether all cells of the first row from a column on are blank.
 fn is_blank_from(screen: &Screen, start: u16) -> bool {
     let (_rows, cols) = screen.size();
     for col in start..cols.get() {

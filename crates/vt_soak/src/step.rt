@@ -1,4 +1,4 @@
-//! What is done to both terminals in a step.
+//! The actions on both terminals in a step.
 
 use crate::bytes::push_some;
 use crate::dice::Dice;
@@ -10,10 +10,10 @@ use std::mem;
 use std::num::NonZeroU16;
 use vt100::Parser;
 
-/// A terminal that remembers its calls.
+/// A terminal whose callbacks hash its calls.
 pub type Terminal = Parser<Digest>;
 
-/// Does one thing to both terminals: mostly they read, each in pieces of its own.
+/// Performs one random action on both terminals. Mostly they parse bytes, each split differently.
 pub fn take_step(
     dice: &mut Dice,
     tally: &mut Tally,
@@ -54,7 +54,7 @@ fn read(
     Ok(())
 }
 
-/// The first terminal goes on with a copy of the screen of the other one.
+/// Gives the first terminal a copy of the second one's screen.
 fn copy(one: &mut Terminal, other: &Terminal) -> Result<()> {
     *one.screen_mut() = other.screen().clone()?;
     Ok(())
@@ -84,7 +84,8 @@ fn resize(dice: &mut Dice, one: &mut Terminal, other: &mut Terminal) -> Result<(
     Ok(())
 }
 
-/// Rows and columns: mostly few, now and then more, seldom many of the one and one or two of the other.
+/// Returns a random size: mostly small, sometimes larger, and seldom large in one direction and 1
+/// or 2 in the other.
 pub fn size(dice: &mut Dice) -> (NonZeroU16, NonZeroU16) {
     match dice.below(64) {
         0 => (number(dice, 2), number(dice, 300)),
@@ -94,7 +95,7 @@ pub fn size(dice: &mut Dice) -> (NonZeroU16, NonZeroU16) {
     }
 }
 
-/// A number from 1 to `most`.
+/// Returns a random number from 1 to `most`.
 fn number(dice: &mut Dice, most: u32) -> NonZeroU16 {
     let number = u16::try_from(dice.up_to(most)).unwrap_or(1);
     NonZeroU16::new(number).unwrap_or(NonZeroU16::MIN)

@@ -1,35 +1,36 @@
-//! What was done, and what came out.
+//! Counts of a run, and its result.
 
 use crate::part::Part;
 use std::fmt;
 
-/// What was done from this seed on, and what differs first.
+/// The counts of a run with this seed, and the first difference.
 #[derive(Clone, Copy)]
 pub struct Tally {
     pub seed: u64,
     pub steps: u64,
 
-    /// How many bytes each of the two terminals read.
+    /// The number of bytes that each of the first two terminals parsed.
     pub bytes: u64,
 
-    /// How many redraws were read back.
+    /// The number of redraws that were read back.
     pub redraws: u64,
 
-    /// How many differences were read back.
+    /// The number of differences that were read back.
     pub differences: u64,
 
-    /// How many of these moved rows first.
+    /// The number of differences that moved rows first.
     pub moved: u64,
 
-    /// How many screens were not steady: a glyph on them is a different one if it is printed again.
+    /// The number of screens that were not steady: a glyph on them changes when it is printed
+    /// again.
     pub unsteady: u64,
 
-    /// What differs first.
+    /// The first part that differs, if any.
     pub differs: Option<Part>,
 }
 
 impl Tally {
-    /// Nothing done yet.
+    /// Creates the counts of a run that has not begun.
     pub fn new(seed: u64) -> Self {
         Tally {
             seed,

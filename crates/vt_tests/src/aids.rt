@@ -1,5 +1,5 @@
-//! What the tests share: what is done to a parser, as values; what is seen of it then, as one text; and
-//! that each screen on the way is read back.
+//! Helpers that the tests share: actions on a parser as values, its observable state as one string,
+//! and the check that each screen on the way can be read back.
 
 pub mod cuts;
 pub mod picture;

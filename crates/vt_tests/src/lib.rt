@@ -1,5 +1,5 @@
-//! Tests of the terminal through its public surface: what bytes make of a screen, and the texts that it
-//! is turned into, in worked examples, each also with its bytes cut at every place.
+//! Tests of the terminal through its public interface, by worked examples: the effect of bytes on a
+//! screen, and the output of a screen. Each is also run with its bytes split at every place.
 #![tactic(auto)]
 
 #[cfg(test)]

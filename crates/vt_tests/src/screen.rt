@@ -1,5 +1,5 @@
-//! What bytes make of a screen, and callbacks that write each function themselves or change the screen
-//! that they are lent.
+//! Tests of the effect of bytes on a screen, and of callbacks that implement each method or change
+//! the screen.
 
 mod calls_tests;
 mod changing;

@@ -1,5 +1,5 @@
-//! The texts of a screen: plain texts, redraws, differences, rows, states and captures, each of which
-//! another terminal reads back.
+//! Tests of the output of a screen: plain text, redraws, differences, rows, states and captures,
+//! each of which another terminal reads back.
 
 mod capture_tests;
 mod difference_tests;

@@ -1,6 +1,6 @@
-//! `vtshow ROWS COLS plain|formatted|basic`: reads what a program wrote to its
-//! terminal, and writes the screen that it shows then: its text, a text that
-//! shows the same on any terminal of that size, or its text and attributes.
+//! `vtshow ROWS COLS plain|formatted|basic`: reads what a program wrote to its terminal, and writes
+//! the resulting screen: its text, the escape sequences that display it on any terminal of that
+//! size, or its text with SGR sequences.
 #![tactic(auto)]
 
 use std::env::Env;
@@ -8,8 +8,8 @@ use std::io;
 use std::process::ExitCode;
 use vt_show::{Fault, ending, given_words, run_words};
 
-/// Reads standard input to its end and writes to standard output, as the
-/// arguments ask; `None` says that these are wrong.
+/// Reads standard input to its end and writes the screen to standard output, as the arguments ask.
+/// `Err(None)` means that the arguments are wrong.
 fn show<R: Env + AllocGlobal + Input + Print>(rt: &R) -> Result<(), Option<Fault>> {
     let words = given_words(rt)?;
     run_words(

@@ -1,4 +1,4 @@
-//! Cells changed where they stand.
+//! Functions that change a cell in place.
 
 ghost use Rattle.std.specs.Prelude.{◌≡◌, ◌≢◌, false, Some, if◌then◌else◌, encode_utf8};
 ghost use Rattle.vt_cells.specs.Cell.{blank, glyph, is_blank, is_right_half, marked, widened, redrawn, IsCell};
@@ -10,7 +10,7 @@ use super::{Cell, MARK_LIMIT, attrs, is_blank};
 use crate::attrs::Attrs;
 use crate::head::Head;
 
-/// Makes the cell a blank with these attributes.
+/// Makes the cell a blank with the given attributes.
 #[inline]
 pub fn clear(cell: &mut Cell, attrs: Attrs)
     ensures { cell.new ≡ blank attrs }
@@ -18,7 +18,7 @@ pub fn clear(cell: &mut Cell, attrs: Attrs)
     *cell = blank(attrs);
 }
 
-/// Makes the cell a glyph of one character, as [`glyph`] makes one.
+/// Makes the cell a glyph of the character `c`, as [`glyph`] does.
 #[inline(always)]
 pub fn set_glyph(cell: &mut Cell, c: char, wide: bool, attrs: Attrs)
     requires reported { c ≢ 0xFFFD }
@@ -28,11 +28,11 @@ pub fn set_glyph(cell: &mut Cell, c: char, wide: bool, attrs: Attrs)
     *cell = glyph(c, wide, attrs);
 }
 
-/// Puts a mark, a character of width 0, on the cell.
+/// Adds the combining character `c`, of width 0, to the cell.
 ///
-/// A blank becomes a space glyph first, in its attributes. From
-/// [`MARK_LIMIT`] bytes on nothing happens. A right half takes no mark:
-/// its left half does.
+/// A blank first becomes a glyph of a space with the same attributes. A cell with [`MARK_LIMIT`]
+/// bytes of text or more stays as it is. The cell must not be a continuation cell: a combining
+/// character belongs to the first cell of a wide glyph.
 pub fn append(cell: &mut Cell, c: char)
     requires shown { is_right_half cell.old ≡ false }
     requires mark { columns_of c ≡ Some 0 }
@@ -42,7 +42,7 @@ pub fn append(cell: &mut Cell, c: char)
     put_mark(cell, c);
 }
 
-/// Makes a blank the glyph of a space.
+/// Turns a blank into the glyph of a space; leaves any other cell unchanged.
 fn fill_blank(cell: &mut Cell)
     ensures { cell.new ≡ spaced cell.old }
 {
@@ -51,7 +51,7 @@ fn fill_blank(cell: &mut Cell)
     }
 }
 
-/// Puts a mark on a glyph that has room for it.
+/// Adds a combining character to a glyph, if its text has less than [`MARK_LIMIT`] bytes.
 fn put_mark(cell: &mut Cell, c: char)
     requires glyph { is_blank cell.old ≡ false }
     requires shown { is_right_half cell.old ≡ false }
@@ -66,10 +66,10 @@ fn put_mark(cell: &mut Cell, c: char)
     }
 }
 
-/// Makes a glyph wide or narrow; any other cell stays.
+/// Makes a glyph wide or narrow; leaves any other cell unchanged.
 ///
-/// A glyph is as wide as its first character, unless U+FE0F was put on
-/// it: then it may be of either width.
+/// The width is that of the first character, except that U+FE0F (variation selector 16) allows
+/// either.
 pub fn set_wide(cell: &mut Cell, wide: bool)
     requires { IsCell (widened wide cell.old) }
     ensures { cell.new ≡ widened wide cell.old }
@@ -80,7 +80,7 @@ pub fn set_wide(cell: &mut Cell, wide: bool)
     }
 }
 
-/// Gives a blank or a glyph other attributes; a right half stays.
+/// Sets the attributes of a blank or a glyph; leaves a continuation cell unchanged.
 #[inline]
 pub fn set_attrs(cell: &mut Cell, attrs: Attrs)
     ensures { cell.new ≡ redrawn attrs cell.old }

@@ -1,4 +1,4 @@
-//! Cells made new.
+//! Functions that create cells.
 
 ghost use Rattle.std.specs.Prelude.{◌≡◌, ◌≢◌, ◌<◌, ◌≤◌, ◌++◌, ◌+◌, ◌%◌, [], ◌∷◌, ℕ};
 ghost use Rattle.std.specs.Prelude.{length, slice_index, take, false, Some, if◌then◌else◌, encode_utf8};
@@ -10,7 +10,7 @@ use super::{Cell, MARK_LIMIT, TEXT_ROOM};
 use crate::attrs::Attrs;
 use crate::head::Head;
 
-/// A blank with default attributes.
+/// Creates a blank with default attributes.
 #[inline]
 pub fn default_blank() -> Cell
     ensures { result ≡ blank default_attrs }
@@ -18,7 +18,7 @@ pub fn default_blank() -> Cell
     blank(Attrs::new())
 }
 
-/// A blank with these attributes.
+/// Creates a blank with the given attributes.
 #[inline]
 pub fn blank(attrs: Attrs) -> Cell
     ensures { result ≡ blank attrs }
@@ -29,7 +29,7 @@ pub fn blank(attrs: Attrs) -> Cell
     }
 }
 
-/// The right half of a wide glyph: no text, default attributes.
+/// Creates the continuation cell of a wide glyph: no text, default attributes.
 #[inline]
 pub fn right_half() -> Cell
     ensures { result ≡ right_half }
@@ -40,9 +40,10 @@ pub fn right_half() -> Cell
     }
 }
 
-/// A glyph of one character that takes two columns, if it is wide, or one.
+/// Creates a glyph of one character, which takes two columns if `wide` and one otherwise.
 ///
-/// [`columns`](crate::columns) tells its width; U+FFFD is never drawn.
+/// `wide` must be what [`columns`](crate::columns) returns for `c`. `c` must not be U+FFFD, which
+/// is never drawn.
 #[inline]
 pub fn glyph(c: char, wide: bool, attrs: Attrs) -> Cell
     requires reported { c ≢ 0xFFFD }
@@ -57,7 +58,7 @@ pub fn glyph(c: char, wide: bool, attrs: Attrs) -> Cell
     }
 }
 
-/// A glyph of one byte of printable ASCII.
+/// Creates a glyph of one printable ASCII character.
 #[inline(always)]
 pub fn ascii(byte: u8, attrs: Attrs) -> Cell
     requires low { 0x20 ≤ byte }
@@ -72,7 +73,7 @@ pub fn ascii(byte: u8, attrs: Attrs) -> Cell
     }
 }
 
-/// The glyph of a space.
+/// Creates the glyph of a space.
 #[inline]
 pub fn space(attrs: Attrs) -> Cell
     ensures { result ≡ glyph (0x20 ∷ []) false attrs }
@@ -80,8 +81,8 @@ pub fn space(attrs: Attrs) -> Cell
     ascii(b' ', attrs)
 }
 
-/// Writes a character in UTF-8 behind the first `len` bytes, and answers the
-/// new length (Unicode, Table 3-6).
+/// Writes a character in UTF-8 after the first `len` bytes and returns the new length (Unicode,
+/// Table 3-6).
 #[inline]
 pub(super) fn push_char(contents: &mut [u8; TEXT_ROOM], len: u8, c: char) -> u8
     requires { len < MARK_LIMIT }
@@ -109,7 +110,7 @@ pub(super) fn push_char(contents: &mut [u8; TEXT_ROOM], len: u8, c: char) -> u8
     }
 }
 
-/// Writes a byte behind the first `len`, and answers the new length.
+/// Writes a byte after the first `len` bytes and returns the new length.
 #[inline]
 fn push_byte(contents: &mut [u8; TEXT_ROOM], len: u8, byte: u8) -> u8
     requires { len < TEXT_ROOM }
@@ -122,7 +123,7 @@ fn push_byte(contents: &mut [u8; TEXT_ROOM], len: u8, byte: u8) -> u8
     len + 1
 }
 
-/// A byte with the lowest six bits, as it stands behind the first of a character.
+/// Returns the UTF-8 continuation byte with the six low bits of `bits`.
 #[inline]
 fn low_bits(bits: u32) -> u8
     ensures { result ≡ 0x80 + bits % 64 }

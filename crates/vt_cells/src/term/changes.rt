@@ -1,4 +1,4 @@
-//! Sequences that change the attributes (SGR).
+//! Sequences that change attributes (SGR).
 
 ghost use Rattle.std.specs.Prelude.{◌≡◌, ◌++◌, ◌<◌, ◌≤◌, length, OnErr, OnOk};
 ghost use Rattle.vt_cells.specs.Op as op;
@@ -12,7 +12,7 @@ use crate::sink::Sink;
 use crate::term::BufWrite;
 use crate::term::sgr::ChangeText;
 
-/// Sets the default attributes, whatever they were.
+/// The sequence that resets all attributes to their defaults (SGR 0).
 #[derive(Clone, Copy, Debug)]
 pub struct ClearAttrs;
 
@@ -24,20 +24,23 @@ impl BufWrite for ClearAttrs {
     }
 }
 
-/// Changes the attributes from one set to another; nothing where they are the same.
+/// The sequence that changes the attributes from one set to another (SGR); empty if both are equal.
 #[derive(Clone, Copy, Debug)]
 pub struct ChangeAttrs {
-    /// The attributes before.
+    /// The attributes before the change.
     pub was: Attrs,
 
-    /// The attributes from now on.
+    /// The attributes after the change.
     pub new: Attrs,
 }
 
 impl ChangeAttrs {
-    /// Adds the change to a text that is not yet written; nothing where both are the same.
+    /// Appends the change to `buffer`, which is in front of `sink`. Appends nothing if both sets of
+    /// attributes are equal.
     ///
-    /// An error is the sink's own; then part of the text may have been written.
+    /// # Errors
+    ///
+    /// Returns the sink's error. Part of the output may have been written by then.
     #[inline]
     #[tactic(auto, unfolding(crate::specs::Op::change_text))]
     pub fn add<S: Sink>(&self, sink: &mut S, buffer: &mut Buffer) -> Result<(), S::Error>
@@ -57,7 +60,12 @@ impl ChangeAttrs {
         }
     }
 
-    /// Adds the change as the numbers of what differs, none where nothing does.
+    /// Appends an SGR sequence with the parameters of each attribute that differs, and without
+    /// parameters if none does.
+    ///
+    /// # Errors
+    ///
+    /// Returns the sink's error. Part of the output may have been written by then.
     #[inline(never)]
     fn add_numbers<S: Sink>(&self, sink: &mut S, buffer: &mut Buffer) -> Result<(), S::Error>
         ensures text { OnOk result (gathered (S.text sink.new) buffer.new
@@ -71,7 +79,12 @@ impl ChangeAttrs {
         buffer.add(sink, text.as_str())
     }
 
-    /// Appends the same text.
+    /// Writes an SGR sequence with the parameters of each attribute that differs, and without
+    /// parameters if none does.
+    ///
+    /// # Errors
+    ///
+    /// Returns the sink's error. Part of the sequence may have been written by then.
     #[inline(never)]
     fn write_numbers<S: Sink>(&self, sink: &mut S) -> Result<(), S::Error>
         ensures { OnOk result (S.text sink.new

@@ -1,4 +1,4 @@
-//! Sequences about the cursor that have no parameters.
+//! Sequences without parameters that move, save, restore, hide or show the cursor.
 
 ghost use Rattle.vt_cells.specs.Op as op;
 ghost use Rattle.vt_cells.specs.Op.{bytes_of};
@@ -6,7 +6,7 @@ ghost use Rattle.vt_cells.specs.Op.{bytes_of};
 use crate::sink::Sink;
 use crate::term::BufWrite;
 
-/// Moves to the first column of the next row (CR, then LF).
+/// The sequence that moves the cursor to the first column of the next row (CR, then LF).
 #[derive(Clone, Copy, Debug)]
 pub struct Crlf;
 
@@ -18,7 +18,7 @@ impl BufWrite for Crlf {
     }
 }
 
-/// Moves one row down, and scrolls at the bottom (LF).
+/// The control that moves the cursor down one row, scrolling at the bottom (LF).
 #[derive(Clone, Copy, Debug)]
 pub struct LineFeed;
 
@@ -30,7 +30,7 @@ impl BufWrite for LineFeed {
     }
 }
 
-/// Moves one column left (BS).
+/// The control that moves the cursor left one column (BS).
 #[derive(Clone, Copy, Debug)]
 pub struct Backspace;
 
@@ -42,7 +42,7 @@ impl BufWrite for Backspace {
     }
 }
 
-/// Saves the cursor and its attributes (DECSC).
+/// The sequence that saves the cursor position and the attributes (DECSC).
 #[derive(Clone, Copy, Debug)]
 pub struct SaveCursor;
 
@@ -54,7 +54,7 @@ impl BufWrite for SaveCursor {
     }
 }
 
-/// Restores what `SaveCursor` saved (DECRC).
+/// The sequence that restores what [`SaveCursor`] saved (DECRC).
 #[derive(Clone, Copy, Debug)]
 pub struct RestoreCursor;
 
@@ -66,10 +66,10 @@ impl BufWrite for RestoreCursor {
     }
 }
 
-/// Hides or shows the cursor (DECTCEM).
+/// The sequence that hides or shows the cursor (DECTCEM).
 #[derive(Clone, Copy, Debug)]
 pub struct HideCursor {
-    /// The cursor is hidden from now on.
+    /// Whether the cursor is hidden afterward.
     pub state: bool,
 }
 

@@ -1,10 +1,14 @@
-//! Numbers in the texts of sequences.
+//! Decimal numbers in escape sequences.
 
 ghost use Rattle.std.specs.Prelude.{◌≡◌, ◌++◌, decimal, OnOk};
 
 use crate::sink::Sink;
 
-/// Appends `number` in decimal.
+/// Appends `number` in decimal to `sink`.
+///
+/// # Errors
+///
+/// Returns the sink's error.
 pub fn write_decimal<S: Sink>(sink: &mut S, number: u32) -> Result<(), S::Error>
     ensures { OnOk result (S.text sink.new ≡ S.text sink.old ++ decimal number) }
 {

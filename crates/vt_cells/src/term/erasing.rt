@@ -1,4 +1,4 @@
-//! Sequences that erase; they move no cursor, but for the one that clears the screen.
+//! Sequences that erase. Only [`ClearScreen`] moves the cursor.
 
 ghost use Rattle.std.specs.Prelude.{[], ◌∷◌};
 ghost use Rattle.vt_cells.specs.Op as op;
@@ -8,7 +8,7 @@ use crate::sink::Sink;
 use crate::term::BufWrite;
 use crate::term::decimal::write_decimal;
 
-/// Moves home and erases the whole screen (CUP, then ED).
+/// The sequence that moves the cursor home and erases the whole screen (CUP, then ED).
 #[derive(Clone, Copy, Debug)]
 pub struct ClearScreen;
 
@@ -20,7 +20,7 @@ impl BufWrite for ClearScreen {
     }
 }
 
-/// Erases from the cursor to the end of its row (EL).
+/// The sequence that erases from the cursor to the end of its row (EL).
 #[derive(Clone, Copy, Debug)]
 pub struct ClearRowForward;
 
@@ -32,10 +32,10 @@ impl BufWrite for ClearRowForward {
     }
 }
 
-/// Erases columns from the cursor on (ECH); nothing where there are none.
+/// The sequence that erases `count` columns from the cursor on (ECH); empty if `count` is 0.
 #[derive(Clone, Copy, Debug)]
 pub struct EraseChar {
-    /// How many columns.
+    /// The number of columns to erase.
     pub count: u16,
 }
 

@@ -1,4 +1,4 @@
-//! Sequences that set modes of a terminal's input, and the look of its cursor.
+//! Sequences that set input modes and the cursor style.
 
 ghost use Rattle.vt_cells.specs.InputModes.{keypad_text, application_cursor_text, bracketed_paste_text};
 ghost use Rattle.vt_cells.specs.InputModes.{mouse_mode_change, mouse_encoding_change, cursor_style_change};
@@ -7,10 +7,10 @@ use crate::modes;
 use crate::sink::Sink;
 use crate::term::BufWrite;
 
-/// Has the keypad send application sequences, or digits (DECKPAM, DECKPNM).
+/// The sequence that switches the keypad between application and numeric mode (DECKPAM, DECKPNM).
 #[derive(Clone, Copy, Debug)]
 pub struct ApplicationKeypad {
-    /// Application sequences are sent from now on.
+    /// Whether the keypad is in application mode afterward.
     pub state: bool,
 }
 
@@ -22,10 +22,10 @@ impl BufWrite for ApplicationKeypad {
     }
 }
 
-/// Has the cursor keys send application sequences, or cursor sequences (DECCKM).
+/// The sequence that sets or resets application cursor keys (DECCKM).
 #[derive(Clone, Copy, Debug)]
 pub struct ApplicationCursor {
-    /// Application sequences are sent from now on.
+    /// Whether the cursor keys are in application mode afterward.
     pub state: bool,
 }
 
@@ -37,10 +37,10 @@ impl BufWrite for ApplicationCursor {
     }
 }
 
-/// Has pasted text marked as such, or not (xterm's mode 2004).
+/// The sequence that sets or resets bracketed paste mode (xterm, DEC private mode 2004).
 #[derive(Clone, Copy, Debug)]
 pub struct BracketedPaste {
-    /// Pasted text is marked from now on.
+    /// Whether bracketed paste mode is set afterward.
     pub state: bool,
 }
 
@@ -56,14 +56,16 @@ impl BufWrite for BracketedPaste {
     }
 }
 
-/// Changes which mouse events are reported; nothing where that stays, and the reset of the mode
-/// before where no events are reported any more.
+/// The sequence that changes which mouse events are reported.
+///
+/// It is empty if the mode stays, sets the new mode, or resets the old mode if no events are
+/// reported afterward.
 #[derive(Clone, Copy, Debug)]
 pub struct MouseProtocolMode {
-    /// The mode before.
+    /// The mode before the change.
     pub was: modes::MouseProtocolMode,
 
-    /// The mode from now on.
+    /// The mode after the change.
     pub new: modes::MouseProtocolMode,
 }
 
@@ -91,14 +93,16 @@ impl BufWrite for MouseProtocolMode {
     }
 }
 
-/// Changes how mouse events are encoded; nothing where that stays, and the reset of the encoding
-/// before where the default one comes back.
+/// The sequence that changes the encoding of mouse events.
+///
+/// It is empty if the encoding stays, sets the new encoding, or resets the old one if the new one
+/// is the default.
 #[derive(Clone, Copy, Debug)]
 pub struct MouseProtocolEncoding {
-    /// The encoding before.
+    /// The encoding before the change.
     pub was: modes::MouseProtocolEncoding,
 
-    /// The encoding from now on.
+    /// The encoding after the change.
     pub new: modes::MouseProtocolEncoding,
 }
 
@@ -118,13 +122,13 @@ impl BufWrite for MouseProtocolEncoding {
     }
 }
 
-/// Changes the look of the cursor (DECSCUSR); nothing where that stays.
+/// The sequence that changes the cursor style (DECSCUSR); empty if the style stays.
 #[derive(Clone, Copy, Debug)]
 pub struct CursorStyle {
-    /// The look before.
+    /// The cursor style before the change.
     pub was: modes::CursorStyle,
 
-    /// The look from now on.
+    /// The cursor style after the change.
     pub new: modes::CursorStyle,
 }
 

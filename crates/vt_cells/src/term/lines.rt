@@ -1,4 +1,4 @@
-//! Sequences that insert and delete rows at the cursor (ECMA-48 and the VT510's manual).
+//! Sequences that insert and delete rows at the cursor (ECMA-48 and the VT510 manual).
 
 ghost use Rattle.vt_cells.specs.Op.{counted};
 
@@ -6,11 +6,11 @@ use crate::sink::Sink;
 use crate::term::BufWrite;
 use crate::term::decimal::write_decimal;
 
-/// Deletes rows from the cursor's row on; the rows below move up (DL). An empty
-/// text for a count of 0.
+/// The sequence that deletes `count` rows from the cursor's row on, moving the rows below up (DL);
+/// empty if `count` is 0.
 #[derive(Clone, Copy, Debug)]
 pub struct DeleteLines {
-    /// The number of rows.
+    /// The number of rows to delete.
     pub count: u16,
 }
 
@@ -30,11 +30,11 @@ impl BufWrite for DeleteLines {
     }
 }
 
-/// Inserts blank rows at the cursor's row; that row and the rows below move down
-/// (IL). An empty text for a count of 0.
+/// The sequence that inserts `count` blank rows at the cursor's row, moving that row and the rows
+/// below down (IL); empty if `count` is 0.
 #[derive(Clone, Copy, Debug)]
 pub struct InsertLines {
-    /// The number of rows.
+    /// The number of rows to insert.
     pub count: u16,
 }
 

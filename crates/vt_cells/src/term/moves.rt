@@ -9,10 +9,10 @@ use crate::term::BufWrite;
 use crate::term::cursor::Crlf;
 use crate::term::decimal::write_decimal;
 
-/// Moves to a position (CUP, which counts from 1).
+/// The sequence that moves the cursor to a position (CUP, whose parameters count from 1).
 #[derive(Clone, Copy, Debug)]
 pub struct MoveTo {
-    /// Where the cursor goes.
+    /// The position of the cursor afterward.
     pub pos: Pos,
 }
 
@@ -32,10 +32,10 @@ impl BufWrite for MoveTo {
     }
 }
 
-/// Moves to the right in the row (CUF); nothing for no column.
+/// The sequence that moves the cursor right within its row (CUF); empty if `count` is 0.
 #[derive(Clone, Copy, Debug)]
 pub struct MoveRight {
-    /// By how many columns.
+    /// The number of columns to move.
     pub count: u16,
 }
 
@@ -55,14 +55,15 @@ impl BufWrite for MoveRight {
     }
 }
 
-/// Moves from one position to another by the shortest of these: CR and LF to the first column of
-/// the next row, CUF within a row, CUP; nothing where they are the same.
+/// The sequence that moves the cursor from one position to another: CR and LF to the first column
+/// of the next row, CUF to a column further right in the same row, CUP otherwise. Empty if both
+/// positions are equal.
 #[derive(Clone, Copy, Debug)]
 pub struct MoveFromTo {
-    /// Where the cursor is.
+    /// The position of the cursor before the move.
     pub from: Pos,
 
-    /// Where the cursor goes.
+    /// The position of the cursor after the move.
     pub to: Pos,
 }
 

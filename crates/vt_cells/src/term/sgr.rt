@@ -1,4 +1,4 @@
-//! The text of SGR, the sequence that changes attributes.
+//! The text of an SGR sequence.
 
 ghost use Rattle.std.specs.Prelude.{◌≡◌, ◌+◌, ◌≤◌, ◌<◌, ℕ, List, [], ◌∷◌, ◌++◌};
 ghost use Rattle.std.specs.Prelude.{length, if◌then◌else◌};
@@ -13,12 +13,12 @@ use itoa::write_digits;
 use std::marker::Model;
 use std::str;
 
-/// More bytes than the longest change has: 14 numbers of three digits, 13 of `;`,
-/// and three bytes around them.
+/// The size of the array in bytes. It exceeds the longest change: 14 numbers of three digits, 13
+/// separators, and three bytes around them.
 const ROOM: usize = 64;
 
-/// The text of a change of attributes, written from its last byte to its first,
-/// since the digits of a number come so.
+/// An SGR sequence that is written backward, from its last byte to its first, because the digits of
+/// a number are produced in that order.
 #[derive(Drop)]
 pub struct ChangeText {
     bytes: [u8; ROOM],
@@ -37,7 +37,7 @@ impl Model for ChangeText {
 }
 
 impl ChangeText {
-    /// A text that is still to be written.
+    /// Creates an empty text.
     #[inline(always)]
     pub fn new() -> Self
         ensures { result ≡ [] }
@@ -48,9 +48,10 @@ impl ChangeText {
         }
     }
 
-    /// Writes the sequence with the numbers of what differs between two sets of
-    /// attributes: the foreground, the background, the intensity, italic,
-    /// underline and inverse. It has no number where nothing does.
+    /// Writes the SGR sequence that changes the attributes from `was` to `new`.
+    ///
+    /// Its parameters are those of the attributes that differ, in this order: foreground,
+    /// background, intensity, italics, underline, inverse. It has none if nothing differs.
     #[inline(always)]
     pub fn write(&mut self, was: &Attrs, new: &Attrs)
         requires { self.old ≡ [] }
@@ -63,7 +64,7 @@ impl ChangeText {
         self.begin();
     }
 
-    /// The text.
+    /// Returns the text.
     #[inline]
     pub fn as_str(&self) -> &str
         ensures { result.now ≡ self.now }
@@ -71,8 +72,8 @@ impl ChangeText {
         unsafe { str::from_utf8_unchecked(&self.bytes[self.start..]) }
     }
 
-    /// Puts the introducer before the numbers, in the place of the `;` that
-    /// stands before the first one.
+    /// Completes the sequence: replaces the `;` in front of the first number, if any, by the
+    /// introducer `ESC [`.
     #[inline]
     fn begin(&mut self)
         requires { length self.old + 2 ≤ 64 }
@@ -83,7 +84,7 @@ impl ChangeText {
         self.put(0x1B);
     }
 
-    /// Takes the first byte away, if it is not the last one as well.
+    /// Removes the first byte, which is a separator, unless it is the only byte.
     #[inline]
     fn drop_separator(&mut self)
         ensures value { self.new ≡ without_separator self.old }
@@ -94,7 +95,7 @@ impl ChangeText {
         }
     }
 
-    /// Puts the numbers of the foreground colour, if it is another one.
+    /// Prepends the parameters of the foreground colour, if it differs.
     #[inline]
     #[tactic(auto, using(crate::proofs::ChangeTexts::numbers_put), unfolding(crate::specs::Op::foreground_numbers))]
     fn put_foreground(&mut self, was: &Attrs, new: &Attrs)
@@ -116,7 +117,7 @@ impl ChangeText {
         }
     }
 
-    /// Puts the numbers of the background colour, if it is another one.
+    /// Prepends the parameters of the background colour, if it differs.
     #[inline]
     #[tactic(auto, using(crate::proofs::ChangeTexts::numbers_put), unfolding(crate::specs::Op::background_numbers))]
     fn put_background(&mut self, was: &Attrs, new: &Attrs)
@@ -138,7 +139,7 @@ impl ChangeText {
         }
     }
 
-    /// Puts what differs beside the colours: nothing, mostly.
+    /// Prepends the parameters of the style, which is everything but the colours, if it differs.
     #[inline]
     #[tactic(auto, using(crate::proofs::ChangeTexts::no_style_put))]
     fn put_style(&mut self, was: &Attrs, new: &Attrs)
@@ -151,7 +152,7 @@ impl ChangeText {
         }
     }
 
-    /// Puts the number of each switch that differs, and that of the intensity.
+    /// Prepends the parameters of the intensity, italics, underline and inverse that differ.
     #[inline(never)]
     fn put_switches(&mut self, was: &Attrs, new: &Attrs)
         requires { length self.old + 16 ≤ 64 }
@@ -164,7 +165,7 @@ impl ChangeText {
         self.put_intensity(was.intensity(), new.intensity());
     }
 
-    /// Puts the number of the intensity, if it is another one.
+    /// Prepends the parameter of the intensity, if it differs.
     #[inline]
     fn put_intensity(&mut self, was: Intensity, new: Intensity)
         requires { length self.old + 4 ≤ 64 }
@@ -182,7 +183,7 @@ impl ChangeText {
         }
     }
 
-    /// Puts the number that turns a switch on or off, if it differs.
+    /// Prepends `on` or `off`, according to `new`, if `was` and `new` differ.
     #[inline]
     fn put_switch(&mut self, was: bool, new: bool, on: u8, off: u8)
         requires { length self.old + 4 ≤ 64 }
@@ -195,7 +196,7 @@ impl ChangeText {
         }
     }
 
-    /// A colour of the palette: the layer, 5 and its index.
+    /// Prepends the parameters of a palette colour: the layer (38 or 48), 5 and the index.
     #[inline(never)]
     fn put_indexed(&mut self, layer: u8, index: u8)
         requires { length self.old + 12 ≤ 64 }
@@ -207,7 +208,7 @@ impl ChangeText {
         self.put_number(layer);
     }
 
-    /// A colour by its parts: the layer, 2, and the three parts.
+    /// Prepends the parameters of an RGB colour: the layer (38 or 48), 2 and the three components.
     #[inline(never)]
     fn put_parts(&mut self, layer: u8, red: u8, green: u8, blue: u8)
         requires { length self.old + 20 ≤ 64 }
@@ -221,7 +222,7 @@ impl ChangeText {
         self.put_number(layer);
     }
 
-    /// Puts a number and the `;` before it.
+    /// Prepends a number and the `;` before it.
     #[inline]
     fn put_number(&mut self, number: u8)
         requires { length self.old + 4 ≤ 64 }
@@ -232,7 +233,7 @@ impl ChangeText {
         self.put(b';');
     }
 
-    /// Puts a byte before the text.
+    /// Prepends a byte.
     #[inline]
     fn put(&mut self, byte: u8)
         requires room { length self.old + 1 ≤ 64 }

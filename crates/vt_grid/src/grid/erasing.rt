@@ -1,4 +1,4 @@
-//! Erasing: positions become blank in given attributes.
+//! Erasing: cells become blanks with given attributes.
 
 ghost use Rattle.std.specs.Prelude.{◌≡◌};
 ghost use Rattle.vt_grid.specs.Erasing.{erased_above, erased_below, erased_chars, erased_page};
@@ -8,8 +8,8 @@ use super::Grid;
 use vt_cells::Attrs;
 
 impl Grid {
-    /// Makes a number of columns from the cursor on blank, at most to the end
-    /// of the row (ECH); at a pending wrap none.
+    /// Erases `count` columns from the cursor on, at most to the end of the row (ECH). Erases
+    /// nothing if a wrap is pending.
     #[tactic(auto, using(crate::proofs::Pages::erasing), unfolding(crate::specs::Erasing::erased_chars))]
     pub fn erase_cells(&mut self, count: u16, attrs: Attrs)
         ensures { self.new ≡ erased_chars count attrs self.old }
@@ -20,7 +20,7 @@ impl Grid {
         }
     }
 
-    /// Makes the row blank from the cursor on (EL 0); at a pending wrap nothing happens.
+    /// Erases from the cursor to the end of the row (EL 0). Erases nothing if a wrap is pending.
     #[tactic(auto, using(crate::proofs::Pages::erasing), unfolding(crate::specs::Erasing::erased_rest))]
     pub fn erase_row_forward(&mut self, attrs: Attrs)
         ensures { self.new ≡ erased_rest attrs self.old }
@@ -31,8 +31,8 @@ impl Grid {
         }
     }
 
-    /// Makes the row blank from the first column through the cursor's, or
-    /// through the last one at a pending wrap (EL 1).
+    /// Erases from the start of the row through the cursor, or the whole row if a wrap is pending
+    /// (EL 1).
     #[tactic(auto, using(crate::proofs::Pages::cursor_cells), unfolding(crate::specs::Erasing::erased_start))]
     pub fn erase_row_backward(&mut self, attrs: Attrs)
         ensures { self.new ≡ erased_start attrs self.old }
@@ -41,7 +41,7 @@ impl Grid {
         self.page_rows.erase(self.pos.row, 0, end, attrs);
     }
 
-    /// Makes the cursor's row blank (EL 2).
+    /// Erases the cursor's row (EL 2).
     #[tactic(auto, using(crate::proofs::Pages::cursor_columns))]
     pub fn erase_row(&mut self, attrs: Attrs)
         ensures { self.new ≡ erased_row attrs self.old }
@@ -49,8 +49,8 @@ impl Grid {
         self.page_rows.clear_row(usize::from(self.pos.row), attrs);
     }
 
-    /// Makes the page blank from the cursor on (ED 0); at a pending wrap the
-    /// cursor's row stays.
+    /// Erases from the cursor to the end of the page (ED 0). If a wrap is pending, the cursor's row
+    /// is unchanged.
     #[tactic(auto, using(crate::proofs::Pages::page_erased_below), unfolding(crate::specs::Erasing::erased_below))]
     pub fn erase_all_forward(&mut self, attrs: Attrs)
         ensures { self.new ≡ erased_below attrs self.old }
@@ -59,8 +59,8 @@ impl Grid {
         self.page_rows.clear_below(self.pos.row, attrs);
     }
 
-    /// Makes the page blank from its begin through the cursor, or through the
-    /// last column of the cursor's row at a pending wrap (ED 1).
+    /// Erases from the start of the page through the cursor, or through the end of the cursor's row
+    /// if a wrap is pending (ED 1).
     #[tactic(auto, using(crate::proofs::Blanking::page_erased_above), unfolding(crate::specs::Erasing::erased_above))]
     pub fn erase_all_backward(&mut self, attrs: Attrs)
         ensures { self.new ≡ erased_above attrs self.old }
@@ -69,7 +69,7 @@ impl Grid {
         self.page_rows.clear_above(self.pos.row, attrs);
     }
 
-    /// Makes the whole page blank (ED 2).
+    /// Erases the whole page (ED 2).
     pub fn erase_all(&mut self, attrs: Attrs)
         ensures { self.new ≡ erased_page attrs self.old }
     {

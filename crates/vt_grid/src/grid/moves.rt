@@ -1,4 +1,4 @@
-//! Moves of the cursor, the scroll region and origin mode.
+//! Cursor movement, the scroll region, origin mode and the saved cursor.
 
 ghost use Rattle.std.specs.Prelude.{◌≡◌, ◌+◌, ◌<◌, ◌⊎◌, if◌then◌else◌, length};
 ghost use Rattle.vt_grid.specs.Moves.{carriage_return, cursor_restored, cursor_saved};
@@ -18,7 +18,8 @@ impl Grid {
         self.pos.col = 0;
     }
 
-    /// Moves the cursor to the left, from the column as it is, down to the first (CUB, BS).
+    /// Moves the cursor left by `count` columns, at most to the first one (CUB, BS). With a pending
+    /// wrap it starts one past the last column.
     #[inline]
     pub fn col_dec(&mut self, count: u16)
         ensures { self.new ≡ moved_left count self.old }
@@ -26,8 +27,8 @@ impl Grid {
         self.pos.col = self.pos.col.saturating_sub(count);
     }
 
-    /// Moves the cursor to the right, at most to the last column, also from a
-    /// pending wrap (CUF).
+    /// Moves the cursor right by `count` columns, at most to the last one (CUF). A pending wrap
+    /// becomes the last column.
     #[inline]
     pub fn col_inc_clamp(&mut self, count: u16)
         ensures { self.new ≡ moved_right count self.old }
@@ -35,8 +36,7 @@ impl Grid {
         self.pos.col = self.pos.col.saturating_add(count).min(self.size.cols - 1);
     }
 
-    /// Moves the cursor to a column, counted from 0, at most the last one
-    /// (CHA, HPA).
+    /// Moves the cursor to a column, counted from 0 and limited to the last one (CHA, HPA).
     #[inline]
     pub fn col_set(&mut self, col: u16)
         ensures { self.new ≡ moved_to_column col self.old }
@@ -44,8 +44,8 @@ impl Grid {
         self.pos.col = col.min(self.size.cols - 1);
     }
 
-    /// Moves the cursor to the next column that is a multiple of 8, at most to
-    /// the last one, also from a pending wrap (HT).
+    /// Moves the cursor to the next column that is a multiple of 8, at most to the last one (HT). A
+    /// pending wrap becomes the last column.
     #[inline]
     pub fn col_tab(&mut self)
         ensures { self.new ≡ tabbed self.old }
@@ -54,10 +54,9 @@ impl Grid {
         self.pos.col = self.pos.col.saturating_add(ahead).min(self.size.cols - 1);
     }
 
-    /// Moves the cursor up, its column as it is (CUU).
+    /// Moves the cursor up by `count` rows; the column is unchanged (CUU).
     ///
-    /// From within the scroll region it goes at most to the region's top, else
-    /// to the first row.
+    /// From inside the scroll region it stops at the region's top, otherwise at the first row.
     #[tactic(auto, unfolding(crate::specs::Regions::moved_up))]
     #[inline]
     pub fn row_dec_clamp(&mut self, count: u16)
@@ -66,10 +65,9 @@ impl Grid {
         self.pos.row = self.pos.row.saturating_sub(count).max(self.upper_edge());
     }
 
-    /// Moves the cursor down, its column as it is (CUD).
+    /// Moves the cursor down by `count` rows; the column is unchanged (CUD).
     ///
-    /// From within the scroll region it goes at most to the region's bottom,
-    /// else to the last row.
+    /// From inside the scroll region it stops at the region's bottom, otherwise at the last row.
     #[tactic(auto, unfolding(crate::specs::Regions::moved_down))]
     #[inline]
     pub fn row_inc_clamp(&mut self, count: u16)
@@ -78,8 +76,8 @@ impl Grid {
         self.pos.row = self.pos.row.saturating_add(count).min(self.lower_edge());
     }
 
-    /// Moves the cursor to a row, counted from 0, at most the last one, its
-    /// column as it is (VPA).
+    /// Moves the cursor to a row, counted from 0 and limited to the last one; the column is
+    /// unchanged (VPA).
     #[inline]
     pub fn row_set(&mut self, row: u16)
         ensures { self.new ≡ moved_to_row row self.old }
@@ -87,7 +85,7 @@ impl Grid {
         self.pos.row = row.min(self.size.rows - 1);
     }
 
-    /// Moves the cursor down, as `row_inc_clamp` does, and to the first column (CNL).
+    /// Moves the cursor down as [`Grid::row_inc_clamp`] does, and to the first column (CNL).
     #[inline]
     pub fn next_line(&mut self, count: u16)
         ensures { self.new ≡ next_line count self.old }
@@ -96,7 +94,7 @@ impl Grid {
         self.cr();
     }
 
-    /// Moves the cursor up, as `row_dec_clamp` does, and to the first column (CPL).
+    /// Moves the cursor up as [`Grid::row_dec_clamp`] does, and to the first column (CPL).
     #[inline]
     pub fn previous_line(&mut self, count: u16)
         ensures { self.new ≡ previous_line count self.old }
@@ -105,11 +103,10 @@ impl Grid {
         self.cr();
     }
 
-    /// Moves the cursor to a row and a column, counted from 0, each at most
-    /// the last one (CUP).
+    /// Moves the cursor to a row and a column, counted from 0 and limited to the last ones (CUP).
     ///
-    /// In origin mode the row counts from the scroll region's top and stays in
-    /// the region.
+    /// In origin mode the row counts from the top of the scroll region and is limited to the
+    /// region.
     #[inline]
     pub fn move_to(&mut self, row: u16, col: u16)
         ensures { self.new ≡ moved_to row col self.old }
@@ -121,11 +118,11 @@ impl Grid {
         };
     }
 
-    /// Makes the rows from `top` to `bottom`, counted from 0, the scroll
-    /// region, and moves the cursor to its first place (DECSTBM).
+    /// Sets the scroll region to the rows from `top` through `bottom`, counted from 0, and moves
+    /// the cursor to its first row and column (DECSTBM).
     ///
-    /// `bottom` is at most the last row; where the two are not at least two
-    /// rows, the whole page becomes the region.
+    /// `bottom` is limited to the last row. If the region would have fewer than two rows, the whole
+    /// page becomes the region.
     #[tactic(auto, unfolding(crate::specs::Regions::region_set))]
     pub fn set_scroll_region(&mut self, top: u16, bottom: u16)
         ensures { self.new ≡ region_set top bottom self.old }
@@ -139,8 +136,7 @@ impl Grid {
         }
     }
 
-    /// Turns origin mode on or off, and moves the cursor to the first place
-    /// that it then has (DECOM).
+    /// Sets or resets origin mode, and moves the cursor to its home position (DECOM).
     #[tactic(auto, using(crate::proofs::Regions::page_origin))]
     pub fn set_origin_mode(&mut self, on: bool)
         ensures { self.new ≡ origin_set on self.old }
@@ -149,7 +145,7 @@ impl Grid {
         self.move_to(0, 0);
     }
 
-    /// Saves the cursor and origin mode (DECSC).
+    /// Saves the cursor position and origin mode (DECSC).
     pub fn save_cursor(&mut self)
         ensures { self.new ≡ cursor_saved self.old }
     {
@@ -157,8 +153,9 @@ impl Grid {
         self.saved_origin_mode = self.origin_mode;
     }
 
-    /// Restores the cursor and origin mode as they were saved: the cursor may
-    /// come to a pending wrap, or out of the scroll region (DECRC).
+    /// Restores the saved cursor position and origin mode (DECRC).
+    ///
+    /// The restored cursor may have a pending wrap, and may be outside the scroll region.
     pub fn restore_cursor(&mut self)
         ensures { self.new ≡ cursor_restored self.old }
     {
@@ -166,7 +163,8 @@ impl Grid {
         self.origin_mode = self.saved_origin_mode;
     }
 
-    /// Makes rows the scroll region, and moves the cursor to its first place.
+    /// Sets the scroll region to the rows from `top` through `bottom`, and moves the cursor to its
+    /// first row and column.
     fn enter_region(&mut self, top: u16, bottom: u16)
         requires inside { bottom < length self.old.rows }
         requires region { (top < bottom) ⊎ ((top ≡ 0) × (bottom + 1 ≡ length self.old.rows)) }
@@ -177,7 +175,7 @@ impl Grid {
         self.pos = Pos { row: top, col: 0 };
     }
 
-    /// Whether the cursor is in the scroll region.
+    /// Returns whether the cursor is inside the scroll region.
     #[inline]
     pub(super) fn in_scroll_region(&self) -> bool
         ensures { result ≡ in_region self.now }
@@ -185,7 +183,7 @@ impl Grid {
         self.scroll_top <= self.pos.row && self.pos.row <= self.scroll_bottom
     }
 
-    /// The first row that the cursor can move up to.
+    /// Returns the topmost row that the cursor can move up to.
     #[inline]
     fn upper_edge(&self) -> u16
         ensures { result ≡ (if in_region self.now then self.now.top else 0) }
@@ -197,7 +195,7 @@ impl Grid {
         }
     }
 
-    /// The last row that the cursor can move down to.
+    /// Returns the bottommost row that the cursor can move down to.
     #[inline]
     fn lower_edge(&self) -> u16
         ensures { result ≡ (if in_region self.now then self.now.bottom else last_row self.now) }
@@ -209,7 +207,7 @@ impl Grid {
         }
     }
 
-    /// The row that a row of CUP means.
+    /// Returns the row of the page that a row of CUP stands for, according to origin mode.
     #[inline]
     fn target_row(&self, row: u16) -> u16
         ensures { result ≡ target_row row self.now }

@@ -1,4 +1,4 @@
-//! Printing: glyphs, marks, and glyphs whose width follows U+FE0F.
+//! Printing: glyphs, combining characters, and glyphs whose width changes with U+FE0F.
 
 ghost use Rattle.std.specs.Prelude.{◌≡◌, ◌≢◌, ◌+◌, ◌-◌, ◌*◌, ◌&&◌, ◌==◌, ◌<◌, ◌≤◌, [], Some};
 ghost use Rattle.std.specs.Prelude.{encode_utf8, false, if◌then◌else◌, length, nat_lt, not, slice_set, true};
@@ -22,19 +22,19 @@ use vt_cells::{Attrs, Cell, Error, MARK_LIMIT, cell};
 use vt_rows::Leaving;
 
 impl Grid {
-    /// Prints a character at the cursor (VT510 manual: DECAWM set).
+    /// Prints a character at the cursor (VT510 manual, DECAWM set). `width` is its number of
+    /// columns, or `None` for a control.
     ///
-    /// A character of one or two columns becomes a glyph, after a wrap where
-    /// there is no room for it; one that is wider than the page draws nothing.
-    /// A character without columns of its own is put on the glyph before the
-    /// cursor, and after U+FE0F the width of that glyph follows its text. A
-    /// control draws nothing.
+    /// A character of one or two columns becomes a glyph, after a wrap if it does not fit; if the
+    /// page is narrower than it, nothing is printed. A combining character is added to the glyph
+    /// before the cursor, whose width may change after U+FE0F. A control prints nothing.
     ///
-    /// A wrap at the bottom of the scroll region scrolls it; see
-    /// [`Grid::scroll_up`]. Fails where memory for scrollback is refused, and
-    /// then nothing has changed and nothing was reported.
+    /// A wrap at the bottom of the scroll region scrolls it, as [`Grid::scroll_up`] does.
     ///
-    /// `width` is how many columns the character takes, none for a control.
+    /// # Errors
+    ///
+    /// Returns [`Error::OutOfMemory`] if memory for scrollback cannot be allocated; nothing has
+    /// changed and nothing was reported.
     #[tactic(auto, using(crate::proofs::Dispatch::printed_cases, crate::proofs::Outgoing::out_cases))]
     #[inline(always)]
     pub fn print_columns<L: Leaving>(
@@ -62,8 +62,8 @@ impl Grid {
         }
     }
 
-    /// How many columns there are from the cursor on up to the end of its row,
-    /// so many as can be printed before a wrap.
+    /// Returns the number of columns from the cursor to the end of its row, which can be printed to
+    /// without a wrap.
     #[inline]
     pub fn room(&self) -> u16
         ensures { result ≡ self.now.width - self.now.column }
@@ -71,9 +71,10 @@ impl Grid {
         self.size.cols - self.pos.col
     }
 
-    /// Prints a text of printable ASCII for which the cursor's row has room:
-    /// what [`Grid::print_columns`] does with one character after the other, as one
-    /// edit of the row. No row leaves the page.
+    /// Prints ASCII characters that fit on the cursor's row, in one edit of the row. No row scrolls
+    /// off the page.
+    ///
+    /// The result is that of [`Grid::print_columns`] for each character.
     #[inline]
     pub fn print_text(&mut self, text: &[u8], attrs: Attrs)
         requires some { 0 < length text.now }
@@ -84,8 +85,7 @@ impl Grid {
         self.put_text(text, attrs);
     }
 
-    /// Puts a narrow glyph for each byte of a text at the cursor, which moves
-    /// behind them.
+    /// Puts a narrow glyph for each byte of a text at the cursor, and moves the cursor past them.
     #[inline]
     fn put_text(&mut self, text: &[u8], attrs: Attrs)
         requires some { 0 < length text.now }
@@ -99,9 +99,10 @@ impl Grid {
         self.pos.col += text.len() as u16;
     }
 
-    /// Prints a text of wide characters for which the cursor's row has room:
-    /// what [`Grid::print_columns`] does with one character after the other, as one
-    /// edit of the row. No row leaves the page.
+    /// Prints wide characters that fit on the cursor's row, in one edit of the row. No row scrolls
+    /// off the page.
+    ///
+    /// The result is that of [`Grid::print_columns`] for each character.
     #[inline]
     pub fn print_wide_text(&mut self, text: &[char], attrs: Attrs)
         requires some { 0 < length text.now }
@@ -112,8 +113,8 @@ impl Grid {
         self.put_wide_text(text, attrs);
     }
 
-    /// Puts a wide glyph for each character of a text at the cursor, which moves
-    /// behind them.
+    /// Puts a wide glyph for each character of a text at the cursor, and moves the cursor past
+    /// them.
     #[inline]
     fn put_wide_text(&mut self, text: &[char], attrs: Attrs)
         requires some { 0 < length text.now }
@@ -147,7 +148,7 @@ impl Grid {
         Ok(())
     }
 
-    /// Wraps where there is no room for this many columns.
+    /// Wraps if fewer than `columns` columns are left on the cursor's row.
     #[tactic(auto, unfolding(crate::specs::Printing::room_made))]
     #[inline(always)]
     fn make_room<L: Leaving>(
@@ -167,8 +168,7 @@ impl Grid {
         Ok(())
     }
 
-    /// Prints a character without columns of its own: it goes to the glyph
-    /// before the cursor.
+    /// Prints a combining character: adds it to the glyph before the cursor.
     #[inline(never)]
     fn print_mark<L: Leaving>(
         &mut self,
@@ -193,8 +193,8 @@ impl Grid {
         Ok(())
     }
 
-    /// Whether U+FE0F makes the narrow glyph before a pending wrap wide, so
-    /// that it goes on in the next row.
+    /// Returns whether U+FE0F makes the narrow glyph before a pending wrap wide, so that it must
+    /// move to the next row.
     #[tactic(auto, unfolding(crate::specs::Printing::carries))]
     fn carries(&self, mark: char) -> bool
         requires mark { columns_of mark ≡ Some 0 }
@@ -207,8 +207,8 @@ impl Grid {
             && self.grows_wide(mark)
     }
 
-    /// Whether the glyph before the cursor is narrow, has room for a mark, and
-    /// has with it a text of more than one column.
+    /// Returns whether the glyph before the cursor is narrow, has room for the combining character
+    /// `mark`, and takes more than one column with it.
     fn grows_wide(&self, mark: char) -> bool
         requires mark { columns_of mark ≡ Some 0 }
         requires some { 0 < self.now.column }
@@ -221,8 +221,8 @@ impl Grid {
         self.takes_mark(col) && !self.is_wide(col) && self.is_wide_with(col, mark)
     }
 
-    /// Whether the cell at a column of the cursor's row has with a mark more
-    /// a text of more than one column.
+    /// Returns whether the cell at a column of the cursor's row takes more than one column with the
+    /// combining character `mark` added.
     fn is_wide_with(&self, col: u16, mark: char) -> bool
         requires mark { columns_of mark ≡ Some 0 }
         requires inside { col < length (cursor_row self.now).cells }
@@ -234,8 +234,8 @@ impl Grid {
         cell::is_wide_text(&cell)
     }
 
-    /// Puts a mark on the glyph before the cursor, if that has room for it;
-    /// after U+FE0F the width of the glyph follows its text.
+    /// Adds a combining character to the glyph before the cursor if there is room. After U+FE0F the
+    /// glyph gets the width of its text.
     #[tactic(auto, unfolding(crate::specs::Printing::mark_printed))]
     fn mark_cell(&mut self, mark: char, attrs: Attrs)
         requires mark { columns_of mark ≡ Some 0 }
@@ -252,8 +252,7 @@ impl Grid {
         }
     }
 
-    /// The column of the glyph before the cursor: of its left half, where it
-    /// is wide.
+    /// Returns the column of the glyph before the cursor: the first of its columns, if it is wide.
     fn mark_col(&self) -> u16
         requires { 0 < self.now.column }
         ensures value { result ≡ mark_column self.now }
@@ -271,8 +270,7 @@ impl Grid {
         }
     }
 
-    /// Whether the cell at a column of the cursor's row, a blank as a space,
-    /// has room for a mark.
+    /// Returns whether the cell at a column of the cursor's row has room for a combining character.
     fn takes_mark(&self, col: u16) -> bool
         requires { col < length (cursor_row self.now).cells }
         ensures { result ≡ takes_mark (at (cursor_row self.now).cells col) }
@@ -280,7 +278,7 @@ impl Grid {
         self.page_rows.cell(self.pos.row, col).contents().len() < usize::from(MARK_LIMIT)
     }
 
-    /// Puts a mark on the cell at a column of the cursor's row.
+    /// Adds a combining character to the cell at a column of the cursor's row.
     fn put_mark(&mut self, col: u16, mark: char)
         requires mark { columns_of mark ≡ Some 0 }
         requires inside { col < length (cursor_row self.old).cells }
@@ -290,8 +288,8 @@ impl Grid {
         self.page_rows.append(self.pos.row, col, mark);
     }
 
-    /// Whether the glyph at a column of the cursor's row has a text of more
-    /// than one column, and the page room for that.
+    /// Returns whether the glyph at a column of the cursor's row has a text of more than one
+    /// column, and the page is wide enough for it.
     fn wants_wide(&self, col: u16) -> bool
         requires { col < length (cursor_row self.now).cells }
         ensures { result ≡ (is_wide_text (text_of (at (cursor_row self.now).cells col)) && nat_lt 1 self.now.width) }
@@ -299,7 +297,7 @@ impl Grid {
         cell::is_wide_text(self.page_rows.cell(self.pos.row, col)) && self.size.cols > 1
     }
 
-    /// Whether the cell at a column of the cursor's row is a wide glyph.
+    /// Returns whether the cell at a column of the cursor's row is a wide glyph.
     fn is_wide(&self, col: u16) -> bool
         requires { col < length (cursor_row self.now).cells }
         ensures { result ≡ is_wide (at (cursor_row self.now).cells col) }
@@ -307,8 +305,7 @@ impl Grid {
         self.page_rows.cell(self.pos.row, col).is_wide()
     }
 
-    /// Makes the glyph at a column as wide as its text; on a page of one
-    /// column it stays narrow.
+    /// Makes the glyph at a column as wide as its text. On a page of one column it stays narrow.
     #[tactic(auto, unfolding(crate::specs::Printing::width_followed, crate::specs::Printing::made_wide))]
     fn follow_width(&mut self, col: u16, attrs: Attrs)
         requires selected { IsSelected self.old col }
@@ -327,11 +324,11 @@ impl Grid {
         }
     }
 
-    /// Takes the glyph before a pending wrap away, puts U+FE0F on it, and puts
-    /// it as a wide one at the beginning of the next row.
+    /// Moves the glyph before a pending wrap to the start of the next row, as a wide glyph with
+    /// U+FE0F added.
     ///
-    /// The glyph is taken out before the wrap, since on a page of one row that
-    /// row leaves without it; it is put back where the wrap fails.
+    /// The glyph is removed before the wrap, because on a page of one row that row scrolls off
+    /// without it. If the wrap fails, the glyph is put back.
     fn carry<L: Leaving>(
         &mut self,
         mark: char,
@@ -355,7 +352,7 @@ impl Grid {
         Ok(())
     }
 
-    /// Takes the cell at a column of the cursor's row out, and leaves a blank.
+    /// Removes the cell at a column of the cursor's row and returns it, leaving a blank.
     fn lift(&mut self, col: u16, attrs: Attrs) -> Cell
         requires { col < length (cursor_row self.old).cells }
         ensures lifted { result ≡ at (cursor_row self.old).cells col }
@@ -364,8 +361,8 @@ impl Grid {
         self.page_rows.lift(self.pos.row, col, attrs)
     }
 
-    /// Puts a cell that was taken out back at a column of the cursor's row,
-    /// and the row's flag.
+    /// Puts a removed cell back at a column of the cursor's row, and restores the row's wrapped
+    /// flag.
     fn put_back(&mut self, col: u16, cell: Cell, goes_on: bool)
         requires inside { col < length (cursor_row self.old).cells }
         requires page { IsPage (with_row self.old.row
@@ -377,7 +374,7 @@ impl Grid {
         self.page_rows.put_back(self.pos.row, col, cell, goes_on);
     }
 
-    /// Puts a wide glyph at the cursor, which moves behind it.
+    /// Puts a wide glyph at the cursor, and moves the cursor past it.
     fn put_wide_cell(&mut self, cell: Cell)
         requires wide { is_wide cell ≡ true }
         requires sound { IsGlyphText (text_of cell) true }
@@ -389,7 +386,7 @@ impl Grid {
         self.pos.col += 2;
     }
 
-    /// Makes the glyph at a column narrow, and leaves the cursor.
+    /// Makes the glyph at a column of the cursor's row narrow; the cursor stays.
     fn make_narrow(&mut self, col: u16, attrs: Attrs)
         requires { IsSelected self.old col }
         ensures { self.new ≡ made_narrow col attrs self.old }
@@ -397,7 +394,7 @@ impl Grid {
         self.page_rows.narrow(self.pos.row, col, attrs);
     }
 
-    /// Makes the glyph before the cursor wide, and moves the cursor on.
+    /// Makes the glyph before the cursor wide, and moves the cursor right by one column.
     fn widen(&mut self, col: u16, attrs: Attrs)
         requires selected { IsSelected self.old col }
         requires before { col + 1 ≡ self.old.column }
@@ -410,7 +407,7 @@ impl Grid {
         self.pos.col += 1;
     }
 
-    /// Puts a glyph of one column at the cursor, which moves behind it.
+    /// Puts a narrow glyph at the cursor, and moves the cursor past it.
     #[inline(always)]
     fn put_narrow(&mut self, c: char, attrs: Attrs)
         requires reported { c ≢ 0xFFFD }
@@ -423,7 +420,7 @@ impl Grid {
         self.pos.col += 1;
     }
 
-    /// Prints a character of two columns; on a page of one column nothing.
+    /// Prints a character of two columns. Prints nothing on a page of one column.
     #[inline(always)]
     fn print_wide<L: Leaving>(
         &mut self,
@@ -445,7 +442,7 @@ impl Grid {
         Ok(())
     }
 
-    /// Puts a glyph of two columns at the cursor, which moves behind it.
+    /// Puts a wide glyph at the cursor, and moves the cursor past it.
     #[inline(always)]
     fn put_wide(&mut self, c: char, attrs: Attrs)
         requires reported { c ≢ 0xFFFD }
@@ -459,7 +456,8 @@ impl Grid {
     }
 }
 
-/// A glyph with a mark more, as a wide one in other attributes.
+/// Returns the glyph `cell` with the combining character `mark` added, as a wide glyph with
+/// attributes `attrs`.
 fn widened(mut cell: Cell, mark: char, attrs: Attrs) -> Cell
     requires mark { columns_of mark ≡ Some 0 }
     requires selector { is_selector mark ≡ true }

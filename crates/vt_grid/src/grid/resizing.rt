@@ -1,5 +1,4 @@
-//! Another size of a page, as xterm gives it: rows leave at the top, and come
-//! back there.
+//! Resizing a page as xterm does: rows scroll off at the top, and come back there.
 
 ghost use Rattle.std.specs.Prelude.{◌≡◌, ◌^◌, ◌-◌, ◌<◌, length, min};
 ghost use Rattle.vt_grid.specs.Page.{blank_page};
@@ -15,21 +14,21 @@ use vt_cells::{Error, Pos};
 use vt_rows::Leaving;
 
 impl Grid {
-    /// Gives the page the size of `fresh`, a fresh page that takes over its
-    /// rows (xterm's resize).
+    /// Resizes the page to the size of `fresh`, a new page that takes over its rows (xterm).
     ///
-    /// Fewer rows: those below the cursor go first. Where that is not enough,
-    /// rows leave at the top and go to scrollback, and what that does not keep
-    /// is reported. More rows: those that left come back at the top, at most as
-    /// many as left since scrollback was last cleared and are not back yet: the
-    /// newest from scrollback, and blank ones for those that it did not keep.
-    /// What is still free is blank rows at the bottom.
+    /// If rows must go, those below the cursor go first. If they are not enough, rows scroll off
+    /// the top into scrollback, and those that it does not keep are reported. If rows are added,
+    /// rows that scrolled off come back at the top, at most as many as have scrolled off since
+    /// scrollback was last cleared and are not back yet: the newest rows of scrollback, and blank
+    /// rows for those that were not kept. Blank rows at the bottom fill what is left.
     ///
-    /// Each row is cut or grown, and both cursors go with their rows, within
-    /// the new page. The scroll region becomes the whole page, no column is
-    /// pending, and no row of scrollback is in view.
+    /// Each row is cut or extended. The cursor and the saved cursor move with their rows, limited
+    /// to the new page. The scroll region becomes the whole page, no wrap is pending, and no row of
+    /// scrollback is displayed.
     ///
-    /// Fails where memory for scrollback is refused, and then nothing has
+    /// # Errors
+    ///
+    /// Returns [`Error::OutOfMemory`] if memory for scrollback cannot be allocated; nothing has
     /// changed and nothing was reported.
     pub fn set_size<L: Leaving>(
         &mut self,
@@ -45,8 +44,8 @@ impl Grid {
         Ok(())
     }
 
-    /// Takes over the size of a page of default blanks, and moves the rows
-    /// into it; see [`Grid::set_size`].
+    /// Moves the rows of the page into a new page of default blanks, and takes over its size, as
+    /// [`Grid::set_size`] describes.
     fn fill<L: Leaving>(
         &mut self,
         fresh: PageRows,
@@ -82,15 +81,15 @@ impl Grid {
     }
 }
 
-/// A number of rows, or fewer if there are fewer.
+/// Returns the smaller of two numbers of rows.
 fn at_most(rows: u16, count: usize) -> u16
     ensures { result ≡ min rows count }
 {
     usize::from(rows).min(count) as u16
 }
 
-/// Where a cursor is after `down` rows left at the top and `up` came in there:
-/// in its row, but within the page's new size.
+/// Returns the position of a cursor after `down` rows scrolled off at the top and `up` rows came
+/// back there: in the same row, limited to the new size.
 fn resized(pos: Pos, down: u16, up: u16, size: Size) -> Pos
     ensures row { result.row ≡ row_resized size.rows down up pos.row }
     ensures col { result.col ≡ min pos.col (size.cols - 1) }

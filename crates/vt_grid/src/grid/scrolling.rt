@@ -1,5 +1,4 @@
-//! Scrolling up, line feeds and wraps: the rows that leave the page at its top
-//! go to scrollback.
+//! Scrolling up, line feeds and wraps. Rows that scroll off the top of the page go to scrollback.
 
 ghost use Rattle.std.specs.Prelude.{◌≡◌, ◌+◌, ◌-◌, ◌&&◌, ◌==◌, ◌<◌, ◌≤◌, IfSome, None};
 ghost use Rattle.std.specs.Prelude.{Some, if◌then◌else◌, length, nat_lt, not};
@@ -16,13 +15,15 @@ use vt_cells::Error;
 use vt_rows::Leaving;
 
 impl Grid {
-    /// Moves the rows of the scroll region up by a number of rows, at most by
-    /// all it has (SU). Blank rows come in below.
+    /// Scrolls the scroll region up by `count` rows, at most by its height (SU). Blank rows come in
+    /// at its bottom.
     ///
-    /// Rows that leave a region at the page's top go to scrollback, and what
-    /// that does not keep is reported; those of any other region are gone.
+    /// If the region begins at the top of the page, the rows that scroll off go to scrollback, and
+    /// those that it does not keep are reported. Otherwise they are lost.
     ///
-    /// Fails where memory for scrollback is refused, and then nothing has
+    /// # Errors
+    ///
+    /// Returns [`Error::OutOfMemory`] if memory for scrollback cannot be allocated; nothing has
     /// changed and nothing was reported.
     #[tactic(auto, using(crate::proofs::Prints::region_order))]
     pub fn scroll_up<L: Leaving>(
@@ -44,13 +45,14 @@ impl Grid {
         Ok(())
     }
 
-    /// Moves the cursor down by one row, its column as it is (LF).
+    /// Moves the cursor down by one row; the column is unchanged (LF).
     ///
-    /// At the scroll region's bottom the region scrolls up by one row instead,
-    /// see [`Grid::scroll_up`], and at the last row outside of it nothing
-    /// happens.
+    /// At the bottom of the scroll region the region scrolls up by one row instead, as
+    /// [`Grid::scroll_up`] does. At the last row of the page, outside the region, nothing happens.
     ///
-    /// Fails where memory for scrollback is refused, and then nothing has
+    /// # Errors
+    ///
+    /// Returns [`Error::OutOfMemory`] if memory for scrollback cannot be allocated; nothing has
     /// changed and nothing was reported.
     #[tactic(auto, unfolding(crate::specs::Moves::line_feed))]
     pub fn line_feed<L: Leaving>(
@@ -80,9 +82,11 @@ impl Grid {
         }
     }
 
-    /// Goes to the first column of the next row, by a line feed; the row that
-    /// was left goes on there, if its last column is not blank and it stands
-    /// directly above.
+    /// Moves the cursor to the first column of the next row by a line feed, and sets the wrapped
+    /// flag of the row that it leaves.
+    ///
+    /// That row is wrapped if its last cell is not a blank and the cursor is then on the row below
+    /// it.
     #[tactic(auto, using(crate::proofs::Prints::page_left), unfolding(crate::specs::Printing::wrapped_page))]
     #[inline(never)]
     pub(super) fn wrap<L: Leaving>(
@@ -100,7 +104,7 @@ impl Grid {
         Ok(())
     }
 
-    /// Whether the text of the cursor's row goes on below after a wrap.
+    /// Returns whether a wrap now marks the cursor's row as wrapped.
     fn goes_on(&self) -> bool
         ensures { result ≡ (goes_down self.now && not (ends_blank (cursor_row self.now).cells)) }
     {
@@ -108,7 +112,7 @@ impl Grid {
             && !self.page_rows.ends_blank(self.pos.row)
     }
 
-    /// Sets the flag of the row that was left, and goes to the first column.
+    /// Sets the wrapped flag of the row that a wrap left, and moves the cursor to the first column.
     fn leave(&mut self, left: Option<u16>, goes_on: bool)
         requires page { IsPage (flagged_left left goes_on self.old) }
         requires inside { IfSome left (λ row. row < length self.old.rows) }
@@ -119,8 +123,8 @@ impl Grid {
     }
 }
 
-/// The row that a wrap leaves: it moves up where the region scrolls, and is
-/// gone where the region has one row.
+/// Returns the index after a wrap of the row that it leaves: one less if the region scrolls, and
+/// `None` if the region has one row, which is then gone.
 fn left_row(row: u16, top: u16, bottom: u16) -> Option<u16>
     requires { top ≤ bottom }
     ensures { result ≡ (if row == bottom then (if row == top then None else Some (row - 1)) else Some row) }

@@ -1,4 +1,4 @@
-//! Rows that move among each other, and columns that move within a row.
+//! Insertion and deletion of rows and columns, and scrolling down.
 
 ghost use Rattle.std.specs.Prelude.{◌≡◌};
 ghost use Rattle.vt_grid.specs.Shifts.{chars_deleted, chars_inserted, lines_deleted};
@@ -7,10 +7,10 @@ ghost use Rattle.vt_grid.specs.Shifts.{lines_inserted, reverse_index, scrolled_d
 use super::Grid;
 
 impl Grid {
-    /// Moves the cursor up by one row, its column as it is (RI).
+    /// Moves the cursor up by one row; the column is unchanged (RI).
     ///
-    /// At the scroll region's top, and in the page's first row, the region
-    /// scrolls down by one row instead.
+    /// At the top of the scroll region, and in the first row of the page, the region scrolls down
+    /// by one row instead.
     #[tactic(auto, using(crate::proofs::Shifting::moving_down), unfolding(crate::specs::Shifts::reverse_index))]
     pub fn reverse_index(&mut self)
         ensures { self.new ≡ reverse_index self.old }
@@ -23,10 +23,10 @@ impl Grid {
         }
     }
 
-    /// Scrolls the region down: blank rows come in at its top, and what passes
-    /// its bottom is dropped (SD).
+    /// Scrolls the scroll region down by `count` rows (SD). Blank rows come in at its top, and rows
+    /// that pass its bottom are lost.
     ///
-    /// The text of the region's bottom row no longer goes on below.
+    /// The bottom row of the region is no longer wrapped.
     #[tactic(auto, using(crate::proofs::Prints::region_order))]
     pub fn scroll_down(&mut self, count: u16)
         ensures { self.new ≡ scrolled_down count self.old }
@@ -35,10 +35,10 @@ impl Grid {
             .scroll_down(self.scroll_top, self.scroll_bottom, count);
     }
 
-    /// Inserts blank rows at the cursor's row; what passes the scroll region's
-    /// bottom is dropped (IL). Outside of the region nothing happens.
+    /// Inserts `count` blank rows at the cursor's row; rows that pass the bottom of the scroll
+    /// region are lost (IL). Does nothing outside the region.
     ///
-    /// The text of the region's bottom row no longer goes on below.
+    /// The bottom row of the region is no longer wrapped.
     #[tactic(auto, using(crate::proofs::Shifting::moving_down), unfolding(crate::specs::Shifts::lines_inserted))]
     pub fn insert_lines(&mut self, count: u16)
         ensures { self.new ≡ lines_inserted count self.old }
@@ -49,8 +49,8 @@ impl Grid {
         }
     }
 
-    /// Deletes rows from the cursor's row on; blank rows come in at the scroll
-    /// region's bottom (DL). Outside of the region nothing happens.
+    /// Deletes `count` rows from the cursor's row on; blank rows come in at the bottom of the
+    /// scroll region (DL). Does nothing outside the region.
     #[tactic(auto, using(crate::proofs::Shifting::page_lines_deleted), unfolding(crate::specs::Shifts::lines_deleted))]
     pub fn delete_lines(&mut self, count: u16)
         ensures { self.new ≡ lines_deleted count self.old }
@@ -61,10 +61,10 @@ impl Grid {
         }
     }
 
-    /// Inserts default blanks at the cursor, behind the pair on a right half;
-    /// what passes the last column is lost (ICH).
+    /// Inserts `count` default blanks at the cursor, or after the wide glyph whose continuation
+    /// cell the cursor is on; cells that pass the last column are lost (ICH).
     ///
-    /// The text of the row no longer goes on below.
+    /// The row is no longer wrapped.
     #[tactic(auto, using(crate::proofs::Pages::cursor_paired, crate::proofs::Pages::cursor_columns))]
     pub fn insert_cells(&mut self, count: u16)
         ensures { self.new ≡ chars_inserted count self.old }
@@ -72,10 +72,10 @@ impl Grid {
         self.page_rows.insert(self.pos.row, self.pos.col, count);
     }
 
-    /// Deletes columns from the cursor on; default blanks come in at the end
-    /// of the row (DCH).
+    /// Deletes `count` columns from the cursor on; default blanks come in at the end of the row
+    /// (DCH).
     ///
-    /// The text of the row no longer goes on below.
+    /// The row is no longer wrapped.
     #[tactic(auto, using(crate::proofs::Pages::cursor_paired, crate::proofs::Pages::cursor_columns))]
     pub fn delete_cells(&mut self, count: u16)
         ensures { self.new ≡ chars_deleted count self.old }

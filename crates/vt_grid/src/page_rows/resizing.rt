@@ -1,4 +1,4 @@
-//! Another size of a page: fresh rows take over the old ones.
+//! Resizing the rows of a page: new rows take over the old ones.
 
 ghost use Rattle.std.specs.Prelude.{◌≡◌, ◌<◌, ◌≤◌, ℕ, All, length, slice_index_or};
 ghost use Rattle.vt_cells.specs.Attrs.{default_attrs};
@@ -15,10 +15,9 @@ use vt_rows::cuts;
 use vt_rows::row::flag_kept;
 
 impl PageRows {
-    /// Gives the page the size of `fresh`, a page of default blanks: the
-    /// newest `up` rows of scrollback stand at its top, and the page's own
-    /// rows, but for the first `down`, below them. The last row goes on no
-    /// more.
+    /// Replaces the page by `fresh`, a page of default blanks, and fills it: with the newest `up`
+    /// rows of scrollback at its top, and below them the rows of the page without the first `down`.
+    /// The last row is no longer wrapped.
     pub fn refit(&mut self, mut fresh: PageRows, down: u16, up: u16, above: &mut Scrollback)
         requires blank { fresh ≡ blank_page_rows (length fresh.rows) fresh.width }
         requires either { 0 < up → down ≡ 0 }
@@ -37,8 +36,8 @@ impl PageRows {
         self.flat = fresh.flat;
     }
 
-    /// Gives a blank row cells and a flag, as far as they fit; see `cuts::refit`.
-    /// The flag stays where they are as many as the row's columns.
+    /// Copies the cells and the wrapped flag of a row into a blank row, as [`cuts::refit`] does.
+    /// The flag is kept only if the widths are equal.
     #[tactic(auto, using(crate::proofs::Flats::columns_counted))]
     pub fn fit_row(&mut self, row: usize, from: &[Cell], wrapped: bool)
         requires inside { row < length self.old.rows }
@@ -53,8 +52,8 @@ impl PageRows {
         self.edit_row_and_flag(row, goes_on, |cells| cuts::refit(cells, from));
     }
 
-    /// Copies the rows of another page from `down` on into blank rows from
-    /// `up` on, as far as there is room.
+    /// Copies the rows of another page from `down` on into the blank rows from `up` on, as many as
+    /// fit.
     fn take_rows(&mut self, rows: &PageRows, down: usize, up: usize)
         requires blank { (k : ℕ) (d : RowValue) → up ≤ k → k < length self.old.rows →
             slice_index_or self.old.rows k d
@@ -76,8 +75,8 @@ impl PageRows {
     }
 }
 
-/// Fills a page of blank rows with the newest `up` rows of scrollback and,
-/// below them, with the rows of another one, but for the first `down`.
+/// Fills a page of blank rows with the newest `up` rows of scrollback and, below them, the rows of
+/// another page without the first `down`.
 fn fill(fresh: &mut PageRows, rows: &PageRows, down: usize, up: usize, above: &mut Scrollback)
     requires blank { fresh.old ≡ blank_page_rows (length fresh.old.rows) fresh.old.width }
     requires inside { up ≤ length fresh.old.rows }

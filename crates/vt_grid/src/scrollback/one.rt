@@ -1,4 +1,4 @@
-//! One row that leaves, where none is in view: no list is made for it.
+//! A single row that scrolls off when no row of scrollback is displayed: no list is created for it.
 
 ghost use Rattle.std.specs.Prelude.{◌≡◌, ◌<◌, ℕ, IsErr, OnErr, OnOk, length, take};
 ghost use Rattle.vt_cells.specs.Refusals.{OnlyOutOfMemory};
@@ -13,7 +13,13 @@ use vt_cells::Error;
 use vt_rows::Leaving;
 
 impl Scrollback {
-    /// Takes over the first row of a page, where none is in view; see `push`.
+    /// Appends a copy of the first row of a page when the offset is 0; a part of
+    /// [`Scrollback::push`].
+    ///
+    /// # Errors
+    ///
+    /// Returns [`Error::OutOfMemory`] if an allocation fails; nothing has changed and nothing was
+    /// reported.
     pub(super) fn push_one<L: Leaving>(
         &mut self,
         page: &PageRows,
@@ -32,7 +38,11 @@ impl Scrollback {
         self.add(page)
     }
 
-    /// Takes over the first row of a page, where there is room for it.
+    /// Appends a copy of the first row of a page when there is room and the offset is 0.
+    ///
+    /// # Errors
+    ///
+    /// Returns [`Error::OutOfMemory`] if an allocation fails; nothing has changed.
     fn add(&mut self, page: &PageRows) -> Result<(), Error>
         requires room { length self.old.rows < self.old.capacity }
         requires hidden { self.old.offset ≡ 0 }
@@ -47,8 +57,13 @@ impl Scrollback {
         Ok(())
     }
 
-    /// Takes over the first row of a page in the memory of the oldest one, which
-    /// is reported, where none is in view and no more can be kept; see `push`.
+    /// Reports the oldest row and reuses its memory for a copy of the first row of a page, when the
+    /// rows are at capacity and the offset is 0.
+    ///
+    /// # Errors
+    ///
+    /// Returns [`Error::OutOfMemory`] if the copy is longer than the oldest row and the allocation
+    /// fails; nothing has changed and nothing was reported.
     fn turn_over<L: Leaving>(&mut self, page: &PageRows, leaving: &mut L) -> Result<(), Error>
         requires full { length self.old.rows ≡ self.old.capacity }
         requires some { 0 < self.old.capacity }

@@ -1,4 +1,4 @@
-//! The basic text of a row: its text and SGR.
+//! The basic text of a row: its text with SGR sequences.
 
 ghost use Rattle.std.specs.Prelude.{◌≡◌, ◌<◌, [], ◌∷◌, ◌++◌, if◌then◌else◌, false};
 ghost use Rattle.std.specs.Prelude.{length, true, IfOk, IsErr, OnErr, OnOk};
@@ -15,17 +15,20 @@ use vt_cells::term::ChangeAttrs;
 use vt_cells::{Attrs, Buffer, Cell, Sink, cell};
 
 impl RowContents<'_> {
-    /// Writes the row's basic text: its text and SGR, and nothing else.
+    /// Writes the row's basic text: its text with SGR sequences, and no other escape sequences.
     ///
-    /// A row begins with `\n`, unless it is the first one or the row before
-    /// goes on in it. Default blanks at its end are dropped; any other is a
-    /// space in the attributes of the text before. A blank with attributes of
-    /// its own is a space in them.
+    /// A `\n` comes first unless this is the first row or the row before is wrapped. Default blanks
+    /// at the end of the row are dropped. Any other default blank is a space, written with the
+    /// attributes of the text before it. A blank with attributes is a space written with them.
     ///
-    /// `state` is that of the rows written before. An error is the sink's own;
-    /// then the state is as it was. The sink took a beginning of the text, and
-    /// refused the piece behind it; what it holds then is for it to say, and
-    /// nothing was written after. An empty text is never refused.
+    /// `state` carries what was written from one row to the next. Pass the same state for each row
+    /// of a capture.
+    ///
+    /// # Errors
+    ///
+    /// Returns the sink's error; `state` is unchanged. The sink took a prefix of the text and
+    /// failed on the string offered next; it says itself what it holds then. Nothing is written
+    /// after a failure. An empty text never fails.
     pub fn write_formatted_basic<S: Sink>(
         &self,
         sink: &mut S,
@@ -46,7 +49,7 @@ impl RowContents<'_> {
     }
 }
 
-/// Writes the line end that is due, if any.
+/// Writes the pending line end, if there is one.
 fn write_line_end<S: Sink>(sink: &mut S, is_due: bool) -> Result<(), S::Error>
     ensures text { OnOk result (S.text sink.new ≡ S.text sink.old ++ (if is_due then 0x0A ∷ [] else [])) }
     ensures stopped { OnErr result
@@ -56,8 +59,7 @@ fn write_line_end<S: Sink>(sink: &mut S, is_due: bool) -> Result<(), S::Error>
     if is_due { sink.write_str("\n") } else { Ok(()) }
 }
 
-/// Writes cells behind a text in `attrs`, and answers the attributes of the
-/// last text.
+/// Writes cells after text with attributes `attrs`, and returns the attributes of the last text.
 #[tactic(auto, using(vt_cells::proofs::Buffers::nothing_gathered))]
 fn write_cells<S: Sink>(sink: &mut S, cells: &[Cell], attrs: Attrs) -> Result<Attrs, S::Error>
     ensures text { OnOk result (S.text sink.new ≡ S.text sink.old ++ cells_text attrs cells.now) }
@@ -75,8 +77,8 @@ fn write_cells<S: Sink>(sink: &mut S, cells: &[Cell], attrs: Attrs) -> Result<At
     Ok(last)
 }
 
-/// Adds a cell behind a text in `attrs`, which become those of the text then. A
-/// right half adds nothing.
+/// Appends a cell after text with attributes `attrs`, and updates `attrs` to those of the new text.
+/// Appends nothing for a continuation cell.
 #[inline]
 #[tactic(auto, using(crate::proofs::BasicTexts::right_adds, crate::proofs::BasicTexts::right_keeps))]
 fn add_cell<S: Sink>(
@@ -104,8 +106,8 @@ fn add_cell<S: Sink>(
     buffer.add(sink, shown_text(cell))
 }
 
-/// Whether a cell leaves the attributes of the text before it: a default blank
-/// and a right half do, and what has the same ones.
+/// Returns whether the cell is written without a change of attributes: a default blank, a
+/// continuation cell, or a cell with attributes `attrs`.
 #[inline]
 #[tactic(auto, using(crate::proofs::BasicTexts::attrs_kept))]
 fn keeps_attrs(cell: &Cell, attrs: &Attrs) -> bool
@@ -122,7 +124,7 @@ fn keeps_attrs(cell: &Cell, attrs: &Attrs) -> bool
     cuts::is_default(cell)
 }
 
-/// The text of a cell, where a blank is a space.
+/// Returns the text that is written for a cell: a space for a blank.
 #[inline]
 fn shown_text(cell: &Cell) -> &str
     ensures { result.now ≡ shown_text cell.now }

@@ -1,19 +1,19 @@
-//! Where rows go that leave a page.
+//! Receivers of rows that scroll off the top.
 
 use super::RowContents;
 
-/// Where rows go that leave a page at its top and aren't kept.
+/// A receiver of rows that scroll off the top of a page and are not kept in scrollback.
 pub trait Leaving {
     ghost use Rattle.vt_rows.specs.Row.{RowValue};
 
     ghost leaves: { Self → RowValue → Self → Type 0 };
 
-    /// Called with a row that leaves, older rows first.
+    /// Receives a row that scrolls off the top. Older rows come first.
     fn leave(&mut self, row: RowContents<'_>)
         ensures { leaves self.old row.entry self.new };
 }
 
-/// Rows that leave are forgotten.
+/// The receiver that drops rows.
 impl Leaving for () {
     ghost use Rattle.std.specs.Prelude.{◌≡◌};
 

@@ -9,19 +9,18 @@ ghost use Rattle.vt_rows.specs.Pieces.{ArePiecesOf, Piece, texts_of, without_str
 use std::iter::FusedIterator;
 use std::marker::Model;
 
-/// The pieces of a capture outside its SGR, each with its byte index.
+/// An iterator over the chunks of a capture outside its SGR sequences, each with its byte index.
 ///
-/// It lends the text of the capture, and takes no memory. It is made by
-/// [`basic_formatted_to_plain_indexed`].
+/// It borrows the capture and allocates nothing. Created by [`basic_formatted_to_plain_indexed`].
 #[derive(Drop)]
 pub struct BasicFormattedToPlainIndexed<'a> {
-    /// What is left of the capture.
+    /// The part of the capture that is not yet read.
     rest: &'a str,
     /// The length of the whole capture, in bytes.
     len: usize,
 }
 
-/// It is the list of the pieces that are left.
+/// The model of the iterator is the list of the remaining chunks.
 impl<'a> Model for BasicFormattedToPlainIndexed<'a> {
     ghost use Rattle.std.specs.Prelude.{◌-◌, ◌≤◌, List, length};
     ghost use Rattle.vt_rows.specs.Internals.{pieces_from};
@@ -34,11 +33,11 @@ impl<'a> Model for BasicFormattedToPlainIndexed<'a> {
     ghost invariant = { λ it. length it.rest.now ≤ it.len };
 }
 
-/// The pieces of `capture` outside its SGR, each with its byte index in
-/// `capture`, in order.
+/// Returns the chunks of `capture` outside its SGR sequences, in order, each with its byte index in
+/// `capture`.
 ///
-/// A stretch from ESC through the next `m`, or to the end, is left out. No
-/// piece is empty.
+/// A sequence extends from ESC through the next `m`, or to the end if there is none. No chunk is
+/// empty.
 ///
 /// ```
 /// use vt100::capture::basic_formatted_to_plain_indexed;
@@ -80,7 +79,8 @@ impl<'a> Iterator for BasicFormattedToPlainIndexed<'a> {
 
 impl<'a> FusedIterator for BasicFormattedToPlainIndexed<'a> {}
 
-/// The text before the first SGR, and the text behind that.
+/// Splits a text at its first SGR sequence. Returns the text before and the text after the
+/// sequence.
 fn split_at_sgr(text: &str) -> (&str, &str)
     ensures pieces { (at : ℕ) →
         pieces_from at text.now
@@ -93,7 +93,7 @@ fn split_at_sgr(text: &str) -> (&str, &str)
     }
 }
 
-/// The text behind the end of the SGR in which it begins.
+/// Returns the text after the end of the SGR sequence inside which `text` begins.
 fn behind_sgr(text: &str) -> &str
     ensures pieces { (at : ℕ) →
         pieces_within at text.now ≡ pieces_from (at + (length text.now - length result.now)) result.now }
@@ -105,16 +105,15 @@ fn behind_sgr(text: &str) -> &str
     }
 }
 
-/// The pieces of a capture outside its SGR.
+/// An iterator over the chunks of a capture outside its SGR sequences.
 ///
-/// It lends the text of the capture, and takes no memory. It is made by
-/// [`basic_formatted_to_plain`].
+/// It borrows the capture and allocates nothing. Created by [`basic_formatted_to_plain`].
 #[derive(Drop)]
 pub struct BasicFormattedToPlain<'a> {
     indexed: BasicFormattedToPlainIndexed<'a>,
 }
 
-/// It is the list of the texts that are left.
+/// The model of the iterator is the list of the remaining chunks.
 impl<'a> Model for BasicFormattedToPlain<'a> {
     ghost use Rattle.std.specs.Prelude.{List, ℕ};
     ghost use Rattle.vt_rows.specs.Pieces.{texts_of};
@@ -124,9 +123,10 @@ impl<'a> Model for BasicFormattedToPlain<'a> {
     ghost view = { λ it. texts_of it.indexed };
 }
 
-/// The pieces of `capture` outside its SGR, in order: those of
-/// [`basic_formatted_to_plain_indexed`] without their places. Joined they are
-/// the plain text of the capture.
+/// Returns the chunks of `capture` outside its SGR sequences, in order. Joined, they are the plain
+/// text of the capture.
+///
+/// [`basic_formatted_to_plain_indexed`] also returns the byte index of each chunk.
 pub fn basic_formatted_to_plain(capture: &str) -> BasicFormattedToPlain<'_>
     ensures pieces { (pieces : List Piece) × ArePiecesOf capture.now pieces × (result ≡ texts_of pieces) }
     ensures joined { concat result ≡ without_stretches capture.now }

@@ -1,14 +1,14 @@
-//! Which rows a capture has.
+//! The rows that a capture contains.
 
 use super::BasicFormattedCaptureState;
 
-/// Which rows of a screen a capture has.
+/// The rows of a screen that a capture contains.
 #[derive(Debug, Drop)]
 pub enum BasicFormattedCaptureRange<'a> {
-    /// The rows of scrollback above the active page, and then the rows of the
-    /// page, whatever is in view. The state is that of the rows written
-    /// before; it goes on.
+    /// The rows of scrollback and then the rows of the active page, whatever is displayed.
+    ///
+    /// The state carries what was written from one capture to the next.
     Full(&'a mut BasicFormattedCaptureState),
-    /// The rows that are shown, behind nothing.
+    /// The displayed rows, as a capture of its own.
     Visible,
 }

@@ -12,18 +12,17 @@ use std::iter::FusedIterator;
 use std::marker::Model;
 use unicode_width::UnicodeWidthChar;
 
-/// The rows of a capture.
+/// An iterator over the rows of a capture.
 ///
-/// It lends the text of the capture, and takes no memory. It is made by
-/// [`basic_formatted_rows`].
+/// It borrows the capture and allocates nothing. Created by [`basic_formatted_rows`].
 #[derive(Drop)]
 pub struct BasicFormattedRows<'a> {
-    /// What is left of the capture; None after the last row.
+    /// The part of the capture that is not yet read, or `None` after the last row.
     rest: Option<&'a str>,
     width: u16,
 }
 
-/// It is the list of the rows that are left.
+/// The model of the iterator is the list of the remaining rows.
 impl<'a> Model for BasicFormattedRows<'a> {
     ghost use Rattle.std.specs.Prelude.{List, ℕ, []};
     ghost use Rattle.std.specs.Option.{option_map_or};
@@ -34,16 +33,17 @@ impl<'a> Model for BasicFormattedRows<'a> {
     ghost view = { λ it. option_map_or (λ rest. rows_of it.width rest.now) it.rest [] };
 }
 
-/// The rows of `capture` on a terminal of `screen_width` columns, in order.
+/// Returns the rows of `capture` on a terminal of `screen_width` columns, in order.
 ///
-/// A row ends at a `\n` outside of SGR, which is dropped, or before a character
-/// that would make it wider than `screen_width`, unless it has no columns yet.
-/// The rest is the last row, also if it is empty. SGR is what stands from an ESC
-/// through the next `m`, or to the end where there is none; it takes no columns,
-/// and stays where it stands: before a cut it belongs to the earlier row. A
-/// character takes the columns of [`UnicodeWidthChar`], but at most two, and one
-/// where that gives none; one of no columns begins a row only at the begin of
-/// the capture or behind a `\n`.
+/// A row ends at a `\n` outside SGR sequences, which is dropped, or before a character that would
+/// make it wider than `screen_width`; a row takes at least one character that has columns. The rest
+/// is the last row, even if it is empty.
+///
+/// An SGR sequence extends from ESC through the next `m`, or to the end if there is none. It takes
+/// no columns and stays where it is: in front of a cut it belongs to the earlier row. A character
+/// takes the columns that [`UnicodeWidthChar`] returns, but at most two, and one if that returns
+/// `None`. A character without columns begins a row only at the start of the capture or after a
+/// `\n`.
 ///
 /// ```
 /// use vt100::capture::basic_formatted_rows;
@@ -80,7 +80,8 @@ impl<'a> Iterator for BasicFormattedRows<'a> {
 
 impl<'a> FusedIterator for BasicFormattedRows<'a> {}
 
-/// The first row of a text, and the text of the others.
+/// Splits off the first row of a text. Returns the row and the text of the remaining rows, or
+/// `None` if it was the last.
 fn split_row(text: &str, width: u16) -> (&str, Option<&str>)
     ensures { rows_of width text.now ≡ result.0.now ∷ option_map_or (λ rest. rows_of width rest.now) result.1 [] }
 {
@@ -97,16 +98,16 @@ fn split_row(text: &str, width: u16) -> (&str, Option<&str>)
     (text, None)
 }
 
-/// How far a row's text goes.
+/// The extent of a row's text: its columns, and whether it ends inside an SGR sequence.
 #[derive(Clone, Copy)]
 struct Reach {
     columns: u32,
-    /// It ends within SGR.
+    /// Whether the text ends inside an SGR sequence.
     is_within: bool,
 }
 
 impl Reach {
-    /// That of an empty text.
+    /// Returns the extent of an empty text.
     fn new() -> Reach
         ensures columns { result.columns ≡ 0 }
         ensures within { result.is_within ≡ false }
@@ -117,14 +118,14 @@ impl Reach {
         }
     }
 
-    /// Whether the character ends the row.
+    /// Returns whether the character `c` ends the row.
     fn is_row_end(self, c: char) -> bool
         ensures { result ≡ (not self.is_within && (c == 0x0A)) }
     {
         !self.is_within && c == '\n'
     }
 
-    /// Whether the row would be too wide with the character.
+    /// Returns whether the row would be too wide with the character `c` added.
     fn is_overflow(self, c: char, width: u16) -> bool
         requires { self.columns ≤ width + 2 }
         ensures { result ≡ is_beyond width self.columns (columns_added self.is_within c) }
@@ -133,7 +134,7 @@ impl Reach {
         self.columns > 0 && added > 0 && self.columns + added > u32::from(width)
     }
 
-    /// That of the text with one more character.
+    /// Returns the extent of the text with the character `c` added.
     fn with(self, c: char) -> Reach
         requires { self.columns + 2 < 2 ^ 32 }
         ensures columns { result.columns ≡ self.columns + columns_added self.is_within c }
@@ -145,7 +146,7 @@ impl Reach {
         }
     }
 
-    /// The columns that the character takes behind the text.
+    /// Returns the number of columns that the character `c` adds to the text.
     fn columns_added(self, c: char) -> u32
         ensures value { result ≡ columns_added self.is_within c }
         ensures most { result ≤ 2 }
@@ -160,14 +161,15 @@ impl Reach {
     }
 }
 
-/// Whether a text goes on within SGR behind the character.
+/// Returns whether a text ends inside an SGR sequence after the character `c`; `within` says
+/// whether it did so before.
 fn is_within_after(within: bool, c: char) -> bool
     ensures { result ≡ is_within_after within c }
 {
     if within { c != 'm' } else { c == '\x1b' }
 }
 
-/// The columns of a character that is shown.
+/// Returns the number of columns of a character outside SGR sequences.
 fn shown_columns(c: char) -> u32
     ensures value { result ≡ shown_columns c }
     ensures most { result ≤ 2 }

@@ -1,4 +1,4 @@
-//! What the basic text of rows carries from one row to the next.
+//! What the basic text carries from one row to the next.
 
 ghost use Rattle.std.specs.Prelude.{◌≡◌};
 ghost use Rattle.vt_rows.specs.Basic.{unwritten};
@@ -6,8 +6,8 @@ ghost use Rattle.vt_rows.specs.Basic.{unwritten};
 use std::marker::Model;
 use vt_cells::Attrs;
 
-/// What the basic text of rows says before the next row: the attributes that
-/// were written last, and whether a line end is due.
+/// The state between the rows of a capture: the attributes written last, and whether a line end is
+/// pending.
 #[derive(Clone, Debug, Drop)]
 pub struct BasicFormattedCaptureState {
     pub(crate) attrs: Attrs,
@@ -23,7 +23,7 @@ impl Model for BasicFormattedCaptureState {
 }
 
 impl BasicFormattedCaptureState {
-    /// The state before the first row: default attributes, no line end due.
+    /// Returns the state before the first row: default attributes and no pending line end.
     pub fn new() -> Self
         ensures { result ≡ unwritten }
     {

@@ -1,4 +1,4 @@
-//! Short ways: bytes that need not be fed one by one.
+//! Shortcuts for bytes that need not be fed one by one.
 
 ghost use Rattle.std.specs.Prelude.{◌≡◌, ◌≢◌, ◌≤◌, ◌<◌, ◌-◌, ◌*◌, ◌==◌, ◌&&◌, ◌↔◌, ◌⊎◌, ℕ};
 ghost use Rattle.std.specs.Prelude.{[], ◌∷◌, All, IfOk, IfSome};
@@ -28,10 +28,9 @@ use std::simd::prelude::*;
 use vt_cells::Error;
 
 impl Scanner {
-    /// Whether this byte would be read as the character of ASCII that it is,
-    /// and nothing else: it is printable, and no sequence and no other
-    /// character is unfinished. Reading it leaves the scanner as it is, so
-    /// that it need not be fed.
+    /// Returns whether `byte` is a printable ASCII character that would be read as itself: no
+    /// sequence and no character is incomplete.
+    /// Feeding such a byte leaves the scanner unchanged, so the caller can skip it.
     #[inline(always)]
     pub fn is_text(&self, byte: u8) -> bool
         ensures feeds { IsTrue result
@@ -41,10 +40,9 @@ impl Scanner {
         is_printable(byte) && self.is_fresh()
     }
 
-    /// How many of these bytes, from the first on, would each be read as the
-    /// character of ASCII that it is, one after the other: at most all, and
-    /// none where a sequence or another character is unfinished. Reading them
-    /// leaves the scanner as it is, so that they need not be fed.
+    /// Returns the number of leading bytes that are printable ASCII and would each be read as
+    /// itself. It is 0 if a sequence or a character is incomplete.
+    /// Feeding these bytes leaves the scanner unchanged, so the caller can skip them.
     #[inline]
     pub fn text_len(&self, bytes: &[u8]) -> usize
         ensures inside { result ≤ length bytes.now }
@@ -58,11 +56,10 @@ impl Scanner {
         }
     }
 
-    /// Reads what comes first of these bytes, as far as they lead into a
-    /// sequence: ESC in plain text, and behind it an intermediate, or `[` and
-    /// bytes of the parameter text. None of them has an event or takes memory.
-    /// Answers how many they were; where it is all, the next bytes may go on
-    /// from there.
+    /// Parses the leading bytes that introduce a sequence, and returns their number: ESC outside
+    /// sequences, then an intermediate, or `[` and parameter bytes.
+    /// These bytes cause no event and allocate nothing. If all bytes are parsed, the next call
+    /// continues where this one stopped.
     #[inline]
     pub fn lead_in(&mut self, bytes: &[u8]) -> usize
         ensures inside { result ≤ length bytes.now }
@@ -78,9 +75,8 @@ impl Scanner {
         }
     }
 
-    /// Reads the final byte of a control sequence, if it is one and its
-    /// sequence has no intermediates: the answer tells. The byte's one event is
-    /// then the control sequence.
+    /// Parses `byte` if it is the final byte of a control sequence without intermediates, and
+    /// returns whether it is. Its only event is then the control sequence.
     #[inline(always)]
     pub fn final_byte(&mut self, byte: u8) -> bool
         ensures answers { result ≡ ends_sequence self.old.kind byte }
@@ -94,8 +90,8 @@ impl Scanner {
         }
     }
 
-    /// Reads the last byte of an escape sequence, if it is one: the answer
-    /// tells. The byte's one event is then the escape sequence.
+    /// Parses `byte` if it is the last byte of an escape sequence, and returns whether it is. Its
+    /// only event is then the escape sequence.
     #[inline]
     pub fn escape_byte(&mut self, byte: u8) -> bool
         ensures answers { IsTrue result ↔ EndsEscape self.old.kind byte }
@@ -112,10 +108,9 @@ impl Scanner {
         }
     }
 
-    /// Whether this byte would be executed, and nothing else: it is a control
-    /// function of one byte, but not ESC, and no sequence and no character is
-    /// unfinished. Reading it leaves the scanner as it is, so that it need not
-    /// be fed.
+    /// Returns whether `byte` is a C0 control character other than ESC that would be executed: no
+    /// sequence and no character is incomplete. Feeding such a byte leaves the scanner unchanged,
+    /// so the caller can skip it.
     #[inline(always)]
     pub fn is_control(&self, byte: u8) -> bool
         ensures feeds { IsTrue result
@@ -125,10 +120,9 @@ impl Scanner {
         is_control_byte(byte) && self.is_fresh()
     }
 
-    /// How many of these bytes, from the first on, are passed over in a string
-    /// whose text is not kept (DCS, SOS, PM, APC): all up to one that may end
-    /// it. Reading them leaves the scanner as it is, so that they need not be
-    /// fed. In no such string there are none.
+    /// Returns the number of leading bytes that are ignored inside a string whose text is not kept
+    /// (DCS, SOS, PM, APC): all up to the first that may end it. It is 0 outside such a string.
+    /// Feeding these bytes leaves the scanner unchanged, so the caller can skip them.
     #[inline]
     pub fn skipped_len(&self, bytes: &[u8]) -> usize
         ensures inside { result ≤ length bytes.now }
@@ -143,13 +137,13 @@ impl Scanner {
         }
     }
 
-    /// Reads what comes first of these bytes, as far as it goes on the text of
-    /// an operating system command: all up to a control function of one byte.
-    /// Answers how many bytes that were; outside of such a command it reads
-    /// none.
+    /// Collects the leading bytes that belong to the text of an operating system command, all up to
+    /// the first C0 control character, and returns their number. It is 0 outside such a command.
     ///
-    /// Where memory for them is refused, the answer is `OutOfMemory`, nothing
-    /// is changed, and the same bytes may be given again.
+    /// # Errors
+    ///
+    /// Returns [`Error::OutOfMemory`] if the bytes cannot be stored. The scanner is unchanged, and
+    /// the same bytes may be passed again.
     #[inline]
     pub fn command_text(&mut self, bytes: &[u8]) -> Result<usize, Error>
         ensures inside { IfOk result (λ count. count ≤ length bytes.now) }
@@ -168,10 +162,9 @@ impl Scanner {
         }
     }
 
-    /// The character of more than one byte that these bytes begin with, and
-    /// how many bytes it takes, if nothing is unfinished and all its bytes are
-    /// here (Unicode 3.9, Table 3-7). Reading them gives that character, by the
-    /// last one, and leaves the scanner as it is, so that they need not be fed.
+    /// Returns the first character and its length in bytes, if it takes more than one byte, all of
+    /// them are present, and no sequence and no character is incomplete (Unicode 3.9, Table 3-7).
+    /// Feeding them causes that one event and leaves the scanner unchanged: they can be skipped.
     #[inline(always)]
     pub fn whole_character(&self, bytes: &[u8]) -> Option<(char, usize)>
         ensures inside { IfSome result (λ found. (1 < found.1) × (found.1 ≤ length bytes.now)) }
@@ -188,10 +181,9 @@ impl Scanner {
         }
     }
 
-    /// How many characters of three bytes and two columns these bytes begin
-    /// with, if nothing is unfinished and as far as there is room for them; they
-    /// are left in `text`. Reading them gives these characters and leaves the
-    /// scanner as it is, so that they need not be fed.
+    /// Decodes leading characters of three bytes and two columns into `text`, as many as fit, and
+    /// returns their number. It is 0 if a sequence or a character is incomplete.
+    /// Feeding them causes one event each and leaves the scanner unchanged: they can be skipped.
     #[inline]
     pub fn wide_text(&self, bytes: &[u8], text: &mut [char]) -> usize
         ensures room { result ≤ length text.new }
@@ -207,7 +199,7 @@ impl Scanner {
         }
     }
 
-    /// The same from plain text on.
+    /// Parses leading bytes that introduce a sequence, outside sequences; returns their number.
     #[inline(always)]
     fn lead_from_text(&mut self, bytes: &[u8]) -> usize
         requires { self.old.kind ≡ Kind.Ground }
@@ -223,7 +215,8 @@ impl Scanner {
         2 + more
     }
 
-    /// The same where ESC and `[` may be in two pieces.
+    /// Parses leading bytes that introduce a sequence, outside sequences; returns their number.
+    /// Tests ESC and `[` one by one, since the bytes may end between them.
     #[inline]
     fn lead_by_bytes(&mut self, bytes: &[u8]) -> usize
         requires { self.old.kind ≡ Kind.Ground }
@@ -242,7 +235,7 @@ impl Scanner {
         1 + more
     }
 
-    /// The same from ESC on.
+    /// Parses leading bytes that introduce a sequence, starting after ESC; returns their number.
     #[inline(always)]
     fn lead_from_escape(&mut self, bytes: &[u8]) -> usize
         requires { self.old.kind ≡ Kind.Escape }
@@ -264,7 +257,7 @@ impl Scanner {
         1 + more
     }
 
-    /// The same within the parameter text.
+    /// Parses the leading parameter bytes of a control sequence, and returns their number.
     #[inline(always)]
     fn lead_parameters(&mut self, bytes: &[u8]) -> usize
         requires { (self.old.kind ≡ Kind.CsiEntry) ⊎ (self.old.kind ≡ Kind.CsiParam) }
@@ -281,7 +274,7 @@ impl Scanner {
         count
     }
 
-    /// Reads the final byte of a control sequence, if it is one.
+    /// Parses `byte` if it is the final byte of a control sequence, and returns whether it is.
     #[inline(always)]
     fn ends_with(&mut self, byte: u8) -> bool
         requires { (self.old.kind ≡ Kind.CsiEntry) ⊎ (self.old.kind ≡ Kind.CsiParam) }
@@ -297,7 +290,7 @@ impl Scanner {
         ends
     }
 
-    /// Reads ESC and `[` in plain text, if no character is unfinished.
+    /// Parses a leading `ESC [` if no character is incomplete, and returns whether it was parsed.
     #[inline(always)]
     fn takes_opening(&mut self, bytes: &[u8]) -> bool
         requires { self.old.kind ≡ Kind.Ground }
@@ -313,7 +306,7 @@ impl Scanner {
         true
     }
 
-    /// Reads `[` after ESC.
+    /// Parses `byte` if it is a `[` after ESC, and returns whether it is.
     #[inline]
     fn takes_bracket(&mut self, byte: u8) -> bool
         requires { self.old.kind ≡ Kind.Escape }
@@ -329,7 +322,7 @@ impl Scanner {
         takes
     }
 
-    /// Reads an intermediate after ESC.
+    /// Parses `byte` if it is an intermediate after ESC, and returns whether it is.
     #[inline]
     fn takes_intermediate(&mut self, byte: u8) -> bool
         requires { self.old.kind ≡ Kind.Escape }
@@ -346,7 +339,7 @@ impl Scanner {
         takes
     }
 
-    /// Reads ESC in plain text, if no character is unfinished.
+    /// Parses `byte` if it is ESC and no character is incomplete; returns whether it was parsed.
     #[inline]
     fn takes_escape(&mut self, byte: u8) -> bool
         requires { self.old.kind ≡ Kind.Ground }
@@ -362,7 +355,7 @@ impl Scanner {
         true
     }
 
-    /// Whether the next byte begins something.
+    /// Returns whether no sequence and no character is incomplete.
     #[inline(always)]
     fn is_fresh(&self) -> bool
         ensures { IsTrue result ↔ ((self.now.kind ≡ Kind.Ground) × (self.now.unfinished ≡ [])) }
@@ -373,7 +366,8 @@ impl Scanner {
         }
     }
 
-    /// The same within such a command.
+    /// Collects the leading bytes of the text of an operating system command; returns their number.
+    /// If they cannot be stored, fails with `OutOfMemory` and changes nothing.
     fn collect_text(&mut self, bytes: &[u8]) -> Result<usize, Error>
         requires { self.old.kind ≡ Kind.OscString }
         ensures inside { IfOk result (λ count. count ≤ length bytes.now) }
@@ -396,7 +390,7 @@ impl Scanner {
     }
 }
 
-/// Whether the byte is a printable one of ASCII.
+/// Returns whether `byte` is printable ASCII.
 #[inline(always)]
 fn is_printable(byte: u8) -> bool
     ensures { IsTrue result ↔ ((0x20 ≤ byte) × (byte < 0x7F)) }
@@ -404,7 +398,7 @@ fn is_printable(byte: u8) -> bool
     byte >= 0x20 && byte < 0x7F
 }
 
-/// How many of these bytes, from the first on, are printable ones of ASCII.
+/// Returns the number of leading bytes that are printable ASCII.
 #[inline]
 fn printable_len(bytes: &[u8]) -> usize
     ensures inside { result ≤ length bytes.now }
@@ -425,7 +419,7 @@ fn printable_len(bytes: &[u8]) -> usize
     len
 }
 
-/// A bit for each lane that is no printable byte of ASCII.
+/// Returns a mask with a bit for each lane that is not printable ASCII.
 #[inline(always)]
 fn odd_lanes(lanes: u8x16) -> u64
     ensures { result ≡ mask_l (map is_odd lanes) }
@@ -435,7 +429,7 @@ fn odd_lanes(lanes: u8x16) -> u64
         .to_bitmask()
 }
 
-/// Whether the byte is a control function of one byte, but not ESC.
+/// Returns whether `byte` is a C0 control character other than ESC.
 #[inline(always)]
 fn is_control_byte(byte: u8) -> bool
     ensures { IsTrue result ↔ ((byte < 0x20) × (byte ≢ 0x1B)) }
@@ -443,7 +437,7 @@ fn is_control_byte(byte: u8) -> bool
     byte < 0x20 && byte != 0x1B
 }
 
-/// Whether the bytes begin with ESC and `[`.
+/// Returns whether `bytes` begins with ESC and `[`.
 #[inline(always)]
 fn is_opening(bytes: &[u8]) -> bool
     ensures { IsTrue result → Opens bytes.now }
@@ -451,7 +445,7 @@ fn is_opening(bytes: &[u8]) -> bool
     bytes.len() >= 2 && bytes[0] == 0x1B && bytes[1] == b'['
 }
 
-/// Whether the byte is an intermediate.
+/// Returns whether `byte` is an intermediate byte, `20` to `2F`.
 #[inline(always)]
 fn is_intermediate_byte(byte: u8) -> bool
     ensures { result ≡ is_intermediate byte }
@@ -459,7 +453,7 @@ fn is_intermediate_byte(byte: u8) -> bool
     byte >= 0x20 && byte <= 0x2F
 }
 
-/// Whether the byte ends a control sequence.
+/// Returns whether `byte` is a final byte of a control sequence, `40` to `7E`.
 #[inline(always)]
 fn is_final_byte(byte: u8) -> bool
     ensures { result ≡ is_final byte }
@@ -467,7 +461,8 @@ fn is_final_byte(byte: u8) -> bool
     byte >= 0x40 && byte <= 0x7E
 }
 
-/// How many of these bytes, from the first on, leave a string going on.
+/// Returns the number of leading bytes that cannot end a string: those before the first CAN, SUB or
+/// ESC.
 #[inline]
 fn unended_len(bytes: &[u8]) -> usize
     ensures inside { result ≤ length bytes.now }
@@ -481,8 +476,7 @@ fn unended_len(bytes: &[u8]) -> usize
     len
 }
 
-/// How many of these bytes, from the first on, are no control functions of one
-/// byte.
+/// Returns the number of leading bytes before the first C0 control character.
 #[inline]
 fn text_len(bytes: &[u8]) -> usize
     ensures inside { result ≤ length bytes.now }
@@ -496,7 +490,7 @@ fn text_len(bytes: &[u8]) -> usize
     len
 }
 
-/// Whether the byte leaves a string going on: it is none of CAN, SUB and ESC.
+/// Returns whether `byte` cannot end a string: it is not CAN, SUB or ESC.
 #[inline(always)]
 fn is_unended(byte: u8) -> bool
     ensures { IsTrue result ↔ IsUnended byte }

@@ -1,4 +1,4 @@
-//! The screens that an input leaves which ends at any byte.
+//! The screens after each prefix of an input.
 
 use super::readback::{Asked, Change};
 use super::seen::read_keeping;
@@ -8,9 +8,8 @@ use std::test::Fail;
 use vt_notes::Notes;
 use vt100::{Parser, Screen};
 
-/// Fails where, after one of the bytes of these steps or after one of the others, a terminal that reads
-/// the redraw of the screen with its modes, or what differs in both since the byte before, does not
-/// show the same.
+/// Checks the screen after each byte of the steps. Fails if a terminal that parses the redraw of
+/// the screen with its modes, or the differences since the byte before, does not display the same.
 pub fn expect_read_back_at_each_byte(
     alloc: Global,
     size: (u16, u16),
@@ -54,8 +53,10 @@ fn expect_screen_read_back(alloc: Global, screen: &Screen, prev: &Screen) -> Res
     Change::State.expect_read(alloc, screen, prev, text.as_str())
 }
 
-/// Whether each glyph that is shown, printed again on a blank row, gives just itself. Those without
-/// U+FE0F do, and so does one that it made wide. Of a narrow one that has it nothing is said.
+/// Returns `true` only if every displayed glyph, printed again on a blank row, reproduces itself.
+///
+/// That holds for glyphs without U+FE0F, and for those that it made wide. For a narrow glyph with
+/// U+FE0F the function returns `false`, although it may hold.
 fn is_surely_steady(screen: &Screen) -> bool {
     let (rows, cols) = screen.size();
     for row in 0..rows.get() {

@@ -1,30 +1,30 @@
-//! What two screens show, compared.
+//! Comparison of what two screens display.
 
 use vt100::{Color, Screen};
 
-/// What two screens of one size may have in common.
+/// A part of the state in which two screens of the same size may agree.
 #[derive(Clone, Copy, PartialEq, Eq, Debug)]
 pub enum Part {
-    /// The cells, with what each is drawn with.
+    /// The cells with their attributes.
     Cells,
 
-    /// Which rows go on in the next one.
+    /// The wrapped flags of the rows.
     Flags,
 
-    /// The cursor, and whether it is hidden.
+    /// The cursor position, and whether the cursor is hidden.
     Cursor,
 
-    /// What is drawn with.
+    /// The current attributes.
     Attributes,
 
-    /// Input modes and the look of the cursor.
+    /// The input modes and the cursor style.
     Modes,
 }
 
-/// All that is shown.
+/// The parts that make up the display.
 pub const PICTURE: [Part; 4] = [Part::Cells, Part::Flags, Part::Cursor, Part::Attributes];
 
-/// All that is shown, and the modes.
+/// The parts that make up the display, and the modes.
 pub const PARTS: [Part; 5] = [
     Part::Cells,
     Part::Flags,
@@ -34,7 +34,7 @@ pub const PARTS: [Part; 5] = [
 ];
 
 impl Part {
-    /// Whether two screens of one size have this in common.
+    /// Returns whether two screens of the same size agree in this part.
     pub fn is_same(self, one: &Screen, other: &Screen) -> bool {
         match self {
             Part::Cells => have_same_cells(one, other, one.size().0.get()),
@@ -49,7 +49,7 @@ impl Part {
     }
 }
 
-/// Whether the first rows of two screens have the same cells.
+/// Returns whether the first `rows` rows of two screens have the same cells.
 pub fn have_same_cells(one: &Screen, other: &Screen, rows: u16) -> bool {
     let (_rows, cols) = one.size();
     for row in 0..rows {
@@ -62,8 +62,8 @@ pub fn have_same_cells(one: &Screen, other: &Screen, rows: u16) -> bool {
     true
 }
 
-/// The last row goes on in none that is shown: its flag counts only where scrollback is in view, and is
-/// no part of the picture there.
+/// Returns whether two screens have the same wrapped flags, except for the last row. The flag of
+/// that row matters only if scrollback is displayed, and is not part of the display.
 fn have_same_flags(one: &Screen, other: &Screen) -> bool {
     let (rows, _cols) = one.size();
     for row in 0..rows.get().saturating_sub(1) {

@@ -1,4 +1,4 @@
-//! Texts of screens, read by a terminal that shows something else.
+//! Output of screens, parsed by a terminal that displays something else.
 
 use super::picture::{PARTS, PICTURE, Part, have_same_cells};
 use super::seen::read_keeping;
@@ -7,41 +7,43 @@ use std::alloc::Global;
 use std::test::Fail;
 use vt100::{Error, Screen};
 
-/// Makes a terminal draw wide glyphs in colour on all of it, keep rows in scrollback, hide its cursor
-/// and draw with other attributes than the default ones; turns on the keypad's application mode, that
-/// of the cursor keys, and bracketed paste. None of its modes tells in a text.
+/// Input that makes a terminal busy: wide glyphs in colour everywhere, rows in scrollback, a hidden
+/// cursor, attributes other than the defaults, application keypad, application cursor keys, and
+/// bracketed paste. The output of a screen must not depend on any of this.
 const BUSY: &[u8] =
     b"\x1b[7;32mfgh\xe4\xb8\xadij\x1b[2S\x1b[1mklm\xe4\xb8\xadnopqr\x1b[?25l\x1b=\x1b[?1;2004h";
 
-/// How a text is read here: whole, and byte by byte.
+/// The ways in which output is parsed here: as a whole, and byte by byte.
 const READ: [Pieces; 2] = [Pieces::Two(usize::MAX), Pieces::Single];
 
-/// A text of a screen.
+/// A kind of output of a screen.
 #[derive(Clone, Copy, Debug)]
 pub enum Asked {
-    /// `contents_formatted`.
+    /// The output of `contents_formatted`.
     Redraw,
 
-    /// `cursor_state_formatted`.
+    /// The output of `cursor_state_formatted`.
     Cursor,
 
-    /// `attributes_formatted`.
+    /// The output of `attributes_formatted`.
     Attributes,
 
-    /// `state_formatted`.
+    /// The output of `state_formatted`.
     State,
 
-    /// `input_mode_formatted`.
+    /// The output of `input_mode_formatted`.
     Modes,
 
-    /// `contents_formatted_reset`, for a terminal with a region of its own and in origin mode.
+    /// The output of `contents_formatted_reset`, for a terminal with a scroll region and origin
+    /// mode.
     Reset,
 
-    /// The same, for such a terminal on its alternate page.
+    /// The output of `contents_formatted_reset`, for a terminal with a scroll region and origin
+    /// mode on its alternate page.
     ResetOnAlternate,
 }
 
-/// All texts of a screen.
+/// All kinds of output of a screen.
 pub const ASKED: [Asked; 7] = [
     Asked::Redraw,
     Asked::Cursor,
@@ -53,7 +55,7 @@ pub const ASKED: [Asked; 7] = [
 ];
 
 impl Asked {
-    /// This text of a screen.
+    /// Returns this kind of output of a screen.
     pub fn text(self, screen: &Screen) -> Result<String, Error> {
         match self {
             Asked::Redraw => screen.contents_formatted(),
@@ -65,8 +67,8 @@ impl Asked {
         }
     }
 
-    /// Fails where a terminal that reads this text of a screen doesn't take over from it what the text
-    /// is for, or changes in something else, or calls a function.
+    /// Fails if a terminal that parses this output of a screen does not take over what the output
+    /// is for, changes in any other part, or invokes a callback.
     pub fn expect_read(self, alloc: Global, screen: &Screen) -> Result<(), Fail> {
         let text = self.text(screen)?;
         let before = self.read_before(alloc, screen)?;
@@ -77,8 +79,9 @@ impl Asked {
         Ok(())
     }
 
-    /// What a terminal reads before: where only the cursor is asked for, cells and flags; where any
-    /// region will do, one of two rows, and origin mode.
+    /// Returns what the terminal parses first: the cells and wrapped flags if the output is for the
+    /// cursor only, and a scroll region of two rows with origin mode if the output is for any
+    /// region.
     fn read_before(self, alloc: Global, screen: &Screen) -> Result<String, Error> {
         let mut text = String::new(alloc);
         match self {
@@ -93,7 +96,8 @@ impl Asked {
         Ok(text)
     }
 
-    /// What a terminal has in common with the screen then; all else is as before.
+    /// Returns the parts in which the terminal agrees with the screen afterward. All other parts
+    /// are unchanged.
     fn taken(self) -> &'static [Part] {
         match self {
             Asked::Redraw | Asked::Reset | Asked::ResetOnAlternate => &PICTURE,
@@ -105,24 +109,24 @@ impl Asked {
     }
 }
 
-/// A text of what differs between two screens.
+/// A kind of output with the difference between two screens.
 #[derive(Clone, Copy, Debug)]
 pub enum Change {
-    /// `contents_diff`.
+    /// The output of `contents_diff`.
     Picture,
 
-    /// `contents_diff_scrolling`.
+    /// The output of `contents_diff_scrolling`.
     Scrolling,
 
-    /// `state_diff`.
+    /// The output of `state_diff`.
     State,
 
-    /// `input_mode_diff`.
+    /// The output of `input_mode_diff`.
     Modes,
 }
 
 impl Change {
-    /// This text of a screen against another one; fails where they aren't of one size.
+    /// Returns this kind of difference from `prev` to `screen`. Fails if they differ in size.
     pub fn text(self, screen: &Screen, prev: &Screen) -> Result<String, Fail> {
         let (rows, cols) = screen.size();
         let (other_rows, other_cols) = prev.size();
@@ -138,9 +142,8 @@ impl Change {
         Ok(text?)
     }
 
-    /// Fails where a terminal that shows what `prev` shows, and has its modes, doesn't take over from
-    /// `screen` what this text is for, once it has read it, or changes in something else, or calls a
-    /// function.
+    /// Fails if a terminal that displays what `prev` displays, with its modes, does not take over
+    /// from `screen` what this output is for, changes in any other part, or invokes a callback.
     pub fn expect_read(
         self,
         alloc: Global,
@@ -156,7 +159,8 @@ impl Change {
         Ok(())
     }
 
-    /// What a terminal has in common with the screen then; all else is as before.
+    /// Returns the parts in which the terminal agrees with the screen afterward. All other parts
+    /// are unchanged.
     fn taken(self) -> &'static [Part] {
         match self {
             Change::Picture | Change::Scrolling => &PICTURE,
@@ -166,9 +170,9 @@ impl Change {
     }
 }
 
-/// Has a busy terminal read a text and then, in pieces, another one. Fails where that one calls a
-/// function, or where the terminal then differs from the screen in one of these parts, or from what
-/// it was before in another one, scrollback among them.
+/// Feeds `before` to a busy terminal, and then `text` in chunks. Fails if `text` invokes a
+/// callback, or if the terminal then differs from the screen in one of these parts, or from its
+/// earlier state in any other, including scrollback.
 fn expect_taken(
     alloc: Global,
     screen: &Screen,
@@ -188,8 +192,8 @@ fn expect_taken(
     expect_same_scrollback(reader.screen_mut(), &mut before, text)
 }
 
-/// Fails where a terminal differs from the screen in one of these parts, or in another one from what it
-/// was before.
+/// Fails if a terminal differs from the screen in one of these parts, or from its earlier state in
+/// any other.
 fn expect_parts(
     reader: &Screen,
     screen: &Screen,
@@ -206,7 +210,7 @@ fn expect_parts(
     Ok(())
 }
 
-/// Fails where a terminal's scrollback isn't what it was before.
+/// Fails if a terminal's scrollback differs from what it was before.
 fn expect_same_scrollback(
     reader: &mut Screen,
     before: &mut Screen,

@@ -1,4 +1,4 @@
-//! What a parser shows and called, as one text, and what is expected of it.
+//! The observable state of a parser as one string, and the checks of it.
 
 use super::cuts::expect_read_back_at_each_byte;
 use super::steps::{Pieces, Step, longest, size_of, taken};
@@ -7,11 +7,12 @@ use std::test::Fail;
 use vt_notes::Notes;
 use vt100::{Cell, Color, CursorStyle, MouseProtocolEncoding, MouseProtocolMode, Parser, Screen};
 
-/// A fresh parser's size, how many rows its scrollback keeps, what is done, and what is seen then.
+/// An example: the size of a new parser, its scrollback capacity, the steps, and the observable
+/// state after them.
 pub type Example = ((u16, u16), usize, &'static [Step], &'static str);
 
-/// Fails where one of these examples gives something else, its bytes in two pieces or one by one, or
-/// where the screen after one of the bytes is not read back.
+/// Checks examples with their bytes in two chunks and one by one. Fails if a state differs, or if
+/// the screen after one of the bytes cannot be read back from its output.
 pub fn expect_each(alloc: Global, examples: &[Example]) -> Result<(), Fail> {
     for (size, capacity, steps, wanted) in examples {
         expect_at_each_cut(alloc, *size, *capacity, steps, wanted)?;
@@ -19,8 +20,8 @@ pub fn expect_each(alloc: Global, examples: &[Example]) -> Result<(), Fail> {
     Ok(())
 }
 
-/// Fails where these steps, their bytes in two pieces or one by one, give something else, or where the
-/// screen after one of the bytes is not read back.
+/// Checks steps with their bytes in two chunks and one by one. Fails if the state differs, or if
+/// the screen after one of the bytes cannot be read back from its output.
 pub fn expect_at_each_cut(
     alloc: Global,
     size: (u16, u16),
@@ -35,7 +36,7 @@ pub fn expect_at_each_cut(
     expect_read_back_at_each_byte(alloc, size, capacity, steps)
 }
 
-/// Fails where these steps, their bytes read like this, give something else.
+/// Fails if the state after these steps, with their bytes split like this, is not `wanted`.
 fn expect_after(
     alloc: Global,
     size: (u16, u16),
@@ -48,7 +49,7 @@ fn expect_after(
     expect(alloc, &parser, steps, wanted)
 }
 
-/// Fails where a parser after these steps shows or called something else.
+/// Fails if the state of a parser after these steps is not `wanted`.
 pub fn expect(
     alloc: Global,
     parser: &Parser<Notes>,
@@ -62,7 +63,7 @@ pub fn expect(
     Ok(())
 }
 
-/// Fails where a text is another one.
+/// Fails if two strings differ.
 pub fn expect_text(text: String, wanted: &str) -> Result<(), Fail> {
     if text.as_str() == wanted {
         Ok(())
@@ -71,20 +72,20 @@ pub fn expect_text(text: String, wanted: &str) -> Result<(), Fail> {
     }
 }
 
-/// What a parser shows, as a line, and the lines of its calls.
+/// Returns the observable state of a parser: the display as a line, and the lines of its calls.
 fn seen(alloc: Global, parser: &Parser<Notes>) -> Result<String, Fail> {
     let mut text = shown(alloc, parser.screen())?;
     text.push_str(parser.callbacks().lines(alloc)?.as_str())?;
     Ok(text)
 }
 
-/// What a screen shows, as a line.
+/// Returns the display of a screen as a line.
 ///
-/// Each row that shows something is its number, a colon and its cells: a dot for a blank, brackets
-/// around a wide glyph, a slash at the end of a row that goes on in the next one; blanks at the end
-/// are left out. Then come the cursor, whether the page is the alternate one, how many rows
-/// scrollback keeps and how many of them are in view, and attributes and modes; of all these but the
-/// cursor only what isn't the default.
+/// Each row that displays something is given by its number, a colon and its cells: a dot for a
+/// blank, brackets around a wide glyph, and a slash at the end of a wrapped row; blanks at the end
+/// are left out. The cursor follows. The rest appears only if it is not the default: whether the
+/// alternate page is active, the number of rows in scrollback and of those displayed, attributes,
+/// and modes.
 pub fn shown(alloc: Global, screen: &Screen) -> Result<String, Fail> {
     let (rows, _cols) = screen.size();
     let mut text = String::new(alloc);
@@ -100,12 +101,12 @@ pub fn shown(alloc: Global, screen: &Screen) -> Result<String, Fail> {
     Ok(text)
 }
 
-/// A fresh parser of this size after these pieces.
+/// Creates a parser of this size, and feeds the chunks to it.
 pub fn read(alloc: Global, size: (u16, u16), pieces: &[&[u8]]) -> Result<Parser<Notes>, Fail> {
     read_keeping(alloc, size, 0, pieces)
 }
 
-/// A fresh parser of this size, whose scrollback keeps `capacity` rows, after these pieces.
+/// Creates a parser of this size with a scrollback of `capacity` rows, and feeds the chunks to it.
 pub fn read_keeping(
     alloc: Global,
     size: (u16, u16),
@@ -215,7 +216,7 @@ fn write_modes(text: &mut String, screen: &Screen) -> Result<(), AllocError> {
     Ok(())
 }
 
-/// Appends the words of what is on.
+/// Appends the words whose flag is set.
 fn write_words(text: &mut String, words: &[(bool, &str)]) -> Result<(), AllocError> {
     for (on, word) in words {
         if *on {

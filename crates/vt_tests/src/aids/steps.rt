@@ -1,4 +1,4 @@
-//! What is done to a parser, as values.
+//! Actions on a parser, as values.
 
 use super::seen::read_keeping;
 use std::alloc::Global;
@@ -7,29 +7,30 @@ use std::test::Fail;
 use vt_notes::Notes;
 use vt100::{Callbacks, Error, Parser};
 
-/// What is done to a parser or its screen.
+/// An action on a parser or its screen.
 #[derive(Clone, Copy, Debug)]
 pub enum Step {
-    /// The parser reads a text.
+    /// Parses a string.
     Text(&'static str),
 
-    /// The parser reads bytes.
+    /// Parses bytes.
     Bytes(&'static [u8]),
 
-    /// The screen gets another size.
+    /// Resizes the screen, by rows and columns.
     Resize(u16, u16),
 
-    /// The parser gets another size.
+    /// Resizes the parser, by rows and columns.
     ResizeParser(u16, u16),
 
-    /// So many rows of scrollback are brought into view.
+    /// Displays this number of rows of scrollback.
     View(usize),
 
-    /// Scrollback is given up.
+    /// Clears scrollback.
     GiveUp,
 }
 
-/// How bytes are read: in two pieces, of which the first has at most so many bytes, or one by one.
+/// The way in which bytes are split: into two chunks, of which the first has at most this many
+/// bytes, or one by one.
 #[derive(Clone, Copy)]
 pub enum Pieces {
     Two(usize),
@@ -37,7 +38,7 @@ pub enum Pieces {
 }
 
 impl Step {
-    /// What is read.
+    /// Returns the bytes that the step parses.
     pub fn bytes(self) -> &'static [u8] {
         match self {
             Step::Text(text) => text.as_bytes(),
@@ -46,7 +47,7 @@ impl Step {
         }
     }
 
-    /// Does this to a parser, or to its screen.
+    /// Applies the step to a parser or its screen.
     pub fn take(self, parser: &mut Parser<Notes>, pieces: Pieces) -> Result<(), Fail> {
         match self {
             Step::Text(_) | Step::Bytes(_) => feed(parser, self.bytes(), pieces)?,
@@ -65,14 +66,14 @@ impl Step {
     }
 }
 
-/// Rows and columns as a parser wants them.
+/// Converts a number of rows and of columns; fails if one is 0.
 pub fn size_of((rows, cols): (u16, u16)) -> Result<(NonZeroU16, NonZeroU16), Fail> {
     let rows = NonZeroU16::new(rows).ok_or("no rows")?;
     let cols = NonZeroU16::new(cols).ok_or("no columns")?;
     Ok((rows, cols))
 }
 
-/// A fresh parser of this size, whose scrollback keeps `capacity` rows, after these steps.
+/// Creates a parser of this size with a scrollback of `capacity` rows, and applies the steps.
 pub fn taken(
     alloc: Global,
     size: (u16, u16),
@@ -87,7 +88,7 @@ pub fn taken(
     Ok(parser)
 }
 
-/// The length of the longest text among these steps.
+/// Returns the length in bytes of the longest input among the steps.
 pub fn longest(steps: &[Step]) -> usize {
     let mut longest: usize = 0;
     for step in steps {
@@ -96,7 +97,7 @@ pub fn longest(steps: &[Step]) -> usize {
     longest
 }
 
-/// Has a parser read bytes in these pieces.
+/// Feeds bytes to a parser, split like this.
 pub fn feed<CB: Callbacks>(
     parser: &mut Parser<CB>,
     bytes: &[u8],

@@ -1,4 +1,4 @@
-//! What each sequence does, and which callbacks it calls.
+//! The effect of each sequence, and the callbacks that it invokes.
 
 use crate::aids::seen::expect_at_each_cut;
 use crate::aids::steps::Step::Bytes;
@@ -21,7 +21,7 @@ const REPORTED: [(&[u8], &str); 66] = [
         "@0,0\nunhandled_csi(None, None, [[38, 5], [9]], 'm')\nunhandled_csi(None, None, [[38, 5], [9]], 'm')\n",
     ),
 
-    // Modes, and sequences that nobody knows.
+    // Modes, and unknown sequences.
     (b"\x1b[?5;25l", "@0,0 hidden\nunhandled_csi(Some(63), None, [[5], [25]], 'l')\n"),
     (b"\x1b[?25$l", "@0,0 hidden\n"),
     (b"abc\x1b[H\x1b[?$J", "@0,0\n"),
@@ -41,12 +41,12 @@ const REPORTED: [(&[u8], &str); 66] = [
     (b"\x1b[8;65535;65535t", "@0,0\nresize(65535, 65535)\n"),
     (b"\x1b[8;99999999999;70000;1t", "@0,0\nresize(65535, 65535)\n"),
 
-    // Within a sequence: a control, bytes that nobody reads, and another sequence.
+    // Inside a sequence: a control character, ignored bytes, and another sequence.
     (b"ab\x1b[2\r\x80\x7fC", "0:ab @0,2\n"),
     (b"\x1b[1\r;2\x80\x7fH", "@0,1\n"),
     (b"\x1b[1\x1b[2C", "@0,2\n"),
 
-    // Numbers stop at the largest, and so does their count.
+    // Numbers are limited, and so is their count.
     (b"\x1b[99999;1H\x1b[99999999999999999999C", "@23,79\n"),
     (b"\x1b[99999;99999999999999999999z", "@0,0\nunhandled_csi(None, None, [[65535], [65535]], 'z')\n"),
     (
@@ -123,7 +123,7 @@ const REPORTED: [(&[u8], &str); 66] = [
     (b"\xc2\x9f", "@0,0\nunhandled_char(159)\n"),
     (b"\xef\xbf\xbd", "@0,0\nunhandled_char(65533)\n"),
 
-    // Bells and the other controls.
+    // Bells and the other control characters.
     (b"a\x07", "0:a @0,1\naudible_bell()\n"),
     (b"\x1bg", "@0,0\nvisual_bell()\n"),
     (b"a\x0e\x0fb", "0:ab @0,2\n"),

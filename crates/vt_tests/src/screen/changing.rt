@@ -1,4 +1,4 @@
-//! Callbacks that change the screen that they are lent, each with its relation.
+//! Callbacks that change the screen, each with its relation.
 
 ghost use Rattle.std.specs.Prelude.{IfOk};
 ghost use Rattle.vt_tests.specs.Changing.{Becomes, Exchanges, LooksBack, Resizes};
@@ -12,9 +12,10 @@ use std::num::NonZeroU16;
 use vt100::capture::RowContents;
 use vt100::{Call, Callbacks, Error, Parser, Screen};
 
-/// Gives a program the size that it asks for. A program may ask for 65535 rows and columns: who does
-/// this for programs that may ask for anything has to take no more rows and columns than there is
-/// memory for.
+/// Callbacks that resize the screen as the program asks.
+///
+/// A program may ask for 65535 rows and columns. Callbacks for untrusted programs must limit the
+/// size to what memory allows.
 #[derive(Drop)]
 pub(crate) struct Resizer {
     is_refused: bool,
@@ -29,12 +30,12 @@ impl Model for Resizer {
 }
 
 impl Resizer {
-    /// Callbacks that were refused no memory yet.
+    /// Creates callbacks for which no allocation has failed yet.
     pub(crate) fn new() -> Self {
         Resizer { is_refused: false }
     }
 
-    /// Whether memory was ever refused.
+    /// Returns whether an allocation has failed.
     pub(crate) fn is_refused(&self) -> bool {
         self.is_refused
     }
@@ -65,7 +66,7 @@ impl Callbacks for Resizer {
     fn on_scroll(&mut self, _row: RowContents<'_>, _alternate: bool) {}
 }
 
-/// Keeps another screen, and exchanges both at each bell.
+/// Callbacks that keep another screen, and exchange both at each bell.
 #[derive(Drop)]
 pub(crate) struct Exchanger {
     kept: Screen,
@@ -80,12 +81,12 @@ impl Model for Exchanger {
 }
 
 impl Exchanger {
-    /// Callbacks that keep this screen.
+    /// Creates callbacks that keep this screen.
     pub(crate) fn new(kept: Screen) -> Self {
         Exchanger { kept }
     }
 
-    /// The screen that is kept.
+    /// Returns the screen that is kept.
     pub(crate) fn kept(&self) -> &Screen {
         &self.kept
     }
@@ -105,7 +106,7 @@ impl Callbacks for Exchanger {
     fn on_scroll(&mut self, _row: RowContents<'_>, _alternate: bool) {}
 }
 
-/// Brings a row of scrollback into view at each bell.
+/// Callbacks that display a row of scrollback at each bell.
 #[derive(Drop)]
 pub(crate) struct Viewer {
     is_refused: bool,
@@ -120,12 +121,12 @@ impl Model for Viewer {
 }
 
 impl Viewer {
-    /// Callbacks that were refused no memory yet.
+    /// Creates callbacks for which no allocation has failed yet.
     pub(crate) fn new() -> Self {
         Viewer { is_refused: false }
     }
 
-    /// Whether memory was ever refused.
+    /// Returns whether an allocation has failed.
     pub(crate) fn is_refused(&self) -> bool {
         self.is_refused
     }
@@ -153,21 +154,21 @@ impl Callbacks for Viewer {
     fn on_scroll(&mut self, _row: RowContents<'_>, _alternate: bool) {}
 }
 
-/// A run in which programs get the size that they ask for.
+/// Parses bytes with callbacks that resize the screen as the program asks.
 pub(crate) fn run_resizing(parser: &mut Parser<Resizer>, bytes: &[u8]) -> Result<(), Error>
     ensures ran { IfOk result (λ _. Ran Resizes parser.old bytes.now parser.new) }
 {
     parser.process(bytes)
 }
 
-/// A run in which bells exchange the screen.
+/// Parses bytes with callbacks that exchange the screen at each bell.
 pub(crate) fn run_exchanging(parser: &mut Parser<Exchanger>, bytes: &[u8]) -> Result<(), Error>
     ensures ran { IfOk result (λ _. Ran Exchanges parser.old bytes.now parser.new) }
 {
     parser.process(bytes)
 }
 
-/// A run in which bells bring a row of scrollback into view.
+/// Parses bytes with callbacks that display a row of scrollback at each bell.
 pub(crate) fn run_looking_back(parser: &mut Parser<Viewer>, bytes: &[u8]) -> Result<(), Error>
     ensures ran { IfOk result (λ _. Ran LooksBack parser.old bytes.now parser.new) }
 {

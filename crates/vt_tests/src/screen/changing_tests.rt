@@ -1,4 +1,4 @@
-//! Callbacks that resize the screen, exchange it or scroll it back, amid a text.
+//! Callbacks that resize the screen, exchange it or scroll it back, in the middle of the input.
 
 use super::changing::{Exchanger, Resizer, Viewer, run_exchanging, run_looking_back, run_resizing};
 use crate::aids::seen::{expect_text, shown};
@@ -7,7 +7,7 @@ use std::alloc::Global;
 use std::test::Fail;
 use vt100::{Parser, Screen};
 
-/// Fails where a screen has another size or shows something else.
+/// Fails if a screen has a different size or display.
 fn expect_screen(
     alloc: Global,
     screen: &Screen,
@@ -20,7 +20,7 @@ fn expect_screen(
     expect_text(shown(alloc, screen)?, wanted)
 }
 
-/// What is read on two rows of four columns, the size after it, and what is seen.
+/// Input on two rows of four columns, the size after it, and the display.
 #[rattlefmt::skip]
 const SIZED: [(&str, (u16, u16), &str); 7] = [
     ("ab\x1b[8;3;2tcd", (3, 2), "0:ac/ 1:d @1,1\n"),
@@ -60,8 +60,8 @@ fn expect_resized(
     expect_screen(alloc, parser.screen(), size, wanted)
 }
 
-/// What is read on two rows of four columns; size and looks of the screen after it, and of the one
-/// that is kept.
+/// Input on two rows of four columns; the size and the display of the screen after it, and of the
+/// screen that is kept.
 #[rattlefmt::skip]
 const EXCHANGED: [(&str, (u16, u16), &str, (u16, u16), &str); 4] = [
     ("ab\x07c", (1, 1), "0:c @0,1\n", (2, 4), "0:ab @0,2\n"),
@@ -85,7 +85,8 @@ fn exchanges_the_screen(rt: HostRuntime) -> Result<(), Fail> {
     Ok(())
 }
 
-/// A parser that has read these bytes, and keeps a screen that was one fresh row of one column.
+/// Creates a parser whose callbacks keep a new screen of one row and one column, and feeds these
+/// bytes to it.
 fn exchanged(alloc: Global, bytes: &[u8], cut: usize) -> Result<Parser<Exchanger>, Fail> {
     let (row, col) = size_of((1, 1))?;
     let small = Parser::new(alloc, row, col, 0)?;
@@ -98,8 +99,8 @@ fn exchanged(alloc: Global, bytes: &[u8], cut: usize) -> Result<Parser<Exchanger
     Ok(parser)
 }
 
-/// What is read on two rows of four columns with room for ten rows of scrollback, what is seen
-/// then, and what is seen once no row is in view.
+/// Input on two rows of four columns with a scrollback of ten rows, the display after it, and the
+/// display after scrolling down again.
 #[rattlefmt::skip]
 const LOOKED_BACK: [(&str, &str, &str); 2] = [
     ("a\r\nb\r\nc\x07x", "0:a 1:b @1,2 kept 1 in view 1\n", "0:b 1:cx @1,2 kept 1\n"),

@@ -1,4 +1,4 @@
-//! Copies of screens: alike, and each going its own way.
+//! Copies of screens: equal at first, then independent.
 
 use crate::aids::seen::{read_keeping, shown};
 use crate::aids::steps::Step::{Text, View};
@@ -8,7 +8,7 @@ use std::test::Fail;
 use vt_notes::Notes;
 use vt100::{Parser, Screen};
 
-/// How many rows scrollback has, shows and may keep.
+/// Returns the number of rows in scrollback, of those displayed, and its capacity.
 pub(crate) fn counts(screen: &Screen) -> (usize, usize, usize) {
     (
         screen.scrollback_len(),
@@ -17,7 +17,7 @@ pub(crate) fn counts(screen: &Screen) -> (usize, usize, usize) {
     )
 }
 
-/// Whether two screens are alike in all that can be asked of them.
+/// Returns whether two screens agree in everything that can be observed.
 fn are_alike(alloc: Global, one: &Screen, other: &Screen) -> Result<bool, Fail> {
     let (rows, cols) = one.size();
     if other.size() != (rows, cols) || counts(one) != counts(other) {
@@ -42,7 +42,7 @@ fn expect_alike(alloc: Global, one: &Screen, other: &Screen) -> Result<(), Fail>
     Err(Fail::new(format_args!("{one}is not like {other}")))
 }
 
-/// Fails where two screens differ with some number of rows in view.
+/// Fails if two screens differ with any number of rows of scrollback displayed.
 fn expect_alike_in_view(alloc: Global, one: &mut Screen, other: &mut Screen) -> Result<(), Fail> {
     for rows in 0..=one.scrollback_len() {
         one.set_scrollback(rows)?;
@@ -52,14 +52,14 @@ fn expect_alike_in_view(alloc: Global, one: &mut Screen, other: &mut Screen) -> 
     Ok(())
 }
 
-/// A parser with a copy of this screen.
+/// Creates a parser with a copy of this screen.
 fn with_copy(alloc: Global, screen: &Screen) -> Result<Parser<Notes>, Fail> {
     let mut parser = read_keeping(alloc, (1, 1), 0, &[])?;
     *parser.screen_mut() = screen.clone()?;
     Ok(parser)
 }
 
-/// Fails where what the second parser reads changes the first one's screen, or not its own.
+/// Fails if input to the second parser changes the screen of the first, or does not change its own.
 fn expect_own_way(
     alloc: Global,
     one: &Parser<Notes>,
@@ -90,11 +90,11 @@ const CLONED: [((u16, u16), usize, &[Step]); 12] = [
     ((2, 4), 10, &[Text("a\r\nb\r\nc\x1b[?1049hxyz\x1b[?47l"), View(1)]),
 ];
 
-/// What a screen reads after it was copied, or its copy.
+/// The input for a screen, or its copy, after it was copied.
 const MORE: &[u8] = b"x\x1b[2b\x1b[?47hyz\x1b8q\x1b[?47l\r\nu\r\nv\r\nw\x1b[Hs\x1b8\x1b[7mt";
 
-/// Fails where these steps lead to a screen whose copy isn't like it, now or after it went on by
-/// itself.
+/// Fails if the screen after these steps has a copy that is not equal to it, or not independent of
+/// it.
 fn expect_copied(
     alloc: Global,
     size: (u16, u16),
@@ -117,8 +117,8 @@ fn a_copy_is_alike_and_goes_its_own_way(rt: HostRuntime) -> Result<(), Fail> {
     Ok(())
 }
 
-/// Fails where the copy of what a screen displays displays something else, has another size, or keeps rows
-/// though none are in view.
+/// Fails if the copy of a screen's display has a different display or size, or keeps rows although
+/// none are displayed.
 fn expect_displayed(one: &Screen, copy: &Screen) -> Result<(), Fail> {
     let (text, copied) = (one.contents_formatted()?, copy.contents_formatted()?);
     let is_like = copy.size() == one.size() && copied.as_str() == text.as_str();

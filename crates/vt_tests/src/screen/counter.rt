@@ -1,9 +1,9 @@
-//! Callbacks that write each function themselves and count its calls.
+//! Callbacks that implement each method and count its calls.
 
 use vt100::capture::RowContents;
 use vt100::{Call, Callbacks, Screen};
 
-/// The functions of `Callbacks` that have a body there.
+/// The methods of `Callbacks` that have a default implementation.
 #[derive(Clone, Copy, Debug)]
 pub(crate) enum Function {
     AudibleBell,
@@ -20,7 +20,7 @@ pub(crate) enum Function {
     UnhandledOsc,
 }
 
-/// How often each function was called.
+/// Callbacks that count the calls of each method.
 #[derive(Clone, Copy, Default)]
 pub(crate) struct Counter {
     counts: [u8; 12],
@@ -28,12 +28,12 @@ pub(crate) struct Counter {
 }
 
 impl Counter {
-    /// How often each of [`Function`]'s functions was called, in its order.
+    /// Returns the number of calls of each method, in the order of [`Function`].
     pub(crate) fn counts(&self) -> &[u8] {
         self.counts.as_slice()
     }
 
-    /// How often a call was left to `otherwise`.
+    /// Returns the number of calls that went to `otherwise`.
     pub(crate) fn otherwise(&self) -> u8 {
         self.otherwise
     }
@@ -45,7 +45,7 @@ impl Counter {
     }
 }
 
-/// No call changes the screen.
+/// No callback changes the screen.
 impl Callbacks for Counter {
     ghost use Rattle.std.specs.Prelude.{◌≡◌};
 

@@ -1,4 +1,4 @@
-//! Callbacks that write each function themselves: that each is called itself.
+//! Callbacks that implement each method: each of their methods is called.
 
 use super::counter::Counter;
 use super::counter::Function::{self, *};
@@ -7,7 +7,7 @@ use std::alloc::Global;
 use std::test::Fail;
 use vt100::Parser;
 
-/// A sequence for each function.
+/// A sequence for each method.
 const CALLED: [(&[u8], Function); 12] = [
     (b"\x07", AudibleBell),
     (b"\x1bg", VisualBell),
@@ -23,7 +23,7 @@ const CALLED: [(&[u8], Function); 12] = [
     (b"\x1b]9;x\x07", UnhandledOsc),
 ];
 
-/// Fails where these bytes call this function not once, or any other one.
+/// Fails if these bytes do not call this method exactly once, or call any other method.
 fn expect_one_call(alloc: Global, bytes: &[u8], function: Function) -> Result<(), Fail> {
     let (rows, cols) = size_of((24, 80))?;
     let mut parser = Parser::new_with_callbacks(alloc, rows, cols, 0, Counter::default())?;

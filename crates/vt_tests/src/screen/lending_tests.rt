@@ -1,11 +1,12 @@
-//! Screen and callbacks that a parser lends, amid a sequence.
+//! Access to the screen and the callbacks of a parser in the middle of a sequence.
 
 use crate::aids::seen::{expect, read};
 use crate::aids::steps::size_of;
 use std::test::Fail;
 use vt_notes::Notes;
 
-/// Amid a title the screen gets another size, and the callbacks forget; then the title ends.
+/// Checks that the screen can be resized and the callbacks replaced in the middle of a title, which
+/// then ends as usual.
 #[test]
 fn lends_screen_and_callbacks(rt: HostRuntime) -> Result<(), Fail> {
     let mut parser = read(rt.alloc(), (2, 4), &[b"ab\x1b]2;t"])?;
@@ -19,7 +20,7 @@ fn lends_screen_and_callbacks(rt: HostRuntime) -> Result<(), Fail> {
     expect(rt.alloc(), &parser, &[], wanted)
 }
 
-/// Amid a title the callbacks forget; then the title ends.
+/// Checks that the callbacks can be replaced in the middle of a title, which then ends as usual.
 #[test]
 fn lends_callbacks(rt: HostRuntime) -> Result<(), Fail> {
     let mut parser = read(rt.alloc(), (2, 4), &[b"a\x07b\x1b]2;t"])?;

@@ -1,11 +1,11 @@
-//! Inputs and capacities without a limit.
+//! Very long inputs and very large capacities.
 
 use crate::aids::seen::{expect_at_each_cut, read, read_keeping};
 use crate::aids::steps::Step::{self, Resize, ResizeParser, Text, View};
 use std::test::Fail;
 use vt_notes::Note;
 
-/// The greatest numbers of rows that scrollback can be told to keep. For none of them there is memory.
+/// The largest scrollback capacities. There is not enough memory for any of them.
 const CAPACITIES: [usize; 4] = [
     usize::MAX,
     usize::MAX - 1,
@@ -13,7 +13,8 @@ const CAPACITIES: [usize; 4] = [
     usize::MAX / 2,
 ];
 
-/// A size, what is done, and what is seen then, whichever of these is the capacity: each row is kept.
+/// A size, the steps, and the display after them, which is the same for each of these capacities:
+/// every row is kept.
 #[rattlefmt::skip]
 const KEPT: [((u16, u16), &[Step], &str); 8] = [
     ((2, 4), &[Text("a\r\nb\r\nc")], "0:b 1:c @1,1 kept 1\n"),
@@ -61,7 +62,7 @@ fn takes_a_title_of_a_mebibyte(rt: HostRuntime) -> Result<(), Fail> {
     Ok(())
 }
 
-/// Whether this is one call, with a title of so many letters.
+/// Returns whether the calls are one call with a title of 2^20 letters `x`.
 fn is_long_title(calls: &[Note]) -> bool {
     match calls {
         [Note::SetWindowTitle(title)] => {

@@ -1,10 +1,10 @@
-//! Modes, and reset, which takes all of them back.
+//! Modes, and RIS, which resets all of them.
 
 use crate::aids::seen::{Example, expect_at_each_cut, expect_each, read_keeping, shown};
 use crate::aids::steps::Step::{Resize, Text, View};
 use std::test::Fail;
 
-/// Modes after a text, on a screen of two rows and four columns.
+/// Modes after some input, on a screen of two rows and four columns.
 #[rattlefmt::skip]
 const MODES: [(&str, &str); 35] = [
     ("", "@0,0\n"),
@@ -17,7 +17,7 @@ const MODES: [(&str, &str); 35] = [
     ("\x1b[?2004h", "@0,0 paste\n"),
     ("\x1b[?2004h\x1b[?2004l", "@0,0\n"),
 
-    // Mouse modes: turning off takes back the one that is set, and no other.
+    // Mouse modes: a reset affects only the mode that is set.
     ("\x1b[?9h", "@0,0 Press\n"),
     ("\x1b[?1000h", "@0,0 PressRelease\n"),
     ("\x1b[?1002h", "@0,0 ButtonMotion\n"),
@@ -68,7 +68,7 @@ fn ris_takes_back_each_mode(rt: HostRuntime) -> Result<(), Fail> {
     Ok(())
 }
 
-/// Texts that end in RIS, or go on after it.
+/// Input that ends in RIS or continues after it.
 #[rattlefmt::skip]
 const RESET: [Example; 11] = [
     ((2, 4), 10, &[Text("a\r\nb\r\nc\x1bc")], "@0,0\n"),
@@ -85,7 +85,7 @@ const RESET: [Example; 11] = [
     ((3, 4), 0, &[Text("\x1b[2;3r\x1bca\r\nb\r\nc\n")], "0:b 1:c @2,1\nscroll 61 0\n"),
     ((4, 4), 0, &[Text("\x1b[?6h\x1b7\x1bc\x1b8\x1b[2;3r\x1b[H")], "@0,0\n"),
 
-    // The main page is the active one, and both are blank.
+    // The main page is active, and both pages are blank.
     ((2, 4), 0, &[Text("ab\x1b[?1049hx\x1bc")], "@0,0\n"),
     ((2, 4), 0, &[Text("ab\x1b[?1049hx\x1bc\x1b[?47h")], "@0,0 alternate\n"),
     ((2, 4), 0, &[Text("\x1b[?47hab\x1b7\x1bc\x1b[?47h\x1b8")], "@0,0 alternate\n"),

@@ -1,4 +1,4 @@
-//! Calls as notes, with all that they lent.
+//! Notes of calls with all their arguments.
 
 use crate::aids::seen::read;
 use std::test::Fail;
@@ -25,7 +25,7 @@ fn notes_a_sequence_with_its_groups(rt: HostRuntime) -> Result<(), Fail> {
     Ok(())
 }
 
-/// Whether this is one call, with this title.
+/// Returns whether the calls are one call with this title.
 fn is_title(calls: &[Note], wanted: &[u8]) -> bool {
     match calls {
         [Note::SetWindowTitle(title)] => title.as_slice() == wanted,
@@ -33,7 +33,7 @@ fn is_title(calls: &[Note], wanted: &[u8]) -> bool {
     }
 }
 
-/// Whether these are two calls, with this icon name and then with this title.
+/// Returns whether the calls are two calls, with this icon name and then with this title.
 fn is_name_and_title(calls: &[Note], wanted: &[u8]) -> bool {
     match calls {
         [Note::SetWindowIconName(name), Note::SetWindowTitle(title)] => {
@@ -43,7 +43,8 @@ fn is_name_and_title(calls: &[Note], wanted: &[u8]) -> bool {
     }
 }
 
-/// Whether this is one call, with this marker, these groups of one number each, and this byte.
+/// Returns whether the calls are one call with this private marker, these parameters, one in each
+/// group, and this final byte.
 fn is_sequence(calls: &[Note], marker: u8, numbers: &[u16], byte: char) -> bool {
     match calls {
         [Note::UnhandledCsi(first, second, groups, last)] => {
@@ -56,7 +57,7 @@ fn is_sequence(calls: &[Note], marker: u8, numbers: &[u16], byte: char) -> bool 
     }
 }
 
-/// Whether the groups are these numbers, one each.
+/// Returns whether each group consists of one number, and the numbers are these.
 fn are_single(groups: &[Vec<u16>], numbers: &[u16]) -> bool {
     if groups.len() != numbers.len() {
         return false;

@@ -1,4 +1,4 @@
-//! The two pages: entered, left, and what each keeps.
+//! The two pages: entering, leaving, and what each keeps.
 
 use super::copies_tests::counts;
 use crate::aids::seen::{Example, expect_each, read_keeping};
@@ -8,7 +8,7 @@ use std::test::Fail;
 
 #[rattlefmt::skip]
 const PAGES: [Example; 41] = [
-    // The alternate page, entered fresh, and left with all restored.
+    // The alternate page is cleared on entry, and leaving it restores the cursor.
     ((2, 4), 0, &[Text("ab\x1b[?1049hxy")], "0:xy @0,2 alternate\n"),
     ((2, 4), 0, &[Text("ab\x1b[?1049hxy"), Text("\x1b[?1049l")], "0:ab @0,2\n"),
     ((2, 4), 0, &[Text("\x1b[1mab\x1b[?1049h\x1b[m\x1b[?1049l")], "0:ab @0,2 bold\n"),
@@ -16,11 +16,11 @@ const PAGES: [Example; 41] = [
     ((2, 4), 0, &[Text("ab\x1b[?1049hxy\x1b[?1049h\x1b[?1049l")], "0:ab @0,2\n"),
     ((2, 4), 0, &[Text("ab\x1b[?47h\x1b[?1049l")], "0:ab @0,0\n"),
 
-    // Leaving restores, also where the main page was the active one.
+    // Leaving restores the cursor even if the main page was active.
     ((2, 4), 0, &[Text("\x1b[1mab\x1b[?1049l")], "0:ab @0,0\n"),
     ((2, 4), 0, &[Text("ab\x1b7\x1b[H\x1b[?1049l")], "0:ab @0,2\n"),
 
-    // Entered and left as it is.
+    // The page is entered and left without being cleared.
     ((2, 4), 0, &[Text("\x1b[?47hx\x1b[?47l\x1b[?47h")], "0:x @0,1 alternate\n"),
     (
         (2, 4),
@@ -32,7 +32,7 @@ const PAGES: [Example; 41] = [
     ((2, 4), 0, &[Text("ab\x1b[?47hx\x1b[?47h\x1b[?47l")], "0:ab @0,2\n"),
     ((2, 4), 0, &[Text("ab\x1b[?47l")], "0:ab @0,2\n"),
 
-    // Attributes, those that are saved, modes and the last character belong to both pages.
+    // Attributes, saved attributes, modes and the last character are shared by both pages.
     ((2, 4), 0, &[Text("\x1b[1m\x1b[?47hx")], "0:x @0,1 alternate bold\n"),
     ((2, 4), 0, &[Text("\x1b[?47h\x1b[1m\x1b[?47l")], "@0,0 bold\n"),
     ((2, 4), 0, &[Text("ab\x1b[1m\x1b7\x1b[m\x1b[?47h\x1b[2;2H\x1b8")], "@0,0 alternate bold\n"),
@@ -40,7 +40,7 @@ const PAGES: [Example; 41] = [
     ((2, 4), 0, &[Text("\x1b[?1;1049;2004h")], "@0,0 alternate cursor keys paste\n"),
     ((2, 4), 0, &[Text("a\x1b[?47h\x1b[2b")], "0:aa @0,2 alternate\n"),
 
-    // The region and origin mode belong to one page, and a fresh page has neither.
+    // The scroll region and origin mode belong to one page, and a cleared page has neither.
     ((4, 4), 0, &[Text("\x1b[2;3r\x1b[?6h\x1b[?47h\x1b[H")], "@0,0 alternate\n"),
     ((4, 4), 0, &[Text("\x1b[2;3r\x1b[?6h\x1b[?47h\x1b[?47l\x1b[H")], "@1,0\n"),
     ((4, 4), 0, &[Text("\x1b[?47h\x1b[2;3r\x1b[?6h\x1b[?1049h\x1b[H")], "@0,0 alternate\n"),
@@ -51,12 +51,13 @@ const PAGES: [Example; 41] = [
         "@0,0 alternate\n",
     ),
 
-    // What is saved.
+    // The state that DECSC saves.
     ((2, 4), 0, &[Text("ab\x1b[1;31m\x1b7\x1b[m\x1b[2;1H\x1b8")], "0:ab @0,2 foreground Idx(1) bold\n"),
     ((2, 4), 0, &[Text("\x1b[1mab\x1b8")], "0:ab @0,0\n"),
     ((4, 4), 0, &[Text("\x1b[2;3r\x1b[?6h\x1b7\x1b[?6l\x1b8\x1b[H")], "@1,0\n"),
 
-    // All is restored as it was saved: in the column of a pending wrap, and outside the region.
+    // Everything is restored as it was saved, even with a pending wrap and outside the scroll
+    // region.
     ((2, 4), 0, &[Text("abcd\x1b7\x1b[H\x1b8")], "0:abcd @0,4\n"),
     ((2, 4), 0, &[Text("abcd\x1b7\x1b[H\x1b8x")], "0:abcd/ 1:x @1,1\n"),
     ((2, 4), 0, &[Text("abcd\x1b[?1049h\x1b[?1049l")], "0:abcd @0,4\n"),
@@ -67,7 +68,8 @@ const PAGES: [Example; 41] = [
     ((3, 4), 0, &[Text("\x1b[?6h\x1b7\x1b[2;3r\x1b8")], "@0,0\n"),
     ((3, 4), 0, &[Text("\x1b[?6h\x1b7\x1b[2;3r\x1b[?1049l\x1b[H")], "@1,0\n"),
 
-    // The alternate page has no scrollback, and entering it brings that of the main page out of view.
+    // The alternate page has no scrollback, and entering it scrolls the display of the main page
+    // down.
     ((2, 4), 10, &[Text("\x1b[?47ha\r\nb\r\nc")], "0:b 1:c @1,1 alternate\nscroll 61 1\n"),
     ((2, 4), 10, &[Text("a\r\nb\r\nc\x1b[?47h"), View(1)], "@0,0 alternate\n"),
     ((2, 4), 10, &[Text("a\r\nb\r\nc\x1b[?47h"), View(1), Text("\x1b[?47l")], "0:b 1:c @1,1 kept 1\n"),
@@ -81,7 +83,8 @@ fn changes_pages_at_every_cut(rt: HostRuntime) -> Result<(), Fail> {
     expect_each(rt.alloc(), &PAGES)
 }
 
-/// What is done in turn, and how many rows scrollback has, shows and may keep then.
+/// Steps in turn, and the number of rows in scrollback, of those displayed, and its capacity after
+/// each.
 const COUNTED: [(Step, (usize, usize, usize)); 5] = [
     (View(1), (1, 1, 10)),
     (Text("\x1b[?47h"), (0, 0, 0)),

@@ -1,4 +1,4 @@
-//! A parser by itself: its default size, the cells of its screen, and a parser as a writer.
+//! The parser itself: its default size, the cells of its screen, and its use as a writer.
 
 use crate::aids::seen::read;
 use crate::aids::steps::size_of;
@@ -35,5 +35,42 @@ fn is_a_writer(rt: HostRuntime) -> Result<(), Fail> {
         assert_eq!(rt; cell.contents(), letter);
     }
     assert_eq!(rt; screen.cursor_position(), (0, 2));
+    Ok(())
+}
+
+/// What is read after the introducer `\e]`, and how many bytes are then pending.
+const COMMANDS: &[(&[u8], usize)] = &[
+    (b"", 0),
+    (b"2;title", 7),
+    (b"2;ti\rtl\ne", 7),
+    (b"2;\xC3\xA4\x9C", 5),
+    (b"2;title\x07", 0),
+    (b"2;title\x18", 0),
+    (b"2;title\x1B", 0),
+    (b"2;title\x1B\\\x1BPtitle", 0),
+    (b"2;title\x1B\\\x1B[1;2", 0),
+    (b"2;title\x1B\\\xE2\x8C", 0),
+    (b"2;title\x1B\\\x1B]1", 1),
+];
+
+#[test]
+fn counts_the_bytes_of_an_unfinished_command(rt: HostRuntime) -> Result<(), Fail> {
+    for (bytes, pending) in COMMANDS {
+        let parser = read(rt.alloc(), (2, 4), &[b"\x1B]", bytes])?;
+        assert_eq!(rt; parser.pending_len(), *pending, "{bytes:?}");
+    }
+    let parser = read(rt.alloc(), (2, 4), &[b"title\x1B\\"])?;
+    assert_eq!(rt; parser.pending_len(), 0);
+    Ok(())
+}
+
+#[test]
+fn ends_a_long_command(rt: HostRuntime) -> Result<(), Fail> {
+    for end in [&b"\x07"[..], b"\x18"] {
+        let mut parser = read(rt.alloc(), (2, 4), &[b"\x1B]2;", &[b'a'; 1000]])?;
+        assert_eq!(rt; parser.pending_len(), 1002);
+        parser.process(end)?;
+        assert_eq!(rt; parser.pending_len(), 0);
+    }
     Ok(())
 }

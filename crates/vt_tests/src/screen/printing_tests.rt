@@ -1,4 +1,4 @@
-//! Printing: wraps, wide characters, marks and what follows U+FE0F.
+//! Printing: wraps, wide characters, combining characters, and changes of width by U+FE0F.
 
 use crate::aids::seen::expect_at_each_cut;
 use crate::aids::steps::Step::Text;
@@ -31,7 +31,7 @@ const PRINTED: [((u16, u16), &str, &str); 55] = [
     ((1, 5), "中↑文", "0:[中]↑[文] @0,5\n"),
     ((1, 4), "中文\u{301}", "0:[中][文\u{301}] @0,4\n"),
 
-    // Marks: a text takes them while it is below 26 bytes.
+    // Combining characters: a cell accepts them while its text is shorter than 26 bytes.
     ((1, 4), "e\u{301}", "0:e\u{301} @0,1\n"),
     ((1, 4), "\u{301}", "@0,0\n"),
     (
@@ -56,12 +56,12 @@ const PRINTED: [((u16, u16), &str, &str); 55] = [
          \u{301}\u{301}] @0,2\n",
     ),
 
-    // REP, and a character that draws nothing.
+    // REP, and a character that prints nothing.
     ((1, 6), "ab\x1b[3b", "0:abbbb @0,5\n"),
     ((1, 6), "\x1b[3b", "@0,0\n"),
     ((1, 6), "a\x7fb", "0:ab @0,2\n"),
 
-    // A glyph that becomes wide, at each column.
+    // A glyph that becomes wide, in each column.
     ((2, 1), "\u{2764}\u{fe0f}", "0:\u{2764}\u{fe0f} @0,1\n"),
     ((2, 1), "\x1b[2;1H\u{2764}\u{fe0f}", "1:\u{2764}\u{fe0f} @1,1\n"),
     ((1, 1), "\u{2764}\u{fe0f}", "0:\u{2764}\u{fe0f} @0,1\n"),
@@ -88,7 +88,7 @@ const PRINTED: [((u16, u16), &str, &str); 55] = [
     ((2, 5), "\x1b[1;2H中\x1b[H\u{2764}\u{fe0f}", "0:[\u{2764}\u{fe0f}] @0,2\n"),
     ((2, 5), "\x1b[1;2Hx\x1b[H\u{2764}\u{fe0f}", "0:[\u{2764}\u{fe0f}] @0,2\n"),
 
-    // The longest rows, and the most.
+    // The longest rows, and the largest number of rows.
     ((1, 65535), "\x1b[1;65535H中", "0:[中] @0,2\nscroll . 0\n"),
     ((65535, 1), "\x1b[65535;1Hab", "65533:a/ 65534:b @65534,1\nscroll . 0\n"),
     ((2, 4), "", "@0,0\n"),

@@ -7,7 +7,7 @@ use std::test::Fail;
 /// SGR sequences, and the attributes and calls after them.
 #[rattlefmt::skip]
 const RENDERED: [(&str, &str); 41] = [
-    // Single numbers.
+    // Single parameters.
     ("\x1b[31m\x1b[0m", "@0,0\n"),
     ("\x1b[1m", "@0,0 bold\n"),
     ("\x1b[1m\x1b[2m", "@0,0 dim\n"),
@@ -27,7 +27,7 @@ const RENDERED: [(&str, &str); 41] = [
     ("\x1b[31;42;49m", "@0,0 foreground Idx(1)\n"),
     ("\x1b[100m", "@0,0 background Idx(8)\n"),
 
-    // Long colours, with colons and with semicolons.
+    // Long forms of colours, with colons and with semicolons.
     ("\x1b[38:5:9m", "@0,0 foreground Idx(9)\n"),
     ("\x1b[48:5:255m", "@0,0 background Idx(255)\n"),
     ("\x1b[38:2:1:2:3m", "@0,0 foreground Rgb(1, 2, 3)\n"),
@@ -37,7 +37,7 @@ const RENDERED: [(&str, &str); 41] = [
     ("\x1b[48;2;1;2;3m", "@0,0 background Rgb(1, 2, 3)\n"),
     ("\x1b[38;5;1;38;5;2m", "@0,0 foreground Idx(2)\n"),
 
-    // A colour that there isn't, or that is cut short, ends the sequence in silence.
+    // A colour that does not exist or is cut short silently ends the sequence.
     ("\x1b[31;38:5:256;1m", "@0,0 foreground Idx(1)\n"),
     ("\x1b[38:2:0:256:0;1m", "@0,0\n"),
     ("\x1b[38;2;1;2m", "@0,0\n"),
@@ -45,7 +45,7 @@ const RENDERED: [(&str, &str); 41] = [
     ("\x1b[38;5;9:9;1m", "@0,0\n"),
     ("\x1b[38m", "@0,0\n"),
 
-    // What nobody knows is reported once for each such group, and may end the sequence.
+    // Unknown parameters are reported, once for each group, and may end the sequence.
     ("\x1b[38;7;1m", "@0,0\nunhandled_csi(None, None, [[38], [7], [1]], 'm')\n"),
     ("\x1b[48;5:1;1m", "@0,0\nunhandled_csi(None, None, [[48], [5, 1], [1]], 'm')\n"),
     ("\x1b[38:7:1;1m", "@0,0 bold\nunhandled_csi(None, None, [[38, 7, 1], [1]], 'm')\n"),

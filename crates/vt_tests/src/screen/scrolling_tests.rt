@@ -1,4 +1,4 @@
-//! Scrolling, scrollback and its view, and the rows that leave.
+//! Scrolling, scrollback and its display, and the rows that scroll off.
 
 use crate::aids::seen::{Example, expect, expect_at_each_cut, expect_each, read_keeping};
 use crate::aids::steps::Step::{GiveUp, Resize, Text, View};
@@ -8,7 +8,7 @@ use vt_notes::Note;
 
 #[rattlefmt::skip]
 const SHOWN: [((u16, u16), usize, &str, &str); 44] = [
-    // Rows that leave the page are kept, and those for which there is no room are reported.
+    // Rows that scroll off are kept, and rows beyond the capacity are reported.
     ((2, 4), 10, "a\r\nb\r\nc", "0:b 1:c @1,1 kept 1\n"),
     ((2, 4), 1, "a\r\nb\r\nc\r\nd", "0:c 1:d @1,1 kept 1\nscroll 61 0\n"),
     ((2, 1), 1, "z\r\na\r\nb", "0:a 1:b @1,1 kept 1\n"),
@@ -22,14 +22,14 @@ const SHOWN: [((u16, u16), usize, &str, &str); 44] = [
         "@0,0\nscroll 1b5b33316d61201b5b6d62 0\n",
     ),
 
-    // Rows that are dropped within the page leave no trace.
+    // Rows that are dropped inside the page are neither kept nor reported.
     ((3, 2), 10, "a\r\nb\r\nc\x1b[2;3r\x1b[3;1H\n", "0:a 1:c @2,0\n"),
     ((3, 2), 10, "a\r\nb\r\nc\x1b[2;3r\x1b[S", "0:a 1:c @1,0\n"),
     ((2, 2), 10, "a\r\nb\x1b[H\x1b[M", "0:b @0,0\n"),
     ((2, 2), 10, "a\r\nb\x1b[T", "1:a @1,1\n"),
     ((2, 2), 10, "a\r\nb\x1b[2J", "@1,1\n"),
 
-    // Scrollback is given up.
+    // Scrollback is cleared.
     ((2, 1), 3, "a\r\nb\r\nc\r\nd", "0:c 1:d @1,1 kept 2\n"),
     (
         (2, 1),
@@ -38,7 +38,7 @@ const SHOWN: [((u16, u16), usize, &str, &str); 44] = [
         "0:c 1:d @1,1\nscroll 61 0\nscroll 62 0\n",
     ),
 
-    // Lines are inserted and deleted, and the page scrolls down.
+    // Rows are inserted and deleted, and the page scrolls down.
     ((3, 2), 0, "a\r\nb\r\nc\x1b[2;3r\x1b[H\x1bM", "0:a 2:b @0,0\n"),
     ((3, 2), 0, "a\r\nb\r\nc\x1b[2;3r\x1b[2;1H\x1bM", "0:a 2:b @1,0\n"),
     ((3, 2), 0, "a\r\nb\r\nc\x1bM", "0:a 1:b 2:c @1,1\n"),
@@ -47,12 +47,12 @@ const SHOWN: [((u16, u16), usize, &str, &str); 44] = [
     ((3, 2), 0, "a\r\nb\r\nc\x1b[2;3r\x1b[H\x1b[L", "0:a 1:b 2:c @0,0\n"),
     ((3, 2), 0, "a\r\nb\r\nc\x1b[2;3r\x1b[H\x1b[M", "0:a 1:b 2:c @0,0\n"),
 
-    // Columns are inserted and deleted: no half of a wide glyph stays alone.
+    // Columns are inserted and deleted; a wide glyph that is cut becomes blank.
     ((1, 5), 0, "a中b\x1b[1;3H\x1b[P", "0:a.b @0,2\n"),
     ((1, 4), 0, "a中\x1b[1;2H\x1b[@", "0:a.[中] @0,1\n"),
     ((1, 4), 0, "a中\x1b[1;2H\x1b[2@", "0:a @0,1\n"),
 
-    // Erasing at a pending wrap.
+    // Erasing with a pending wrap.
     ((1, 4), 0, "abcd\x1b[X", "0:abcd @0,4\n"),
     ((1, 4), 0, "abcd\x1b[K", "0:abcd @0,4\n"),
     ((1, 4), 0, "abcd\x1b[1K", "@0,4\n"),
@@ -60,12 +60,12 @@ const SHOWN: [((u16, u16), usize, &str, &str); 44] = [
     ((2, 4), 0, "abcd\x1b[J", "0:abcd @0,4\n"),
     ((2, 4), 0, "\x1b[2;1Hx\x1b[Habcd\x1b[J", "0:abcd @0,4\n"),
 
-    // Moves at a pending wrap.
+    // Cursor movement with a pending wrap.
     ((1, 4), 0, "abcd\x1b[C", "0:abcd @0,3\n"),
     ((1, 4), 0, "abcd\x08", "0:abcd @0,3\n"),
     ((1, 8), 0, "abcdefgh\t", "0:abcdefgh @0,7\n"),
 
-    // Moves, the region and origin mode.
+    // Cursor movement, the scroll region and origin mode.
     ((4, 4), 0, "\x1b[2;3r\x1b[?6h\x1b[4;4H", "@2,3\n"),
     ((4, 4), 0, "\x1b[2;3r\x1b[?6h\x1b[4;4H\x1b[4d", "@3,3\n"),
     ((4, 4), 0, "\x1b[2;3r\x1b[?6h", "@1,0\n"),
@@ -94,7 +94,7 @@ const LOOKED_BACK: [Example; 11] = [
     ((2, 4), 10, &[Text("a\r\nb\r\nc"), View(5)], "0:a 1:b @1,1 kept 1 in view 1\n"),
     ((2, 4), 0, &[Text("a"), View(5)], "0:a @0,1\n"),
 
-    // What is in view stays in view, as long as it is kept.
+    // Displayed rows of scrollback stay displayed as long as they are kept.
     ((2, 4), 10, &[Text("a\r\nb\r\nc"), View(1), Text("\r\nd")], "0:a 1:b @1,1 kept 2 in view 2\n"),
     (
         (2, 4),
@@ -127,7 +127,7 @@ const LOOKED_BACK: [Example; 11] = [
         "0:c 1:d @1,1\nscroll 61 0\nscroll 62 0\n",
     ),
 
-    // A row that is kept goes on in the next one as before.
+    // A row in scrollback is still wrapped.
     ((2, 2), 10, &[Text("abcde"), View(1)], "0:ab/ 1:cd/ @1,1 kept 1 in view 1\n"),
 ];
 
@@ -169,7 +169,7 @@ fn notes_rows_that_leave(rt: HostRuntime) -> Result<(), Fail> {
     Ok(())
 }
 
-/// Whether this is the note of a row of two columns of the main page, with this text, that goes on in the next one.
+/// Returns whether the call reports a wrapped row of two columns of the main page with this text.
 fn is_wrapped_row(call: &Note, text: &str) -> bool {
     match call {
         Note::OnScroll(row, false) => {
@@ -179,7 +179,7 @@ fn is_wrapped_row(call: &Note, text: &str) -> bool {
     }
 }
 
-/// Rows that move down: the last row of the region doesn't go on.
+/// Rows that move down: the last row of the region is no longer wrapped.
 #[rattlefmt::skip]
 const MOVED_DOWN: [((u16, u16), &str, &str); 9] = [
     ((2, 2), "abc\x1b[H\x1b[L", "1:ab @0,0\n"),

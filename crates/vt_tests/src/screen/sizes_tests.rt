@@ -1,4 +1,4 @@
-//! Other sizes: what is cut, what leaves, and what comes back.
+//! Resizing: what is cut, what scrolls off, and what comes back.
 
 use crate::aids::seen::{Example, expect_each};
 use crate::aids::steps::Step::{Resize, ResizeParser, Text, View};
@@ -6,7 +6,7 @@ use std::test::Fail;
 
 #[rattlefmt::skip]
 const RESIZED: [Example; 35] = [
-    // Rows come back from scrollback, and blank ones for those that were lost.
+    // Rows come back from scrollback, and as blank rows if they were not kept.
     (
         (2, 4),
         1,
@@ -25,12 +25,13 @@ const RESIZED: [Example; 35] = [
     ((3, 4), 5, &[Text("a\r\nb\r\nc"), Resize(1, 4)], "0:c @0,1 kept 2\n"),
     ((2, 4), 10, &[Text("a\r\nb\r\nc"), View(1), Resize(2, 5)], "0:b 1:c @1,1 kept 1\n"),
 
-    // Rows leave at the top, where those below the cursor aren't enough.
+    // Rows scroll off the top if those below the cursor are not enough.
     ((3, 4), 0, &[Text("a\r\nb\r\nc"), ResizeParser(2, 4)], "0:b 1:c @1,1\nscroll 61 0\n"),
     ((3, 4), 0, &[Text("a\r\nb\r\nc"), Resize(2, 4)], "0:b 1:c @1,1\n"),
     ((3, 4), 0, &[Text("a\r\nb\r\nc\x1b[H"), ResizeParser(2, 4)], "0:a 1:b @0,0\n"),
 
-    // A main page that keeps no rows counts those that left, and the alternate page doesn't.
+    // A main page without scrollback counts the rows that scrolled off, and the alternate page does
+    // not.
     ((2, 4), 0, &[Text("a\r\nb\r\nc"), Resize(3, 4)], "1:b 2:c @2,1\nscroll 61 0\n"),
     (
         (2, 4),
@@ -45,7 +46,7 @@ const RESIZED: [Example; 35] = [
         "@0,0\nscroll 61 1\n",
     ),
 
-    // Both pages get the size.
+    // Both pages are resized.
     (
         (3, 4),
         0,
@@ -77,7 +78,8 @@ const RESIZED: [Example; 35] = [
         "0:b 1:c @1,1 kept 1\nscroll 78 1\n",
     ),
 
-    // Columns: a left half in the last one is blanked, and no row but an equally long one goes on.
+    // Columns: a wide glyph that is cut becomes blank, and a row stays wrapped only if its length
+    // is unchanged.
     ((2, 4), 0, &[Text("ab中"), Resize(2, 3)], "0:ab @0,2\n"),
     ((2, 4), 0, &[Text("ab中x"), Resize(2, 3)], "0:ab 1:x @1,1\n"),
     ((3, 2), 0, &[Text("abcde"), Resize(2, 2)], "0:cd/ 1:e @1,1\n"),
@@ -85,13 +87,13 @@ const RESIZED: [Example; 35] = [
     ((3, 2), 0, &[Text("abcde"), Resize(3, 3)], "0:ab 1:cd 2:e @2,1\n"),
     ((3, 2), 0, &[Text("abcde"), Resize(3, 1)], "0:a 1:c 2:e @2,0\n"),
 
-    // A wrap is pending no more, and the cursors stay on the screen.
+    // A pending wrap is reset, and both cursors stay on the screen.
     ((1, 4), 0, &[Text("abcd"), Resize(1, 5)], "0:abcd @0,4\n"),
     ((1, 4), 0, &[Text("abcd"), Resize(1, 5), Text("x")], "0:abcdx @0,5\n"),
     ((2, 4), 0, &[Text("abcd"), Resize(3, 4)], "0:abcd @0,3\n"),
     ((3, 4), 0, &[Text("\x1b[3;4H\x1b7\x1b[H"), Resize(2, 2), Text("\x1b8")], "@1,1\n"),
 
-    // The region becomes the whole screen, and origin mode stays.
+    // The scroll region becomes the whole screen, and origin mode stays.
     (
         (3, 4),
         0,
@@ -101,7 +103,7 @@ const RESIZED: [Example; 35] = [
     ((4, 4), 0, &[Text("\x1b[2;3r\x1b[?6h"), Resize(4, 5), Text("\x1b[H")], "@0,0\n"),
     ((4, 4), 0, &[Text("\x1b[2;3r\x1b[?6h"), Resize(4, 5), Text("\x1b[2;3r\x1b[H")], "@1,0\n"),
 
-    // The size that a screen has changes nothing.
+    // A resize to the current size changes nothing.
     ((3, 4), 0, &[Text("abcd"), Resize(3, 4)], "0:abcd @0,4\n"),
     ((3, 4), 0, &[Text("abcd"), ResizeParser(3, 4), Text("x")], "0:abcd/ 1:x @1,1\n"),
     (

@@ -1,4 +1,4 @@
-//! Captures: of rows that are shown or kept, streamed, and into sinks that refuse.
+//! Captures: of displayed rows or of all rows, streamed, and into sinks that fail.
 
 use crate::aids::cuts::expect_read_back_at_each_byte;
 use crate::aids::seen::{expect_text, read_keeping};
@@ -14,7 +14,7 @@ use vt100::capture::{
 };
 use vt100::{Error, Parser, Screen, Sink};
 
-/// A size, a capacity of scrollback, what is done, and the captures then: of the rows that are shown,
+/// A size, a scrollback capacity, the steps, and the captures after them: of the displayed rows,
 /// and of all rows.
 #[rattlefmt::skip]
 const CAPTURES: [((u16, u16), usize, &[Step], &str, &str); 14] = [
@@ -26,17 +26,17 @@ const CAPTURES: [((u16, u16), usize, &[Step], &str, &str); 14] = [
     ((1, 4), 0, &[Text("中\x1b[1;4Hx")], "中 x", "中 x"),
     ((1, 4), 0, &[Bytes(b"e\xcc\x81")], "e\u{301}", "e\u{301}"),
 
-    // Scrollback, and what is in view.
+    // Scrollback, and what is displayed of it.
     ((2, 4), 10, &[Text("a\r\nb\r\nc")], "b\nc", "a\nb\nc"),
     ((2, 4), 10, &[Text("a\r\nb\r\nc"), View(1)], "a\nb", "a\nb\nc"),
     ((2, 6), 10, &[Text("abcdef\r\nghi\r\nj"), Resize(2, 3), View(1)], "abcdef\nghi", "abcdef\nghi\nj"),
 
-    // A row of scrollback that grows goes on in no other one any more.
+    // A row of scrollback that is extended is no longer wrapped.
     ((2, 2), 10, &[Text("abcde"), Resize(2, 4)], "cd\ne", "abcd\ne"),
     ((2, 2), 10, &[Text("abcde"), Resize(2, 4), View(1)], "ab\ncd", "ab\ncd\ne"),
     ((2, 2), 10, &[Text("abcde"), Resize(2, 4), View(1), View(0)], "cd\ne", "ab\ncd\ne"),
 
-    // The page that is shown.
+    // The active page.
     ((2, 4), 10, &[Text("a\r\nb\r\nc\x1b[?1049hx")], "x\n", "x\n"),
 ];
 
@@ -56,7 +56,7 @@ fn expect_captures(alloc: Global, screen: &Screen, visible: &str, full: &str) ->
     expect_text(all_rows(alloc, screen, &mut state)?, full)
 }
 
-/// The text of all rows behind those of the state.
+/// Returns the capture of all rows, continuing from `state`.
 fn all_rows(
     alloc: Global,
     screen: &Screen,
@@ -68,7 +68,7 @@ fn all_rows(
     Ok(text)
 }
 
-/// A size, what is read, and the capture of the rows that left and of those that are left.
+/// A size, the input, and the capture of the rows that scrolled off and of those that are left.
 #[rattlefmt::skip]
 const STREAMED: [((u16, u16), &str, &str); 8] = [
     ((2, 4), "a\r\nb\r\nc", "a\nb\nc"),
@@ -96,7 +96,7 @@ fn streamed_captures(rt: HostRuntime) -> Result<(), Fail> {
     Ok(())
 }
 
-/// Fails where what is read is captured as another text.
+/// Fails if the capture of the input is not `wanted`.
 fn expect_streamed(
     alloc: Global,
     size: (u16, u16),
@@ -120,7 +120,7 @@ fn expect_streamed(
     Ok(())
 }
 
-/// A size, what is read, the rows of its capture at the columns of the screen, and its plain text.
+/// A size, the input, the rows of its capture at the width of the screen, and its plain text.
 #[rattlefmt::skip]
 const READ: [((u16, u16), &str, &[&str], &str); 4] = [
     ((2, 4), "abcdx", &["abcd", "x"], "abcdx"),
@@ -153,7 +153,8 @@ fn expect_rows<A: Abort>(rt: &A, capture: &str, width: u16, wanted: &[&str]) {
     assert_eq!(rt; rows.next(), None);
 }
 
-/// Takes whole writes up to some bytes in all, and refuses any that would pass them.
+/// A sink that accepts whole writes up to a total number of bytes, and fails for a write that would
+/// exceed it.
 #[derive(Drop)]
 struct Limited {
     text: String,
@@ -178,7 +179,7 @@ impl Sink for Limited {
     }
 }
 
-/// Keeps what fits into some bytes in all, and refuses what doesn't.
+/// A sink that keeps what fits into a total number of bytes, and fails for the rest.
 #[derive(Drop)]
 struct Filled {
     bytes: Vec<u8>,
@@ -205,7 +206,8 @@ impl Sink for Filled {
     }
 }
 
-/// What a sink that keeps what fits into so many bytes has then, where that is not all.
+/// Returns the contents of a sink that keeps the first `left` bytes of a capture; fails if the
+/// whole capture fits.
 fn fitting(
     alloc: Global,
     screen: &Screen,
@@ -222,7 +224,8 @@ fn fitting(
     }
 }
 
-/// What a sink of so many bytes has taken, where it takes not all.
+/// Returns the contents of a sink that accepts whole writes up to `left` bytes; fails if it accepts
+/// the whole capture.
 fn refused(
     alloc: Global,
     screen: &Screen,
@@ -249,8 +252,8 @@ fn goes_on_behind_the_last_whole_row(rt: HostRuntime) -> Result<(), Fail> {
     expect_text(rest, "\na\nb\n")
 }
 
-/// How many bytes a sink has that keeps what fits, what it has then, and what all rows are to a
-/// string after it.
+/// The number of bytes that a sink keeps, its contents after a capture, and the capture of all rows
+/// that continues in a string.
 const FILLED: [(usize, &str, &str); 4] = [
     (0, "", "a\nb\n"),
     (1, "a", "\na\nb\n"),

@@ -1,4 +1,4 @@
-//! Differences: their texts, and what a terminal shows that reads them.
+//! Differences: their escape sequences, and the display of a terminal that parses them.
 
 use crate::aids::cuts::expect_read_back_at_each_byte;
 use crate::aids::readback::Change;
@@ -8,8 +8,8 @@ use std::alloc::Global;
 use std::test::Fail;
 use vt100::Screen;
 
-/// A size, how many rows scrollback keeps, what is done to the one and to the other of two fresh
-/// parsers, and the text that changes the first one into the second one.
+/// A size, a scrollback capacity, the steps of two new parsers, and the escape sequences that turn
+/// the display of the first into that of the second.
 pub(crate) type Example = (
     (u16, u16),
     usize,
@@ -20,7 +20,7 @@ pub(crate) type Example = (
 
 #[rattlefmt::skip]
 const DIFFERENCES: [Example; 14] = [
-    // Cells, in another colour, and erased ones.
+    // Cells in a different colour, and erased cells.
     (
         (24, 80), 0,
         &[Text("this text is \x1b[31mRED\x1b[m")],
@@ -29,12 +29,12 @@ const DIFFERENCES: [Example; 14] = [
     ),
     ((1, 6), 0, &[Text("abcdef")], &[Text("abcdef\x1b[1;2H\x1b[2X")], "\x1b[1;2H\x1b[2X"),
 
-    // The cursor, attributes and hiding alone.
+    // Only the cursor, the attributes or its visibility differ.
     ((2, 4), 0, &[Text("ab")], &[Text("ab\x1b[2;1H")], "\r\n"),
     ((2, 4), 0, &[Text("ab")], &[Text("ab\x1b[1m")], "\x1b[1m"),
     ((2, 4), 0, &[Text("ab")], &[Text("ab\x1b[?25l")], "\x1b[?25l"),
 
-    // A row that goes on in the next one, or no longer.
+    // A row becomes wrapped, or is no longer wrapped.
     ((2, 4), 0, &[Text("abcdx")], &[Text("abcd\r\nx")], "\x1b[1;4H\x1b[Xd\x1b[2;2H"),
     ((2, 4), 0, &[Text("abcd\r\nx")], &[Text("abcdx")], "\x1b[1;4Hdx"),
     (
@@ -63,7 +63,7 @@ const DIFFERENCES: [Example; 14] = [
         "\x1b[1;2H\u{2764}\u{fe0f}xe",
     ),
 
-    // Scrollback in view.
+    // Displayed scrollback.
     (
         (2, 4), 10,
         &[Text("a\r\nb\r\nc")],
@@ -72,9 +72,10 @@ const DIFFERENCES: [Example; 14] = [
     ),
 ];
 
-/// Fails where the parsers of an example, their bytes in two pieces or one by one, have another text of
-/// this kind, or where a terminal that reads it takes over something else; and where one of them has
-/// such a text against itself, or where a screen after one of the bytes is not read back.
+/// Checks an example with the bytes in two chunks and one by one. Fails if the difference is not
+/// the expected one, if a terminal that parses it does not take it over, if a screen has a
+/// difference from itself, or if the screen after one of the bytes cannot be read back from its
+/// output.
 pub(crate) fn expect_at_each_cut(
     alloc: Global,
     change: Change,
@@ -131,9 +132,9 @@ fn differs(rt: HostRuntime) -> Result<(), Fail> {
     Ok(())
 }
 
-/// Screens of one column and of two with a glyph that U+FE0F follows, a row that goes on, a pending
-/// wrap behind an erased row, scrollback in view, and modes: a size, how many rows scrollback keeps, and what
-/// is done.
+/// Screens that differ from themselves in nothing, each with a size, a scrollback capacity and
+/// steps: with one and two columns and a glyph that U+FE0F follows, a wrapped row, a pending wrap
+/// after an erased row, displayed scrollback, and modes.
 const ALONE: [((u16, u16), usize, &[Step]); 9] = [
     ((2, 1), 0, &[Text("\u{2764}\u{fe0f}")]),
     ((2, 2), 0, &[Text("\u{2764}\u{fe0f}")]),

@@ -1,19 +1,20 @@
-//! Differences that move rows first: their texts, and what a terminal shows that reads them.
+//! Differences that move rows first: their escape sequences, and the display of a terminal that
+//! parses them.
 
 use super::difference_tests::{Example, expect_at_each_cut};
 use crate::aids::readback::Change;
 use crate::aids::steps::Step::Text;
 use std::test::Fail;
 
-/// Four rows.
+/// Input with four rows.
 const FOUR: &str = "aaaaaaaaa\r\nbbbbbbbbb\r\nccccccccc\r\nddddddddd";
 
-/// And a fifth one, which stays; the cursor is behind the fourth.
+/// Input with a fifth row, which stays; the cursor ends after the fourth.
 const FIFTH: &str = "\r\nsssssssss\x1b[4;10H";
 
 #[rattlefmt::skip]
 const MOVED: [Example; 7] = [
-    // All rows go up.
+    // All rows move up.
     (
         (4, 10), 0,
         &[Text(FOUR)],
@@ -21,7 +22,7 @@ const MOVED: [Example; 7] = [
         "\x1b[H\x1b[M\x1b[4;1Heeeeeeeee",
     ),
 
-    // Those above the last one.
+    // The rows above the last one move up.
     (
         (5, 10), 0,
         &[Text(FOUR), Text(FIFTH)],
@@ -29,7 +30,7 @@ const MOVED: [Example; 7] = [
         "\x1b[H\x1b[M\x1b[4;1H\x1b[Leeeeeeeee",
     ),
 
-    // All go down, and those above the last one.
+    // All rows move down, and then those above the last one.
     (
         (4, 10), 0,
         &[Text(FOUR), Text("\x1b[H")],
@@ -43,7 +44,7 @@ const MOVED: [Example; 7] = [
         "\x1b[4;1H\x1b[M\x1b[H\x1b[Lzzzzzzzzz",
     ),
 
-    // The attributes become the default ones before.
+    // The attributes are reset to their defaults first.
     (
         (4, 10), 0,
         &[Text(FOUR), Text("\x1b[41m")],

@@ -1,4 +1,4 @@
-//! Plain texts: of the screen, of ranges and of rows.
+//! Plain text: of the screen, of ranges, and of rows.
 
 use crate::aids::cuts::expect_read_back_at_each_byte;
 use crate::aids::seen::{expect_text, read_keeping};
@@ -8,12 +8,12 @@ use std::alloc::Global;
 use std::test::Fail;
 use vt100::{Error, Screen};
 
-/// A size, a capacity of scrollback, what is done, and the text then.
+/// A size, a scrollback capacity, the steps, and the plain text after them.
 #[rattlefmt::skip]
 const CONTENTS: [((u16, u16), usize, &[Step], &str); 24] = [
     ((2, 4), 0, &[], ""),
 
-    // Rows that go on in the next one, and rows without text.
+    // Wrapped rows, and rows without text.
     ((3, 4), 0, &[Text("abcdx\x1b[L")], "abcd\n\nx"),
     ((2, 4), 0, &[Text("abcdx")], "abcdx"),
     ((2, 4), 0, &[Text("abcd\r\nx")], "abcd\nx"),
@@ -23,7 +23,7 @@ const CONTENTS: [((u16, u16), usize, &[Step], &str); 24] = [
     ((3, 4), 0, &[Text("abcdx\x1b[2;1H\x1b[X\r\ny")], "abcd\n\ny"),
     ((3, 2), 0, &[Text("a\r\nb\r\nc\x1b[2;3r\x1b[H\x1bM")], "a\n\nb"),
 
-    // Scrollback, and other sizes.
+    // Scrollback, and resized screens.
     ((2, 4), 10, &[Text("a\r\nb\r\nc")], "b\nc"),
     ((2, 4), 10, &[Text("a\r\nb\r\nc"), View(1)], "a\nb"),
     ((2, 4), 1, &[Text("a\r\nb\r\nc\r\nd"), Resize(5, 4)], "\nb\nc\nd"),
@@ -31,7 +31,7 @@ const CONTENTS: [((u16, u16), usize, &[Step], &str); 24] = [
     ((3, 4), 0, &[Text("a\r\nb\r\nc\x1b[H"), ResizeParser(2, 4)], "a\nb"),
     ((2, 6), 10, &[Text("abcdef\r\nghi\r\nj"), Resize(2, 3), View(1)], "abc\nghi"),
 
-    // Halves, spaces and blanks.
+    // Cut wide characters, spaces and blanks.
     ((1, 6), 0, &[Text("中ab\x1b[1;2Hx")], " xab"),
     ((1, 6), 0, &[Text("中ab\x1b[Hx")], "x ab"),
     ((1, 5), 0, &[Text("a中b\x1b[1;3H\x1b[P")], "a b"),
@@ -40,7 +40,7 @@ const CONTENTS: [((u16, u16), usize, &[Step], &str); 24] = [
     ((1, 4), 0, &[Text("a\x1b[41m\x1b[K")], "a"),
     ((1, 40), 0, &[Text("\x1b[1;38Ha")], "                                     a"),
 
-    // Two pages.
+    // Both pages.
     ((2, 4), 0, &[Text("ab\x1b[?1049hxy")], "xy"),
     ((2, 4), 0, &[Text("ab\x1b[?1049hxy\x1b[?1049l")], "ab"),
 ];
@@ -76,7 +76,7 @@ fn expect_contents(
     expect_text(parser.screen().contents()?, wanted)
 }
 
-/// What is done, a range from one row and column to another, and its text.
+/// The input, a range from one row and column to another, and its text.
 #[rattlefmt::skip]
 const RANGES: [(&str, (u16, u16), (u16, u16), &str); 8] = [
     ("abcdx", (0, 2), (1, 1), "cdx"),
@@ -118,7 +118,7 @@ fn expect_range(
     expect_text(range(parser.screen(), start, end)?, wanted)
 }
 
-/// The text of a range of the screen; fails where it begins past the columns.
+/// Returns the text of a range of the screen; fails if the range begins past the last column.
 fn range(screen: &Screen, start: (u16, u16), end: (u16, u16)) -> Result<String, Fail> {
     let (_, cols) = screen.size();
     if start.0 < end.0 && start.1 > cols.get() {
@@ -127,7 +127,8 @@ fn range(screen: &Screen, start: (u16, u16), end: (u16, u16)) -> Result<String, 
     Ok(screen.contents_between(start.0, start.1, end.0, end.1)?)
 }
 
-/// Two rows of scrollback with more columns than the screen, of which the newer one is in view.
+/// Steps that leave two rows of scrollback with more columns than the screen, of which the newer
+/// one is displayed.
 const LONGER: [Step; 3] = [Text("abcdef\r\nghi\r\nj"), Resize(2, 3), View(1)];
 
 #[test]
@@ -174,7 +175,7 @@ fn rows(rt: HostRuntime) -> Result<(), Fail> {
     Ok(())
 }
 
-/// Fails where these texts are others, or fewer or more.
+/// Fails if the texts are not exactly these.
 pub(crate) fn expect_texts(texts: Vec<String>, wanted: &[&str]) -> Result<(), Fail> {
     if texts.len() != wanted.len() {
         return Err(Fail::new("more texts, or fewer"));

@@ -1,4 +1,4 @@
-//! Redraws: their texts, and what a terminal shows that reads them.
+//! Redraws: their escape sequences, and the display of a terminal that parses them.
 
 use crate::aids::cuts::expect_read_back_at_each_byte;
 use crate::aids::readback::ASKED;
@@ -11,20 +11,20 @@ use std::test::Fail;
 use vt_notes::Notes;
 use vt100::{Parser, Screen};
 
-/// What each redraw of a screen with a shown cursor begins with.
+/// The beginning of each redraw of a screen with a visible cursor.
 const CLEAR: &str = "\x1b[?25h\x1b[m\x1b[H\x1b[J";
 
-/// What stands before that where the redraw is for terminals in any region: origin mode off, and the
-/// whole page as region.
+/// The prefix of a redraw for terminals with any scroll region: it resets origin mode and the
+/// region.
 const WHOLE_REGION: &str = "\x1b[?6l\x1b[r";
 
-/// A fresh parser's size, how many rows its scrollback keeps, what is done, which text is asked for,
-/// and the text; of a redraw what comes behind `CLEAR`.
+/// A size, a scrollback capacity, the steps, the kind of output, and the output. For a redraw, only
+/// the part after `CLEAR` is given.
 pub(crate) type Example = ((u16, u16), usize, &'static [Step], Asked, &'static str);
 
 #[rattlefmt::skip]
 const REDRAWN: [Example; 19] = [
-    // A screen in colours, and a fresh one.
+    // A screen with colours, and a new one.
     (
         (24, 80), 0, &[Text("this text is \x1b[31mRED\x1b[m"), Text("\x1b[3D\x1b[32mGREEN")],
         Redraw, "this text is \x1b[32mGREEN",
@@ -36,7 +36,7 @@ const REDRAWN: [Example; 19] = [
     // The smallest screen.
     ((1, 1), 0, &[Text("ab")], Redraw, "b"),
 
-    // Flags.
+    // Wrapped rows.
     ((3, 4), 0, &[Text("abcdx\x1b[L")], Redraw, "abcd \x08\x1b[X\r\nx\x1b[2;2H"),
     (
         (2, 2), 0, &[Text("abc\x1b[41m\x1b[2K")],
@@ -49,13 +49,14 @@ const REDRAWN: [Example; 19] = [
     ((2, 4), 0, &[Text("ab\u{4e2d}")], Cursor, "\x1b[?25h\x1b[1;3H\u{4e2d}"),
     ((2, 4), 0, &[Text("\x1b[31mabcd\x1b[m")], Cursor, "\x1b[?25h\x1b[1;4H\x1b[31md\x1b[m"),
 
-    // Scrollback in view.
+    // Displayed scrollback.
     ((2, 4), 10, &[Text("a\r\nb\r\nc"), View(1)], Redraw, "a\r\nb"),
 
     // A glyph that U+FE0F made wide.
     ((2, 4), 0, &[Text("a\u{2764}\u{fe0f}b")], Redraw, "a\u{2764}\u{fe0f}b"),
 
-    // For terminals in any region. The screen's own region and its origin mode don't tell.
+    // For terminals with any scroll region. The screen's own region and origin mode make no
+    // difference.
     ((24, 80), 0, &[], Reset, ""),
     ((3, 2), 0, &[Text("a")], Reset, "a"),
     ((3, 2), 0, &[Text("\x1b[2;3r\x1b[?6ha")], Reset, "\r\na"),
@@ -66,7 +67,7 @@ const REDRAWN: [Example; 19] = [
     ((24, 80), 0, &[Text("\x1b[38;5;300m")], Attributes, "\x1b[m"),
 ];
 
-/// The text that is wanted of an example.
+/// Returns the complete output that an example expects.
 fn wanted_text(alloc: Global, asked: Asked, text: &str) -> Result<String, Fail> {
     let mut wanted = String::new(alloc);
     match asked {
@@ -81,8 +82,8 @@ fn wanted_text(alloc: Global, asked: Asked, text: &str) -> Result<String, Fail> 
     Ok(wanted)
 }
 
-/// Fails where these steps, their bytes in two pieces or one by one, give another text, or where the
-/// screen after one of the bytes is not read back.
+/// Checks steps with their bytes in two chunks and one by one. Fails if the output is not `wanted`,
+/// or if the screen after one of the bytes cannot be read back from its output.
 pub(crate) fn expect_at_each_cut(
     alloc: Global,
     example: &Example,
@@ -118,7 +119,7 @@ fn expect_text(screen: &Screen, asked: Asked, wanted: &str) -> Result<(), Fail> 
     Ok(())
 }
 
-/// Fails where a terminal that reads any text of this screen takes over something else.
+/// Fails if a terminal that parses any kind of output of this screen does not take it over.
 pub(crate) fn expect_read_back(
     alloc: Global,
     (size, capacity, steps, _asked, _text): &Example,
@@ -147,16 +148,16 @@ fn redraws_are_read_back(rt: HostRuntime) -> Result<(), Fail> {
     Ok(())
 }
 
-/// What is read by a fresh terminal of three rows and two columns, and what is seen of it once it
-/// has read the redraw of a screen that shows `a`, then the one for any region, and then `AT_ENDS`.
+/// Input for a new terminal of three rows and two columns, and its state after it has also parsed
+/// the redraw of a screen that displays `a`, then the one for any region, and then `AT_ENDS`.
 type InRegion = (&'static str, [&'static str; 3]);
 
-/// A letter at the first place, one at the bottom, and a line feed, which scrolls the whole page only
-/// where that is the region.
+/// Input that prints a letter at the top left and one at the bottom, and a line feed, which scrolls
+/// the whole page only if that is the region.
 const AT_ENDS: &[u8] = b"\x1b[Hb\x1b[3;1Hz\n";
 
 const IN_REGION: [InRegion; 5] = [
-    // Nothing is promised of the first redraw where the region isn't the whole page.
+    // Nothing is promised for the first redraw if the region is not the whole page.
     (
         "\x1b[2;3r\x1b[?6h",
         ["1:a @1,1\n", "0:a @0,1\n", "1:z @2,1\nscroll 62 0\n"],
@@ -180,7 +181,7 @@ const IN_REGION: [InRegion; 5] = [
     ("", ["0:a @0,1\n", "0:a @0,1\n", "1:z @2,1\nscroll 62 0\n"]),
 ];
 
-/// Fails where a terminal in one of these regions shows something else.
+/// Fails if the display of a terminal with one of these regions is not the expected one.
 fn expect_redrawn(
     alloc: Global,
     screen: &Screen,
@@ -195,7 +196,7 @@ fn expect_redrawn(
     expect_seen(alloc, &mut reader, AT_ENDS, pieces, at_ends)
 }
 
-/// Fails where something else is seen once these bytes are read.
+/// Fails if the state after these bytes is not `wanted`.
 fn expect_seen(
     alloc: Global,
     reader: &mut Parser<Notes>,
@@ -218,7 +219,7 @@ fn redraws_in_any_region(rt: HostRuntime) -> Result<(), Fail> {
     Ok(())
 }
 
-/// Each redraw of a screen begins with whether its cursor is shown, and clears the screen.
+/// Complete redraws: each begins by showing or hiding the cursor, and clears the screen.
 #[rattlefmt::skip]
 const WHOLE: [((u16, u16), &str, &str); 10] = [
     ((24, 80), "", "\x1b[?25h\x1b[m\x1b[H\x1b[J"),

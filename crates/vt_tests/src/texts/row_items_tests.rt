@@ -1,4 +1,4 @@
-//! Redraws and differences of rows by themselves, and what a terminal shows that reads them.
+//! Redraws and differences of single rows, and the display of a terminal that parses them.
 
 use super::plain_tests::expect_texts;
 use crate::aids::cuts::expect_read_back_at_each_byte;
@@ -11,7 +11,7 @@ use std::test::Fail;
 use vt_notes::Notes;
 use vt100::{Error, Parser, Screen};
 
-/// A size, a text, a first column and how many columns, and the texts of the rows there.
+/// A size, the input, a first column and a number of columns, and the output for each row.
 #[rattlefmt::skip]
 const FORMATTED: [((u16, u16), &str, (u16, u16), &[&str]); 9] = [
     ((2, 4), "abcdx", (0, 4), &["abcd", "x"]),
@@ -20,7 +20,7 @@ const FORMATTED: [((u16, u16), &str, (u16, u16), &[&str]); 9] = [
     ((1, 4), "abcd", (3, 65535), &["d"]),
     ((1, 4), "abcd", (2, 0), &[""]),
 
-    // The blank first cell of a row in which the row above goes on.
+    // The blank first cell after a wrapped row.
     ((2, 4), "abcdx\x1b[2;1H\x1b[X", (0, 4), &["abcd", " \x08\x1b[X"]),
     ((2, 4), "abcdx\x1b[2;1H\x1b[X", (0, 3), &["abc", ""]),
 
@@ -29,7 +29,8 @@ const FORMATTED: [((u16, u16), &str, (u16, u16), &[&str]); 9] = [
     ((1, 4), "ab中", (1, 2), &["b中"]),
 ];
 
-/// The same with a text before, to whose rows the texts are the differences.
+/// A size, two inputs, a first column and a number of columns, and the differences of each row from
+/// the first input to the second.
 #[rattlefmt::skip]
 const CHANGED: [((u16, u16), &str, &str, (u16, u16), &[&str]); 9] = [
     ((2, 4), "ab中x", "ab中x\x1b[1;4Hd", (0, 4), &["\x1b[2C\x1b[X\x1b[Cd", ""]),
@@ -72,7 +73,7 @@ fn rows_diff(rt: HostRuntime) -> Result<(), Fail> {
     Ok(())
 }
 
-/// All texts of rows in a range, which has to begin at a column.
+/// Returns the redraws of all rows in a range; fails if it begins past the last column.
 fn formatted(
     alloc: Global,
     screen: &Screen,
@@ -86,7 +87,7 @@ fn formatted(
     Ok(texts?)
 }
 
-/// All differences of rows in a range, of screens that have to be of one size.
+/// Returns the differences of all rows in a range, between screens of the same size.
 fn changed(
     alloc: Global,
     screen: &Screen,
@@ -102,7 +103,8 @@ fn changed(
     Ok(texts?)
 }
 
-/// Rows that go on, wide glyphs and colours, and another screen of the same size.
+/// Input with wrapped rows, wide glyphs and colours, and different input for a screen of the same
+/// size.
 const ONE: &[u8] = b"ab\xe4\xb8\xadcd\x1b[31mxy\x1b[4;2H\x1b[44m\x1b[K";
 
 const OTHER: &[u8] = b"\x1b[32mfgh\xe4\xb8\xadij\x1b[1mklm\xe4\xb8\xadnopqr";
@@ -128,7 +130,8 @@ fn changed_rows_are_read(rt: HostRuntime) -> Result<(), Fail> {
     Ok(())
 }
 
-/// Has a terminal read the texts of rows, each from the first column on and in default attributes.
+/// Feeds the output of each row to a terminal, starting at its first column with default
+/// attributes.
 fn read_rows(alloc: Global, reader: &mut Parser<Notes>, texts: Vec<String>) -> Result<(), Fail> {
     for (row, text) in (1..=4).zip(texts) {
         let mut bytes = String::new(alloc);

@@ -1,4 +1,4 @@
-//! Texts of whole states and of input modes, and what a terminal takes over that reads them.
+//! Output of whole states and of input modes, and what a terminal that parses it takes over.
 
 use super::redraw_tests::{expect_at_each_cut, expect_read_back};
 use super::{difference_tests, redraw_tests};
@@ -119,7 +119,7 @@ fn modes_differ(rt: HostRuntime) -> Result<(), Fail> {
     Ok(())
 }
 
-/// What sets each mouse mode, each mouse encoding and each look of the cursor.
+/// The sequences that set each mouse mode, each mouse encoding and each cursor style.
 const SETTINGS: [&[&str]; 3] = [
     &["", "\x1b[?9h", "\x1b[?1000h", "\x1b[?1002h", "\x1b[?1003h"],
     &["", "\x1b[?1005h", "\x1b[?1006h"],
@@ -128,7 +128,7 @@ const SETTINGS: [&[&str]; 3] = [
     ],
 ];
 
-/// Fails where a terminal doesn't follow from one setting to another, by any text of what differs.
+/// Fails if a terminal does not follow from one setting to another by each kind of difference.
 fn expect_followed(alloc: Global, was: &str, new: &str) -> Result<(), Fail> {
     let prev = read_keeping(alloc, (1, 2), 0, &[was.as_bytes()])?;
     let parser = read_keeping(alloc, (1, 2), 0, &[new.as_bytes()])?;

@@ -1,4 +1,4 @@
-//! Steady screens: those whose visible glyphs, printed on a blank row, give just themselves.
+//! Steady screens: those whose visible glyphs reproduce themselves when printed on a blank row.
 
 use crate::aids::steps::Step::{self, Resize, Text, View};
 use crate::aids::steps::{Pieces, taken};
@@ -6,12 +6,11 @@ use std::alloc::Global;
 use std::test::Fail;
 use vt100::Screen;
 
-/// A fresh parser's size, how many rows its scrollback keeps, what is done, and whether its screen is
-/// then steady.
+/// A size, a scrollback capacity, the steps, and whether the screen is steady after them.
 type Example = ((u16, u16), usize, &'static [Step], bool);
 
-/// A wide character that U+FE0E and U+FE0F make narrow, which leaves a space after it. Printed on a
-/// blank row, its text leaves that space there too.
+/// A wide character that U+FE0E and U+FE0F make narrow, leaving a space after it. Printed on a
+/// blank row, its text leaves that space as well.
 const NARROWED: &str = "\u{231a}\u{fe0e}\u{fe0f}";
 
 #[rattlefmt::skip]
@@ -38,7 +37,7 @@ const EXAMPLES: [Example; 24] = [
     ((3, 4), 0, &[Text("\x1b[3;1H"), Text(NARROWED)], false),
     ((2, 4), 0, &[Text("\u{2764}\u{fe0f}"), Text(NARROWED)], false),
 
-    // On one column the wide character is not printed.
+    // With one column the wide character is not printed.
     ((2, 1), 0, &[Text(NARROWED)], true),
 
     // Overwritten, erased, or scrolled off the top.
@@ -57,7 +56,7 @@ const EXAMPLES: [Example; 24] = [
     ((2, 4), 0, &[Text("\x1b[1;3H"), Text(NARROWED), Resize(2, 2)], true),
 ];
 
-/// Fails if the screen after these steps is said to be the other.
+/// Fails if whether the screen is steady after these steps is not as expected.
 fn expect_steady(
     alloc: Global,
     (size, capacity, steps, wanted): &Example,
@@ -79,10 +78,10 @@ fn tells_steady_screens(rt: HostRuntime) -> Result<(), Fail> {
     Ok(())
 }
 
-/// A heart that U+FE0F makes wide where there are two columns.
+/// A heart that U+FE0F makes wide if there are two columns.
 const HEART: &str = "\u{2764}\u{fe0f}";
 
-/// A narrow heart that comes from a page of one column is no steady glyph on more columns: printed
+/// Checks that a narrow heart from a page of one column is not steady with more columns: printed
 /// there, it is wide.
 #[test]
 fn tells_by_the_width_of_the_screen(rt: HostRuntime) -> Result<(), Fail> {
@@ -95,16 +94,16 @@ fn tells_by_the_width_of_the_screen(rt: HostRuntime) -> Result<(), Fail> {
     expect_steady(rt.alloc(), &((2, 1), 0, wider, false), Pieces::Single)
 }
 
-/// A glyph that is made narrow, in the last column of the last row: printed there again, it is wide,
-/// wraps and scrolls.
+/// Steps that leave a glyph made narrow in the last column of the last row: printed there again, it
+/// is wide, wraps and scrolls.
 const IN_CORNER: &[Step] = &[
     Text("one\x1b[2;2H"),
     Text(NARROWED),
     Text("\x1b[2;1H\x1b[@"),
 ];
 
-/// Fails if a viewer that has read `first` and then `second` doesn't display `last`, or is not in ground
-/// state with the whole page as its scroll region.
+/// Fails if a viewer that has parsed `first` and then `second` does not display `last`, or is not
+/// in ground state with the whole page as its scroll region.
 fn expect_healed(alloc: Global, first: &str, second: &str, last: &Screen) -> Result<(), Fail> {
     let mut viewer = taken(alloc, (2, 3), 0, &[], Pieces::Single)?;
     viewer.process(first.as_bytes())?;
@@ -119,8 +118,8 @@ fn expect_healed(alloc: Global, first: &str, second: &str, last: &Screen) -> Res
     Ok(())
 }
 
-/// The difference of a screen that is not steady scrolls a viewer. A redraw of a steady screen after
-/// that displays it again.
+/// Checks that the difference to a screen that is not steady scrolls a viewer, and that a later
+/// redraw of a steady screen restores the display.
 #[test]
 fn redraws_heal_a_viewer(rt: HostRuntime) -> Result<(), Fail> {
     let alloc = rt.alloc();

@@ -1,4 +1,4 @@
--- What went so far was taken.
+-- What was sent so far was taken.
 use Rattle.vt_callers.specs.Remote.{IsCut}
 use Rattle.vt_callers.proofs.multiplexer.send_cut.Given as goal
 

@@ -5,7 +5,7 @@ use Rattle.vt100.specs.Parser.{Ran, quietly}
 use Rattle.vt_callers.proofs.Runs.{ran_more}
 use Rattle.vt_callers.proofs.screen_test.read_pieces.Goals as goal
 
--- the item that indexing falls back on
+-- The default item for an index out of range.
 abbrev nothing : Bor (List ℕ)
 nothing = record { ref_ptr = (0, 0); now = [] }
 

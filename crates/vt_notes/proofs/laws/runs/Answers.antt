@@ -1,4 +1,4 @@
--- What a run shows and notes.
+-- The screen and the notes after a run.
 use Rattle.vt_notes.proofs.Runs.{done_run}
 use Rattle.vt_notes.proofs.laws.runs.Goals as goal
 

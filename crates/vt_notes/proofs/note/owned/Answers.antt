@@ -1,4 +1,4 @@
--- One more list is copied.
+-- One more slice is copied.
 use Rattle.std.proofs.Common.{◌≡◌, ℕ, ◌+◌, ◌<◌, List, [], ◌∷◌, ◌++◌, length, map, take, get_or, sym, ap, ◌∙◌}
 use Rattle.std.proofs.lemmas.List.{map_more, map_push, take_all}
 use Rattle.vt_notes.proofs.note.owned.Goals as goal

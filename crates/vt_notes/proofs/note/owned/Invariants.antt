@@ -1,4 +1,4 @@
--- The lists so far were copied.
+-- The slices so far were copied.
 use Rattle.std.proofs.Common.{◌≡◌, map, take}
 use Rattle.vt_notes.proofs.note.owned.Given as goal
 

@@ -1,4 +1,4 @@
--- One more piece is read, and what the notes are at the end.
+-- One more chunk is parsed, and the notes at the end.
 use Rattle.std.proofs.Common.{◌≡◌, ℕ, true, List, [], Bor, map, take, get_or, sym, subst, ap, ◌∙◌}
 use Rattle.std.proofs.lemmas.List.{map_more, take_all}
 use Rattle.std.specs.List.{FoldsTo}
@@ -8,7 +8,7 @@ use Rattle.vt_notes.specs.Noting.{Noted, NotesIt}
 use Rattle.vt_notes.proofs.Runs.{HasRead, has_read, read_more}
 use Rattle.vt_notes.proofs.reading.read.Goals as goal
 
--- the item that indexing falls back on
+-- The default item for an index out of range.
 abbrev nothing : Bor (List ℕ)
 nothing = record { ref_ptr = (0, 0); now = [] }
 

@@ -1,4 +1,4 @@
--- A glyph with U+FE0F may be of either width.
+-- A glyph with U+FE0F may have either width.
 use Rattle.std.proofs.Common.{◌≡◌, ◌≢◌, ◌∙◌, ℕ, ap, arith, sym, refl, subst, false, Some}
 use Rattle.std.specs.Char.{encode_utf8}
 use Rattle.unicode_width.proofs.Computing.{unicode_width}

@@ -1,4 +1,4 @@
--- Characters and control functions of one byte.
+-- Characters and control characters.
 use Rattle.vt_scan.proofs.Readback.{read_ascii, read_written, read_text, read_control}
 use Rattle.vt_scan.proofs.laws.characters.Goals as goal
 

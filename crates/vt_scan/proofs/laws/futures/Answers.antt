@@ -1,4 +1,4 @@
--- Runs from states that one scanner may be in.
+-- Runs from states that one scanner may represent.
 use Rattle.vt_scan.specs.Run.{run}
 use Rattle.vt_scan.proofs.Alike.{both_stand, other_stands, runs_alike}
 use Rattle.vt_scan.proofs.laws.futures.Goals as goal

@@ -1,4 +1,4 @@
--- Numbers in decimal.
+-- Decimal numbers.
 use Rattle.vt_scan.proofs.Written.{empty_groups, decimal_groups, joined_groups, place_groups_are}
 use Rattle.vt_scan.proofs.laws.numbers.Goals as goal
 

@@ -1,4 +1,4 @@
--- The texts of numbers.
+-- Numbers as parameter bytes.
 use Rattle.vt_scan.proofs.Written.{decimal_is_parameter, joined_is_parameter, place_is_parameter}
 use Rattle.vt_scan.proofs.laws.parameter_texts.Goals as goal
 

@@ -1,4 +1,4 @@
--- Runs over bytes in pieces.
+-- Runs over input that is split.
 use Rattle.std.proofs.Common.{ap}
 use Rattle.vt_scan.specs.Automaton.{Step}
 use Rattle.vt_scan.proofs.Running.{run-append}

@@ -1,4 +1,4 @@
--- Bytes that spell no U+FE0F.
+-- Bytes that contain no U+FE0F.
 use Rattle.vt_scan.proofs.Selectors.{reads_none}
 use Rattle.vt_scan.proofs.laws.selectors.Goals as goal
 

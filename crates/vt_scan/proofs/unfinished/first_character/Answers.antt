@@ -1,4 +1,4 @@
--- Where no character is found, the bytes begin with none.
+-- If no character is found, the bytes do not begin with one.
 use Rattle.std.proofs.Common.{◌∙◌, arith}
 use Rattle.vt_scan.proofs.Whole.{begun}
 use Rattle.vt_scan.proofs.unfinished.first_character.Goals as goal

@@ -1,4 +1,4 @@
--- What was read so far was read by the parser.
+-- What was read so far was parsed.
 use Rattle.vt_show.specs.Internals.{HasReadBytes}
 use Rattle.vt_show.proofs.engine.read_all.Given as goal
 

@@ -1,4 +1,4 @@
--- A write took the front of what is left, or was interrupted.
+-- A write accepted a prefix of what is left, or was interrupted.
 use Rattle.std.proofs.Common.{ℕ, List, Bor, sym, subst}
 use Rattle.vt_show.specs.Internals.{HasWrittenTo}
 use Rattle.vt_show.proofs.Writing.{written_kept, written_more}

@@ -1,4 +1,4 @@
--- A byte of the parameter text, or an intermediate; and the bytes of a command are all that it is read from.
+-- A parameter byte or an intermediate is collected, and an operating system command is read from its bytes alone.
 use Rattle.std.proofs.Common.{◌≡◌, ◌≢◌, ◌∙◌, ap, refl, subst, sym, rules}
 use Rattle.vt_scan.specs.Automaton.{State}
 use Rattle.vt_scan.specs.Scanner.{Held, StandsFor}

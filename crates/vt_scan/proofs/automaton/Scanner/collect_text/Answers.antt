@@ -1,4 +1,4 @@
--- The bytes of a command are all that it is read from.
+-- An operating system command is read from its bytes alone.
 use Rattle.std.proofs.Common.{◌≡◌, ◌∙◌, ◌++◌, ap, arith, take, rules}
 use Rattle.vt_scan.specs.Scanner.{Held}
 use Rattle.vt_scan.proofs.Leading.{command_feeds, command_turn}

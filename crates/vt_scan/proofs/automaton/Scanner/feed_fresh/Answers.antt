@@ -1,4 +1,4 @@
--- A byte where no character is unfinished.
+-- A byte when no character is incomplete.
 use Rattle.std.proofs.Common.{◌∙◌, ◌≢◌, ap, sym, arith}
 use Rattle.vt_scan.specs.Scanner.{Held}
 use Rattle.vt_scan.proofs.Feeding.{fresh_character, fresh_control, fresh_escape, fresh_begun, fresh_broken}

@@ -1,4 +1,4 @@
--- A byte in plain text, by what it makes of an unfinished character.
+-- A byte in the ground state, by its effect on an incomplete character.
 use Rattle.std.proofs.Common.{◌∙◌, ℕ, List, ap, subst}
 use Rattle.vt_scan.specs.Scanner.{Held, Follows}
 use Rattle.vt_scan.specs.Automaton.{step_in}

@@ -1,4 +1,4 @@
--- A control function of one byte leaves all as it is.
+-- A control character leaves everything unchanged.
 use Rattle.std.proofs.Common.{refl}
 use Rattle.vt_scan.proofs.Feeding.{control_feeds}
 use Rattle.vt_scan.proofs.automaton.Scanner.is_control.Goals as goal

@@ -1,4 +1,4 @@
--- A printable byte leaves all as it is.
+-- A printable byte leaves everything unchanged.
 use Rattle.std.proofs.Common.{refl, arith}
 use Rattle.vt_scan.proofs.Feeding.{text_feeds}
 use Rattle.vt_scan.proofs.automaton.Scanner.is_text.Goals as goal

@@ -1,4 +1,4 @@
--- One byte, and what leads in behind it.
+-- One byte, and the introducing bytes after it.
 use Rattle.std.proofs.Common.{◌<◌, [], List, ℕ, arith, drop, get_or, length, subst, sym, take}
 use Rattle.std.proofs.lemmas.Bool.Decides.{nat_tests}
 use Rattle.vt_scan.specs.Scanner.{Feeds, FeedsAll, Held}

@@ -1,4 +1,4 @@
--- ESC and `[`, and what leads in behind them.
+-- ESC and `[`, and the introducing bytes after them.
 use Rattle.std.proofs.Common.{◌≡◌, ◌+◌, [], List, ℕ, arith, drop, subst, suc, take}
 use Rattle.vt_scan.specs.Scanner.{FeedsAll}
 use Rattle.vt_scan.proofs.Leading.{opening_feeds}

@@ -1,4 +1,4 @@
--- Some of the parameter text, or nothing of it.
+-- Some parameter bytes, or none.
 use Rattle.std.proofs.Common.{◌<◌, ◌∙◌, ◌++◌, [], ℕ, ap, arith, length, refl, subst, take}
 use Rattle.std.proofs.lemmas.List.{length-take}
 use Rattle.vt_scan.specs.Automaton.{State}

@@ -1,4 +1,4 @@
--- Plain text, with nothing begun.
+-- The ground state, with nothing collected.
 use Rattle.std.proofs.Common.{refl}
 use Rattle.vt_scan.proofs.Standing.{stands_plain}
 use Rattle.vt_scan.proofs.automaton.Scanner.new.Goals as goal

@@ -1,4 +1,4 @@
--- Nothing of such a string has an event.
+-- The bytes of an ignored string have no events.
 use Rattle.std.proofs.Common.{sym, ap, ◌∙◌, take}
 use Rattle.vt_scan.specs.Scanner.{Held}
 use Rattle.vt_scan.proofs.Leading.{skip_feeds}

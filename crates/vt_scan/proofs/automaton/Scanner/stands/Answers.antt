@@ -1,4 +1,4 @@
--- The invariant, of the value.
+-- The invariant of the type, for the value.
 use Rattle.std.proofs.Common.{subst}
 use Rattle.vt_scan.specs.Automaton.{State}
 use Rattle.vt_scan.specs.Scanner.{Held, StandsFor}

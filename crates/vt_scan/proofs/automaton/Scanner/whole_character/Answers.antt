@@ -1,4 +1,4 @@
--- A whole character where nothing is unfinished.
+-- A whole character when nothing is incomplete.
 use Rattle.vt_scan.proofs.Whole.{found_before, found_fed}
 use Rattle.vt_scan.proofs.automaton.Scanner.whole_character.Goals as goal
 

@@ -1,4 +1,4 @@
--- Wide characters where nothing is unfinished.
+-- Wide characters when nothing is incomplete.
 use Rattle.vt_scan.proofs.WideTexts.{wide_all, wide_fed}
 use Rattle.vt_scan.proofs.automaton.Scanner.wide_text.Goals as goal
 

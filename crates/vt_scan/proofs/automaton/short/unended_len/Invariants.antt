@@ -1,4 +1,4 @@
--- The bytes so far end no string.
+-- The bytes so far cannot end a string.
 use Rattle.std.proofs.Common.{◌-◌, ◌≤◌, length, take}
 use Rattle.std.specs.List.{AllByRecursion}
 use Rattle.vt_scan.specs.Internals.{IsUnended}

@@ -1,4 +1,4 @@
--- A further group with one number, if there is room.
+-- A new group with one number, if there is room.
 use Rattle.std.proofs.Common.{arith, ◌∙◌, take}
 use Rattle.vt_scan.proofs.Tables.{step_ends, step_group, step_group_full}
 use Rattle.vt_scan.proofs.parameters.Parameters.end_group.Goals as goal

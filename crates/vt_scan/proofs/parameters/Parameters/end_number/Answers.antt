@@ -1,4 +1,4 @@
--- A further number in the last group, if there is room.
+-- A new number in the last group, if there is room.
 use Rattle.std.proofs.Common.{arith, ◌∙◌, take}
 use Rattle.vt_scan.proofs.Rows.{Ascends-number}
 use Rattle.vt_scan.proofs.Tables.{step_number, step_number_full}

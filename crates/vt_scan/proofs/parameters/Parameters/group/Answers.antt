@@ -1,4 +1,4 @@
--- A group lies between its places.
+-- A group consists of the numbers between its start and its end.
 use Rattle.std.proofs.Common.{◌<◌, ◌≤◌, ◌∙◌, [], ap, arith, get_or, length, rules}
 use Rattle.vt_scan.specs.Parameters.{GroupTable}
 use Rattle.vt_scan.proofs.Rows.{group_lies, groups_count}

@@ -1,4 +1,4 @@
--- One group more than are closed.
+-- There is one group more than ends.
 use Rattle.std.proofs.Common.{◌∙◌, ap, arith, length, sym}
 use Rattle.vt_scan.specs.Parameters.{GroupTable}
 use Rattle.vt_scan.proofs.Rows.{groups_count}

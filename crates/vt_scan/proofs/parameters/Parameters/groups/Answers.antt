@@ -1,4 +1,4 @@
--- The groups of the array, one after the other.
+-- The groups of the array, in order.
 use Rattle.std.proofs.Common.{arith, ◌<◌, get_or, rules, take, drop}
 use Rattle.vt_scan.proofs.Rows.{Ascends-below, next_rises}
 use Rattle.vt_scan.proofs.parameters.Parameters.groups.Goals as goal

@@ -1,4 +1,4 @@
--- The first number of a group stands where the group begins.
+-- The first number of a group is at the start of the group.
 use Rattle.std.proofs.Common.{◌<◌, ◌∙◌, List, [], ap, arith, get_or, length, rules, sym}
 use Rattle.vt_scan.specs.Parameters.{GroupTable}
 use Rattle.vt_scan.proofs.Rows.{group_lies, group_none, groups_count}

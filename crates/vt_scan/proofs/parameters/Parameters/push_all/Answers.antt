@@ -1,4 +1,4 @@
--- One more byte that is no digit, and the digits behind it.
+-- One more byte that is no digit, and the digits after it.
 use Rattle.std.proofs.Common.{◌≡◌, ◌+◌, ◌≤◌, ◌∙◌, ◌++◌, ◌∷◌, [], List, ℕ, true}
 use Rattle.std.proofs.Common.{ap, arith, drop, get_or, length, subst, sym, take}
 use Rattle.std.proofs.lemmas.Bool.Decides.{nat_tests}

@@ -1,4 +1,4 @@
--- The digits so far, with their number in place of the last one.
+-- The digits so far are read, with their number as the last one.
 use Rattle.std.proofs.Common.{◌≡◌, ◌+◌, ◌-◌, ◌≤◌, ◌++◌, List, ℕ, length, set, take}
 use Rattle.vt_scan.specs.Internals.{groups_from}
 use Rattle.vt_scan.specs.Parameters.{table_of}

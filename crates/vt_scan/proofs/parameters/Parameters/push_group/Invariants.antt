@@ -1,4 +1,4 @@
--- The digits so far, with their number as that of a further group.
+-- The digits so far are read, with their number as that of a new group.
 use Rattle.std.proofs.Common.{◌≡◌, ◌+◌, ◌-◌, ◌≤◌, ◌++◌, ◌∷◌, [], List, ℕ, length, set, take}
 use Rattle.vt_scan.specs.Internals.{groups_from}
 use Rattle.vt_scan.specs.Parameters.{table_of}

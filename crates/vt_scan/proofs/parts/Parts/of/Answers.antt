@@ -1,4 +1,4 @@
--- A byte that cuts ends the last part, any other joins it.
+-- A separator ends the last part, and any other byte joins it.
 use Rattle.std.proofs.Common.{arith, ◌-◌, ◌++◌, ◌∷◌, [], take, drop}
 use Rattle.vt_scan.proofs.Cutting.{cut_here, goes_on}
 use Rattle.vt_scan.proofs.parts.Parts.of.Goals as goal
