@@ -1,4 +1,4 @@
--- A parser that has read a text that leaves it plain.
+-- A parser that has read output that keeps it plain.
 use Rattle.std.proofs.Common.{◌≡◌, ℕ, List, false, subst, sym}
 use Rattle.vt_scan.specs.Automaton.{State, start}
 use Rattle.vt_scan.specs.Run.{run}

@@ -1,4 +1,4 @@
--- What a control sequence does, from the tests that the code makes.
+-- What a control sequence does, by the tests that the code makes.
 use Rattle.std.proofs.Common.{◌≡◌, ℕ, ◌-◌, true, false, List, [], ◌∷◌, Option, None, Some, refl, subst, rules}
 use Rattle.vt_grid.specs.PageStep.{PageStep, MoveTo}
 use Rattle.vt_screen.specs.Screen.{ScreenValue}
@@ -28,7 +28,7 @@ made_none_stops does (Some step) others s t d e f h k = absurd cc
 made_none_stops does None others s t d e f (h, same) k =
     subst (λ (x : ScreenValue). Stops does s x (others x) t f) same k
 
--- the sequences with one count, and the others
+-- The steps of control sequences with one count, and of all others without a private marker.
 pub unmarked_counted : {S : Type 0} (does : CallRelation S) (groups : List (List ℕ)) (b : ℕ) (s : S) (d e : ScreenValue) →
     MadeIf (counted_step b (number_or 1 0 groups)) true d e → Does does s d (unmarked_steps groups b (seen_of d)) s e
 unmarked_counted does groups b s d e h =
@@ -77,7 +77,7 @@ pub intermediate_stops : {S : Type 0} (does : CallRelation S)
 intermediate_stops does groups [] intermediate b s t d e h k = search rules
 intermediate_stops does groups (m ∷ intermediates) intermediate b s t d e h k = search rules
 
--- SGR and CUP
+-- The steps of SGR and CUP, which the code tests first.
 pub unmarked_sgr : (groups : List (List ℕ)) (b : ℕ) (seen : Seen) → b ≡ 0x6D → unmarked_steps groups b seen ≡ sgr_steps groups
 unfolding counted_step scrolling_steps other_steps
 unmarked_sgr groups b seen is = rw is refl
@@ -87,7 +87,7 @@ pub unmarked_place : (groups : List (List ℕ)) (b : ℕ) (seen : Seen) → b �
 unfolding counted_step scrolling_steps other_steps
 unmarked_place groups b seen is = rw is refl
 
--- sequences by their intermediates, and those without an intermediate by what they count
+-- Control sequences by their intermediate bytes; without one, by whether they take a count.
 pub ruleset by_intermediates = (unmarked_does, unmarked_stops, intermediate_does, intermediate_stops)
 
 pub ruleset by_counts = (unmarked_counted, unmarked_other, unmarked_other_stops)

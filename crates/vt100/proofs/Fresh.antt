@@ -1,4 +1,4 @@
--- A parser that has just begun, and one that took another size: its size, and that it is plain.
+-- A fresh parser and a resized one: their sizes, and that they are plain.
 use Rattle.std.proofs.Common.{◌≡◌, ℕ, ◌<◌, ◌^◌, length, refl, sym, ap, subst, ◌∙◌, arith}
 use Rattle.std.proofs.lemmas.List.{length-replicate}
 use Rattle.vt_cells.specs.Attrs.{default_attrs}
@@ -70,7 +70,7 @@ pub fresh_cols : {S : Type 0} (rows cols capacity : ℕ) (p : Parsing S) →
     IsFreshParser rows cols capacity p → p.screen.page.width ≡ cols
 fresh_cols rows cols capacity p fresh = ap (λ (s : ScreenValue). s.page.width) fresh.shown
 
--- ---- another size
+-- ---- resizing
 
 pub resized_parser : {S : Type 0} (rows cols : ℕ) (p q : Parsing S) → 0 < rows →
     q ≡ record p { screen = resized rows cols p.screen; callbacks = q.callbacks } → IsPlainParser p → IsPlainParser q

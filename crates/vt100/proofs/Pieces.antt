@@ -1,4 +1,4 @@
--- What is read quietly as one text is read so in pieces.
+-- Bytes that are read without callbacks or allocations are read so in any chunks.
 use Rattle.std.proofs.Common.{◌≡◌, ℕ, false, List, [], ◌∷◌, map, Some, refl, sym, ap, subst, ◌∙◌}
 use Rattle.std.specs.List.{AllByRecursion, FoldsTo}
 use Rattle.vt_scan.specs.Automaton.{State, start}

@@ -1,4 +1,4 @@
--- A run of plain characters that the cursor's row has room for is read as the run of their events.
+-- A run of plain characters that fits on the cursor's row is read as the run of their events.
 use Rattle.std.proofs.Common.{◌≡◌, ℕ, ◌+◌, ◌<◌, ◌≤◌, ◌==◌, ◌&&◌, ◌||◌, nat_le, false}
 use Rattle.std.proofs.Common.{List, [], ◌∷◌, length, refl, sym, ap, subst, arith}
 use Rattle.std.specs.Prelude.{All}
@@ -39,7 +39,7 @@ character_ran does c held s screen itself room =
     (text_feeds held c itself.0 itself.1 itself.2 (omega (arith, itself.3)))
     (stage now, print_done does c s screen itself.2 itself.3 room, refl)
 
--- a plain character moves the cursor on by one column
+-- A plain character moves the cursor right by one column.
 pub column_printed : (c : ℕ) (screen : ScreenValue) → 0x20 ≤ c → c < 0x7F →
     screen.page.column < screen.page.width → (display_after (Print c) screen).page.column ≡ screen.page.column + 1
 column_printed c screen low high room =
@@ -60,6 +60,6 @@ text_ran does (c ∷ text) held s screen plain room =
     (character_ran does c held s screen first here)
     (text_ran does text held s next (All-tail (ReadsItself held) c text plain) left)
 
--- what the scanner reads as itself is printable
+-- Bytes that the scanner reads as themselves are printable.
 pub printable_of : (held : Held) (text : List ℕ) → All (ReadsItself held) text → IsPrintableAscii text
 printable_of held text plain = λ k d lt. let itself = plain k d lt in (itself.2, itself.3)

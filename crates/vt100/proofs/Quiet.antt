@@ -1,4 +1,4 @@
--- What is read quietly happens in every run.
+-- What is read without callbacks or allocations happens in every run.
 use Rattle.std.specs.Prelude.{if◌then◌else◌, is_some}
 use Rattle.std.proofs.Common.{◌≡◌, ◌==◌, ◌⊎◌, ℕ, zero, suc, ◌+◌, ◌<◌, min, inl, inr, Bool, true, false, List, [], ◌∷◌}
 use Rattle.std.proofs.Common.{◌++◌, length, take, Option, Some, None, cond, refl, sym, subst, ap, ◌∙◌, arith}
@@ -53,7 +53,7 @@ same_screen : (alternate : Bool) (x y z : ScreenValue) → y ≡ x → z ≡ x �
 same_screen true x y z p q = p
 same_screen false x y z p q = q
 
--- no row left: the screen is as the step alone makes it, and nobody was told
+-- A step that scrolls no row off changes the screen as the step by itself does, and invokes no callbacks.
 unsent : {S : Type 0} (does : CallRelation S)
     (held : S) (screen after : ScreenValue) (gone : List RowValue) (b : act.State S)
     → gone ≡ [] → after.scrollback ≡ screen.scrollback
@@ -144,7 +144,7 @@ quiet_performs does (event ∷ events) held screen after b e t =
     let there = quiet_folds does (steps_of event (seen_of screen)) held screen mid.0 t.0 mid.1 t.1 in
     quiet_performs does events held mid.0 after b mid.2 (subst (λ j. FoldsTo (Performs does) j events b) there t.2)
 
--- ---- nothing is refused
+-- ---- no allocation fails
 
 never_grows : (gone : List RowValue) (above : Scrollback) → gone ≡ [] → room.TakesMemory gone above → ⊥
 never_grows gone above none takes = let n : length gone ≡ 0 = ap length none in absurd (omega (arith, takes.0, n))
@@ -208,7 +208,7 @@ quiet_unbroken does (event ∷ events) held screen after b e t =
           (subst (λ i. StopsIn (Performs does) (Breaks does) i events b) there more)
     ]
 
--- what stops in a list stops in its first part, or behind it
+-- What stops in a list stops in its first part or in its second part.
 stops_parted : {P A : Type 0} (R T : P → A → P → Type 0) (xs ys : List A) (p q : P) →
     StopsIn R T p (xs ++ ys) q → StopsIn R T p xs q ⊎ ((m : P) × FoldsTo R p xs m × StopsIn R T m ys q)
 stops_parted R T [] ys p q t = inr (p, refl, t)
@@ -222,7 +222,7 @@ stops_parted R T (x ∷ xs) ys p q t = elim t [
 
 -- ---- bytes
 
--- a byte that was read quietly: what it left, and that it takes no memory
+-- A byte read without callbacks or allocations: the terminal after it, and that it needs no memory.
 record ReadQuietly (t : Terminal) (b : ℕ) (u : Terminal) : Type 0 where
   calm : grows (turn_of t.scan.kind (class_of b)) ≡ false
   scan : u.scan ≡ (step_in t.scan.kind t.scan.collected b).state
@@ -304,7 +304,7 @@ ran_quietly {S} does p q bytes s t ran stands e =
       ap (λ (b : act.State S). b.callbacks) same.0,
     )
 
--- the same of a parser that is seen through its fields
+-- Reading without callbacks or allocations, for a parser given by its fields.
 pub quietly_here : {S : Type 0} (does : CallRelation S)
     (p old q : Parsing S) (bytes : List ℕ) (s : State) (t : Terminal) →
     p ≡ old → Ran does p bytes q → StandsFor old.scanner s → read (terminal s old.screen) bytes ≡ Some t →

@@ -1,4 +1,4 @@
--- Groups, parts and prints: what is left after one more, and what a count of parts says.
+-- Groups, parts and prints: the steps left after one more of them, and what the number of parts decides.
 use Rattle.std.proofs.Common.{◌≡◌, ◌≢◌, ℕ, ◌+◌, ◌<◌, Bool, List, [], ◌∷◌, ◌++◌, Bor, length}
 use Rattle.std.proofs.Common.{map, drop, get_or, refl, sym, subst, ap, ◌∙◌, arith}
 use Rattle.std.proofs.lemmas.List.{append-nil, drop_more, length-map}
@@ -14,7 +14,7 @@ use Rattle.vt100.specs.Internals.{Does, Stops}
 use Rattle.vt100.proofs.Deciding.{other_group, other_parts}
 use Rattle.vt100.proofs.Stepping.{Left, Rest, left_through, left_within, rest_on}
 
--- the item that indexing falls back on
+-- The fallback item for an index out of bounds.
 abbrev pub nothing : Bor (List ℕ)
 nothing = record { ref_ptr = (0, 0); now = [] }
 
@@ -40,7 +40,7 @@ modes_next on report groups i group h is =
     ∙ ap (λ (g : List ℕ). mode_steps on report (g ∷ drop (i + 1) groups)) (sym is)
     ∙ modes_parted on report group (drop (i + 1) groups)
 
--- one more group of modes is done, or stopped in
+-- The steps left after one more group of modes, or a stop within it.
 pub modes_left : {S : Type 0} (does : CallRelation S) (s t u : S) (d e f : ScreenValue) (all : List Step) (on : Bool)
     (report : CallValue) (groups : List (List ℕ)) (i : ℕ) (group : List ℕ) →
     i < length groups → group ≡ get_or groups i [] →
@@ -62,7 +62,7 @@ modes_stop {S} does s t u d e f all on report groups i group h is left stop =
     (mode_steps on report (drop (i + 1) groups))
     (subst (λ (steps : List Step). Left does s d all t e steps) (modes_next on report groups i group h is) left) stop
 
--- one more group of settings is done
+-- The steps left after one more group of SGR settings.
 pub settings_left : {S : Type 0} (does : CallRelation S)
     (s t u : S) (d e f : ScreenValue) (all : List Step) (whole : List (List ℕ)) (wanted : Wanted)
     (groups : List (List ℕ)) (i : ℕ) (read : GroupRead) →
@@ -79,7 +79,7 @@ settings_left {S} does s t u d e f all whole wanted groups i read h is rest done
     (sgr_from whole read.wanted (drop (i + 1) groups))
     (subst (λ (steps : List Step). Rest does s d all t e steps) next rest) done
 
--- ---- parts by their count
+-- ---- parts by their number
 
 pub two_parts : (parts : List (Bor (List ℕ))) → length parts ≡ 2 →
     map (λ (part : Bor (List ℕ)). part.now) parts ≡ (get_or parts 0 nothing).now ∷ (get_or parts 1 nothing).now ∷ []
@@ -105,7 +105,7 @@ more_parts parts h k =
     length-map parts (λ part. part.now) in
     other_parts (map (λ (part : Bor (List ℕ)). part.now) parts) (λ e. h (sym same ∙ e)) (λ e. k (sym same ∙ e))
 
--- as many parts or groups as the code looks at
+-- Commands of two, of three, and of more parts or groups.
 pub ruleset parts_counted = (two_parts, three_parts, more_parts)
 
 pub ruleset groups_met = (one_group, other_group)

@@ -1,4 +1,4 @@
--- Runs, one after the other.
+-- Runs that follow one another.
 use Rattle.std.proofs.Common.{◌≡◌, ℕ, List, [], ◌∷◌, ◌++◌, ◌+◌, ◌-◌, ◌<◌, ◌≤◌, length, take, drop}
 use Rattle.std.proofs.Common.{slice_index_or, Some, None, refl, sym, subst, ap, ◌∙◌, inl, inr, arith}
 use Rattle.std.proofs.Math.Seq.{get_or-append-add, take-add, take-append-add}
@@ -62,7 +62,7 @@ byte_ran does p q b answer feeds folds = λ s stands.
           (follows.means ∙ sym (append-nil (step_in s.kind s.collected b).events)) folds,
     )
 
--- the byte that was refused is one of a command's text
+-- The byte whose allocation failed is collected into a command's text.
 pub refused_at : {S : Type 0} (does : CallRelation S) (p q : Parsing S) (bytes : List ℕ) (k : ℕ) →
     Ran does p (take k bytes) q → turn_of q.scanner.kind (class_of (slice_index_or bytes k 0)) ≡ Collect OscString →
     (state : State) → StandsFor p.scanner state → Collects state bytes k
@@ -79,7 +79,7 @@ ran_joined does p q [] same = ran_nothing does p q same
 ran_joined does p q (piece ∷ pieces) runs =
     ran_then does p runs.0 q piece (pieces_joined pieces) runs.1 (ran_joined does runs.0 q pieces runs.2)
 
--- an event that broke, among those of one byte of many
+-- An event that stopped, among the events of one byte of many.
 pub stopped_within : {S : Type 0} (does : CallRelation S)
     (p m q : Parsing S) (after : Held) (bytes : List ℕ) (k : ℕ) (answer : Events)
     → k < length bytes → Ran does p (take k bytes) m → Feeds m.scanner (slice_index_or bytes k 0) after answer
@@ -100,16 +100,16 @@ stopped_within does p m q after bytes k answer inside ran feeds stops = λ s sta
     subst (λ (bs : List ℕ). StopsIn (Performs does) (Breaks does) (stage p) (run s bs).events (stage q)) split
     (rw (run-append s (take k bytes) (x ∷ rest)) all)
 
--- one character, and nothing after it
+-- The events of a byte that ends one character.
 abbrev pub one_character : ℕ → Events
 one_character code = record { first = Some (Character code); second = None }
 
--- a byte that is read as its character
+-- A byte that is read as its own character.
 pub text_answer : (held : Held) (b code : ℕ) → Feeds held b held (one_character b) →
     code ≡ b → Feeds held b held (one_character code)
 text_answer held b code feeds same = subst (λ (k : ℕ). Feeds held b held (one_character k)) (sym same) feeds
 
--- ---- a run, and then one that ends for want of memory
+-- ---- a run followed by one that stops because an allocation fails
 
 stopped_within_then : {S : Type 0} (does : CallRelation S) (p q r : Parsing S) (a b : List ℕ) →
     Ran does p a q → StoppedWithin does q b r → StoppedWithin does p (a ++ b) r
@@ -178,7 +178,7 @@ known_stopped does p q after bytes n events fed stops = λ s stands.
     (take-append-drop n bytes)
     (rw (run-append s front rest) all)
 
--- ---- what a call answers
+-- ---- results of calls
 
 pub some_read : {S : Type 0} (does : CallRelation S) (p q : Parsing S) (bytes : List ℕ) (count : ℕ) →
     count ≤ length bytes → Ran does p (take count bytes) q → ReadsOrStops does p bytes q (Ok count)
@@ -190,7 +190,7 @@ pub stopped_in : {S : Type 0} (does : CallRelation S) (p q : Parsing S) (bytes :
 stopped_in does p q bytes count stopped at =
     record { inside = tt; ran = tt; stopped = λ r. stopped; where_stopped = at }
 
--- nothing was read before
+-- A call that begins after a run over no bytes.
 pub read_behind : {S : Type 0} (does : CallRelation S) (p q r : Parsing S) (bytes : List ℕ) (result : Result ℕ ℕ) →
     Ran does p (take 0 bytes) q → ReadsOrStops does q bytes r result → ReadsOrStops does p bytes r result
 read_behind does p q r bytes (Ok count) nothing reads =
@@ -199,9 +199,9 @@ read_behind does p q r bytes (Err count) nothing reads =
     stopped_in does p r bytes count (stopped_then does p q r bytes 0 nothing (reads.stopped refl))
     (stopped_at_after does p q r bytes count nothing reads.where_stopped)
 
--- ---- who is called, and when
+-- ---- which callbacks are invoked, and when
 
--- bytes without an event, and behind them some of which only the last has events
+-- Bytes without an event, followed by bytes of which only the last has events.
 pub led_by_last : {S : Type 0} (old new : S) (before led : Held) (bytes : List ℕ) (k n : ℕ)
     → FeedsAll before (take k bytes) led [] → CallsByLast old led (drop k bytes) n new
     → CallsByLast old before bytes (k + n) new
@@ -226,7 +226,7 @@ pub map_some : (P Q : ℕ → Type 0) (result : Result ℕ ℕ) → ((k : ℕ) �
 map_some P Q (Ok k) f h = f k h
 map_some P Q (Err error) f h = tt
 
--- nothing was read before
+-- Callbacks invoked by the last byte only, after a run over no bytes.
 pub later_by_last : {S : Type 0} (does : CallRelation S) (p q : Parsing S) (new : S) (bytes : List ℕ) (n k : ℕ)
     → n ≡ 0 → Ran does p (take n bytes) q → CallsByLast p.callbacks p.scanner bytes n q.callbacks
     → CallsByLast q.callbacks q.scanner bytes k new → CallsByLast p.callbacks p.scanner bytes k new

@@ -1,4 +1,4 @@
--- One step, and two calls.
+-- One step, and two calls of callbacks.
 use Rattle.std.proofs.Common.{◌≡◌, ℕ, suc, ◌+◌, ◌-◌, ◌<◌, Bool, true, false, List, []}
 use Rattle.std.proofs.Common.{◌∷◌, ◌++◌, replicate, refl, subst, ap, inl, inr, arith}
 use Rattle.std.proofs.lemmas.Bool.Decides.{nat_tests}
@@ -55,12 +55,12 @@ pub stepping : {S : Type 0} (does : CallRelation S) (x : Step) (s : S) (d e : Sc
     is_own x ≡ true → e ≡ display_after x d → Does does s d (x ∷ []) s e
 stepping does x s d e own h = (state s e, takes_own does x s d e own h, refl)
 
--- a call that took all steps
+-- A call that took all steps returns Ok.
 pub all_done : {S : Type 0} (does : CallRelation S) (s t : S) (d e : ScreenValue) (steps : List Step) →
     Does does s d steps t e → DoesOrStops does s d steps t e (Ok tt)
 all_done does s t d e steps h = record { done = h; stopped = λ r. absurd (false≢true r); memory = tt }
 
--- ---- another page is shown, or that is refused
+-- ---- switching pages, or its allocation failing
 
 alone_refused : {S : Type 0} (does : CallRelation S) (x : Step) (s : S) (d e : ScreenValue) →
     Grows x d → e ≡ d → Stops does s d (x ∷ []) s e
@@ -92,9 +92,9 @@ pub freshening_stops : {S : Type 0} (does : CallRelation S) (on : Bool) (s : S) 
     Grows (fresh_alternate_step on) d → e ≡ d → Stops does s d (fresh_alternate_step on ∷ []) s e
 freshening_stops does on s d e grows same = alone_refused does (fresh_alternate_step on) s d e grows same
 
--- ---- loops: what of all steps is left
+-- ---- loops: the steps that are left
 
--- whoever takes the steps that are left has taken all
+-- Taking the steps `rest` completes taking `all`.
 abbrev pub Rest : {S : Type 0} → CallRelation S → S → ScreenValue → List Step → S → ScreenValue → List Step → Type 0
 Rest {S} does s d all t e rest =
     (u : State S) → FoldsTo (Takes does) (state t e) rest u → FoldsTo (Takes does) (state s d) all u
@@ -113,7 +113,7 @@ rest_none does s t d e all r = r (state t e) refl
 
 -- ---- loops that may stop
 
--- whoever takes the steps that are left has taken all, and whoever stops in them has stopped in all
+-- Taking the steps `rest` completes taking `all`, and stopping within `rest` is stopping within `all`.
 abbrev pub Left : {S : Type 0} → CallRelation S → S → ScreenValue → List Step → S → ScreenValue → List Step → Type 0
 Left {S} does s d all t e rest =
     Rest does s d all t e rest
@@ -137,7 +137,7 @@ left_stop : {S : Type 0} (does : CallRelation S)
     Left does s d all t e (x ∷ rest) → Refuses (state t e) x (state u f) → Stops does s d all u f
 left_stop does s t u d e f all x rest (r, q) h = q (state u f) (inl h)
 
--- a list of them is done, or stopped in
+-- The steps left after a list of them.
 pub left_through : {S : Type 0} (does : CallRelation S) (s t u : S) (d e f : ScreenValue) (all one rest : List Step) →
     Left does s d all t e (one ++ rest) → Does does t e one u f → Left does s d all u f rest
 left_through does s t u d e f all one rest (r, q) h = (
@@ -150,7 +150,7 @@ pub left_within : {S : Type 0} (does : CallRelation S) (s t u : S) (d e f : Scre
 left_within does s t u d e f all one rest (r, q) h =
     q (state u f) (stops_first (Takes does) Refuses one rest (state t e) (state u f) h)
 
--- one more print is done, or refused
+-- The steps left after one more print.
 pub prints_left : {S : Type 0} (does : CallRelation S) (s t u : S) (d e f : ScreenValue) (all : List Step) (c n k : ℕ) →
     k < n → Left does s d all t e (replicate (n - k) (Print c)) → Takes does (state t e) (Print c) (state u f) →
     Left does s d all u f (replicate (n - (k + 1)) (Print c))
@@ -168,7 +168,7 @@ prints_stop {S} does s t u d e f all c n k h left refusal =
     (subst (λ (steps : List Step). Left does s d all t e steps) (ap (λ (m : ℕ). replicate m (Print c)) gap) left)
     refusal
 
--- ---- what the code's functions use of these, with the tests of numbers
+-- ---- facts for the code's functions, with their tests of numbers
 
 pub ruleset steps_called = (called, called_twice, stepping)
 

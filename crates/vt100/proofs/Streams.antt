@@ -1,4 +1,4 @@
--- Calls of a parser, one after the other: what is told of them, what is kept, and the one text of both.
+-- Calls of a parser in sequence: what they report, what they keep, and the one text of both.
 use Rattle.std.proofs.Common.{◌≡◌, ◌≢◌, ℕ, Bool, true, false, List, [], ◌∷◌, ◌++◌}
 use Rattle.std.proofs.Common.{map, refl, sym, ap, ap₂, subst, ◌∙◌, append_assoc}
 use Rattle.std.proofs.lemmas.List.{append-nil}
@@ -28,7 +28,7 @@ use Rattle.vt100.specs.Parser.{Parsing, Ran, stage}
 use Rattle.vt100.specs.Streams.{ParserCall, Process, SetScrollback, IsFreshParser, IsRecorder}
 use Rattle.vt100.specs.Streams.{MakesCall, bytes_of_calls, screen_by, calls_by, whole_text}
 
--- ---- what callbacks hear
+-- ---- the calls that callbacks receive
 
 pub ran_called : {S : Type 0} (does : CallRelation S) → LeavesScreen does
     → (p q : Parsing S) (bytes : List ℕ) (scan : State) → StandsFor p.scanner scan → Ran does p bytes q
@@ -36,7 +36,7 @@ pub ran_called : {S : Type 0} (does : CallRelation S) → LeavesScreen does
 ran_called does leaves p q bytes scan stands ran =
     called_events does leaves (run scan bytes).events (stage p) (stage q) (ran scan stands).1
 
--- a list of calls was made
+-- A list of calls of a parser has been made.
 pub record HasCalled {S : Type 0} (does : CallRelation S)
     (scan : State) (screen : ScreenValue) (calls : List ParserCall) (p q : Parsing S) : Type 0 where
   pub shown : q.screen ≡ screen_by scan screen calls
@@ -65,7 +65,7 @@ calls_made {S} does leaves (SetScrollback rows ∷ calls) p q scan stands t =
     (subst (λ (r : Parsing S). FoldsTo (MakesCall does) r calls q) t.1 t.2) in
     record { shown = rest.shown; called = rest.called }
 
--- ---- what is told and kept
+-- ---- rows reported and rows kept
 
 all_parted : (xs ys : List Event) → AllByRecursion (λ event. event ≢ ris) (xs ++ ys) →
     AllByRecursion (λ event. event ≢ ris) xs × AllByRecursion (λ event. event ≢ ris) ys
@@ -77,7 +77,7 @@ none_parted scan a b none =
     all_parted (run scan a).events (run (run scan a).state b).events
     (subst (λ (o : Outcome). AllByRecursion (λ event. event ≢ ris) o.events) (run-append scan a b) none)
 
--- from a screen, as against one that is the same but for scrollback, over the same bytes in one piece
+-- Reading bytes from a screen, compared with reading them from one that differs only in its scrollback.
 record Follows (told : List CallValue) (scan : State) (s r after : ScreenValue) (bytes : List ℕ) : Type 0 where
   streams : Streamed told (sent_off_in scan r bytes) s after
   same : SameBare after (screen_in scan r bytes)
@@ -120,7 +120,7 @@ calls_stream (Process bytes ∷ calls) scan s r e none k =
       same = rest.same ∙ ap without_scrollback (sym (screen_in_then scan r bytes more));
     }
 
--- two parsers whose screens are the same but for scrollback
+-- Runs of two parsers whose screens differ only in their scrollback.
 pub ran_apart : {S : Type 0} (does : CallRelation S) → LeavesScreen does
     → (p q r s : Parsing S) (bytes : List ℕ) (scan : State) → StandsFor p.scanner scan → StandsFor r.scanner scan
     → without_scrollback p.screen ≡ without_scrollback r.screen → Ran does p bytes q → Ran does r bytes s
@@ -181,7 +181,7 @@ one_text does leaves rows cols capacity p q calls fresh none makes main =
 
 -- ---- recorders
 
--- what a recorder has written, after these calls
+-- The text and capture state of a recorder after these calls.
 record HasRecorded {S : Type 0} (text_of : S → List ℕ) (state_of : S → Written)
     (is_whole : S → Bool) (calls : List CallValue) (old new : S) : Type 0 where
   whole : is_whole old ≡ true

@@ -1,4 +1,4 @@
--- A run of wide characters that the cursor's row has room for is read as the run of their events.
+-- A run of wide characters that fits on the cursor's row is read as the run of their events.
 use Rattle.std.proofs.Common.{◌≡◌, ℕ, ◌+◌, ◌*◌, ◌<◌, ◌≤◌, ◌==◌, ◌&&◌, ◌||◌, nat_le, false, None, map}
 use Rattle.std.proofs.Common.{List, [], ◌∷◌, length, refl, inl, inr, sym, subst, arith}
 use Rattle.std.specs.List.{FoldsTo}

@@ -1,4 +1,4 @@
--- What the calls that read bytes answer, and what they leave.
+-- The results of the calls that parse bytes, and the parsers they leave.
 use Rattle.std.specs.Prelude.{◌≡◌, ◌≢◌, ◌↔◌, ◌<◌, ◌≤◌, ℕ, true, false, List, Err, Ok, length, take, IfErr, IfOk, IsErr}
 use Rattle.std.specs.IoError.{error_kind}
 use Rattle.std.specs.declared.io.Error as io
@@ -10,7 +10,8 @@ use Rattle.vt100.specs.Parser.{CallsByLast, IsHarmless, Parsing, Ran, Stopped, S
 use Rattle.vt100.specs.Pieces.{Processes, processing}
 use Rattle.vt_screen.specs.Run.{CallRelation}
 
--- bytes are read in full, or up to a byte or step that takes memory, and nothing is read from then on
+-- A call of `process`: all bytes are read, or those before a byte or step whose allocation fails, after which the
+-- parser reads nothing more.
 pub record ParserProcesses {S : Type 0} (does : CallRelation S)
     (old : Parsing S) (bytes : List ℕ) (answer : Result (Unit {0}) Error) (new : Parsing S) : Type 0 where
   pub ran : IfOk answer (λ _. Ran does old bytes new)
@@ -22,8 +23,9 @@ pub record ParserProcesses {S : Type 0} (does : CallRelation S)
   pub harmless : old.is_failed ≡ false → IsHarmless does old bytes → answer ≡ Ok tt
   pub quiet : Processes old (processing bytes answer) new
 
--- so many of the bytes are read, of which only the last has events if a callback is invoked; or an allocation fails for
--- the byte after so many without an event, and nothing is read from then on
+-- A call of `process_unit`: the first `count` bytes are read, of which only the last has events if a callback is
+-- invoked; or the allocation for the byte at `count` fails, no byte before it has an event, and the parser reads
+-- nothing more.
 pub record ParserReadsUnit {S : Type 0} (does : CallRelation S) (old : Parsing S) (bytes : List ℕ) (count : ℕ)
     (answer : Result (Unit {0}) Error) (new : Parsing S) : Type 0 where
   pub some : IfOk answer (λ _. 0 < count)
@@ -36,7 +38,8 @@ pub record ParserReadsUnit {S : Type 0} (does : CallRelation S) (old : Parsing S
   pub no_number : IfErr answer (λ error. error ≢ NoNumber)
   pub for_good : new.is_failed ≡ true ↔ IsErr answer
 
--- the same as a writer, whose errors are of two kinds
+-- A call of `write` on a parser as an `io::Write`: all bytes are read, or the error is of the kind `OutOfMemory` or
+-- `Other`.
 pub record ParserWrites (old : Parsing (Unit {0})) (bytes : List ℕ) (answer : Result ℕ io.Error)
     (new : Parsing (Unit {0})) : Type 0 where
   pub whole : IfOk answer (λ count. count ≡ length bytes)

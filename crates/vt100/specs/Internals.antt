@@ -1,4 +1,4 @@
--- Aids of proofs, which only contracts of private functions cite.
+-- Auxiliary definitions that only the contracts of private functions cite.
 use Rattle.std.specs.Prelude.{◌≡◌, ℕ, ◌<◌, ◌≤◌, Bool, true, false, List, Option, Some, None, IfErr, IfOk, IsErr, length}
 use Rattle.std.specs.Prelude.{replicate, take}
 use Rattle.std.specs.List.{FoldsTo}
@@ -15,15 +15,15 @@ use Rattle.vt_screen.specs.Run.{CallRelation, Breaks, Performs, Refuses, State, 
 use Rattle.vt100.specs.Parser.{Parsing, Ran, Stopped, StoppedAt}
 use Rattle.vt100.specs.declared.sequence.Sequence.{Sequence}
 
--- these steps, one after the other
+-- The steps are taken one after the other.
 abbrev pub Does : {S : Type 0} → CallRelation S → S → ScreenValue → List Step → S → ScreenValue → Type 0
 Does does old before steps new after = FoldsTo (Takes does) (state old before) steps (state new after)
 
--- some of these steps, and then one that is refused for want of memory
+-- Some of the steps are taken, and the allocation of the next one fails.
 abbrev pub Stops : {S : Type 0} → CallRelation S → S → ScreenValue → List Step → S → ScreenValue → Type 0
 Stops does old before steps new after = StopsIn (Takes does) Refuses (state old before) steps (state new after)
 
--- a call that takes these steps, or stops in them for want of memory
+-- A call that takes all of the steps, or stops at one of them because its allocation fails.
 pub record DoesOrStops {S : Type 0} (does : CallRelation S)
     (old : S) (before : ScreenValue) (steps : List Step) (new : S) (after : ScreenValue)
     (result : Result (Unit {0}) Error) : Type 0 where
@@ -31,7 +31,8 @@ pub record DoesOrStops {S : Type 0} (does : CallRelation S)
   pub stopped : IsErr result → Stops does old before steps new after
   pub memory : OnlyOutOfMemory result
 
--- a call that takes a step so often as it answers, at most so often, or stops in these for want of memory
+-- A call that takes a step as many times as it returns, which is at most `left`, or stops within `left` of them because
+-- an allocation fails.
 pub record RepeatsOrStops {S : Type 0} (does : CallRelation S)
     (old : S) (before : ScreenValue) (left : ℕ) (step : Step) (new : S) (after : ScreenValue)
     (result : Result ℕ Error) : Type 0 where
@@ -41,14 +42,15 @@ pub record RepeatsOrStops {S : Type 0} (does : CallRelation S)
   pub stopped : IsErr result → Stops does old before (replicate left step) new after
   pub memory : OnlyOutOfMemory result
 
--- a call that does what these events say, or stops in them for want of memory
+-- A call that performs all of the events, or stops in one of them because an allocation fails.
 pub record PerformsOrBreaks {S : Type 0} (does : CallRelation S)
     (old : State S) (events : List Event) (new : State S) (result : Result (Unit {0}) Error) : Type 0 where
   pub done : IfOk result (λ _. FoldsTo (Performs does) old events new)
   pub stopped : IsErr result → StopsIn (Performs does) (Breaks does) old events new
   pub memory : OnlyOutOfMemory result
 
--- a call that reads as many of these bytes as it answers, or stops for want of memory after as many as it answers
+-- A call that reads as many of the bytes as it returns, or stops, with an error that counts the bytes before the one
+-- whose allocation fails.
 pub record ReadsOrStops {S : Type 0} (does : CallRelation S)
     (old : Parsing S) (bytes : List ℕ) (new : Parsing S) (result : Result ℕ ℕ) : Type 0 where
   pub inside : IfOk result (λ count. count ≤ length bytes)
@@ -56,12 +58,12 @@ pub record ReadsOrStops {S : Type 0} (does : CallRelation S)
   pub stopped : IsErr result → Stopped does old bytes new
   pub where_stopped : IfErr result (λ count. StoppedAt does old bytes count new)
 
--- the report of a control sequence
+-- The call of `unhandled_csi` that reports a control sequence.
 abbrev pub report_of : Sequence → CallValue
 report_of sequence =
     UnhandledCsi sequence.first sequence.second sequence.parameters.now.groups sequence.byte
 
--- a step that calls nobody, takes no memory, and scrolls no row off the page
+-- Whether a step invokes no callbacks, allocates nothing, and scrolls no row off the page.
 abbrev pub is_own : Step → Bool
 is_own (CallBack call) = false
 is_own (Print c) = false
@@ -72,7 +74,7 @@ is_own EnterAlternate = false
 is_own EnterFresh = false
 is_own _ = true
 
--- a step of the page was made, if there is one, and else nothing
+-- A call that takes the step of the page, if there is one, and returns whether there is.
 abbrev pub MadeIf : Option PageStep → Bool → ScreenValue → ScreenValue → Type 0
 MadeIf (Some step) made old new = (made ≡ true) × (new ≡ display_after (OnPage step) old)
 MadeIf None made old new = (made ≡ false) × (new ≡ old)

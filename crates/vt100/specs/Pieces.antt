@@ -1,4 +1,4 @@
--- Texts that are read quietly, in any list of calls of `process`.
+-- Bytes that are read without callbacks or allocations, in any list of calls of `process`.
 use Rattle.std.specs.Prelude.{◌≡◌, ℕ, false, List, [], ◌∷◌, ◌++◌, Ok, Some}
 use Rattle.std.specs.List.{AllByRecursion}
 use Rattle.std.specs.declared.result.Result.{Result}
@@ -14,7 +14,7 @@ use Rattle.vt_screen.specs.Screen.{IsScreen, ScreenValue, above_page}
 use Rattle.vt_screen.specs.Shown.{IsPlain, KeepsRest, shown}
 use Rattle.vt100.specs.Parser.{Parsing}
 
--- a call of `process`: its bytes, and what it answered
+-- A call of `process`: its bytes and its result.
 pub record Processing : Type 0 where
   pub bytes : List ℕ
   pub answer : Result (Unit {0}) Error
@@ -25,46 +25,47 @@ processing bytes answer = record { bytes = bytes; answer = answer }
 abbrev pub IsFine : Processing → Type 0
 IsFine call = call.answer ≡ Ok tt
 
--- a parser that has become what reading made of its terminal, with its callbacks as they were
+-- A parser that has become what reading makes of its terminal, with its callbacks unchanged.
 pub record HasRead {S : Type 0} (old : Parsing S) (after : Terminal) (new : Parsing S) : Type 0 where
   pub is_failed : new.is_failed ≡ false
   pub scanner : StandsFor new.scanner after.scan
   pub screen : new.screen ≡ after.screen
   pub callbacks : new.callbacks ≡ old.callbacks
 
--- what a call of `process` does where its bytes are read quietly: it answers Ok, and they are read
+-- What a call of `process` does if reading its bytes invokes no callbacks and allocates nothing: it returns Ok, and the
+-- bytes are read.
 abbrev pub Processes : {S : Type 0} → Parsing S → Processing → Parsing S → Type 0
 Processes old call new =
     (state : State) → (after : Terminal) → old.is_failed ≡ false
     → StandsFor old.scanner state → read (terminal state old.screen) call.bytes ≡ Some after
     → IsFine call × HasRead old after new
 
--- the bytes of calls, one after the other
+-- The concatenated bytes of a list of calls.
 abbrev pub bytes_in : List Processing → List ℕ
 bytes_in [] = []
 bytes_in (call ∷ calls) = call.bytes ++ bytes_in calls
 
--- a parser that did not fail, is in ground state, and has a plain screen
+-- A parser that has not failed, is in ground state, and has a plain screen.
 pub record IsPlainParser {S : Type 0} (parser : Parsing S) : Type 0 where
   pub is_failed : parser.is_failed ≡ false
   pub scanner : StandsFor parser.scanner start
   pub screen : IsPlain parser.screen
 
--- a plain parser that shows a screen; the rest of its own as it was, and its callbacks too
+-- A plain parser that displays the screen `last`; the rest of its own screen and its callbacks are unchanged.
 pub record ShowsLast {S : Type 0} (old : Parsing S) (last : ScreenValue) (new : Parsing S) : Type 0 where
   pub plain : IsPlainParser new
   pub shows : shown new.screen ≡ shown last
   pub rest : KeepsRest old.screen new.screen
   pub callbacks : new.callbacks ≡ old.callbacks
 
--- a parser in ground state that shows no scrollback; its region and origin mode may be any
+-- A parser in ground state that displays no scrollback; its scroll region and origin mode may be any.
 pub record IsUnscrolledParser {S : Type 0} (parser : Parsing S) : Type 0 where
   pub sound : IsScreen parser.screen
   pub scanner : StandsFor parser.scanner start
   pub offset : (above_page parser.screen).offset ≡ 0
 
--- a plain parser, which keeps its other page, its input modes, its cursor style and its size; of its callbacks `on_scroll`
--- alone was invoked, for rows that scrolled off the top
+-- A plain parser whose other page, input modes, cursor style and size are unchanged; of its callbacks only `on_scroll`
+-- was invoked, for rows that scrolled off the top.
 pub record IsPlainAgain {S : Type 0} (does : CallRelation S) (old new : Parsing S) : Type 0 where
   pub plain : IsPlainParser new
   pub aside : KeepsAside old.screen new.screen

@@ -1,5 +1,5 @@
--- Calls of a parser between which its screen is scrolled back and forth: what they call the callbacks for,
--- and the one text of what is reported and captured.
+-- Calls of a parser between which its screen is scrolled back and forth: the callbacks they invoke, and the one text of
+-- what is reported and captured.
 use Rattle.std.specs.Prelude.{◌≡◌, ℕ, ◌<◌, ◌^◌, Bool, true, List, [], ◌∷◌, ◌++◌}
 use Rattle.vt_rows.specs.Basic.{Written, unwritten}
 use Rattle.vt_scan.specs.Automaton.{State, start}
@@ -13,23 +13,24 @@ use Rattle.vt_screen.specs.CallsOfRun.{LeavesScreen, calls_in, screen_in}
 use Rattle.vt_screen.specs.Run.{CallRelation}
 use Rattle.vt100.specs.Parser.{Parsing, Ran}
 
--- a call of a parser, or of its screen
+-- A call of `Parser::process` or of `Screen::set_scrollback`.
 pub data ParserCall : Type 0 where
   Process : (bytes : List ℕ) → ParserCall
   SetScrollback : (rows : ℕ) → ParserCall
 
--- what such a call does that answers Ok
+-- What a call of a parser that returns Ok does.
 abbrev pub MakesCall : {S : Type 0} → CallRelation S → Parsing S → ParserCall → Parsing S → Type 0
 MakesCall does old (Process bytes) new = Ran does old bytes new
 MakesCall does old (SetScrollback rows) new = new ≡ record old { screen = scrolled_back rows old.screen }
 
--- all bytes of these calls
+-- The concatenated bytes of the calls of `process` in a list.
 abbrev pub bytes_of_calls : List ParserCall → List ℕ
 bytes_of_calls [] = []
 bytes_of_calls (Process bytes ∷ calls) = bytes ++ bytes_of_calls calls
 bytes_of_calls (SetScrollback rows ∷ calls) = bytes_of_calls calls
 
--- the calls of callbacks that leave the screen alone, and the screen after them
+-- The calls that callbacks receive in a list of calls of a parser, and the screen after it, if callbacks leave the
+-- screen alone.
 abbrev pub calls_by : State → ScreenValue → List ParserCall → List CallValue
 calls_by scan screen [] = []
 calls_by scan screen (Process bytes ∷ calls) =
@@ -41,7 +42,7 @@ screen_by scan screen [] = screen
 screen_by scan screen (Process bytes ∷ calls) = screen_by (run scan bytes).state (screen_in scan screen bytes) calls
 screen_by scan screen (SetScrollback rows ∷ calls) = screen_by scan (scrolled_back rows screen) calls
 
--- a fresh parser of this size and capacity
+-- A fresh parser of this size and scrollback capacity.
 pub record IsFreshParser {S : Type 0} (rows cols capacity : ℕ) (parser : Parsing S) : Type 0 where
   pub has_rows : 0 < rows
   pub few_rows : rows < 2 ^ 16
@@ -50,14 +51,15 @@ pub record IsFreshParser {S : Type 0} (rows cols capacity : ℕ) (parser : Parsi
   pub ground : StandsFor parser.scanner start
   pub shown : parser.screen ≡ fresh_screen rows cols capacity
 
--- the text of all that bytes write on a main page of this size: the rows that leave it, and then those of the page
+-- The text of everything that bytes write on a main page of this size: the rows that scroll off its top, and then those
+-- of the page.
 abbrev pub whole_text : (rows cols : ℕ) → List ℕ → List ℕ
 whole_text rows cols bytes =
     let fresh = fresh_screen rows cols 0 in
     basic_texts unwritten (sent_off_in start fresh bytes ++ (screen_in start fresh bytes).page.rows)
 
--- callbacks that write each row that is reported of the main page behind their text, with one state of captures; they
--- may not be whole any more where their sink refused some of it
+-- Callbacks that append each reported row of the main page to their text, with one capture state; their text is whole
+-- unless their sink refused a part of it.
 pub record IsRecorder {S : Type 0} (does : CallRelation S)
     (text_of : S → List ℕ) (state_of : S → Written) (is_whole : S → Bool) : Type 0 where
   pub leaves : LeavesScreen does

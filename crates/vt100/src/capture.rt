@@ -1,4 +1,5 @@
-//! Texts of rows with SGR alone: captures, and what is read from them.
+//! The text of rows with SGR as the only escape sequences (captures), and the
+//! types to read it.
 
 pub use vt_rows::capture::{
     BasicFormattedRows, BasicFormattedToPlain, BasicFormattedToPlainIndexed, basic_formatted_rows,

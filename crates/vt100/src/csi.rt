@@ -1,4 +1,4 @@
-//! Control sequences.
+//! Control sequences (CSI).
 
 ghost use Rattle.std.specs.Prelude.{◌≡◌, ◌≢◌, ◌-◌, ◌<◌, None, Some, length};
 ghost use Rattle.vt100.specs.Internals.{Does, DoesOrStops, MadeIf, report_of};
@@ -18,7 +18,13 @@ use vt_scan::Parameters;
 use vt_screen::screen::{controls, scrolling};
 use vt_screen::{Callbacks, Screen};
 
-/// Does what a control sequence says, up to a step whose memory is refused.
+/// Applies a control sequence to the screen and invokes the callbacks it calls
+/// for.
+///
+/// # Errors
+///
+/// `Error::OutOfMemory` if an allocation fails; the steps before the failing
+/// one stay applied.
 #[inline(always)]
 #[tactic(auto, using(crate::proofs::Dispatching::by_intermediates))]
 pub fn perform<CB: Callbacks>(
@@ -44,8 +50,15 @@ pub fn perform<CB: Callbacks>(
     with_intermediate(screen, callbacks, intermediate, sequence)
 }
 
-/// A control sequence without a marker or an intermediate. The two that are
-/// most frequent come first.
+/// Performs a control sequence without a private marker or an intermediate
+/// byte.
+///
+/// CUP and SGR are tested first because they are by far the most frequent.
+///
+/// # Errors
+///
+/// `Error::OutOfMemory` if an allocation fails; the steps before the failing
+/// one stay applied.
 #[inline(always)]
 fn unmarked<CB: Callbacks>(
     screen: &mut Screen,
@@ -67,8 +80,13 @@ fn unmarked<CB: Callbacks>(
     unmarked_by_table(screen, callbacks, parameters, byte)
 }
 
-/// Performs a control sequence without a marker or an intermediate, by a table of
-/// all final bytes.
+/// Performs a control sequence without a private marker or an intermediate
+/// byte, dispatching on its final byte.
+///
+/// # Errors
+///
+/// `Error::OutOfMemory` if an allocation fails; the steps before the failing
+/// one stay applied.
 #[inline(never)]
 #[tactic(auto, using(crate::proofs::Dispatching::by_counts))]
 fn unmarked_by_table<CB: Callbacks>(
@@ -95,8 +113,15 @@ fn unmarked_by_table<CB: Callbacks>(
     scrolling(screen, callbacks, sequence, count)
 }
 
-/// Performs a control sequence that may scroll rows off the page, or a different
-/// one. `count` is its first number.
+/// Performs SU or REP, which may scroll rows off the page, or any other control
+/// sequence without a marker.
+///
+/// `count` is the first parameter, with a default of 1.
+///
+/// # Errors
+///
+/// `Error::OutOfMemory` if an allocation fails; the steps before the failing
+/// one stay applied.
 #[inline(always)]
 #[tactic(auto, using(crate::proofs::Stepping::tested_refusal), unfolding(vt_screen::specs::Controls::scrolling_steps))]
 fn scrolling<CB: Callbacks>(
@@ -127,7 +152,9 @@ fn scrolling<CB: Callbacks>(
     }
 }
 
-/// A control sequence with one count, at least 1; whether it is one of these.
+/// Performs a control sequence whose only parameter is a count of at least 1.
+/// Returns whether `byte` is the final byte of such a sequence; if not, the
+/// screen is unchanged.
 #[inline(always)]
 #[tactic(auto, using(crate::proofs::Stepping::tested_steps), unfolding(vt_screen::specs::Controls::counted_step))]
 fn counted(screen: &mut Screen, byte: u8, count: u16) -> bool
@@ -154,8 +181,10 @@ fn counted(screen: &mut Screen, byte: u8, count: u16) -> bool
     true
 }
 
-/// Performs the other control sequences without a marker or an intermediate, but for
-/// CUP and SGR, which [`unmarked`] has taken.
+/// Performs HVP, ED, EL, DECSTBM or a window manipulation, or reports an
+/// unknown control sequence.
+///
+/// [`unmarked`] has handled CUP and SGR before.
 #[inline(always)]
 #[tactic(auto, using(crate::proofs::Stepping::tested_steps), unfolding(vt_screen::specs::Controls::other_steps))]
 fn other<CB: Callbacks>(screen: &mut Screen, callbacks: &mut CB, sequence: Sequence<'_>)
@@ -177,7 +206,7 @@ fn other<CB: Callbacks>(screen: &mut Screen, callbacks: &mut CB, sequence: Seque
     }
 }
 
-/// CUP, whose numbers count from 1.
+/// Performs CUP. Its row and column count from 1, and each defaults to 1.
 #[inline(always)]
 fn move_to(screen: &mut Screen, parameters: &Parameters)
     ensures { screen.new
@@ -190,7 +219,8 @@ fn move_to(screen: &mut Screen, parameters: &Parameters)
     controls::cup(screen, row - 1, col - 1);
 }
 
-/// DECSTBM, whose numbers count from 1; without the second one, to the last row.
+/// Performs DECSTBM. Its rows count from 1; the second defaults to the last
+/// row.
 fn set_region(screen: &mut Screen, parameters: &Parameters)
     ensures { screen.new
         ≡ display_after (step.OnPage (page.SetRegion (number_or 1 0 parameters.now.groups - 1)
@@ -203,7 +233,7 @@ fn set_region(screen: &mut Screen, parameters: &Parameters)
     controls::decstbm(screen, top - 1, bottom - 1);
 }
 
-/// ED.
+/// Performs ED (Erase in Display), or reports an unknown parameter.
 #[tactic(auto, using(crate::proofs::Stepping::steps_taken), unfolding(vt_screen::specs::Controls::page_erasing))]
 fn erase_page<CB: Callbacks>(screen: &mut Screen, callbacks: &mut CB, sequence: Sequence<'_>)
     ensures { Does CB.does callbacks.old screen.old
@@ -219,7 +249,7 @@ fn erase_page<CB: Callbacks>(screen: &mut Screen, callbacks: &mut CB, sequence: 
     }
 }
 
-/// EL.
+/// Performs EL (Erase in Line), or reports an unknown parameter.
 #[tactic(auto, using(crate::proofs::Stepping::tested_steps), unfolding(vt_screen::specs::Controls::row_erasing))]
 fn erase_row<CB: Callbacks>(screen: &mut Screen, callbacks: &mut CB, sequence: Sequence<'_>)
     ensures { Does CB.does callbacks.old screen.old
@@ -234,7 +264,8 @@ fn erase_row<CB: Callbacks>(screen: &mut Screen, callbacks: &mut CB, sequence: S
     }
 }
 
-/// Window manipulation: a size that is asked for.
+/// Performs a window manipulation (CSI `t`): `8` invokes [`Callbacks::resize`]
+/// with the requested size, and all others are reported.
 #[tactic(auto, using(crate::proofs::Stepping::tested_steps), unfolding(vt_screen::specs::Controls::window_steps))]
 fn window<CB: Callbacks>(screen: &mut Screen, callbacks: &mut CB, sequence: Sequence<'_>)
     requires { report_of sequence ≡ UnhandledCsi None None sequence.parameters.now.groups 0x74 }
@@ -252,7 +283,8 @@ fn window<CB: Callbacks>(screen: &mut Screen, callbacks: &mut CB, sequence: Sequ
     callbacks.resize(screen, (rows, cols));
 }
 
-/// The first number of a group, or the screen's own where the group is missing.
+/// Returns the first number of group `i`, or the screen's own size `own` if
+/// there is no such group.
 fn number_or_own(own: u16, parameters: &Parameters, i: usize) -> u16
     ensures { result ≡ size_or own i parameters.now.groups }
 {
@@ -262,7 +294,12 @@ fn number_or_own(own: u16, parameters: &Parameters, i: usize) -> u16
     parameters.number(i)
 }
 
-/// A control sequence with a marker or an intermediate.
+/// Performs a control sequence with a private marker or an intermediate byte.
+///
+/// # Errors
+///
+/// `Error::OutOfMemory` if an allocation fails; the steps before the failing
+/// one stay applied.
 #[inline(never)]
 #[tactic(auto, using(crate::proofs::Stepping::tested_steps), unfolding(vt_screen::specs::Controls::intermediate_steps))]
 fn with_intermediate<CB: Callbacks>(
@@ -284,7 +321,12 @@ fn with_intermediate<CB: Callbacks>(
     Ok(())
 }
 
-/// Behind `?`.
+/// Performs a control sequence with the private marker `?`.
+///
+/// # Errors
+///
+/// `Error::OutOfMemory` if an allocation fails; the steps before the failing
+/// one stay applied.
 #[tactic(auto, using(crate::proofs::Stepping::tested_steps), unfolding(vt_screen::specs::Controls::private_steps))]
 fn private<CB: Callbacks>(
     screen: &mut Screen,
@@ -306,7 +348,8 @@ fn private<CB: Callbacks>(
     Ok(())
 }
 
-/// Behind a space.
+/// Performs a control sequence with a space as its intermediate byte, such as
+/// DECSCUSR.
 #[tactic(auto, using(crate::proofs::Stepping::tested_steps), unfolding(vt_screen::specs::Controls::space_steps))]
 fn spaced<CB: Callbacks>(screen: &mut Screen, callbacks: &mut CB, sequence: Sequence<'_>)
     requires { sequence.first ≡ Some 0x20 }
@@ -329,7 +372,8 @@ fn spaced<CB: Callbacks>(screen: &mut Screen, callbacks: &mut CB, sequence: Sequ
     }
 }
 
-/// The cursor styles that DECSCUSR numbers.
+/// Returns the cursor style that DECSCUSR gives this number, or `None` if it is
+/// unknown.
 #[tactic(auto, using(crate::proofs::Stepping::tested_steps), unfolding(vt_screen::specs::Controls::style_of))]
 fn style(number: u16) -> Option<CursorStyle>
     ensures { result ≡ style_of number }

@@ -1,5 +1,5 @@
-//! What holds over lists of calls, as facts: these functions do nothing, and
-//! their clauses say what is proved.
+//! Laws about lists of calls. These functions do nothing when run; their
+//! clauses state what is proved.
 
 ghost use Rattle.std.specs.List.{AllByRecursion, FoldsTo};
 ghost use Rattle.std.specs.Prelude.{◌≡◌, ◌<◌, ℕ, Bool, false, true, List, [], ◌∷◌, ◌++◌, Some, length, map};
@@ -24,15 +24,17 @@ ghost use Rattle.vt_screen.specs.CallsOfRun.{CalledOnSomeScreen, LeavesScreen, c
 
 use vt_screen::Callbacks;
 
-/// Bytes may come in pieces: calls of `process` that read them one after the
-/// other are together what one call on all their bytes may do, with the same
-/// callbacks in the same order.
+/// States that input may be split anywhere: one call of `process` on all bytes
+/// and several calls on consecutive chunks of them allow the same runs, with
+/// the same callbacks in the same order.
 ///
-/// And what one call on all their bytes may do, calls on the pieces may do as
-/// well, to the same end: on two pieces by way of a parser that has not failed
-/// (`parted`), and on any number of them (`parted_list`). This holds of parsers
-/// whose scanner stands for at least one state, as every parser's does by the
-/// clause `stands` of `Parser::screen`.
+/// - `two`, `list`: what calls on the chunks do, one call on the whole may do.
+/// - `parted`, `parted_list`: what one call on the whole does, calls on the
+///   chunks may do, with the same final state. With two chunks, the parser
+///   between them has not failed.
+///
+/// They hold for parsers whose scanner stands for at least one state. Every
+/// parser's does, by the clause `stands` of `Parser::screen`.
 pub fn pieces<CB: Callbacks>()
     ensures two { (p q r : Parsing CB) (a b : List ℕ) →
         Ran CB.does p a q → Ran CB.does q b r → Ran CB.does p (a ++ b) r }
@@ -46,10 +48,13 @@ pub fn pieces<CB: Callbacks>()
         Ran CB.does p (pieces_joined (piece ∷ pieces)) r → ∥ FoldsTo (Ran CB.does) p (piece ∷ pieces) r ∥₁ }
 {}
 
-/// Bytes leave the size of the screen, where the callbacks leave the screen
-/// alone, as those that do nothing do (`nobody`): those of a run that came to its
-/// end, and of one that stopped for want of memory. The premises hold of every
-/// parser, by the clauses of `Screen::size` and `Parser::screen`.
+/// States that processing bytes never changes the size of the screen, provided
+/// that the callbacks leave the screen alone.
+///
+/// `ran` is about runs that reached their end, `stopped` about runs that ended
+/// because they were out of memory, and `nobody` says that callbacks that do
+/// nothing leave the screen alone. The premises hold for every parser, by the
+/// clauses of `Screen::size` and `Parser::screen`.
 pub fn sizes<CB: Callbacks>()
     ensures ran { (p q : Parsing CB) (bytes : List ℕ) → LeavesScreen CB.does →
         IsScreen p.screen → ∥ ((state : State) × StandsFor p.scanner state) ∥₁ →
@@ -60,14 +65,13 @@ pub fn sizes<CB: Callbacks>()
     ensures nobody { LeavesScreen quietly }
 {}
 
-/// A new parser is a fresh one of the size and capacity that were asked for, and
-/// plain: it has not failed, is in ground state, its region is the whole
-/// page, origin mode is off, and no scrollback is in view. Its screen has that
-/// size.
+/// States that a new parser has the requested size and scrollback capacity and
+/// is plain: it has not failed, is in ground state, its scroll region is the
+/// whole page, origin mode is off, and no scrollback is displayed.
 ///
-/// The premises of `fresh` and `plain` hold of each parser that `Parser::new`,
-/// `Parser::default` and `Parser::new_with_callbacks` give, by their clauses
-/// `ground` and `shown` and the clause `whole` of `Screen::size`.
+/// The premises of `fresh` and `plain` hold for every parser that
+/// `Parser::new`, `Parser::default` and `Parser::new_with_callbacks` return, by
+/// their clauses `ground` and `shown` and the clause `whole` of `Screen::size`.
 pub fn fresh_parsers<CB: Callbacks>()
     ensures fresh { (rows cols capacity : ℕ) (p : Parsing CB) → IsScreen p.screen → StandsFor p.scanner start
         → p ≡ parsing p.scanner (fresh_screen rows cols capacity) p.callbacks
@@ -80,8 +84,9 @@ pub fn fresh_parsers<CB: Callbacks>()
         → p.screen.page.width ≡ cols }
 {}
 
-/// A parser that took another size has that size, and is plain if it was. The
-/// premise that it took the size is the clause `ok` of `Parser::set_size`.
+/// States that a resized parser has the new size and is plain if it was plain
+/// before. The premise that the resize succeeded is the clause `ok` of
+/// `Parser::set_size`.
 pub fn resized_parsers<CB: Callbacks>()
     ensures plain { (rows cols : ℕ) (p q : Parsing CB) → 0 < rows
         → q ≡ record p { screen = resized rows cols p.screen; callbacks = q.callbacks }
@@ -94,11 +99,13 @@ pub fn resized_parsers<CB: Callbacks>()
         → q.screen.page.width ≡ cols }
 {}
 
-/// What is read quietly as one text is so in every run over its bytes, whatever
-/// the callbacks: a parser that then has not failed has become what reading
-/// made of it (`ran`). So it has after calls of `process` whose slices joined
-/// are the text, where these are given as what they make (`made`). And no such
-/// run can be refused memory (`harmless`), so that `process` answers Ok.
+/// States that bytes whose reading invokes no callbacks and allocates nothing
+/// have the same effect in every run over them, whatever the callbacks are.
+///
+/// - `ran`: a parser that has not failed after the run is the one that reading
+///   the bytes makes of it.
+/// - `made`: calls of `process` on chunks of the bytes make the same parser.
+/// - `harmless`: no such run can be out of memory, so `process` returns `Ok`.
 pub fn quiet_runs<CB: Callbacks>()
     ensures ran { (p q : Parsing CB) (bytes : List ℕ) (state : State) (after : Terminal)
         → StandsFor p.scanner state → read (terminal state p.screen) bytes ≡ Some after
@@ -112,12 +119,12 @@ pub fn quiet_runs<CB: Callbacks>()
         → IsHarmless CB.does p bytes }
 {}
 
-/// What is read quietly as one text is read so by every parser, whatever its
-/// callbacks, in any list of calls of `process` whose slices joined are the
-/// text, empty ones among them: each call answers Ok, and in the end the parser
-/// has become what reading made of it, its callbacks as before.
+/// States that bytes whose reading invokes no callbacks and allocates nothing
+/// may come in any chunks, empty ones included: each call of `process` returns
+/// `Ok`, and in the end the parser is the one that reading all the bytes makes
+/// of it, with its callbacks unchanged.
 ///
-/// That a call of `process` does so with its own slice is the clause `quiet` of
+/// That each single call does so with its own slice is the clause `quiet` of
 /// `Parser::process`.
 pub fn quiet_pieces<CB: Callbacks>()
     ensures { (p q : Parsing CB) → (calls : List Processing) → (state : State) → (after : Terminal) →
@@ -125,12 +132,13 @@ pub fn quiet_pieces<CB: Callbacks>()
         FoldsTo Processes p calls q → AllByRecursion IsFine calls × HasRead p after q }
 {}
 
-/// A full redraw followed by any chain of differences, each against the screen
-/// before it, in any pieces, leaves a plain terminal that shows the last
-/// screen, for steady screens of its size.
+/// States that a full redraw followed by any chain of differences, each against
+/// the screen before it, makes a plain terminal display the last screen. The
+/// bytes may come in any chunks, and the screens must be steady and of the
+/// terminal's size.
 ///
-/// Each call answers Ok; callbacks, scrollback, the other page and the modes
-/// are as before.
+/// Each call of `process` returns `Ok`; callbacks, scrollback, the other page
+/// and the modes are unchanged.
 pub fn chain<CB: Callbacks>()
     ensures shows { (self : ScreenValue) → (nexts : List ScreenValue) → (p q : Parsing CB) →
         (calls : List Processing) → IsScreen p.screen → IsPlainParser p → CanShowOn p.screen self →
@@ -138,21 +146,22 @@ pub fn chain<CB: Callbacks>()
         FoldsTo Processes p calls q → AllByRecursion IsFine calls × ShowsLast p (last_screen self nexts) q }
 {}
 
-/// A plain terminal that has read a redraw or a difference of any screen, steady
-/// or not, is plain again.
+/// States that a plain terminal is plain again after it has read a redraw or a
+/// difference of any screen, steady or not.
 ///
-/// `kept` is about texts that keep plain terminals plain, as those of
-/// `contents_formatted`, `contents_diff`, `contents_diff_scrolling` and
-/// `cursor_state_formatted` do by their clause `again`; `made` is about texts that
-/// make any terminal plain that shows no scrollback, as those of
-/// `contents_formatted_reset` do. The text may come in any chunks. Whatever the
-/// callbacks are, `on_scroll` alone is invoked, for rows that scroll off the top;
-/// the other page, the input modes, the cursor style and the size are as before.
-/// So the next redraw of a steady screen displays that screen, whatever was drawn
-/// before.
+/// - `kept` is about output that keeps plain terminals plain, as that of
+///   `contents_formatted`, `contents_diff`, `contents_diff_scrolling` and
+///   `cursor_state_formatted` does by their clause `again`.
+/// - `made` is about output that makes any terminal plain that displays no
+///   scrollback, as that of `contents_formatted_reset` does.
 ///
-/// The premise that the parser has not failed holds after calls of `process` that
-/// returned Ok.
+/// The output may come in any chunks. Whatever the callbacks are, only
+/// `on_scroll` is invoked, for rows that scroll off the top; the other page,
+/// the input modes, the cursor style and the size are unchanged. So the next
+/// redraw of a steady screen displays that screen, whatever was drawn before.
+///
+/// The premise that the parser has not failed holds after calls of `process`
+/// that returned `Ok`.
 pub fn again<CB: Callbacks>()
     ensures kept { (p q : Parsing CB) (chunks : List (List ℕ)) → KeepsPlain (pieces_joined chunks) →
         IsPlainParser p → FoldsTo (Ran CB.does) p chunks q → q.is_failed ≡ false → IsPlainAgain CB.does p q }
@@ -160,31 +169,33 @@ pub fn again<CB: Callbacks>()
         IsUnscrolledParser p → FoldsTo (Ran CB.does) p chunks q → q.is_failed ≡ false → IsPlainAgain CB.does p q }
 {}
 
-/// A capture that is written as rows are reported has one text, whatever the
-/// scrollback: from a fresh parser, over any list of calls of `process` and
-/// `Screen::set_scrollback` that ends on the main page, the basic texts of the
-/// rows that `on_scroll` was called for with `false`, and behind them, with the
-/// same state, those of `BasicFormattedCaptureRange::Full`.
+/// States that a recording has one text, whatever the scrollback capacity: the
+/// captured text of the rows for which `on_scroll` was called with `false`,
+/// followed by that of `BasicFormattedCaptureRange::Full`, with one capture
+/// state for both.
 ///
-/// `called` says what callbacks that leave the screen alone are called for: the calls of
-/// the model, each once and in order. `text` says which text it is: that of all
-/// rows that the bytes send off the main page at its top, and then of the page.
-/// So it is one text (`one`) for every capacity, in whatever pieces the bytes
-/// come, and wherever the screen was scrolled back in between. `recorded` says
-/// the same of what callbacks have written that keep a text and its state:
-/// with a full capture behind it, it is that text, if their sink refused
-/// nothing.
+/// It holds for a fresh parser and any list of calls of `process` and
+/// `Screen::set_scrollback` that ends on the main page.
 ///
-/// `kept` is about one call of `process`, on any parser: the rows reported with
-/// `false`, followed by scrollback after the call, are those of scrollback
-/// before it followed by the rows that left the main page at its top, where no
-/// row of scrollback that goes on below was shorter than the screen. `apart` says
-/// that those that left, and the screen after the call but for its scrollback,
-/// depend neither on capacity nor on scrollback: they are the same for two
-/// parsers whose screens are the same but for these.
+/// - `called`: callbacks that leave the screen alone receive the calls of the
+///   model, each once and in order.
+/// - `text`: the text is that of all rows that the bytes scroll off the top of
+///   the main page, and then of the page itself. So it is `one` text for every
+///   capacity, however the bytes are split and wherever the screen was scrolled
+///   back in between.
+/// - `recorded`: callbacks that keep a text and its capture state have written
+///   this text once a full capture is appended to it, if their sink accepted
+///   everything.
+/// - `kept`, about one call of `process` on any parser: the rows reported with
+///   `false`, followed by scrollback after the call, are scrollback before the
+///   call followed by the rows that scrolled off the top of the main page, if
+///   no wrapped row of scrollback was shorter than the screen.
+/// - `apart`: these rows, and the screen after the call without its scrollback,
+///   depend neither on the capacity nor on the scrollback; two parsers whose
+///   screens differ only in these agree on them.
 ///
-/// Premises are that each call answered Ok, that no RIS is among the bytes, and
-/// that the callbacks leave the screen alone.
+/// The premises are that each call returned `Ok`, that no RIS is among the
+/// bytes, and that the callbacks leave the screen alone.
 pub fn one_text<CB: Callbacks>()
     ensures called { (p q : Parsing CB) (calls : List ParserCall) (scan : State) → LeavesScreen CB.does →
         StandsFor p.scanner scan → FoldsTo (MakesCall CB.does) p calls q →

@@ -1,5 +1,5 @@
-//! A terminal in memory: bytes that a program writes are read, and a screen
-//! keeps what a person would see.
+//! A terminal in memory: it parses the bytes that a program writes, and keeps
+//! the screen that a person would see.
 //!
 //! ```text
 //! use std::num::NonZeroU16;
@@ -27,9 +27,9 @@
 //! }
 //! ```
 //!
-//! It prints that `R` is red, then a redraw of the screen, which any terminal of
-//! its size may read, and then what a terminal has to read that showed the screen
-//! before.
+//! It prints that `R` is red, then a redraw of the screen for any terminal of
+//! its size, and then the update for a terminal that displays the screen as it
+//! was before.
 #![tactic(auto)]
 
 pub mod capture;

@@ -1,11 +1,11 @@
-//! Numbers of a control sequence, and its intermediates.
+//! The parameters of a control sequence and its intermediate bytes.
 
 ghost use Rattle.std.specs.Prelude.{◌≡◌, ◌<◌};
 ghost use Rattle.vt_screen.specs.Controls.{intermediate_at, number_or};
 
 use vt_scan::Parameters;
 
-/// The first number of a group, with a default for 0.
+/// Returns the first number of group `i`, or `default` if it is 0 or missing.
 #[inline(always)]
 pub fn number_or(default: u16, parameters: &Parameters, i: usize) -> u16
     ensures value { result ≡ number_or default i parameters.now.groups }
@@ -18,7 +18,7 @@ pub fn number_or(default: u16, parameters: &Parameters, i: usize) -> u16
     number
 }
 
-/// One of the intermediates, if there are so many.
+/// Returns the intermediate byte at index `i`, if there is one.
 #[inline(always)]
 pub fn intermediate_at(intermediates: &[u8], i: usize) -> Option<u8>
     ensures { result ≡ intermediate_at i intermediates.now }

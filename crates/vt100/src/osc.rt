@@ -1,4 +1,4 @@
-//! Operating system commands: titles and the clipboard.
+//! Operating system commands (OSC): titles and the clipboard.
 
 ghost use Rattle.std.specs.Prelude.{◌≡◌, [], ◌∷◌, bytes_eq, map};
 ghost use Rattle.std.specs.List.{list_all};
@@ -7,7 +7,8 @@ ghost use Rattle.vt_screen.specs.Controls.{clipboard_steps, is_base64, is_clipbo
 
 use vt_screen::{Callbacks, Screen};
 
-/// Calls what an operating system command says.
+/// Invokes the callbacks that an operating system command calls for, or reports
+/// an unknown command.
 #[tactic(auto, using(crate::proofs::Stepping::called, crate::proofs::Remaining::parts_counted))]
 pub fn perform<CB: Callbacks>(screen: &mut Screen, callbacks: &mut CB, parts: &[&[u8]])
     ensures { Does CB.does callbacks.old screen.old
@@ -24,7 +25,8 @@ pub fn perform<CB: Callbacks>(screen: &mut Screen, callbacks: &mut CB, parts: &[
     callbacks.unhandled_osc(screen, parts);
 }
 
-/// A command of two parts: a title.
+/// Performs an operating system command of two parts, which sets the icon name,
+/// the title or both, or reports an unknown one.
 #[tactic(auto, using(crate::proofs::Stepping::steps_called), unfolding(vt_screen::specs::Controls::named_steps))]
 fn title<CB: Callbacks>(
     screen: &mut Screen,
@@ -52,7 +54,8 @@ fn title<CB: Callbacks>(
     callbacks.unhandled_osc(screen, parts);
 }
 
-/// A command of three parts: a clipboard, and what it should hold.
+/// Performs an operating system command of three parts, which asks for a
+/// clipboard's contents or sets them, or reports an unknown one.
 #[tactic(auto, using(crate::proofs::Stepping::steps_called), unfolding(vt_screen::specs::Controls::clipboard_steps))]
 fn clipboard<CB: Callbacks>(
     screen: &mut Screen,
@@ -81,21 +84,21 @@ fn clipboard<CB: Callbacks>(
     callbacks.unhandled_osc(screen, parts);
 }
 
-/// Whether these are the bytes of the word.
+/// Returns whether two byte strings are equal.
 fn is_text(text: &[u8], word: &[u8]) -> bool
     ensures { result ≡ bytes_eq text.now word.now }
 {
     text == word
 }
 
-/// Whether each byte names a clipboard.
+/// Returns whether each byte of `kind` names a clipboard.
 fn all_clipboards(kind: &[u8]) -> bool
     ensures { result ≡ is_clipboard_kind kind.now }
 {
     kind.iter().all(|byte| matches!(byte, b'c' | b'p' | b'q' | b's' | b'0'..=b'7'))
 }
 
-/// Whether each byte is one of Base64.
+/// Returns whether each byte of `text` is a Base64 character.
 fn all_base64(text: &[u8]) -> bool
     ensures { result ≡ list_all is_base64 text.now }
 {

@@ -1,4 +1,4 @@
-//! The parser: bytes in, a screen and callbacks out.
+//! The parser, which owns a screen and callbacks and applies bytes to them.
 
 ghost use Rattle.std.specs.Borrow.{sem, Lends, LendsBoth};
 ghost use Rattle.std.specs.Prelude.{◌≡◌, ◌<◌, IfOk, IsErr, OnErr, OnOk, false, length};
@@ -21,8 +21,9 @@ use vt_scan::Scanner;
 use vt_screen::screen::{new_screen, resizing};
 use vt_screen::{Callbacks, Screen};
 
-/// A terminal in memory: it reads what a program writes, keeps the screen that
-/// a person would see, and calls `callbacks` for all that isn't shown.
+/// A terminal in memory. It parses the bytes that a program writes, keeps the
+/// screen that a person would see, and reports everything that is not
+/// displayed, such as titles and bells, to its callbacks.
 #[derive(Drop)]
 pub struct Parser<CB: Callbacks = ()> {
     scanner: Scanner,
@@ -41,17 +42,22 @@ impl<CB: Callbacks> Model for Parser<CB> {
 }
 
 impl Parser {
-    /// How many rows the default screen has.
+    /// The number of rows of the default screen.
     pub const DEFAULT_ROWS: u16 = 24;
 
-    /// How many columns the default screen has.
+    /// The number of columns of the default screen.
     pub const DEFAULT_COLS: u16 = 80;
 
-    /// A parser with a fresh screen and no callbacks. Of the rows that leave
-    /// the page at its top at most `scrollback_capacity` are kept, the last
-    /// ones.
+    /// Creates a parser with a blank screen and no callbacks.
     ///
-    /// Fails where memory for the screen is refused.
+    /// Rows that scroll off the top are kept in scrollback, at most the last
+    /// `scrollback_capacity` of them.
+    ///
+    /// # Errors
+    ///
+    /// `Error::OutOfMemory` if the screen cannot be allocated.
+    ///
+    /// # Examples
     ///
     /// ```text
     /// let rows = NonZeroU16::new(24).unwrap();
@@ -73,9 +79,12 @@ impl Parser {
         Parser::new_with_callbacks(alloc, rows, cols, scrollback_capacity, ())
     }
 
-    /// A parser of 24 rows and 80 columns, without scrollback and callbacks.
+    /// Creates a parser of 24 rows and 80 columns, without scrollback or
+    /// callbacks.
     ///
-    /// Fails where memory for the screen is refused.
+    /// # Errors
+    ///
+    /// `Error::OutOfMemory` if the screen cannot be allocated.
     pub fn default(alloc: Global) -> Result<Parser, Error>
         ensures ground { IfOk result (λ parser. StandsFor parser.scanner start) }
         ensures memory { OnlyOutOfMemory result }
@@ -88,12 +97,16 @@ impl Parser {
 }
 
 impl<CB: Callbacks> Parser<CB> {
-    /// A parser with a fresh screen and these callbacks. Of the rows that leave
-    /// the page at its top at most `scrollback_capacity` are kept, the last
-    /// ones.
+    /// Creates a parser with a blank screen and the given callbacks.
     ///
-    /// Fails where memory for the screen is refused; the callbacks are dropped
-    /// then.
+    /// Rows that scroll off the top are kept in scrollback, at most the last
+    /// `scrollback_capacity` of them; older ones are reported to
+    /// [`Callbacks::on_scroll`].
+    ///
+    /// # Errors
+    ///
+    /// `Error::OutOfMemory` if the screen cannot be allocated; the callbacks
+    /// are dropped.
     pub fn new_with_callbacks(
         alloc: Global,
         rows: NonZeroU16,
@@ -117,19 +130,27 @@ impl<CB: Callbacks> Parser<CB> {
         })
     }
 
-    /// Reads bytes: each changes the screen and calls callbacks as far as it
-    /// ends something. Bytes may come in any pieces; what a piece leaves
-    /// unfinished goes on with the next one.
+    /// Parses `bytes` and applies them to the screen, invoking callbacks as
+    /// sequences complete.
     ///
-    /// Memory is taken only for the text of operating system commands, for rows
-    /// that are pushed into scrollback, and for the first entry to the
-    /// alternate page. Where it is refused, the answer is `OutOfMemory`: all
-    /// steps before the refused one were taken, that one changed nothing and
-    /// called nobody, and from then on the parser reads nothing and answers
-    /// `Failed`. Its screen can still be read.
+    /// Input may be split anywhere: an incomplete character or sequence
+    /// continues with the next call.
     ///
-    /// By `quiet`, a text whose reading calls nobody and takes no memory, such
-    /// as a redraw on a plain terminal, is read with the answer Ok.
+    /// # Errors
+    ///
+    /// `Error::OutOfMemory` if an allocation fails. The steps before the
+    /// failing one stay applied; the failing one has changed nothing and
+    /// invoked no callbacks. From then on the parser reads nothing and returns
+    /// `Error::Failed`, but its screen can still be read.
+    ///
+    /// Memory is allocated only for the text of operating system commands, for
+    /// rows that move into scrollback, and for the first switch to the
+    /// alternate page. By the clause `quiet`, bytes whose reading needs none
+    /// and invokes no callbacks, such as a redraw on a plain terminal (in
+    /// ground state, with the full scroll region, origin mode off and no
+    /// scrollback displayed), are read without an error.
+    ///
+    /// # Examples
     ///
     /// ```text
     /// parser.process(b"this text is \x1b[31mRED\x1b[m")?;
@@ -160,16 +181,16 @@ impl<CB: Callbacks> Parser<CB> {
     }
 
     /// Parses the longest prefix of `bytes` of which only the last byte can
-    /// invoke callbacks: text that fits the cursor's row, a character, a control
-    /// function, a sequence or its beginning, or bytes of a string. Returns how
-    /// many bytes that are.
+    /// invoke callbacks, and returns its length in bytes.
     ///
-    /// The library for C reads by this, so that it stops at the byte that
+    /// The prefix is text that fits on the cursor's row, one character, a
+    /// control function, a sequence or its beginning, or bytes of a string. The
+    /// C library parses by this function so that it can stop at the byte that
     /// invoked a callback.
     ///
     /// # Errors
     ///
-    /// Those of [`process`](Parser::process), with how many bytes come before
+    /// Those of [`process`](Parser::process), with the number of bytes before
     /// the one whose allocation fails.
     #[inline(always)]
     pub fn process_unit(&mut self, bytes: &[u8]) -> (usize, Result<(), Error>)
@@ -215,13 +236,17 @@ impl<CB: Callbacks> Parser<CB> {
         self.scanner.pending_len()
     }
 
-    /// Gives the screen another number of rows and columns, on both pages, as
-    /// [`Screen::set_size`] does. The callbacks are called for the rows that leave
-    /// a page at its top and aren't kept: first those of the main page, then
-    /// those of the alternate one, each older ones first.
+    /// Resizes both pages of the screen, as [`Screen::set_size`] does, and
+    /// reports to [`Callbacks::on_scroll`] the rows that scroll off the top of
+    /// a page and are not kept: first those of the main page, then those of the
+    /// alternate page, older rows first.
     ///
-    /// Fails where memory is refused; then nothing has changed, and nobody was
-    /// called. A parser that ran out of memory can be resized, too.
+    /// A parser that ran out of memory can be resized, too.
+    ///
+    /// # Errors
+    ///
+    /// `Error::OutOfMemory` if an allocation fails; nothing has changed and no
+    /// callbacks were invoked. A resize to the present size cannot fail.
     pub fn set_size(&mut self, rows: NonZeroU16, cols: NonZeroU16) -> Result<(), Error>
         ensures ok { OnOk result (self.new
             ≡ record self.old
@@ -236,7 +261,7 @@ impl<CB: Callbacks> Parser<CB> {
         Ok(())
     }
 
-    /// The screen.
+    /// Returns the screen.
     ///
     /// The clause `stands` says that the parser's scanner stands for at least
     /// one state of the automaton, as every parser's does.
@@ -245,12 +270,12 @@ impl<CB: Callbacks> Parser<CB> {
         ensures value { result.now ≡ self.now.screen }
         ensures stands { ∥ ((state : State) × StandsFor self.now.scanner state) ∥₁ }
     {
-        // For the proof: a scanner stands for some state at any time.
+        // Only for the proof: a scanner stands for some state at any time.
         self.scanner.stands();
         &self.screen
     }
 
-    /// The screen, to change it.
+    /// Returns the screen, mutably.
     #[inline]
     pub fn screen_mut(&mut self) -> &mut Screen
         ensures* writes_back { sem 𝓛 (Lends (parser_row CB.row ⟦<CB as Callbacks>⟧)
@@ -260,7 +285,7 @@ impl<CB: Callbacks> Parser<CB> {
         &mut self.screen
     }
 
-    /// The callbacks.
+    /// Returns the callbacks.
     #[inline]
     pub fn callbacks(&self) -> &CB
         ensures { result.now ≡ self.now.callbacks }
@@ -268,7 +293,7 @@ impl<CB: Callbacks> Parser<CB> {
         &self.callbacks
     }
 
-    /// The callbacks, to change them.
+    /// Returns the callbacks, mutably.
     #[inline]
     pub fn callbacks_mut(&mut self) -> &mut CB
         ensures* writes_back { sem 𝓛 (Lends (parser_row CB.row ⟦<CB as Callbacks>⟧)
@@ -278,8 +303,8 @@ impl<CB: Callbacks> Parser<CB> {
         &mut self.callbacks
     }
 
-    /// The screen and the callbacks, to change both. Nothing else of the parser
-    /// changes by that, also not whether it has failed.
+    /// Returns the screen and the callbacks, both mutably. The rest of the
+    /// parser is unaffected, including whether it has failed.
     #[inline]
     pub fn screen_and_callbacks_mut(&mut self) -> (&mut Screen, &mut CB)
         ensures* writes_back { sem 𝓛 (LendsBoth (parser_row CB.row ⟦<CB as Callbacks>⟧) screen_row CB.row

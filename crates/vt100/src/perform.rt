@@ -1,5 +1,4 @@
-//! What the events of the scanner do to the screen, and which callbacks they
-//! call.
+//! What the scanner's events do to the screen, and which callbacks they invoke.
 
 ghost use Rattle.std.specs.Prelude.{◌≡◌, ◌==◌, ◌&&◌, ◌||◌, [], false, nat_le};
 ghost use Rattle.vt100.specs.Internals.{Does, DoesOrStops};
@@ -14,8 +13,12 @@ use vt_scan::{Event, Scanner};
 use vt_screen::screen::{controls, pages, printing, scrolling};
 use vt_screen::{Callbacks, Screen};
 
-/// Does what an event of the scanner's last byte says, up to a step whose
-/// memory is refused.
+/// Applies one event of the scanner to the screen.
+///
+/// # Errors
+///
+/// `Error::OutOfMemory` if an allocation fails; the steps before the failing
+/// one stay applied.
 #[inline(always)]
 pub fn perform<CB: Callbacks>(
     screen: &mut Screen,
@@ -41,7 +44,13 @@ pub fn perform<CB: Callbacks>(
     }
 }
 
-/// A control sequence.
+/// Performs the control sequence that the scanner has collected and that `byte`
+/// ends.
+///
+/// # Errors
+///
+/// `Error::OutOfMemory` if an allocation fails; the steps before the failing
+/// one stay applied.
 #[inline(always)]
 pub fn control_sequence<CB: Callbacks>(
     screen: &mut Screen,
@@ -61,7 +70,8 @@ pub fn control_sequence<CB: Callbacks>(
     )
 }
 
-/// An escape sequence, with its intermediates.
+/// Performs the escape sequence that `byte` ends, with the intermediate bytes
+/// that the scanner has collected.
 #[inline(always)]
 pub fn escape_sequence<CB: Callbacks>(
     screen: &mut Screen,
@@ -75,7 +85,8 @@ pub fn escape_sequence<CB: Callbacks>(
     escape(screen, callbacks, scanner.intermediates(), byte);
 }
 
-/// An operating system command, with its table of parts.
+/// Performs the operating system command that the scanner has collected, after
+/// splitting it into its parts.
 #[inline(never)]
 fn command<CB: Callbacks>(screen: &mut Screen, callbacks: &mut CB, scanner: &Scanner)
     ensures { Performs CB.does (state callbacks.old screen.old)
@@ -84,7 +95,13 @@ fn command<CB: Callbacks>(screen: &mut Screen, callbacks: &mut CB, scanner: &Sca
     osc::perform(screen, callbacks, scanner.parts().as_slice());
 }
 
-/// A character: printed, or reported where it stands for bytes that are none.
+/// Prints a character, or reports it if it is a C1 control or stands for
+/// malformed UTF-8.
+///
+/// # Errors
+///
+/// `Error::OutOfMemory` if a row that scrolls off the top cannot be kept; the
+/// screen is unchanged.
 #[inline(always)]
 #[tactic(auto, using(crate::proofs::Stepping::called_or_refused), unfolding(vt_screen::specs::Controls::character_steps))]
 pub fn print<CB: Callbacks>(
@@ -103,8 +120,15 @@ pub fn print<CB: Callbacks>(
     Ok(())
 }
 
-/// The same out of line, where few characters go: inlined there, it makes the
-/// loop over bytes slower.
+/// Prints or reports a character as [`print`] does, for the places that few
+/// characters reach.
+///
+/// It is never inlined: inlined there, it makes the loop over bytes slower.
+///
+/// # Errors
+///
+/// `Error::OutOfMemory` if a row that scrolls off the top cannot be kept; the
+/// screen is unchanged.
 #[inline(never)]
 pub fn print_apart<CB: Callbacks>(
     screen: &mut Screen,
@@ -117,7 +141,8 @@ pub fn print_apart<CB: Callbacks>(
     print(screen, callbacks, character)
 }
 
-/// U+0080 to U+009F, and what stands for bytes that are no character.
+/// Returns whether a character is reported instead of printed: U+0080 to
+/// U+009F, and U+FFFD, which stands for malformed UTF-8.
 #[inline]
 #[tactic(auto, using(crate::proofs::Stepping::tested_steps))]
 fn is_reported(character: char) -> bool
@@ -126,7 +151,12 @@ fn is_reported(character: char) -> bool
     matches!(character, '\u{80}'..='\u{9f}' | '\u{fffd}')
 }
 
-/// A control function of one byte.
+/// Performs a control function of one byte (C0).
+///
+/// # Errors
+///
+/// `Error::OutOfMemory` if a row that scrolls off the top cannot be kept; the
+/// screen is unchanged.
 #[inline]
 #[tactic(auto, using(crate::proofs::Stepping::tested_refusal, crate::proofs::Deciding::control_feeds))]
 pub fn execute<CB: Callbacks>(
@@ -145,7 +175,7 @@ pub fn execute<CB: Callbacks>(
     Ok(())
 }
 
-/// A control function of one byte that is no line feed.
+/// Performs a control function of one byte other than LF, VT and FF.
 #[tactic(auto, using(crate::proofs::Stepping::tested_steps), unfolding(vt_screen::specs::Controls::control_steps))]
 fn execute_other<CB: Callbacks>(screen: &mut Screen, callbacks: &mut CB, byte: u8)
     requires { (nat_le 0x0A byte && nat_le byte 0x0C) ≡ false }
@@ -161,7 +191,7 @@ fn execute_other<CB: Callbacks>(screen: &mut Screen, callbacks: &mut CB, byte: u
     }
 }
 
-/// An escape sequence with these intermediates.
+/// Performs an escape sequence with the given intermediate bytes.
 #[tactic(auto, using(crate::proofs::Stepping::steps_called), unfolding(vt_screen::specs::Controls::escape_steps))]
 fn escape<CB: Callbacks>(screen: &mut Screen, callbacks: &mut CB, intermediates: &[u8], byte: u8)
     ensures { Does CB.does callbacks.old screen.old (escape_steps intermediates.now byte) callbacks.new screen.new }
@@ -175,7 +205,7 @@ fn escape<CB: Callbacks>(screen: &mut Screen, callbacks: &mut CB, intermediates:
     callbacks.unhandled_escape(screen, first, second, byte);
 }
 
-/// An escape sequence without intermediates.
+/// Performs an escape sequence without intermediate bytes.
 #[tactic(auto, using(crate::proofs::Stepping::tested_steps), unfolding(vt_screen::specs::Controls::escape_steps))]
 fn lone_escape<CB: Callbacks>(screen: &mut Screen, callbacks: &mut CB, byte: u8)
     ensures { Does CB.does callbacks.old screen.old (escape_steps [] byte) callbacks.new screen.new }

@@ -1,4 +1,4 @@
-//! Private modes: DECSET and DECRST.
+//! Private modes (DECSET and DECRST).
 
 ghost use Rattle.std.specs.Prelude.{◌≡◌, ◌==◌, [], ◌∷◌, IsErr, OnErr, OnOk, false};
 ghost use Rattle.vt_cells.specs.Refusals.{OnlyOutOfMemory};
@@ -12,8 +12,13 @@ use vt_cells::{Error, MouseProtocolEncoding, MouseProtocolMode};
 use vt_screen::screen::{controls, pages};
 use vt_screen::{Callbacks, Screen};
 
-/// Turns the modes that a sequence names on or off, and reports each group
-/// that is none, up to a mode whose memory is refused.
+/// Sets or resets each private mode that a sequence names, and reports each
+/// group that names none.
+///
+/// # Errors
+///
+/// `Error::OutOfMemory` if the alternate page cannot be allocated; the modes
+/// before that one stay set.
 pub fn perform<CB: Callbacks>(
     screen: &mut Screen,
     callbacks: &mut CB,
@@ -36,7 +41,13 @@ pub fn perform<CB: Callbacks>(
     Ok(())
 }
 
-/// One group: a mode if it is one number.
+/// Sets or resets the private mode that one group of parameters names, or
+/// reports the group if it isn't a single number.
+///
+/// # Errors
+///
+/// `Error::OutOfMemory` if the alternate page cannot be allocated; the screen
+/// is unchanged.
 #[tactic(auto, using(crate::proofs::Stepping::called, crate::proofs::Remaining::groups_met))]
 fn perform_group<CB: Callbacks>(
     screen: &mut Screen,
@@ -55,8 +66,12 @@ fn perform_group<CB: Callbacks>(
     set_mode(screen, callbacks, on, sequence, group[0])
 }
 
-/// A mode of one number: one of the two that show the alternate page, or
-/// another one.
+/// Sets or resets the private mode with this number, or reports an unknown one.
+///
+/// # Errors
+///
+/// `Error::OutOfMemory` if the alternate page cannot be allocated; the screen
+/// is unchanged.
 #[tactic(auto, using(crate::proofs::Stepping::pages_exchanged), unfolding(vt_screen::specs::Controls::mode_step))]
 fn set_mode<CB: Callbacks>(
     screen: &mut Screen,
@@ -76,7 +91,8 @@ fn set_mode<CB: Callbacks>(
     Ok(())
 }
 
-/// A mode of one number that shows no other page.
+/// Sets or resets a private mode other than 47 and 1049, which switch pages, or
+/// reports an unknown one.
 #[tactic(auto, using(crate::proofs::Stepping::tested_steps), unfolding(vt_screen::specs::Controls::mode_step))]
 fn set_other_mode<CB: Callbacks>(
     screen: &mut Screen,
@@ -105,7 +121,13 @@ fn set_other_mode<CB: Callbacks>(
     }
 }
 
-/// The alternate page as it was left, or the main page.
+/// Performs mode 47: switches to the alternate page with its contents, or back
+/// to the main page.
+///
+/// # Errors
+///
+/// `Error::OutOfMemory` if the alternate page cannot be allocated; the screen
+/// is unchanged.
 fn show_alternate(screen: &mut Screen, on: bool) -> Result<(), Error>
     ensures ok { OnOk result (screen.new ≡ display_after (alternate_step on) screen.old) }
     ensures err { OnErr result (screen.new ≡ screen.old) }
@@ -119,8 +141,13 @@ fn show_alternate(screen: &mut Screen, on: bool) -> Result<(), Error>
     Ok(())
 }
 
-/// All saved and a fresh alternate page, or the main page with what was saved
-/// restored.
+/// Performs mode 1049: saves the cursor and switches to a cleared alternate
+/// page, or switches back to the main page and restores the cursor.
+///
+/// # Errors
+///
+/// `Error::OutOfMemory` if the alternate page cannot be allocated; the screen
+/// is unchanged.
 fn show_fresh_alternate(screen: &mut Screen, on: bool) -> Result<(), Error>
     ensures ok { OnOk result (screen.new ≡ display_after (fresh_alternate_step on) screen.old) }
     ensures err { OnErr result (screen.new ≡ screen.old) }
@@ -134,7 +161,8 @@ fn show_fresh_alternate(screen: &mut Screen, on: bool) -> Result<(), Error>
     Ok(())
 }
 
-/// Reports of mouse events in this mode, or none where it is this one.
+/// Sets the mouse mode to `mode`, or resets it: to no reports if `mode` is the
+/// active one, otherwise it is unchanged.
 fn set_mouse_mode(screen: &mut Screen, on: bool, mode: MouseProtocolMode)
     ensures { screen.new ≡ display_after (mouse_step on mode) screen.old }
 {
@@ -145,7 +173,8 @@ fn set_mouse_mode(screen: &mut Screen, on: bool, mode: MouseProtocolMode)
     controls::clear_mouse_mode(screen, mode);
 }
 
-/// This encoding of mouse events, or the default one where it is this one.
+/// Sets the mouse encoding to `encoding`, or resets it: to the default if
+/// `encoding` is the active one, otherwise it is unchanged.
 fn set_mouse_encoding(screen: &mut Screen, on: bool, encoding: MouseProtocolEncoding)
     ensures { screen.new ≡ display_after (encoding_step on encoding) screen.old }
 {

@@ -1,4 +1,4 @@
-//! The loop over bytes.
+//! The loop that reads bytes and applies their events.
 
 ghost use Rattle.std.specs.Prelude.{◌<◌, IfOk, IsErr, length, map, option_to_list, slice_index_or};
 ghost use Rattle.vt_cells.specs.Refusals.{OnlyOutOfMemory};
@@ -16,8 +16,12 @@ use vt_screen::{Callbacks, Screen};
 /// The largest number of wide characters that are printed as one edit.
 const WIDE_RUN: usize = 64;
 
-/// Reads bytes, and does what their events say, up to a byte whose memory is
-/// refused.
+/// Parses `bytes` and applies their events to the screen and the callbacks.
+///
+/// # Errors
+///
+/// `Error::OutOfMemory` if an allocation fails; the steps before the failing
+/// one stay applied.
 pub fn process<CB: Callbacks>(
     scanner: &mut Scanner,
     screen: &mut Screen,
@@ -40,14 +44,14 @@ pub fn process<CB: Callbacks>(
     Ok(())
 }
 
-/// Reads what comes first of these bytes: plain characters as one run, as far
-/// as the cursor's row has room for them, a control function of one byte, a
-/// sequence as far as it is there, bytes of a string, or else one character or
-/// byte. Returns how many bytes that were.
+/// Parses and applies the first unit of `bytes`: a run of plain characters that
+/// fits on the cursor's row, a control function of one byte, a sequence as far
+/// as it is present, bytes of a string, or else one character or byte. Returns
+/// its length in bytes.
 ///
 /// # Errors
 ///
-/// If an allocation fails: how many bytes come before the one that needs it.
+/// The number of bytes before the one whose allocation fails.
 #[inline(always)]
 pub fn process_some<CB: Callbacks>(
     scanner: &mut Scanner,
@@ -81,9 +85,13 @@ pub fn process_some<CB: Callbacks>(
     process_one(scanner, screen, callbacks, bytes)
 }
 
-/// Reads what comes first of these bytes, as far as it leads into a sequence
-/// or ends it, and does what that says. Answers how many bytes that
-/// were: none where they begin with something else.
+/// Parses and applies a sequence at the start of `bytes`, or the part of it
+/// that is present. Returns its length in bytes, which is 0 if the bytes start
+/// with something else.
+///
+/// # Errors
+///
+/// The number of bytes before the one whose allocation fails.
 #[inline(always)]
 fn process_sequence<CB: Callbacks>(
     scanner: &mut Scanner,
@@ -105,9 +113,12 @@ fn process_sequence<CB: Callbacks>(
     }
 }
 
-/// Reads the first of these bytes, if it ends a control sequence or an escape
-/// sequence, and does what that says. Answers how many bytes were read, unless
-/// memory is refused: one or none.
+/// Parses the first byte if it ends a control sequence or an escape sequence,
+/// and performs that sequence. Returns how many bytes were read, 0 or 1.
+///
+/// # Errors
+///
+/// The number of bytes before the one whose allocation fails.
 #[inline(always)]
 fn end_sequence<CB: Callbacks>(
     scanner: &mut Scanner,
@@ -133,9 +144,13 @@ fn end_sequence<CB: Callbacks>(
     Ok(0)
 }
 
-/// Reads what comes first of these bytes: a character of more than one byte
-/// that is all here, bytes of a string, or else one byte. Answers how many bytes
-/// that were, unless memory is refused.
+/// Parses and applies the first unit of `bytes`: a complete character of
+/// several bytes, bytes of a string, or else one byte. Returns its length in
+/// bytes.
+///
+/// # Errors
+///
+/// The number of bytes before the one whose allocation fails.
 #[inline(always)]
 fn process_one<CB: Callbacks>(
     scanner: &mut Scanner,
@@ -174,9 +189,14 @@ fn process_one<CB: Callbacks>(
     }
 }
 
-/// Prints what comes first of bytes that begin with a plain character: all
-/// plain ones that the cursor's row has room for, or at its end one, which may
-/// scroll. Answers how many were printed.
+/// Prints the plain characters at the start of `bytes` that fit on the cursor's
+/// row, or one if the cursor is at the row's end, which may scroll. Returns the
+/// number of characters printed.
+///
+/// # Errors
+///
+/// The number of bytes before the one whose allocation fails, if the row that
+/// scrolls off the top cannot be kept.
 #[inline]
 fn print_some<CB: Callbacks>(
     scanner: &Scanner,
@@ -203,9 +223,13 @@ fn print_some<CB: Callbacks>(
     Ok(count)
 }
 
-/// Reads the first of these bytes, which begin with one from 80 on: a run of
-/// wide characters, or else what [`process_one`] reads. Returns the number of
-/// bytes that were read, unless an allocation fails.
+/// Parses and applies the first unit of `bytes`, whose first byte is at least
+/// 0x80: a run of wide characters, or else what [`process_one`] reads. Returns
+/// its length in bytes.
+///
+/// # Errors
+///
+/// The number of bytes before the one whose allocation fails.
 #[inline(always)]
 fn process_high<CB: Callbacks>(
     scanner: &mut Scanner,
@@ -226,9 +250,9 @@ fn process_high<CB: Callbacks>(
     process_one(scanner, screen, callbacks, bytes)
 }
 
-/// Prints the characters of three bytes and two columns at the start of these
-/// bytes, up to the end of the cursor's row. Returns the number of bytes that
-/// were read, which is 0 if the first character is a different one.
+/// Prints the run of wide characters of three bytes each at the start of
+/// `bytes`, up to the end of the cursor's row. Returns the number of bytes
+/// read, which is 0 if the bytes start with a different character.
 #[inline(always)]
 fn print_wide<CB: Callbacks>(
     scanner: &Scanner,
@@ -246,9 +270,11 @@ fn print_wide<CB: Callbacks>(
     print_wide_run(scanner, screen, callbacks, bytes)
 }
 
-/// Prints a run of wide characters, as [`print_wide`] does, which has looked at
-/// the first byte alone. A function of its own, so that the buffer takes no room
-/// where there are none.
+/// Prints a run of wide characters for [`print_wide`], which has only looked at
+/// the first byte.
+///
+/// It is never inlined, so that its buffer takes no stack space while there are
+/// no wide characters. Returns the number of bytes read.
 #[inline(never)]
 fn print_wide_run<CB: Callbacks>(
     scanner: &Scanner,
@@ -263,7 +289,8 @@ fn print_wide_run<CB: Callbacks>(
     print_wide_some(scanner, screen, callbacks, bytes, &mut text)
 }
 
-/// Prints a run of wide characters, at most as many as `text` has room for.
+/// Prints a run of wide characters, at most as many as the buffer `text` has
+/// room for. Returns the number of bytes read.
 #[inline(always)]
 fn print_wide_some<CB: Callbacks>(
     scanner: &Scanner,
@@ -284,7 +311,12 @@ fn print_wide_some<CB: Callbacks>(
     Ok(3 * count)
 }
 
-/// The events of one byte, up to a step whose memory is refused.
+/// Applies the events of one byte in order.
+///
+/// # Errors
+///
+/// `Error::OutOfMemory` if an allocation fails; the steps before the failing
+/// one stay applied.
 #[inline(always)]
 #[tactic(auto, using(vt_rows::proofs::Folds::folds_then, crate::proofs::Running::stops_later))]
 fn perform_each<CB: Callbacks>(
@@ -301,7 +333,12 @@ fn perform_each<CB: Callbacks>(
     Ok(())
 }
 
-/// An event, if there is one, up to a step whose memory is refused.
+/// Applies an event, if there is one.
+///
+/// # Errors
+///
+/// `Error::OutOfMemory` if an allocation fails; the steps before the failing
+/// one stay applied.
 #[inline(always)]
 fn perform_some<CB: Callbacks>(
     screen: &mut Screen,

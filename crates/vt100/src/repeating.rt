@@ -1,4 +1,4 @@
-//! The last character once more, and again.
+//! REP, which repeats the last printed character.
 
 ghost use Rattle.std.specs.Prelude.{◌≡◌, ◌≢◌, ◌+◌, ◌<◌, ◌≤◌, replicate};
 ghost use Rattle.vt100.specs.Internals.{DoesOrStops, RepeatsOrStops};
@@ -10,10 +10,16 @@ use vt_cells::Error;
 use vt_screen::screen::printing;
 use vt_screen::{Callbacks, Screen};
 
-/// How many characters are printed as one text, at most.
+/// The largest number of characters that are printed as one edit.
 const TEXT_ROOM: usize = 64;
 
-/// REP: the last character, so many times, up to one whose memory is refused.
+/// Performs REP: prints the last printed character `count` more times, or
+/// nothing if there is none.
+///
+/// # Errors
+///
+/// `Error::OutOfMemory` if a row that scrolls off the top cannot be kept; the
+/// characters before stay printed.
 pub fn repeat<CB: Callbacks>(
     screen: &mut Screen,
     callbacks: &mut CB,
@@ -34,8 +40,13 @@ pub fn repeat<CB: Callbacks>(
     Ok(())
 }
 
-/// A character of printable ASCII, so many times, as many at once as the
-/// cursor's row has room for.
+/// Prints a character of printable ASCII `count` times, as many at once as fit
+/// on the cursor's row.
+///
+/// # Errors
+///
+/// `Error::OutOfMemory` if a row that scrolls off the top cannot be kept; the
+/// characters before stay printed.
 fn repeat_ascii<CB: Callbacks>(
     screen: &mut Screen,
     callbacks: &mut CB,
@@ -55,8 +66,13 @@ fn repeat_ascii<CB: Callbacks>(
     Ok(())
 }
 
-/// As many of these as the cursor's row has room for, or at its end one, which
-/// may scroll. Answers how many were printed.
+/// Prints as many repetitions as fit on the cursor's row, or one if the cursor
+/// is at its end, which may scroll. Returns the number printed.
+///
+/// # Errors
+///
+/// `Error::OutOfMemory` if a row that scrolls off the top cannot be kept; the
+/// screen is unchanged.
 #[inline]
 fn repeat_some<CB: Callbacks>(
     screen: &mut Screen,
@@ -79,7 +95,8 @@ fn repeat_some<CB: Callbacks>(
     Ok(count)
 }
 
-/// So many of a character as one text, for which the cursor's row has room.
+/// Prints a character `count` times as one edit. The cursor's row must have
+/// room for all of them.
 #[inline]
 fn repeat_in_row(screen: &mut Screen, byte: u8, count: u16)
     requires low { 0x20 ≤ byte }
@@ -93,7 +110,13 @@ fn repeat_in_row(screen: &mut Screen, byte: u8, count: u16)
     printing::print_text(screen, &text[..usize::from(count)]);
 }
 
-/// Any other character, so many times.
+/// Prints a character outside of printable ASCII `count` times, one after the
+/// other.
+///
+/// # Errors
+///
+/// `Error::OutOfMemory` if a row that scrolls off the top cannot be kept; the
+/// characters before stay printed.
 fn repeat_other<CB: Callbacks>(
     screen: &mut Screen,
     callbacks: &mut CB,

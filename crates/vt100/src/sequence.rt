@@ -1,21 +1,21 @@
-//! A control sequence as callbacks are lent it.
+//! A control sequence in the form in which it is passed to callbacks.
 
 ghost use Rattle.vt100.specs.Internals.{report_of};
 
 use vt_scan::Parameters;
 use vt_screen::{Callbacks, Screen};
 
-/// A control sequence: the kept marker and intermediates that are lent, all
-/// groups of numbers, and the final byte.
+/// A control sequence: its private marker and intermediate bytes as far as they
+/// are kept, its groups of parameters and its final byte.
 #[derive(Clone, Copy)]
 pub struct Sequence<'a> {
-    /// The marker or first intermediate.
+    /// The private marker or the first intermediate byte, if there is one.
     pub first: Option<u8>,
 
-    /// What is kept behind it.
+    /// The intermediate byte after `first`, if there is one.
     pub second: Option<u8>,
 
-    /// The groups of numbers.
+    /// The groups of parameters.
     pub parameters: &'a Parameters,
 
     /// The final byte.
@@ -23,8 +23,10 @@ pub struct Sequence<'a> {
 }
 
 impl<'a> Sequence<'a> {
-    /// Tells the callbacks that the screen doesn't know the sequence, or a
-    /// part of it. Here alone a table of its groups is made.
+    /// Reports the sequence to the callbacks as unhandled, in full or in part.
+    ///
+    /// It is never inlined, because it builds a table of the groups, which no
+    /// other path needs.
     #[inline(never)]
     pub fn report<CB: Callbacks>(self, screen: &mut Screen, callbacks: &mut CB)
         ensures { CB.does (report_of self.entry) callbacks.old screen.old callbacks.new screen.new }

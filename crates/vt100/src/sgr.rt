@@ -1,4 +1,4 @@
-//! Select Graphic Rendition.
+//! Select Graphic Rendition (SGR).
 
 ghost use Rattle.std.specs.Prelude.{◌≡◌, [], ◌∷◌, None, map};
 ghost use Rattle.vt_screen.specs.Calls.{UnhandledCsi};
@@ -11,8 +11,8 @@ use vt_screen::screen::controls;
 use vt_screen::sgr::{Reading, Wanted};
 use vt_screen::{Callbacks, Screen};
 
-/// Makes the settings of a sequence, group by group, and reports each group
-/// that is none.
+/// Applies the settings of an SGR sequence, group by group, and reports each
+/// unknown group.
 #[inline(never)]
 pub fn perform<CB: Callbacks>(screen: &mut Screen, callbacks: &mut CB, parameters: &Parameters)
     ensures { Does CB.does callbacks.old screen.old
@@ -24,7 +24,8 @@ pub fn perform<CB: Callbacks>(screen: &mut Screen, callbacks: &mut CB, parameter
     }
 }
 
-/// The same where each group is one number.
+/// Applies the settings of an SGR sequence in which each group is a single
+/// number.
 #[inline(always)]
 fn set_by_numbers<CB: Callbacks>(
     screen: &mut Screen,
@@ -45,7 +46,7 @@ fn set_by_numbers<CB: Callbacks>(
     }
 }
 
-/// The same for any groups.
+/// Applies the settings of an SGR sequence with groups of any lengths.
 #[inline(never)]
 fn set_by_groups<CB: Callbacks>(screen: &mut Screen, callbacks: &mut CB, parameters: &Parameters)
     ensures { Does CB.does callbacks.old screen.old
@@ -59,7 +60,7 @@ fn set_by_groups<CB: Callbacks>(screen: &mut Screen, callbacks: &mut CB, paramet
     }
 }
 
-/// What one group gives.
+/// Applies one setting of an SGR sequence, or reports an unknown one.
 #[inline(always)]
 #[tactic(auto, using(crate::proofs::Stepping::called, crate::proofs::Stepping::stepping))]
 fn apply<CB: Callbacks>(
@@ -78,7 +79,7 @@ fn apply<CB: Callbacks>(
     }
 }
 
-/// Tells the callbacks that a group is not known.
+/// Reports the SGR sequence to the callbacks because a group of it is unknown.
 #[inline(never)]
 fn report<CB: Callbacks>(screen: &mut Screen, callbacks: &mut CB, parameters: &Parameters)
     ensures { CB.does (UnhandledCsi None None parameters.now.groups 0x6D)

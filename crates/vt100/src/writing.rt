@@ -1,4 +1,4 @@
-//! A parser as a writer of bytes.
+//! `io::Write` for a parser.
 
 ghost use Rattle.std.specs.Io.{WritesAtMost};
 ghost use Rattle.std.specs.Io.KnownBytes.{WriteAppends};
@@ -10,15 +10,17 @@ use std::io;
 use std::io::Write;
 
 impl Write for Parser<()> {
-    /// Reads all the bytes, as [`Parser::process`] does, and answers how many
-    /// they are.
+    /// Parses all of `buf`, as [`Parser::process`] does, and returns its length
+    /// in bytes.
     ///
-    /// Its errors are of the kind `OutOfMemory` where memory is refused, and
-    /// of the kind `Other` from then on.
+    /// # Errors
     ///
-    /// A text whose reading calls nobody and takes no memory is read as by a
-    /// call of `process` that answers Ok (`quiet`); then this one answers Ok,
-    /// too, by `harmless` and [`quiet_runs`](crate::laws::quiet_runs).
+    /// An error of kind `OutOfMemory` if an allocation fails, and of kind
+    /// `Other` from then on.
+    ///
+    /// Bytes whose reading invokes no callbacks and allocates nothing are
+    /// written without an error: `process` reads them so by its clause `quiet`,
+    /// and `write` by `harmless` and [`quiet_runs`](crate::laws::quiet_runs).
     fn write(&mut self, buf: &[u8]) -> io::Result<usize>
         ensures bound { WritesAtMost result buf.now }
         ensures bytes { WriteAppends None None result buf.now }
@@ -30,7 +32,7 @@ impl Write for Parser<()> {
         }
     }
 
-    /// Nothing is kept back.
+    /// Does nothing, since no byte is held back.
     fn flush(&mut self) -> io::Result<()>
         ensures done { result ≡ Ok tt }
         ensures same { self.new ≡ self.old }

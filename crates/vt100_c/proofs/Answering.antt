@@ -1,4 +1,4 @@
--- A parser's and a mirror's answers as statuses, and bytes up to an event.
+-- The results of a parser and a mirror as statuses, and bytes that are read up to an event.
 use Rattle.std.proofs.Common.{◌≡◌, ◌≢◌, ◌↔◌, ◌+◌, ◌<◌, inl, inr, ℕ, List, length, take, drop, refl, sym, subst, ◌∙◌, arith, Bool, true, false, not, ◌||◌, ◌==◌, ◌&&◌}
 use Rattle.std.proofs.Common.{◌++◌, ◌-◌, ap, nat_lt, slice_index_or}
 use Rattle.std.proofs.Math.Seq.{take-add, take-length}
@@ -63,7 +63,7 @@ parser_reads old new bytes (Err Failed) ran stopped before only other good harml
 }
 parser_reads old new bytes (Err NoNumber) ran stopped before only other good harmless = absurd (other refl)
 
--- ---- a unit
+-- ---- units of bytes
 
 pub unit_read : (old new : Parsing Logged) (bytes : List ℕ) (count : ℕ) (answer : Result (Unit {0}) Error)
     → ParserReadsUnit Logs old bytes count answer new → ReadsUnit old bytes count (answered answer) new
@@ -99,7 +99,7 @@ unit_read old new bytes count (Err Failed) unit = record {
 }
 unit_read old new bytes count (Err NoNumber) unit = absurd (unit.no_number refl)
 
--- ---- up to an event
+-- ---- reading up to an event
 
 as_whole : (b : Bool) → (b || not b) ≡ true
 as_whole true = refl
@@ -112,13 +112,13 @@ has_room : (is_full : Bool) → (not is_full || is_full) ≡ true
 has_room true = refl
 has_room false = refl
 
--- a log has nothing that it had not
+-- A log has no event since its own mark.
 pub quiet_now : (log : Logged) → is_quiet (mark_of log) log ≡ true
 quiet_now log = λ i.
     are_bare_rows (nothing_more (length log.records) i) (nothing_more (length log.rows) i)
     && (nat_lt (nothing_more log.room i) batch && (has_room (log.room == 0) i && as_whole log.is_whole i))
 
--- the first bytes are read, and left no event
+-- The first bytes have been read, and left no event.
 pub record HasReadQuietly (mark : Mark) (old : Parsing Logged) (bytes : List ℕ) (count : ℕ)
     (now : Parsing Logged) : Type 0 where
   pub ran : Ran Logs old (take count bytes) now
@@ -153,7 +153,7 @@ quiet_more mark old now new bytes at count status read unit well quiet =
       nothing = λ e. absurd (false≢true (sym good ∙ e));
     }
 
--- bytes without an event after a run: what all have done, and where the scanner is
+-- Bytes without an event after a run: the effect of all of them, and the state of the scanner.
 quiet_part : (mark : Mark) (old now : Parsing Logged) (bytes : List ℕ) (at more : ℕ)
     → HasReadQuietly mark old bytes at now → HasNoEvent now.scanner (take more (drop at bytes))
     → (s : State) → StandsFor old.scanner s
@@ -177,7 +177,7 @@ quiet_part mark old now bytes at more read none s stands =
       ap (λ (step : Step). step.state) whole_run,
     )
 
--- bytes without an event, between a run before them and one byte after them
+-- Bytes without an event, between a run before them and one byte after them.
 quiet_between : (mark : Mark) (old now new : Parsing Logged) (bytes : List ℕ) (at more : ℕ)
     → HasReadQuietly mark old bytes at now → HasNoEvent now.scanner (take more (drop at bytes))
     → Ran Logs now (take (more + 1) (drop at bytes)) new → (s : State) → StandsFor old.scanner s
@@ -204,7 +204,7 @@ quiet_between mark old now new bytes at more read none ran s stands =
           (ran middle reached.0).1;
     }
 
--- a unit that is refused ends before the last byte
+-- A unit that isn't read ends before the last byte.
 unread_inside : (is_failed : Bool) (old now new : Parsing Logged) (bytes : List ℕ) (at count status : ℕ)
     → now.is_failed ≡ is_failed → at < length bytes → ReadsUnit now (drop at bytes) count status new
     → (status ≡ ok → ⊥) → at + count < length bytes
@@ -235,7 +235,7 @@ event_left mark old now new bytes at count status read unit well event = elim (u
       }))
 ]
 
--- bytes without an event, between a run before them and a byte after them that is refused
+-- Bytes without an event, between a run before them and a byte after them whose allocation fails.
 quiet_before : (mark : Mark) (old now new : Parsing Logged) (bytes : List ℕ) (at count : ℕ)
     → HasReadQuietly mark old bytes at now → StoppedAt Logs now (drop at bytes) count new
     → (s : State) → StandsFor old.scanner s → IsQuietBefore mark old bytes (at + count) new s

@@ -1,4 +1,4 @@
--- A handle and its parts own what a box at the same types owns.
+-- A handle and its parts own what a box of the same types owns.
 use Rattle.std.proofs.Common.{◌≡◌, refl}
 use mir.Syntax.{impl, tnil, dnil}
 use mathlib.Core.List.{[]}

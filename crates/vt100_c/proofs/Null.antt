@@ -1,4 +1,4 @@
--- Whether a handle's pointer is null says whether it holds something. Assumes `Logic`.
+-- A handle holds an object if and only if its pointer is not null. Assumes `Logic`.
 use Rattle.std.proofs.Common.{◌≡◌, ℕ, zero, ◌<◌, ◌^◌, Bool, true, false, not, [], ◌∷◌, refl, sym, subst, lit<}
 use Rattle.std.specs.Prelude.{Option, Some, None, is_some}
 use lib.Dec.{T}
@@ -23,7 +23,7 @@ use Rattle.vt100_c.proofs.AsBox.{E}
 abbrev pub X : Type 0
 X = Object.the_row.Denot
 
--- what a test of p against null tells, where what is held is o
+-- The result of comparing the pointer p with null, if the handle holds o.
 abbrev pub AnswersHeld : Ptr → Option X → Type 0
 AnswersHeld p o = (y : Bool) × (op2_val ptr_eq (ptr_val p) vnull ≡ vbool y) × Testable p × (not y ≡ is_some o)
 
@@ -45,7 +45,7 @@ module _ {M : Type 1} {𝓤 : Ura M} (𝓛 : Logic 𝓤) where
       let is : AnswersHeld (block_ptr b o) (Some x) = (false, refl, low, refl) in
       use0 𝓛 (raw (fact 𝓤 (AnswersHeld p (Some x)))) (fact_i 𝓤 (AnswersHeld p (Some x)) (emp 𝓤) (subst (λ (q : Ptr). AnswersHeld q (Some x)) (sym e) is)) $ keep ! (0 ∷ []) $ done !))
 
-  -- the fact, beside what tells it
+  -- The result of comparing with null, alongside what it follows from.
   pub answers_held : (p : Ptr) (o : Option X) → ent 𝓤 (sem 𝓛 (held_at p o)) (sep 𝓤 (fact 𝓤 (AnswersHeld p o)) (sem 𝓛 (held_at p o)))
   answers_held p o =
       fact_use 𝓤 (AnswersHeld p o) (held_answered p o) (λ t. qed 𝓛 (‵ (held_at p o) ∷ []) ∵ use0 𝓛 (raw (fact 𝓤 (AnswersHeld p o))) (fact_i 𝓤 (AnswersHeld p o) (emp 𝓤) t) $ done !)

@@ -1,4 +1,4 @@
--- The text of a cell fits its array, and zeros stand behind it.
+-- The text of a cell fits its array, with zeros after it.
 use Rattle.std.proofs.Common.{◌≡◌, ◌≤◌, ◌++◌, ℕ, List, length, drop, replicate, arith}
 use Rattle.std.proofs.lemmas.List.{drop-replicate}
 use Rattle.vt_cells.specs.Cell.{CellValue, blank, glyph, right_half, IsCell, text_of}

@@ -1,4 +1,4 @@
--- Memory is refused only where there is a text to make.
+-- An allocation can only fail if there is text to make.
 use Rattle.std.proofs.Common.{◌<◌, ℕ, List, length}
 use Rattle.std.specs.Prelude.{Err, IsErr, IsOk, Ok, OnErr, Result}
 

@@ -1,4 +1,4 @@
--- Where the pieces and rows of a capture begin and end, read off their texts.
+-- Where the pieces and rows of a capture begin and end, computed from their texts.
 use Rattle.std.proofs.Common.{◌≡◌, ◌≢◌, ◌⊎◌, ℕ, suc, ◌+◌, ◌-◌, ◌<◌, ◌≤◌, ◌==◌, Bool, true, false, not, min}
 use Rattle.std.proofs.Common.{List, [], ◌∷◌, length, take, drop, get_or}
 use Rattle.std.proofs.Common.{refl, sym, ap, subst, ◌∙◌, arith, inl, inr, if◌then◌else◌}
@@ -13,7 +13,7 @@ use Rattle.vt100_c.specs.Captures.{IsFirstRow, behind_line_end, no_place}
 
 -- ---- pieces
 
--- a slice ends within the text
+-- A slice ends within the text.
 slice_inside : (at : ℕ) (bytes text : List ℕ) → 0 < length bytes → take (length bytes) (drop at text) ≡ bytes →
     at + length bytes ≤ length text
 slice_inside at bytes text some e =
@@ -44,7 +44,7 @@ begins_at : (width at : ℕ) (text : List ℕ) (row : Piece) (rows : List Piece)
 begins_at width at text row [] are = are.0
 begins_at width at text row (next ∷ rows) are = are.0
 
--- the slice of a text from its start on is not longer
+-- A slice from the start of a text is not longer than the text.
 start_inside : (at : ℕ) (bytes text : List ℕ) → at ≡ 0 → take (length bytes) (drop at text) ≡ bytes →
     length bytes ≤ length text
 start_inside at bytes text z e =
@@ -70,13 +70,13 @@ row_inside width text (row ∷ rows) bytes left are e =
     subst (λ (b : List ℕ). length b ≤ length text) (first_text rows row bytes left e)
     (start_inside row.0 row.1 text (begins_at width 0 text row rows are) (is_row width 0 text row rows are).slice)
 
--- the first character of a text that begins with a line feed
+-- The first character of text that begins with a line feed.
 head_lf : (bytes : List ℕ) → get_or (chars (10 ∷ bytes)) 0 0 ≡ 10
 unfolding chars
 head_lf [] = refl
 head_lf (b ∷ bytes) = refl
 
--- a text of characters has bytes, and begins with no line feed where its first character is none
+-- Text with a first character has at least one byte.
 some_chars : (bytes : List ℕ) (first : ℕ) (rest : List ℕ) → chars bytes ≡ first ∷ rest → 0 < length bytes
 some_chars [] first rest e =
     let l : length (chars []) ≡ suc (length rest) = ap length e in
@@ -91,7 +91,7 @@ no_lf (b ∷ bytes) first rest e n h =
     n (sym (ap (λ (cs : List ℕ). get_or cs 0 0) e)
     ∙ (ap (λ (x : ℕ). get_or (chars (x ∷ bytes)) 0 0) h ∙ head_lf bytes))
 
--- the first byte of a slice stands at its place
+-- The first byte of a slice is the byte at its place.
 byte_at : (at : ℕ) (bytes text : List ℕ) → 0 < length bytes → take (length bytes) (drop at text) ≡ bytes →
     get_or text at 0 ≡ get_or bytes 0 0
 byte_at at bytes text some e =
@@ -100,7 +100,7 @@ byte_at at bytes text some e =
     ∙ (sym (get_or-drop at text 0 0)
     ∙ (sym (get_or-take (length bytes) (drop at text) 0 0 some) ∙ ap (λ (bs : List ℕ). get_or bs 0 0) e))
 
--- the first character of a row ends no row
+-- The first character of a row is no line feed.
 first_uncut : (width : ℕ) (cs : List ℕ) (first : ℕ) (rest : List ℕ) → cs ≡ first ∷ rest → IsUncut width cs →
     (first == 10) ≡ false
 first_uncut width cs first rest e uncut =
@@ -110,7 +110,7 @@ false_from : (x : Bool) → (x ≡ true → ⊥) → x ≡ false
 false_from true n = absurd (n refl)
 false_from false n = refl
 
--- the row behind another one begins behind a line feed there, or at its end
+-- The next row begins after the line feed at the end of a row, or at that end.
 next_place : (width : ℕ) (text : List ℕ) (row next : Piece) (rows : List Piece) →
     IsBehindEnd text row next ⊎ IsBehindFull width row next →
     AreRowsFrom width text next.0 (next ∷ rows) → next.0 ≡ behind_line_end text (piece_end row)
@@ -142,12 +142,12 @@ left_texts : (row : Piece) (rows : List Piece) (bytes : List ℕ) (left : List (
 unfolding rest_of
 left_texts row rows bytes left e = ap rest_of e
 
--- there is one row at least
+-- There is at least one row.
 pub some_row : (width : ℕ) (text : List ℕ) (rows : List Piece) → AreRowsOf width text rows → texts_of rows ≢ []
 some_row width text [] are e = are
 some_row width text (row ∷ rows) are e = let l : suc (length (texts_of rows)) ≡ 0 = ap length e in omega arith
 
--- the last row
+-- The last row of a capture.
 pub last_row : (width at : ℕ) (text : List ℕ) (rows : List Piece) (bytes : List ℕ) (left : List (List ℕ)) →
     AreRowsOf width text rows → texts_of rows ≡ bytes ∷ left → left ≡ [] →
     IsFirstRow at rows (at + length bytes) no_place
@@ -158,7 +158,7 @@ last_row width at text (row ∷ next ∷ rows) bytes left are e none =
     let l : suc (length (texts_of rows)) ≡ 0 = ap length (left_texts row (next ∷ rows) bytes left e ∙ none) in
     absurd (omega arith)
 
--- a row with one behind it
+-- A row of a capture that has a next row.
 pub row_before : (width at : ℕ) (text : List ℕ) (rows : List Piece) (bytes : List ℕ) (left : List (List ℕ)) →
     AreRowsOf width text rows → texts_of rows ≡ bytes ∷ left → left ≢ [] →
     IsFirstRow at rows (at + length bytes) (at + behind_line_end text (length bytes))
@@ -173,15 +173,15 @@ row_before width at text (row ∷ next ∷ rows) bytes left are e some =
       ap (λ (place : ℕ). at + place) (ap (behind_line_end text) n ∙ sym (next_place width text row next rows are.2 are.3)),
     )
 
--- ---- over an iterator
+-- ---- rows of an iterator
 
--- the row that it gave is within the text
+-- The row that the iterator returned is within the text.
 pub next_inside : (width : ℕ) (text : List ℕ) (all left : List (List ℕ)) (row : List ℕ) →
     ((rows : List Piece) × AreRowsOf width text rows × (all ≡ texts_of rows)) → all ≡ row ∷ left →
     length row ≤ length text
 next_inside width text all left row some e = row_inside width text some.0 row left some.1 (sym some.2 ∙ e)
 
--- where it ends, and where the one behind it begins
+-- Where the row that the iterator returned ends, and where the next one begins.
 pub next_rows : (width at : ℕ) (text : List ℕ) (all left more : List (List ℕ)) (row next : List ℕ) (place : ℕ) →
     ((rows : List Piece) × AreRowsOf width text rows × (all ≡ texts_of rows)) → all ≡ row ∷ left → left ≡ next ∷ more →
     place ≡ behind_line_end text (length row) →

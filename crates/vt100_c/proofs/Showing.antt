@@ -1,4 +1,4 @@
--- Where a row has no cell, a default blank is shown.
+-- A default blank is displayed if a row has no cell.
 use Rattle.std.proofs.Common.{◌≡◌, ◌<◌, ℕ, length, arith}
 use Rattle.std.proofs.Math.Nat.{lt_of_not-le}
 use Rattle.std.proofs.lemmas.List.{get_or_past}

@@ -1,5 +1,5 @@
--- The status that is due for what handles hold: `ok` where nothing stands against the call. And what holds of the screens
--- behind them.
+-- The status of a call by what handles hold, which is `ok` if only an allocation can fail; and statements about their
+-- screens.
 use Rattle.std.specs.Prelude.{◌≡◌, ◌⊎◌, ◌==◌, ◌&&◌, ℕ, nat_lt, nat_le, length, List, []}
 use Rattle.std.specs.Prelude.{Bool, Option, Some, None, Result, Ok, Err, IfErr, OnErr, if◌then◌else◌, string_bytes}
 use Rattle.vt_grid.specs.Page.{Page}
@@ -15,7 +15,7 @@ abbrev pub source_at : Option Object → Option Source
 source_at None = None
 source_at (Some object) = Some object.source
 
--- the text that was made last; none where there is nothing
+-- The last text of a handle; empty if it holds nothing.
 abbrev pub text_at : Option Object → List ℕ
 text_at None = []
 text_at (Some object) = string_bytes object.text
@@ -26,35 +26,36 @@ abbrev pub due_on : (ScreenValue → ℕ) → Option ScreenValue → ℕ
 due_on due None = wrong_kind
 due_on due (Some screen) = due screen
 
--- of a handle, where `due` is that of a screen
+-- The status of a call on a handle, where `due` is that of its screen.
 abbrev pub due_at : (ScreenValue → ℕ) → Option Object → ℕ
 due_at due None = no_object
 due_at due (Some object) = due_on due (screen_in object.source)
 
--- no screen is refused
+-- The status for any screen.
 abbrev pub any_screen : ScreenValue → ℕ
 any_screen screen = ok
 
--- a row that is shown
+-- The status for a row index: whether that row is displayed.
 abbrev pub has_row : ℕ → ScreenValue → ℕ
 has_row row screen = if nat_lt row (length screen.page.rows) then ok else bad_argument
 
--- and room for its cells
+-- The status for a row index and a number of places: whether that row is displayed and its cells fit.
 abbrev pub has_row_and_room : (row room : ℕ) → ScreenValue → ℕ
 has_row_and_room row room screen = if nat_le screen.page.width room then has_row row screen else bad_argument
 
--- a column that such a row has; a row of scrollback may have more than the screen
+-- The status for a row and a column: whether there is such a cell; a row of scrollback may have more columns than the
+-- screen.
 abbrev pub has_cell : (row col : ℕ) → ScreenValue → ℕ
 has_cell row col screen =
     if nat_lt row (length screen.page.rows) && nat_lt col (length (visible_row screen row).cells) then ok
     else bad_argument
 
--- a range that begins on the screen, if it has more than one row
+-- The status for a range: whether it begins on the screen, if it has more than one row.
 abbrev pub has_start : (start_row start_col end_row : ℕ) → ScreenValue → ℕ
 has_start start_row start_col end_row screen =
     if nat_lt start_row end_row && nat_lt screen.page.width start_col then bad_argument else ok
 
--- there is a screen, and this holds of it
+-- There is a screen, and a statement holds for it.
 abbrev pub OnScreen : Option ScreenValue → (ScreenValue → Type 0) → Type 0
 OnScreen None Holds = ⊥
 OnScreen (Some screen) Holds = Holds screen
@@ -75,23 +76,23 @@ due_at_both due None prev = no_object
 due_at_both due (Some object) None = no_object
 due_at_both due (Some object) (Some prev) = due_on_both due (screen_in object.source) (screen_in prev.source)
 
--- of a screen and a handle beside it
+-- The status of a call on a screen and the handle of another one.
 abbrev pub due_beside : (ScreenValue → ScreenValue → ℕ) → Option ScreenValue → Option Object → ℕ
 due_beside due screen None = bad_argument
 due_beside due screen (Some prev) = due_on_both due screen (screen_in prev.source)
 
--- no two screens are refused
+-- The status for any two screens.
 abbrev pub any_screens : ScreenValue → ScreenValue → ℕ
 any_screens screen prev = ok
 
 abbrev pub same_size : Page → Page → Bool
 same_size page other = (length page.rows == length other.rows) && (page.width == other.width)
 
--- those of one size are not
+-- The status for two screens that must have one size.
 abbrev pub of_one_size : ScreenValue → ScreenValue → ℕ
 of_one_size screen prev = if same_size screen.page prev.page then ok else other_size
 
--- there are two screens, and this holds of them
+-- There are two screens, and a statement holds for both.
 abbrev pub OnBoth : Option ScreenValue → Option ScreenValue → (ScreenValue → ScreenValue → Type 0) → Type 0
 OnBoth None prev Holds = ⊥
 OnBoth (Some screen) None Holds = ⊥
@@ -102,18 +103,18 @@ HoldBoth None prev Holds = ⊥
 HoldBoth (Some object) None Holds = ⊥
 HoldBoth (Some object) (Some prev) Holds = OnBoth (screen_in object.source) (screen_in prev.source) Holds
 
--- ---- the answer
+-- ---- the status that is returned
 
--- what is due; or memory is refused where nothing else stands against the call
+-- The status is the one that is due, or says that an allocation failed if nothing else prevents the call.
 abbrev pub IsAnswer : (due status : ℕ) → Type 0
 IsAnswer due status = (status ≡ due) ⊎ ((due ≡ ok) × (status ≡ out_of_memory))
 
--- the status of a result
+-- The status of a result.
 abbrev pub status_in : {A : Type 0} → Result A ℕ → ℕ
 status_in (Ok value) = ok
 status_in (Err status) = status
 
--- a result is what is due, an error never answered as `ok`; and behind an error this stays as it was
+-- A result with the status that is due, whose error is never `ok`; after an error, `Stays` holds.
 pub record AnswersOrStays {A : Type 0} (due : ℕ) (result : Result A ℕ) (Stays : Type 0) : Type 0 where
   pub answer : IsAnswer due (status_in result)
   pub refused : IfErr result (λ status. ¬ (status ≡ ok))

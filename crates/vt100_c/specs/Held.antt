@@ -1,4 +1,4 @@
--- What a handle owns: nothing, and then it is null, or a block of the C library's heap with an object in it.
+-- What a handle owns: nothing, if it is null, or a block of the C library's heap with an object in it.
 use Rattle.std.specs.Prelude.{Option, Some, None}
 use Rattle.std.specs.Global.{Global}
 use Rattle.std_alloc.specs.Box.Ownership.{box_owns}
@@ -9,11 +9,11 @@ use base.Fml.{Fml, feq}
 use denote.RawPtr.{Ptr, null_ptr}
 use mir.Syntax.{Ty}
 
--- the C library's heap
+-- The C library's heap.
 abbrev pub heap : Global
 heap = record { memory = record { seal = tt } }
 
--- the right to free a block of it
+-- The right to free a block of the heap.
 abbrev pub may_free : Ty → Ptr → Fml
 may_free = ghosts.dealloc_token heap
 

@@ -4,13 +4,14 @@ use Rattle.vt100_c.specs.Due.{text_at}
 use Rattle.vt100_c.specs.Status.{ok}
 use Rattle.vt100_c.specs.declared.object.Object.{Object}
 
--- the text that was made is kept with what a handle holds, and its length is given; where the call is refused, both stay
+-- The text that was made is kept with the object of a handle, and its length is stored; if the call fails, both are
+-- unchanged.
 pub record KeepsText (old : Option Object) (status : ℕ) (new : Option Object) (before after : ℕ) : Type 0 where
   pub len : status ≡ ok → after ≡ length (text_at new)
   pub refused : ¬ (status ≡ ok) → new ≡ old
   pub refused_len : ¬ (status ≡ ok) → after ≡ before
 
--- and what another handle holds stays in any case
+-- The text that was made is kept with the first handle, and the object of the second handle is unchanged.
 pub record KeepsBoth (old other : Option Object) (status : ℕ) (new other' : Option Object) (before after : ℕ) :
     Type 0 where
   pub same : other' ≡ other

@@ -1,4 +1,4 @@
--- Making, saving and exchanging what handles hold.
+-- Creating, saving and exchanging the objects of handles.
 use Rattle.std.specs.Prelude.{◌≡◌, ℕ, Option, Some, None, unwrap_or}
 use Rattle.vt100.specs.Parser.{parsing}
 use Rattle.vt100_c.specs.Calls.{Either, Fills, is_size}
@@ -12,7 +12,7 @@ use Rattle.vt_scan.specs.Automaton.{start}
 use Rattle.vt_scan.specs.Scanner.{StandsFor}
 use Rattle.vt_screen.specs.Screen.{ScreenValue, fresh_screen}
 
--- a parser that has read nothing, with a fresh screen and an empty log
+-- A parser that has read nothing, with a fresh screen and an empty log.
 abbrev pub IsNewParser : (rows cols capacity wanted : ℕ) → Source → Type 0
 IsNewParser rows cols capacity wanted (Parser parser) =
     StandsFor parser.scanner start
@@ -21,53 +21,53 @@ IsNewParser rows cols capacity wanted (Screen screen) = ⊥
 IsNewParser rows cols capacity wanted (Mirror mirror) = ⊥
 IsNewParser rows cols capacity wanted (Capture written) = ⊥
 
--- something of a size is made behind a handle: one that isn't empty stays, and so does one where the size is none
+-- A value of this size is created in an empty handle; the handle is unchanged if it isn't empty or the size is no size.
 abbrev pub Makes : (rows cols : ℕ) → (Source → Type 0) → Option Object → ℕ → Option Object → Type 0
 Makes rows cols Is (Some old) status new = (status ≡ in_use) × (new ≡ Some old)
 Makes rows cols Is None status new =
     Either (is_size rows cols) (Fills Is status new) ((status ≡ bad_argument) × (new ≡ None))
 
--- what is saved of a source: its screen, or of a capture a copy; nothing of a mirror
+-- The copy of a value that is saved: its screen, or a copy of a capture; a mirror has none.
 abbrev pub saved_from : Source → Option Source
 saved_from (Parser parser) = Some (Screen parser.screen)
 saved_from (Screen screen) = Some (Screen screen)
 saved_from (Mirror mirror) = None
 saved_from (Capture written) = Some (Capture written)
 
--- it is put behind an empty handle
+-- The saved copy is put into an empty handle.
 abbrev pub SavesAs : Option Source → ℕ → Option Object → Type 0
 SavesAs None status new = (status ≡ wrong_kind) × (new ≡ None)
 SavesAs (Some copy) status new = Fills (λ source. source ≡ copy) status new
 
--- of what is held, what is saved is put behind another handle; one that isn't empty stays
+-- The copy of what a handle holds is put into an empty handle; the other handle is unchanged if it isn't empty.
 abbrev pub Saves : Option Object → (old : Option Object) → ℕ → (new : Option Object) → Type 0
 Saves None old status new = (status ≡ no_object) × (new ≡ old)
 Saves (Some object) (Some old) status new = (status ≡ in_use) × (new ≡ Some old)
 Saves (Some object) None status new = SavesAs (saved_from object.source) status new
 
--- why a source isn't copied: there is nothing to save, or no memory
+-- The status if no copy is made: there is nothing to save, or an allocation failed.
 abbrev pub refusal_of : Option Source → ℕ
 refusal_of None = wrong_kind
 refusal_of (Some copy) = out_of_memory
 
--- a source with the screen of another, if that has one
+-- A value with the screen of another one, if that has a screen.
 abbrev pub with_other : Option ScreenValue → Source → Source
 with_other other (Parser parser) = Parser (record parser { screen = unwrap_or other parser.screen })
 with_other other (Screen screen) = Screen (unwrap_or other screen)
 with_other other (Mirror mirror) = Mirror mirror
 with_other other (Capture written) = Capture written
 
--- screens are exchanged where both sources have one
+-- The status of exchanging screens, which both values must have.
 abbrev pub swap_status : Option ScreenValue → Option ScreenValue → ℕ
 swap_status (Some own) (Some other) = ok
 swap_status (Some own) None = wrong_kind
 swap_status None other = wrong_kind
 
--- what is held, with the screen of another, and the same text
+-- An object with the screen of another one, and its own text.
 abbrev pub held_with_other : Option ScreenValue → Object → Object
 held_with_other other object = record object { source = with_other other object.source }
 
--- the screens behind two handles are exchanged, and no text changes; both stay where one is empty
+-- The screens of two handles are exchanged, and no text changes; both are unchanged if one is empty.
 abbrev pub Swaps : (old old' : Option Object) → ℕ → (new new' : Option Object) → Type 0
 Swaps None old' status new new' = (status ≡ no_object) × (new ≡ None) × (new' ≡ old')
 Swaps (Some old) None status new new' = (status ≡ no_object) × (new ≡ Some old) × (new' ≡ None)

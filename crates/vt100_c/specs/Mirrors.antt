@@ -1,4 +1,4 @@
--- What C gets of a mirror's answers.
+-- The results of a mirror's calls, as C gets them.
 use Rattle.std.specs.Prelude.{◌≡◌, ℕ, Bool, List, Option, Some, None, Result, Ok, Err, string_bytes, string_len}
 use Rattle.std.specs.Prelude.{if◌then◌else◌}
 use Rattle.vt_cells.specs.declared.error.Error.{Error}
@@ -8,21 +8,21 @@ use Rattle.vt_mirror.specs.declared.update.Update.{Update}
 use Rattle.vt_mirror.specs.declared.update.Update.TheVariants.{Diff, Full}
 use Rattle.vt100_c.specs.Status.{ok, bad_argument, status_of}
 
--- ---- viewers come and go
+-- ---- viewers join and leave
 
--- a number is handed over, or an error is answered and the place for the number stays
+-- A number is stored, or an error is returned and the place for the number is unchanged.
 abbrev pub GivesNumber : Result ℕ Error → (status before after : ℕ) → Type 0
 GivesNumber (Ok number) status before after = (status ≡ ok) × (after ≡ number)
 GivesNumber (Err error) status before after = (status ≡ status_of error) × (after ≡ before)
 
--- a viewer joins
+-- A viewer joins a mirror.
 pub record Joins (status before after : ℕ) (old new : MirrorValue) : Type 0 where
   pub answer : Result ℕ Error
   pub parser : new.parser ≡ old.parser
   pub call : JoinsMirror old.viewers answer new.viewers
   pub gives : GivesNumber answer status before after
 
--- a viewer leaves; where there is none of this number, that is a bad argument
+-- A viewer leaves a mirror; it is a bad argument if there is no viewer with this number.
 pub record LeavesIt (viewer status : ℕ) (old new : MirrorValue) : Type 0 where
   pub answer : Bool
   pub parser : new.parser ≡ old.parser
@@ -31,7 +31,7 @@ pub record LeavesIt (viewer status : ℕ) (old new : MirrorValue) : Type 0 where
 
 -- ---- updates
 
--- what stands where the numbers of an update go: the size of a full one, and the length of the text
+-- The numbers that an update stores: the size of a full one, and the length of the text.
 pub record UpdateNumbers : Type 0 where
   pub rows : ℕ
   pub cols : ℕ
@@ -40,14 +40,14 @@ pub record UpdateNumbers : Type 0 where
 abbrev pub numbers : (rows cols len : ℕ) → UpdateNumbers
 numbers rows cols len = record { rows = rows; cols = cols; len = len }
 
--- a difference has no size; where there is no update, all is as before
+-- The numbers after an update: a difference has no size, and without an update they are unchanged.
 abbrev pub numbers_after : Result (Option Update) Error → UpdateNumbers → UpdateNumbers
 numbers_after (Ok (Some (Full rows cols text))) before = numbers rows cols (string_len text)
 numbers_after (Ok (Some (Diff text))) before = numbers 0 0 (string_len text)
 numbers_after (Ok None) before = before
 numbers_after (Err error) before = before
 
--- the text that is kept
+-- The text that is kept after an update.
 abbrev pub text_after : Result (Option Update) Error → List ℕ → List ℕ
 text_after (Ok (Some (Full rows cols text))) before = string_bytes text
 text_after (Ok (Some (Diff text))) before = string_bytes text
@@ -59,7 +59,7 @@ status_after (Ok (Some update)) = ok
 status_after (Ok None) = bad_argument
 status_after (Err error) = status_of error
 
--- an update is asked for and handed over: its text is kept, and its numbers are given
+-- An update is requested: its text is kept, and its numbers are stored.
 pub record Updates (kind : Kind) (viewer status : ℕ) (text text' : List ℕ) (before after : UpdateNumbers)
     (old new : MirrorValue) : Type 0 where
   pub answer : Result (Option Update) Error

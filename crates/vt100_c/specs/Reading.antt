@@ -1,4 +1,4 @@
--- What a source does with bytes.
+-- What a parser or a mirror does with bytes.
 use Rattle.std.specs.Prelude.{◌≡◌, ◌⊎◌, ◌==◌, ◌&&◌, ◌||◌, ◌+◌, ◌<◌, ◌≤◌, ◌-◌, ◌/◌, ◌%◌, ℕ, Bool, true, false, List}
 use Rattle.std.specs.Prelude.{length, take, drop, nat_lt, not, slice_index_or}
 use Rattle.vt_mirror.specs.Calls.{MirrorProcesses}
@@ -19,8 +19,8 @@ use Rattle.vt100_c.specs.declared.object.Source.TheVariants.{Parser, Screen, Mir
 use Rattle.vt_cells.specs.declared.error.Error.{Error}
 use Rattle.std.specs.declared.result.Result.{Result}
 
--- a parser reads bytes, as `Parser::process` does: in full; or up to a byte that takes memory, and fails from then on;
--- or it failed before, and nothing changes
+-- A parser reads bytes as by `Parser::process`: all of them; or up to a byte whose allocation fails, after which it has
+-- failed; or none, if it had failed before.
 pub record ReadsParser (old : Parsing Logged) (bytes : List ℕ) (status : ℕ) (new : Parsing Logged) : Type 0 where
   pub ran : status ≡ ok → Ran Logs old bytes new
   pub stopped : status ≡ out_of_memory → Stopped Logs old bytes new
@@ -31,13 +31,13 @@ pub record ReadsParser (old : Parsing Logged) (bytes : List ℕ) (status : ℕ) 
   pub fails : ¬ (status ≡ ok) → new.is_failed ≡ true
   pub harmless : old.is_failed ≡ false → IsHarmless Logs old bytes → status ≡ ok
 
--- a mirror reads bytes, as `Mirror::process` does
+-- A mirror reads bytes as by `Mirror::process`.
 pub record ReadsMirror (old : MirrorValue) (bytes : List ℕ) (status : ℕ) (new : MirrorValue) : Type 0 where
   pub answer : Result (Unit {0}) Error
   pub call : MirrorProcesses old bytes answer new
   pub status_is : status ≡ answered answer
 
--- bytes are for parsers and mirrors
+-- Bytes are read by a parser or a mirror; other values are of the wrong kind.
 abbrev pub Reads : List ℕ → Source → ℕ → Source → Type 0
 Reads bytes (Parser old) status (Parser new) = ReadsParser old bytes status new
 Reads bytes (Mirror old) status (Mirror new) = ReadsMirror old bytes status new
@@ -45,30 +45,30 @@ Reads bytes (Screen old) status new = Refuses wrong_kind (Screen old) status new
 Reads bytes (Capture old) status new = Refuses wrong_kind (Capture old) status new
 Reads bytes old status new = ⊥
 
--- ---- up to an event
+-- ---- reading up to an event
 
--- after how many bytes of rows reading stops
+-- The number of bytes of rows after which reading stops.
 abbrev pub batch : ℕ
 batch = 65536
 
--- whether so many bytes of records are those of so many rows without texts, and of nothing else
+-- Whether this many bytes of records are those of this many rows without texts, and of nothing else.
 abbrev pub are_bare_rows : (bytes rows : ℕ) → Bool
 are_bare_rows bytes rows = (bytes / 17 == rows) && (bytes % 17 == 0)
 
--- whether reading goes on: since the mark the log got only rows without texts, which take less than a batch, it has not
--- reached its limit, and it has lost nothing
+-- Whether reading continues: since the mark the log got only rows without texts, which take less than a batch, it has
+-- not reached its limit, and it has lost nothing.
 abbrev pub is_quiet : Mark → Logged → Bool
 is_quiet mark log =
     are_bare_rows (length log.records - mark.len) (length log.rows - mark.rows)
     && (nat_lt (mark.room - log.room) batch
     && ((not (log.room == 0) || mark.room == 0) && (log.is_whole || not mark.is_whole)))
 
--- where a log is
+-- The mark of a log in its present state.
 abbrev pub mark_of : Logged → Mark
 mark_of log = record { len = length log.records; rows = length log.rows; room = log.room; is_whole = log.is_whole }
 
--- all bytes are read, and none leaves an event at which reading stops; a parser that failed before reads all only of no
--- bytes
+-- All bytes are read, and none leaves an event at which reading stops; a parser that had failed before reads all bytes
+-- only if there are none.
 pub record ReadsAll (mark : Mark) (old : Parsing Logged) (bytes : List ℕ) (used status : ℕ) (new : Parsing Logged) :
     Type 0 where
   pub status_is : status ≡ ok
@@ -78,7 +78,7 @@ pub record ReadsAll (mark : Mark) (old : Parsing Logged) (bytes : List ℕ) (use
   pub still : new.is_failed ≡ old.is_failed
   pub nothing : old.is_failed ≡ true → (used ≡ 0) × (new ≡ old)
 
--- callbacks and screen between bytes that leave no event and those after them, from a state that the scanner may be in
+-- Callbacks and screen between bytes that leave no event and the bytes after them, from a state of the scanner.
 pub record IsQuietBetween (mark : Mark) (old : Parsing Logged) (before after : List ℕ) (new : Parsing Logged)
     (start : State) : Type 0 where
   pub between : screen.State Logged
@@ -86,8 +86,7 @@ pub record IsQuietBetween (mark : Mark) (old : Parsing Logged) (before after : L
   pub quiet : is_quiet mark between.callbacks ≡ true
   pub then : FoldsTo (Performs Logs) between (scan.run (scan.run start before).state after).events (stage new)
 
--- some bytes leave no event at which reading stops, and the next one leaves one, or loses one, and is the last that is
--- read
+-- Some bytes leave no event at which reading stops; the next one leaves or loses one, and is the last that is read.
 pub record ReadsEvent (mark : Mark) (old : Parsing Logged) (bytes : List ℕ) (used status : ℕ) (new : Parsing Logged) :
     Type 0 where
   pub count : ℕ
@@ -101,8 +100,8 @@ pub record ReadsEvent (mark : Mark) (old : Parsing Logged) (bytes : List ℕ) (u
   pub sound : old.is_failed ≡ false
   pub goes_on : new.is_failed ≡ false
 
--- callbacks and screen between bytes that leave no event and the byte after them, which memory is refused for, from a
--- state that the scanner may be in
+-- Callbacks and screen between bytes that leave no event and the byte after them, whose allocation fails, from a state
+-- of the scanner.
 pub record IsQuietBefore (mark : Mark) (old : Parsing Logged) (bytes : List ℕ) (used : ℕ) (new : Parsing Logged)
     (start : State) : Type 0 where
   pub between : screen.State Logged
@@ -110,8 +109,8 @@ pub record IsQuietBefore (mark : Mark) (old : Parsing Logged) (bytes : List ℕ)
   pub quiet : is_quiet mark between.callbacks ≡ true
   pub refused : IsRefused Logs between (scan.run start (take used bytes)).state (slice_index_or bytes used 0) (stage new)
 
--- some bytes leave no event at which reading stops, and the next one is refused: memory for it is, or the parser failed
--- before
+-- Some bytes leave no event at which reading stops, and the next one is not read: its allocation fails, or the parser
+-- had failed before.
 pub record StopsUnread (mark : Mark) (old : Parsing Logged) (bytes : List ℕ) (used status : ℕ) (new : Parsing Logged) :
     Type 0 where
   pub inside : used < length bytes
@@ -120,10 +119,10 @@ pub record StopsUnread (mark : Mark) (old : Parsing Logged) (bytes : List ℕ) (
   pub failed_before : old.is_failed ≡ true → (status ≡ failed) × (used ≡ 0) × (new ≡ old)
   pub fails : new.is_failed ≡ true
 
--- ---- a unit
+-- ---- units of bytes
 
--- so many bytes are read, of which only the last has events if any is left; or the byte after so many without an event
--- is refused
+-- `count` bytes are read, of which only the last has events if an event is left; or the byte after them is not read,
+-- and they have no event.
 pub record ReadsUnit (old : Parsing Logged) (bytes : List ℕ) (count status : ℕ) (new : Parsing Logged) : Type 0 where
   pub some : status ≡ ok → 0 < count
   pub inside : count ≤ length bytes
@@ -134,17 +133,17 @@ pub record ReadsUnit (old : Parsing Logged) (bytes : List ℕ) (count status : �
   pub failed_before : ¬ (status ≡ ok) → old.is_failed ≡ true → (status ≡ failed) × (count ≡ 0) × (new ≡ old)
   pub fails : ¬ (status ≡ ok) → new.is_failed ≡ true
 
--- bytes are read until the log has an event since a mark at which reading stops
+-- Bytes are read until the log has, since a mark, an event at which reading stops.
 abbrev pub ReadsFrom : Mark → List ℕ → (used : ℕ) → Parsing Logged → ℕ → Parsing Logged → Type 0
 ReadsFrom mark bytes used old status new =
     ReadsAll mark old bytes used status new
     ⊎ (ReadsEvent mark old bytes used status new ⊎ StopsUnread mark old bytes used status new)
 
--- until it has one since reading began
+-- Bytes are read until the log has, since the beginning, an event at which reading stops.
 abbrev pub ReadsUntil : List ℕ → (used : ℕ) → Parsing Logged → ℕ → Parsing Logged → Type 0
 ReadsUntil bytes used old status new = ReadsFrom (mark_of old.callbacks) bytes used old status new
 
--- that is for parsers
+-- A parser reads bytes up to an event; other values are of the wrong kind.
 abbrev pub ReadsUntilEvent : List ℕ → (used : ℕ) → Source → ℕ → Source → Type 0
 ReadsUntilEvent bytes used (Parser old) status (Parser new) = ReadsUntil bytes used old status new
 ReadsUntilEvent bytes used (Screen old) status new = Refuses wrong_kind (Screen old) status new × (used ≡ 0)

@@ -1,5 +1,5 @@
--- The record of a call, as C reads it: its kind in a byte, two numbers of four bytes, the length of its text in eight
--- bytes, and the text. The low byte of a number comes first.
+-- The record of a call, as C reads it: its kind in one byte, two numbers of four bytes each, the length of its text in
+-- eight bytes, and the text. Numbers have their low byte first.
 use Rattle.std.specs.Prelude.{◌≡◌, ◌⊎◌, ◌==◌, ◌&&◌, ◌<◌, ◌-◌, ◌*◌, ◌/◌, ◌%◌, ◌^◌, ℕ, Bool, true, false}
 use Rattle.std.specs.Prelude.{List, [], ◌∷◌, ◌++◌, length, min, Option, Some, None}
 use Rattle.std.specs.Int.{w16, w32, w64, to_le_bytes}
@@ -28,7 +28,7 @@ kind_of (UnhandledCsi first second groups byte) = 10
 kind_of (UnhandledOsc parts) = 11
 kind_of (OnScroll row alternate) = 12
 
--- a byte that may be missing
+-- The number of an optional byte, which is 256 for none.
 abbrev pub number_of : Option ℕ → ℕ
 number_of None = 256
 number_of (Some byte) = byte
@@ -67,15 +67,15 @@ second_of (UnhandledCsi first second groups byte) = number_of second
 second_of (UnhandledOsc parts) = 0
 second_of (OnScroll row alternate) = bit_of row.wrapped
 
--- bytes behind their length
+-- Bytes after their length.
 abbrev pub part_of : List ℕ → List ℕ
 part_of bytes = to_le_bytes w64 (length bytes) ++ bytes
 
--- numbers, behind how many they are
+-- Numbers after how many they are.
 abbrev pub group_of : List ℕ → List ℕ
 group_of numbers = to_le_bytes w64 (length numbers) ++ flat_map (to_le_bytes w16) numbers
 
--- the plain text of a row, or none where rows are recorded without it
+-- The plain text of a row, or none if rows are recorded without it.
 abbrev pub row_text : (bare : Bool) → RowValue → List ℕ
 row_text true row = []
 row_text false row = plain_text 0 (length row.cells) row.cells
@@ -104,8 +104,8 @@ record_of bare call = record_with (kind_of call) (first_of call) (second_of call
 
 -- ---- the log
 
--- which kinds are wanted, how many bytes are kept before records are dropped, how many of these are left, the records
--- so far, the rows of those that report one, and whether no record is missing
+-- A log: the kinds that are wanted, its limit in bytes, how many of these are left, the records, the rows that they
+-- report, and whether no record is missing.
 pub record Logged : Type 0 where
   pub wanted : ℕ
   pub limit : ℕ
@@ -114,22 +114,22 @@ pub record Logged : Type 0 where
   pub rows : List RowValue
   pub is_whole : Bool
 
--- whether bit `kind` of a number is set
+-- Whether the bit of a kind is set in a number.
 abbrev pub is_wanted : ℕ → ℕ → Bool
 is_wanted wanted kind = wanted / 2 ^ kind % 2 == 1
 
--- the bit of `wanted` by which rows are recorded without their texts
+-- The bit of `wanted` by which rows are recorded without their texts.
 abbrev pub without_text : ℕ
 without_text = 13
 
 abbrev pub is_bare : Logged → Bool
 is_bare log = is_wanted log.wanted without_text
 
--- a call is to be kept if it is wanted, and none was lost before it
+-- Whether a call must be kept: it is wanted, and no call was lost before it.
 abbrev pub is_due : CallValue → Logged → Bool
 is_due call log = log.is_whole && is_wanted log.wanted (kind_of call)
 
--- how many bytes the cells of a copied row take, as far as a word counts
+-- The number of bytes that the cells of a call's copied row take, at most the greatest number of a word.
 abbrev pub cells_size : CallValue → ℕ
 cells_size AudibleBell = 0
 cells_size VisualBell = 0
@@ -145,7 +145,7 @@ cells_size (UnhandledCsi first second groups byte) = 0
 cells_size (UnhandledOsc parts) = 0
 cells_size (OnScroll row alternate) = min (length (trimmed_row row).cells * 40) (2 ^ 64 - 1)
 
--- the rows behind those so far, without the default blanks at their ends
+-- Rows followed by the row that a call reports, without the default blanks at its end.
 abbrev pub rows_with : CallValue → List RowValue → List RowValue
 rows_with AudibleBell rows = rows
 rows_with VisualBell rows = rows
@@ -161,7 +161,7 @@ rows_with (UnhandledCsi first second groups byte) rows = rows
 rows_with (UnhandledOsc parts) rows = rows
 rows_with (OnScroll row alternate) rows = rows ++ trimmed_row row ∷ []
 
--- a log with the record of a call behind the others
+-- A log with the record of a call appended.
 abbrev pub with_record : CallValue → Logged → Logged
 with_record call log =
     record log {
@@ -170,11 +170,11 @@ with_record call log =
       room = log.room - length (record_of (is_bare log) call) - cells_size call;
     }
 
--- a log that lost a record
+-- A log that has lost a record.
 abbrev pub with_loss : Logged → Logged
 with_loss log = record log { is_whole = false }
 
--- an empty log of a limit, in which nothing is missing
+-- An empty log with a limit, in which no record is missing.
 abbrev pub nothing_logged : (wanted limit : ℕ) → Logged
 nothing_logged wanted limit =
     record { wanted = wanted; limit = limit; room = limit; records = []; rows = []; is_whole = true }
@@ -182,18 +182,18 @@ nothing_logged wanted limit =
 abbrev pub emptied : Logged → Logged
 emptied log = nothing_logged log.wanted log.limit
 
--- the limit of a new parser's log: 1 MiB
+-- The limit of a new parser's log: 1 MiB.
 abbrev pub default_limit : ℕ
 default_limit = 1048576
 
--- a call that is to be kept leaves its record after the others; or it is lost, because its allocation failed or the log
--- had reached its limit, and then the log is not whole, and nothing is added until it is emptied; any other call leaves
--- the log unchanged
+-- A call that must be kept has its record appended; or it is lost, because its allocation failed or the log had reached
+-- its limit, and then the log is not whole, and nothing is added until it is cleared; any other call leaves the log
+-- unchanged.
 pub record LogsIt (call : CallValue) (old new : Logged) : Type 0 where
   pub kept : is_due call old ≡ true → 0 < old.room → (new ≡ with_record call old) ⊎ (new ≡ with_loss old)
   pub full : is_due call old ≡ true → old.room ≡ 0 → new ≡ with_loss old
   pub stays : is_due call old ≡ false → new ≡ old
 
--- the screen stays
+-- A call is logged, and the screen is unchanged.
 abbrev pub Logs : CallValue → Logged → ScreenValue → Logged → ScreenValue → Type 0
 Logs call old before new after = (after ≡ before) × LogsIt call old new

@@ -1,4 +1,4 @@
--- The texts of rows, one behind the other.
+-- The texts of rows, in sequence.
 use Rattle.std.specs.Prelude.{◌≡◌, ◌+◌, ◌<◌, ◌≤◌, ℕ, List, [], ◌∷◌, ◌++◌, drop, length, take, nat_le, nat_lt}
 use Rattle.std.specs.Prelude.{Option, Some, None, if◌then◌else◌}
 use Rattle.std.specs.List.{concat}
@@ -10,12 +10,12 @@ use Rattle.vt100_c.specs.Sources.{screen_in}
 use Rattle.vt100_c.specs.Status.{ok, bad_argument, other_size}
 use Rattle.vt100_c.specs.declared.object.Object.{Object}
 
--- where each text ends, of those that begin at a place
+-- Where each text of a sequence ends that begins at a place.
 abbrev pub ends_from : ℕ → List (List ℕ) → List ℕ
 ends_from at [] = []
 ends_from at (text ∷ texts) = (at + length text) ∷ ends_from (at + length text) texts
 
--- some of the texts are put one behind the other, with their ends, and some are left
+-- The first texts of a list are joined, with their ends, and the others are left.
 pub record IsJoined (all left : List (List ℕ)) (count : ℕ) (joined ends : List ℕ) : Type 0 where
   pub done : List (List ℕ)
   pub parts : all ≡ done ++ left
@@ -23,57 +23,58 @@ pub record IsJoined (all left : List (List ℕ)) (count : ℕ) (joined ends : Li
   pub text : joined ≡ concat done
   pub ends_are : take count ends ≡ ends_from 0 done
 
--- the status that is due for rows of a screen, where there is a place for each end
+-- The status for the rows of a screen: whether there is a place for the end of each.
 abbrev pub has_places : (room : ℕ) → ScreenValue → ℕ
 has_places room screen = if nat_le (length screen.page.rows) room then ok else bad_argument
 
--- and for such as begin at a column
+-- The status for a range of columns: whether it begins at one and there is a place for the end of each row.
 abbrev pub has_range : (start room : ℕ) → ScreenValue → ℕ
 has_range start room screen = if nat_lt start screen.page.width then has_places room screen else bad_argument
 
--- and for two screens of one size
+-- The status for a range of columns of two screens, which must have one size.
 abbrev pub have_range : (start room : ℕ) → ScreenValue → ScreenValue → ℕ
 have_range start room screen prev = if same_size screen.page prev.page then has_range start room screen else other_size
 
--- the texts of a screen's rows, in `width` columns from `start` on
+-- The plain texts of a screen's rows, in `width` columns from `start` on.
 abbrev pub plain_rows : (start width : ℕ) → ScreenValue → List (List ℕ)
 plain_rows start width screen = row_texts start (start + width) (visible_rows screen)
 
--- the first of these numbers are where the texts end, one behind the other
+-- The first numbers are where the texts of a sequence end.
 abbrev pub AreEnds : (count : ℕ) → List ℕ → List (List ℕ) → Type 0
 AreEnds count ends texts = take count ends ≡ ends_from 0 texts
 
--- texts are put one behind the other, and the first of these numbers are where they end
+-- Texts are joined, and the first numbers are where they end.
 pub record JoinsTexts (count : ℕ) (texts : List (List ℕ)) (joined ends : List ℕ) : Type 0 where
   pub text : joined ≡ concat texts
   pub ends_are : AreEnds count ends texts
 
--- so are those of a screen's rows, and their ends are given; the numbers behind those stay
+-- The texts of a screen's rows are joined and their ends are stored; further numbers are unchanged.
 pub record GivesRows (screen : ScreenValue) (texts : List (List ℕ)) (joined before after : List ℕ) : Type 0 where
   pub rows : JoinsTexts (length screen.page.rows) texts joined after
   pub rest : drop (length screen.page.rows) after ≡ drop (length screen.page.rows) before
 
--- rows begin at a column, and there is a place for each one's end
+-- A range of columns begins at one, and there is a place for the end of each row.
 pub record FitRows (start room : ℕ) (screen : ScreenValue) : Type 0 where
   pub column : start < screen.page.width
   pub places : length screen.page.rows ≤ room
 
--- there is a screen, and one behind a handle beside it, and this holds of both
+-- There is a screen, and one in another handle, and a statement holds for both.
 abbrev pub HoldBeside : Option ScreenValue → Option Object → (ScreenValue → ScreenValue → Type 0) → Type 0
 HoldBeside screen None Holds = ⊥
 HoldBeside screen (Some prev) Holds = OnBoth screen (screen_in prev.source) Holds
 
--- ---- what a call makes of what handles hold
+-- ---- the effect of a call on what handles hold
 
--- these texts of the rows of the screen that is held, and gives their ends; the screen stays, and so do the numbers
--- where the call is refused
+-- The texts of the rows of a handle's screen are made and their ends are stored; the screen is unchanged, and so are
+-- the numbers if the call fails.
 pub record MakesRows (texts : ScreenValue → List (List ℕ)) (old : Option Object) (status : ℕ) (new : Option Object)
     (before after : List ℕ) : Type 0 where
   pub source : source_at new ≡ source_at old
   pub made : status ≡ ok → HoldsScreen old (λ screen. GivesRows screen (texts screen) (text_at new) before after)
   pub refused : ¬ (status ≡ ok) → after ≡ before
 
--- those that show its rows where the rows of the screen stand that another handle holds
+-- The outputs that turn the rows of another handle's screen into those of a handle's screen are made and their ends are
+-- stored.
 pub record ChangesRows (start width : ℕ) (old prev : Option Object) (status : ℕ) (new : Option Object)
     (before after : List ℕ) : Type 0 where
   pub source : source_at new ≡ source_at old

@@ -1,4 +1,4 @@
--- What is shown, as C reads it: colours, cells and states.
+-- What is displayed, as C reads it: colours, cells and states.
 use Rattle.std.specs.Prelude.{◌≡◌, ◌+◌, ◌<◌, ℕ, Bool, List, [], ◌∷◌, length, slice_index_or, if◌then◌else◌}
 use Rattle.vt_cells.specs.Attrs.{Attrs, is_bold, is_dim}
 use Rattle.vt_cells.specs.Cell.{CellValue, attrs_of, default_blank, is_right_half, is_wide, text_of}
@@ -24,20 +24,20 @@ color_for_c color.Default = record { kind = 0; red = 0; green = 0; blue = 0 }
 color_for_c (color.Idx index) = record { kind = 1; red = index; green = 0; blue = 0 }
 color_for_c (color.Rgb red green blue) = record { kind = 2; red = red; green = green; blue = blue }
 
--- a bit where something is so
+-- A value if a test holds, and 0 if not.
 abbrev pub bit : ℕ → Bool → ℕ
 bit value is = if is then value else 0
 
--- bold, dim, italic, underlined, both colours exchanged, from the lowest bit on
+-- The flags of a style, from the lowest bit on: bold, dim, italic, underlined, inverse.
 abbrev pub style_flags : Attrs → ℕ
 style_flags attrs =
     bit 1 (is_bold attrs) + bit 2 (is_dim attrs) + bit 4 attrs.italic + bit 8 attrs.underline + bit 16 attrs.inverse
 
--- and of a cell whether it is wide, and whether it is a right half
+-- The flags of a cell: its style, whether it is wide, and whether it is a continuation cell.
 abbrev pub cell_flags : CellValue → ℕ
 cell_flags cell = style_flags (attrs_of cell) + bit 32 (is_wide cell) + bit 64 (is_right_half cell)
 
--- the bytes behind the text are 0
+-- A cell as C reads it; the bytes after its text are 0.
 abbrev pub cell_for_c : CellValue → VtCell
 cell_for_c cell = record {
   text = padded (text_of cell);
@@ -47,15 +47,15 @@ cell_for_c cell = record {
   bgcolor = color_for_c (attrs_of cell).bgcolor;
 }
 
--- the cell that is shown at a place; a default blank where there is none
+-- The displayed cell at a row and column; a default blank if there is none.
 abbrev pub shown_cell : (row col : ℕ) → ScreenValue → CellValue
 shown_cell row col screen = at (visible_row screen row).cells col
 
--- the cell at a place of a list; past its end a default blank
+-- The cell at an index of a list; past its end a default blank.
 abbrev pub cell_in : List VtCell → ℕ → VtCell
 cell_in cells k = slice_index_or cells k (cell_for_c default_blank)
 
--- the first cells are those of a row that is shown, as many as the screen has columns
+-- The first cells are those of a displayed row, as many as the screen has columns.
 abbrev pub IsRowForC : ℕ → ScreenValue → List VtCell → Type 0
 IsRowForC row screen cells = (col : ℕ) → col < screen.page.width
     → cell_in cells col ≡ cell_for_c (shown_cell row col screen)

@@ -1,25 +1,25 @@
--- What is held: its kind, and its screen.
+-- The kind of a value that a handle holds, and its screen.
 use Rattle.std.specs.Prelude.{ℕ, Option, Some, None}
 use Rattle.vt100_c.specs.declared.object.Object.{Object}
 use Rattle.vt100_c.specs.declared.object.Source.{Source}
 use Rattle.vt100_c.specs.declared.object.Source.TheVariants.{Parser, Screen, Mirror, Capture}
 use Rattle.vt_screen.specs.Screen.{ScreenValue}
 
--- the screen of a parser, or a saved one
+-- The screen of a value, if it is a parser or a saved screen.
 abbrev pub screen_in : Source → Option ScreenValue
 screen_in (Parser parser) = Some parser.screen
 screen_in (Screen screen) = Some screen
 screen_in (Mirror mirror) = None
 screen_in (Capture written) = None
 
--- the number of a kind
+-- The number of a value's kind.
 abbrev pub kind_of : Source → ℕ
 kind_of (Parser parser) = 1
 kind_of (Screen screen) = 2
 kind_of (Mirror mirror) = 3
 kind_of (Capture written) = 4
 
--- that of what is held; 0 for nothing
+-- The number of the kind of what a handle holds; 0 if it is empty.
 abbrev pub kind_held : Option Object → ℕ
 kind_held None = 0
 kind_held (Some object) = kind_of object.source

@@ -1,4 +1,4 @@
--- What a call answers.
+-- The statuses that calls return.
 use Rattle.std.specs.Prelude.{ℕ, Result, Ok, Err}
 use Rattle.vt_cells.specs.declared.error.Error.{Error}
 use Rattle.vt_cells.specs.declared.error.Error.TheVariants.{Failed, NoNumber, OutOfMemory}
@@ -30,13 +30,13 @@ in_use = 7
 abbrev pub no_number : ℕ
 no_number = 8
 
--- the status of an error
+-- The status of an error.
 abbrev pub status_of : Error → ℕ
 status_of OutOfMemory = 1
 status_of Failed = 2
 status_of NoNumber = 8
 
--- the status of an answer that gives nothing else
+-- The status of a result without a value.
 abbrev pub answered : Result (Unit {0}) Error → ℕ
 answered (Ok done) = 0
 answered (Err error) = status_of error

@@ -1,4 +1,4 @@
--- Which text each call makes.
+-- The text or output that each call makes.
 use Rattle.std.specs.Prelude.{◌≡◌, ◌<◌, ◌≤◌, ℕ, List, Option, length}
 use Rattle.vt_cells.specs.Op.{bytes_of_all}
 use Rattle.vt_redraw.specs.Moved.{IsScrolling}
@@ -19,7 +19,7 @@ use Rattle.vt100_c.specs.declared.making.Text.{Text}
 use Rattle.vt100_c.specs.declared.making.Text.TheVariants as text
 use Rattle.vt100_c.specs.declared.object.Object.{Object}
 
--- ---- of one screen
+-- ---- one screen
 
 abbrev pub text_of : Text → ScreenValue → List ℕ
 text_of text.Contents screen = contents_of screen
@@ -33,14 +33,14 @@ text_of text.CursorState screen = bytes_of_all (cursor_state (shown screen))
 text_of text.Attributes screen = attributes_text screen.attrs
 text_of text.InputMode screen = input_text screen.modes
 
--- what the screen has to be for it
+-- The status for a text of a screen.
 abbrev pub due_for : Text → ScreenValue → ℕ
 due_for (text.Between start_row start_col end_row end_col) screen = has_start start_row start_col end_row screen
 due_for _ screen = any_screen screen
 
--- ---- of two
+-- ---- two screens
 
--- a difference that may move rows first, and is never longer for that
+-- A difference that may move rows first, and is never longer than one that doesn't.
 pub record IsScrollingDiff (screen prev : ScreenValue) (text : List ℕ) : Type 0 where
   pub draws : IsScrolling (shown screen) (shown prev) text
   pub shorter : length text ≤ length (bytes_of_all (difference (shown screen) (shown prev)))
@@ -51,20 +51,20 @@ IsDifference between.Scrolling screen prev text = IsScrollingDiff screen prev te
 IsDifference between.State screen prev text = text ≡ state_change prev screen
 IsDifference between.InputMode screen prev text = text ≡ input_change prev.modes screen.modes
 
--- what the two have to be for it
+-- The status for a difference of two screens.
 abbrev pub due_for_both : Difference → ScreenValue → ScreenValue → ℕ
 due_for_both between.InputMode screen prev = any_screens screen prev
 due_for_both _ screen prev = of_one_size screen prev
 
--- ---- where memory for a text may be refused
+-- ---- texts whose allocation may fail
 
--- there is a text to make; of the others that is not said
+-- The text between two positions isn't empty; nothing is said of other texts.
 abbrev pub HasText : Text → ScreenValue → Type 0
 HasText (text.Between start_row start_col end_row end_col) screen =
     0 < length (between_of start_row start_col end_row end_col screen)
 HasText _ screen = Unit {0}
 
--- both show something else, so that there is one to make
+-- The output isn't empty, and the screens display different things.
 abbrev pub HasChange : (text : List ℕ) → ScreenValue → ScreenValue → Type 0
 HasChange text screen prev = (0 < length text) × ¬ (shown screen ≡ shown prev)
 
@@ -75,15 +75,15 @@ HasDifference between.InputMode screen prev =
     (0 < length (input_change prev.modes screen.modes)) × ¬ (screen.modes ≡ prev.modes)
 HasDifference _ screen prev = HasChange (bytes_of_all (difference (shown screen) (shown prev))) screen prev
 
--- ---- what a call makes of what handles hold
+-- ---- the effect of a call on what handles hold
 
--- this text of the screen that is held; the screen stays
+-- This text of a handle's screen is made; the screen is unchanged.
 pub record MakesText (name : Text) (old : Option Object) (status : ℕ) (new : Option Object) : Type 0 where
   pub source : source_at new ≡ source_at old
   pub some : status ≡ out_of_memory → HoldsScreen old (HasText name)
   pub made : status ≡ ok → HoldsScreen old (λ screen. text_at new ≡ text_of name screen)
 
--- this difference from the screen that another handle holds
+-- This difference from another handle's screen is made; the screen is unchanged.
 pub record MakesDifference (name : Difference) (old prev : Option Object) (status : ℕ) (new : Option Object) :
     Type 0 where
   pub source : source_at new ≡ source_at old

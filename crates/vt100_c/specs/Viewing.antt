@@ -1,4 +1,4 @@
--- What viewers of what a handle holds get, where that is a mirror.
+-- Calls on the viewers of a mirror that a handle holds.
 use Rattle.std.specs.Prelude.{◌≡◌, ℕ, List, string_bytes}
 use Rattle.vt_mirror.specs.Calls.{Kind}
 use Rattle.vt_mirror.specs.Watching.{IsFresh}
@@ -13,7 +13,7 @@ use Rattle.vt100_c.specs.declared.object.Object.{Object}
 use Rattle.vt100_c.specs.declared.object.Source.{Source}
 use Rattle.vt100_c.specs.declared.object.Source.TheVariants.{Parser, Screen, Mirror, Capture}
 
--- a mirror that has read nothing, with a fresh screen, and nobody views it
+-- A mirror that has read nothing, with a fresh screen and no viewers.
 abbrev pub IsNewMirror : (rows cols capacity : ℕ) → Source → Type 0
 IsNewMirror rows cols capacity (Mirror mirror) =
     StandsFor mirror.parser.scanner start
@@ -23,7 +23,7 @@ IsNewMirror rows cols capacity (Parser parser) = ⊥
 IsNewMirror rows cols capacity (Screen screen) = ⊥
 IsNewMirror rows cols capacity (Capture written) = ⊥
 
--- a viewer joins a mirror
+-- A viewer joins a mirror; other values are of the wrong kind.
 abbrev pub JoinsSource : (before after : ℕ) → Source → ℕ → Source → Type 0
 JoinsSource before after (Mirror old) status (Mirror new) = Joins status before after old new
 JoinsSource before after (Mirror old) status (Parser new) = ⊥
@@ -33,7 +33,7 @@ JoinsSource before after (Parser old) status new = Refuses wrong_kind (Parser ol
 JoinsSource before after (Screen old) status new = Refuses wrong_kind (Screen old) status new
 JoinsSource before after (Capture old) status new = Refuses wrong_kind (Capture old) status new
 
--- a viewer leaves one
+-- A viewer leaves a mirror; other values are of the wrong kind.
 abbrev pub LeavesSource : (viewer : ℕ) → Source → ℕ → Source → Type 0
 LeavesSource viewer (Mirror old) status (Mirror new) = LeavesIt viewer status old new
 LeavesSource viewer (Mirror old) status (Parser new) = ⊥
@@ -43,7 +43,7 @@ LeavesSource viewer (Parser old) status new = Refuses wrong_kind (Parser old) st
 LeavesSource viewer (Screen old) status new = Refuses wrong_kind (Screen old) status new
 LeavesSource viewer (Capture old) status new = Refuses wrong_kind (Capture old) status new
 
--- one is updated: the text that was kept becomes another
+-- A viewer of a mirror is updated, and the text that is kept is replaced; other values are of the wrong kind.
 abbrev pub UpdatesSource : Kind → (viewer : ℕ) → (before after : UpdateNumbers) → (text text' : List ℕ) →
     Source → ℕ → Source → Type 0
 UpdatesSource kind viewer before after text text' (Mirror old) status (Mirror new) =

@@ -4,29 +4,29 @@ use Rattle.vt_rows.specs.CaptureRows.{AreRowsOf}
 use Rattle.vt_rows.specs.Pieces.{ArePiecesOf, Piece, piece_end}
 use Rattle.vt100_c.specs.Captures.{IsFirstPiece, IsFirstRow, IsPlace, no_place}
 
--- where a slice of the text from byte `at` on begins and ends
+-- Where a slice of the text from byte `at` on begins and ends in the whole text.
 abbrev pub place_from : ℕ → Piece → ℕ × ℕ
 place_from at piece = (at + piece.0, at + piece_end piece)
 
--- where `vt100_next_plain` says that the first piece from byte `at` on begins and ends
+-- The places that `vt100_next_plain` stores: where the first piece from byte `at` on begins and ends.
 abbrev pub FindsPlain : List ℕ → (at start end : ℕ) → Type 0
 FindsPlain text at start end =
     (pieces : List Piece) × ArePiecesOf (drop at text) pieces × IsFirstPiece (length text) at pieces start end
 
--- calls of it that return OK and find pieces at these places, the first from byte `at` on and each further one from the
--- end of the piece before it; and one after them that finds none
+-- Calls of `vt100_next_plain` that return OK and find pieces at these places, the first from byte `at` on and each
+-- further one from the end of the piece before it; and one more that finds none.
 abbrev pub FindAllPlain : List ℕ → ℕ → List (ℕ × ℕ) → Type 0
 FindAllPlain text at [] = FindsPlain text at (length text) (length text)
 FindAllPlain text at (place ∷ places) =
     (place.0 < length text) × FindsPlain text at place.0 place.1 × FindAllPlain text place.1 places
 
--- where `vt100_next_row` says that the row at byte `at` ends, and the next one begins
+-- The places that `vt100_next_row` stores: where the row at byte `at` ends, and where the next one begins.
 abbrev pub FindsRow : List ℕ → (width at end next : ℕ) → Type 0
 FindsRow text width at end next =
     (rows : List Piece) × AreRowsOf width (drop at text) rows × IsFirstRow at rows end next
 
--- calls of it that return OK and find rows at these places, the first at byte `at` and each further one where the call
--- before it says; the last one says that no row follows
+-- Calls of `vt100_next_row` that return OK and find rows at these places, the first at byte `at` and each further one
+-- where the call before it says; the last one finds no next row.
 abbrev pub FindAllRows : List ℕ → (width at : ℕ) → List (ℕ × ℕ) → Type 0
 FindAllRows text width at [] = ⊥
 FindAllRows text width at (place ∷ []) = (place.0 ≡ at) × IsPlace text at × FindsRow text width at place.1 no_place
@@ -34,13 +34,13 @@ FindAllRows text width at (place ∷ next ∷ places) =
     (place.0 ≡ at) × IsPlace text at × (next.0 ≢ no_place) × FindsRow text width at place.1 next.0
     × FindAllRows text width next.0 (next ∷ places)
 
--- these are the places of all pieces of a capture, in order
+-- The places of all pieces of a capture, in order.
 pub record ArePlacesOfPieces (text : List ℕ) (places : List (ℕ × ℕ)) : Type 0 where
   pub pieces : List Piece
   pub are : ArePiecesOf text pieces
   pub at : map (place_from 0) pieces ≡ places
 
--- and of all its rows
+-- The places of all rows of a capture, in order.
 pub record ArePlacesOfRows (text : List ℕ) (width : ℕ) (places : List (ℕ × ℕ)) : Type 0 where
   pub rows : List Piece
   pub are : AreRowsOf width text rows

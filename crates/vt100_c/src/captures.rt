@@ -1,4 +1,4 @@
-//! What is read from captures: their pieces outside of SGR, and their rows.
+//! Reading of captures: their pieces outside of SGR sequences, and their rows.
 
 ghost use Rattle.std.specs.Prelude.{◌≡◌, ◌+◌, ◌<◌, ◌≤◌, ◌↔◌, List, IfSome, IsSome, drop, length};
 ghost use Rattle.vt_rows.specs.CaptureRows.{AreRowsOf};
@@ -10,11 +10,17 @@ use crate::status::{BAD_ARGUMENT, OK};
 use std::str;
 use vt100::capture::{basic_formatted_rows, basic_formatted_to_plain_indexed};
 
-/// Where there is no row any more.
+/// The place that is stored when there is no next row.
 const NO_PLACE: usize = usize::MAX;
 
-/// Finds the next piece outside of SGR, from byte `at` on, and says where it
-/// begins and ends. Where there is none, both are the end of the text.
+/// Finds the next piece of a capture outside of SGR sequences, from byte `at`
+/// on, and stores where it begins and ends. If there is none, both are the
+/// length of the text.
+///
+/// # Errors
+///
+/// `BAD_ARGUMENT` if the text isn't UTF-8 or no character begins or ends at
+/// `at`; nothing is stored.
 #[unsafe(no_mangle)]
 pub extern "C" fn vt100_next_plain(text: &[u8], at: usize, start: &mut usize, end: &mut usize) -> u8
     ensures status { result ≡ OK ↔ IsPlace text.now at }
@@ -31,9 +37,14 @@ pub extern "C" fn vt100_next_plain(text: &[u8], at: usize, start: &mut usize, en
     OK
 }
 
-/// Finds the row of a capture that begins at byte `at`, on a terminal of
-/// `width` columns: says where it ends, and where the next one begins. Behind
-/// the last row that is `SIZE_MAX`.
+/// Finds the row of a capture that begins at byte `at`, for a terminal of
+/// `width` columns, and stores where it ends and where the next row begins.
+/// After the last row the latter is `SIZE_MAX`.
+///
+/// # Errors
+///
+/// `BAD_ARGUMENT` if the text isn't UTF-8 or no character begins or ends at
+/// `at`; nothing is stored.
 #[unsafe(no_mangle)]
 pub extern "C" fn vt100_next_row(
     text: &[u8],
@@ -56,8 +67,8 @@ pub extern "C" fn vt100_next_row(
     OK
 }
 
-/// The text from byte `at` on, if the bytes are a text, and a character begins
-/// there or the text ends.
+/// Returns the text from byte `at` on, if the bytes are UTF-8 and a character
+/// begins there or the text ends there.
 fn text_from(text: &[u8], at: usize) -> Option<&str>
     ensures is { IsSome result ↔ IsPlace text.now at }
     ensures rest { IfSome result (λ rest. rest.now ≡ drop at text.now) }
@@ -72,8 +83,9 @@ fn text_from(text: &[u8], at: usize) -> Option<&str>
     }
 }
 
-/// Where the first piece outside of SGR begins and ends, in a text that begins
-/// at byte `at`; `stop` where there is none.
+/// Returns where the first piece outside of SGR sequences begins and ends, in
+/// text that begins at byte `at` of the capture. If there is none, both are
+/// `stop`.
 fn next_plain(text: &str, at: usize, stop: usize) -> (usize, usize)
     requires { at + length text.now ≤ stop }
     ensures { (pieces : List Piece) × ArePiecesOf text.now pieces
@@ -86,8 +98,8 @@ fn next_plain(text: &str, at: usize, stop: usize) -> (usize, usize)
     }
 }
 
-/// Where the first row ends, and where the next one begins, in a text that
-/// begins at byte `at`.
+/// Returns where the first row ends and where the next one begins, in text that
+/// begins at byte `at` of the capture.
 fn next_row(text: &str, width: u16, at: usize) -> (usize, usize)
     requires { at + length text.now < 18446744073709551615 }
     ensures { (rows : List Piece) × AreRowsOf width text.now rows × IsFirstRow at rows result.0 result.1 }
@@ -105,7 +117,7 @@ fn next_row(text: &str, width: u16, at: usize) -> (usize, usize)
     }
 }
 
-/// The place behind a line feed there, or this one.
+/// Returns the index after the line feed at `end`, or `end` if there is none.
 fn behind_line_end(text: &[u8], end: usize) -> usize
     ensures value { result ≡ behind_line_end text.now end }
     ensures inside { end ≤ length text.now → result ≤ length text.now }

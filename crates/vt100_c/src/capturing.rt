@@ -1,4 +1,4 @@
-//! Captures that are written: texts of rows with SGR alone.
+//! Writing of captures: the text of rows with SGR as the only escape sequences.
 
 ghost use Rattle.std.specs.Prelude.{◌≡◌, IfErr, IfOk, OnErr, OnOk, Some, string_bytes};
 ghost use Rattle.std.specs.List.{slice_get};
@@ -25,7 +25,13 @@ use std::alloc::Global;
 use vt100::Screen;
 use vt100::capture::{BasicFormattedCaptureRange, BasicFormattedCaptureState, RowContents};
 
-/// Makes a capture behind `out`, of which nothing is written yet.
+/// Creates a capture to which nothing has been written, in the empty handle
+/// `out`.
+///
+/// # Errors
+///
+/// `IN_USE` if `out` isn't empty, `OUT_OF_MEMORY` if an allocation fails;
+/// nothing has changed.
 #[unsafe(no_mangle)]
 pub extern "C" fn vt100_capture_new(alloc: Global, out: &mut Handle) -> u8
     ensures { MakesOne (λ made. made ≡ Source.Capture unwritten) out.old.held result out.new.held }
@@ -40,8 +46,15 @@ pub extern "C" fn vt100_capture_new(alloc: Global, out: &mut Handle) -> u8
     )
 }
 
-/// Writes the scrollback and the page of a parser's screen, or of a saved one,
-/// behind the rows of a capture; the text is kept with the capture.
+/// Appends all rows of scrollback and the page to a capture, from the screen of
+/// a parser or a saved screen. The new text is kept with the capture, and its
+/// length is stored.
+///
+/// # Errors
+///
+/// `NO_OBJECT` if a handle is empty, `WRONG_KIND` if `handle` holds no such
+/// screen or `capture` no capture, `BAD_ARGUMENT` if the same handle is passed
+/// twice, `OUT_OF_MEMORY` if the text cannot be allocated; nothing has changed.
 #[unsafe(no_mangle)]
 pub extern "C" fn vt100_capture_screen(
     alloc: Global,
@@ -65,10 +78,11 @@ pub extern "C" fn vt100_capture_screen(
     status
 }
 
-/// The same for what another handle holds.
+/// Appends all rows of the screen in `handle` to the capture `object`, which
+/// was taken out of its own handle.
 ///
-/// The capture's handle was full, and is empty now. So is the other one only
-/// where C gave one handle twice: that is a bad argument.
+/// If `handle` is empty now, it is the handle of the capture, so C passed one
+/// handle twice: that is a bad argument.
 fn screen_beside(alloc: Global, object: &mut Object, handle: &mut Handle, len: &mut usize) -> u8
     ensures answer { IsAnswer (due_beside_capture screen_in any_screen_is_due handle.old.held object.old) result }
     ensures some { result ≡ out_of_memory → HoldAtCapture screen_in handle.old.held (Some object.old) HaveText }
@@ -86,7 +100,8 @@ fn screen_beside(alloc: Global, object: &mut Object, handle: &mut Handle, len: &
     status
 }
 
-/// Writes the rows of a source's screen, if both are of their kind.
+/// Appends all rows of the screen of `from` to a capture, if `object` holds a
+/// capture and `from` has a screen.
 fn write_screen(alloc: Global, object: &mut Object, from: &Source, len: &mut usize) -> u8
     ensures answer { IsAnswer
         (due_behind any_screen_is_due (screen_in from.now) (state_in object.old.source)) result }
@@ -103,7 +118,8 @@ fn write_screen(alloc: Global, object: &mut Object, from: &Source, len: &mut usi
     keep(&mut object.text, made, len)
 }
 
-/// The text of all rows of a screen behind those of a capture, if it is one.
+/// Returns the text of all rows of a screen, continuing from a capture's state,
+/// if `capture` is a capture.
 fn screen_text(alloc: Global, screen: &Screen, capture: &mut Source) -> Result<String, u8>
     ensures text { IfOk result (λ text. OnCapture (Some screen.now) (state_in capture.old)
         (λ screen state. string_bytes text ≡ basic_texts state (all_rows screen))) }
@@ -121,9 +137,12 @@ fn screen_text(alloc: Global, screen: &Screen, capture: &mut Source) -> Result<S
     }
 }
 
-/// The text of all rows of a screen behind a state, which goes on.
+/// Returns the text of all rows of a screen, continuing from a capture state,
+/// which is updated.
 ///
-/// Fails where memory is refused; then the state is as it was.
+/// # Errors
+///
+/// `OUT_OF_MEMORY` if the text cannot be allocated; the state is unchanged.
 fn rows_text(
     alloc: Global,
     screen: &Screen,
@@ -148,8 +167,15 @@ fn rows_text(
     Ok(text)
 }
 
-/// Writes a row that an event of a parser reported, counted from 0, behind the
-/// rows of a capture; the text is kept with the capture.
+/// Appends to a capture a row, counted from 0, that an event of a parser
+/// reported. The new text is kept with the capture, and its length is stored.
+///
+/// # Errors
+///
+/// `NO_OBJECT` if a handle is empty, `WRONG_KIND` if `parser` holds no parser
+/// or `capture` no capture, `BAD_ARGUMENT` if the same handle is passed twice
+/// or if there is no such row, `OUT_OF_MEMORY` if the text cannot be allocated;
+/// nothing has changed.
 #[unsafe(no_mangle)]
 pub extern "C" fn vt100_capture_row(
     alloc: Global,
@@ -172,7 +198,8 @@ pub extern "C" fn vt100_capture_row(
     status
 }
 
-/// The same for what another handle holds; see [`screen_beside`].
+/// Appends a row that the parser in `parser` reported to the capture `object`,
+/// which was taken out of its own handle; see [`screen_beside`].
 fn row_beside(
     alloc: Global,
     object: &mut Object,
@@ -194,7 +221,8 @@ fn row_beside(
     status
 }
 
-/// Writes a row of a source's log, if both are of their kind and there is one.
+/// Appends a row of the log of `from` to a capture, if `object` holds a capture
+/// and `from` has a log with such a row.
 fn write_row(alloc: Global, object: &mut Object, from: &Source, index: usize, len: &mut usize) -> u8
     ensures answer { IsAnswer
         (due_behind (has_reported index) (log_in from.now) (state_in object.old.source)) result }
@@ -209,8 +237,8 @@ fn write_row(alloc: Global, object: &mut Object, from: &Source, index: usize, le
     keep(&mut object.text, made, len)
 }
 
-/// The text of a row that was reported behind those of a capture, if it is one
-/// and there is such a row.
+/// Returns the text of a reported row, continuing from a capture's state, if
+/// `capture` is a capture and there is such a row.
 fn reported_text(
     alloc: Global,
     log: &Events,
@@ -232,7 +260,8 @@ fn reported_text(
     }
 }
 
-/// The text of a row that was reported behind a state, if there is one.
+/// Returns the text of a reported row, continuing from a capture state, if
+/// there is such a row.
 fn event_text(
     alloc: Global,
     log: &Events,
@@ -251,9 +280,12 @@ fn event_text(
     }
 }
 
-/// The text of a row behind a state, which goes on.
+/// Returns the text of a row, continuing from a capture state, which is
+/// updated.
 ///
-/// Fails where memory is refused; then the state is as it was.
+/// # Errors
+///
+/// `OUT_OF_MEMORY` if the text cannot be allocated; the state is unchanged.
 fn row_text(
     alloc: Global,
     row: &RowContents<'_>,

@@ -1,49 +1,79 @@
-//! A cell and a state, laid out as C reads them.
+//! A cell and a screen's state, laid out for C.
 
-/// A colour: kind 0 is the terminal's own, 1 the one of the palette that `red`
-/// names, 2 one by its red, green and blue parts.
+/// A colour. Kind 0 is the terminal's default, 1 the palette colour whose index
+/// is `red`, and 2 the one with these red, green and blue components.
 #[repr(C)]
 #[derive(Clone, Copy)]
 pub struct VtColor {
+    /// The kind of the colour, from 0 to 2.
     pub kind: u8,
+    /// The palette index or the red component; 0 for the default colour.
     pub red: u8,
+    /// The green component; 0 unless the kind is 2.
     pub green: u8,
+    /// The blue component; 0 unless the kind is 2.
     pub blue: u8,
 }
 
-/// A cell: the first `len` bytes of `text` are its text, the others are 0.
+/// A cell. The first `len` bytes of `text` are its text, and the others are 0.
 #[repr(C)]
 #[derive(Drop)]
 pub struct VtCell {
+    /// The text in UTF-8, padded with zeros.
     pub text: [u8; 30],
+    /// The length of the text in bytes, from 0 to 29.
     pub len: u8,
+    /// The style from bit 0 on (bold, dim, italic, underline, inverse), bit 5
+    /// for a wide cell, and bit 6 for a continuation cell.
     pub flags: u8,
+    /// The foreground colour.
     pub fgcolor: VtColor,
+    /// The background colour.
     pub bgcolor: VtColor,
 }
 
-/// What is known of a screen. What is a test is 0 or 1, and what is one of an
-/// enum's variants is its place there, from 0.
+/// The state of a screen, without its cells. A test is 0 or 1, and a variant of
+/// an enum is its index, counted from 0.
 #[repr(C)]
 #[derive(Drop)]
 pub struct VtState {
+    /// The number of rows.
     pub rows: u16,
+    /// The number of columns.
     pub cols: u16,
+    /// The cursor's row, counted from 0.
     pub cursor_row: u16,
+    /// The cursor's column, counted from 0; `cols` if a wrap is pending.
     pub cursor_col: u16,
+    /// 1 if the alternate page is active.
     pub alternate_screen: u8,
+    /// 1 if the keypad sends application sequences.
     pub application_keypad: u8,
+    /// 1 if the cursor keys send application sequences.
     pub application_cursor: u8,
+    /// 1 if the cursor is hidden.
     pub hide_cursor: u8,
+    /// 1 if pasted text is bracketed.
     pub bracketed_paste: u8,
+    /// The number of the mouse mode, from 0 to 4.
     pub mouse_protocol_mode: u8,
+    /// The number of the mouse encoding, from 0 to 2.
     pub mouse_protocol_encoding: u8,
+    /// The number of the cursor style, from 0 to 6.
     pub cursor_style: u8,
+    /// The style of newly printed text, from bit 0 on: bold, dim, italic,
+    /// underline, inverse.
     pub flags: u8,
+    /// Zeros.
     pub reserved: [u8; 3],
+    /// The foreground colour of newly printed text.
     pub fgcolor: VtColor,
+    /// The background colour of newly printed text.
     pub bgcolor: VtColor,
+    /// By how many rows of scrollback the display is scrolled back.
     pub scrollback: usize,
+    /// The number of rows in scrollback.
     pub scrollback_len: usize,
+    /// The largest number of rows that scrollback keeps.
     pub scrollback_capacity: usize,
 }

@@ -1,4 +1,4 @@
-//! Colours, cells and states as C reads them.
+//! Conversion of colours, cells and states for C.
 
 ghost use Rattle.std.specs.Prelude.{◌≡◌, length};
 ghost use Rattle.vt_cells.specs.Cell.{text_of};
@@ -9,7 +9,7 @@ ghost use Rattle.vt100_c.specs.Shown.{mouse_encoding_number, mouse_mode_number, 
 use crate::cells::{VtCell, VtColor, VtState};
 use vt100::{Cell, Color, CursorStyle, MouseProtocolEncoding, MouseProtocolMode, Screen};
 
-/// A colour.
+/// Converts a colour.
 fn color_for_c(color: Color) -> VtColor
     ensures { result ≡ color_for_c color }
 {
@@ -35,14 +35,14 @@ fn color_for_c(color: Color) -> VtColor
     }
 }
 
-/// A value where something is so, else 0.
+/// Returns `value` if `is` holds, and 0 if not.
 pub(crate) fn bit(value: u8, is: bool) -> u8
     ensures { result ≡ bit value is }
 {
     if is { value } else { 0 }
 }
 
-/// A cell.
+/// Converts a cell.
 pub(crate) fn cell_for_c(cell: &Cell) -> VtCell
     ensures { result ≡ cell_for_c cell.now }
 {
@@ -57,7 +57,8 @@ pub(crate) fn cell_for_c(cell: &Cell) -> VtCell
     }
 }
 
-/// Writes a cell's text, with zeros behind it, and says how long it is.
+/// Writes the text of a cell, padded with zeros, and returns its length in
+/// bytes.
 #[tactic(auto, using(crate::proofs::Padding::short, crate::proofs::Padding::pads))]
 fn write_text(cell: &Cell, room: &mut [u8; 30]) -> u8
     ensures len { result ≡ length (text_of cell.now) }
@@ -69,7 +70,8 @@ fn write_text(cell: &Cell, room: &mut [u8; 30]) -> u8
     text.len() as u8
 }
 
-/// The flags of a cell.
+/// Returns the flags of a cell: its style, whether it is wide, and whether it
+/// is a continuation cell.
 fn cell_flags(cell: &Cell) -> u8
     ensures { result ≡ cell_flags cell.now }
 {
@@ -81,7 +83,7 @@ fn cell_flags(cell: &Cell) -> u8
     style + bit(32, cell.is_wide()) + bit(64, cell.is_wide_continuation())
 }
 
-/// The flags of what the next character is drawn with.
+/// Returns the flags of the style of newly printed text.
 fn style_flags(screen: &Screen) -> u8
     ensures { result ≡ style_flags screen.now.attrs }
 {
@@ -92,7 +94,7 @@ fn style_flags(screen: &Screen) -> u8
         + bit(16, screen.inverse())
 }
 
-/// The number of a mouse mode.
+/// Returns the number of a mouse mode.
 fn mouse_mode_number(mode: MouseProtocolMode) -> u8
     ensures { result ≡ mouse_mode_number mode }
 {
@@ -105,7 +107,7 @@ fn mouse_mode_number(mode: MouseProtocolMode) -> u8
     }
 }
 
-/// The number of a mouse encoding.
+/// Returns the number of a mouse encoding.
 fn mouse_encoding_number(encoding: MouseProtocolEncoding) -> u8
     ensures { result ≡ mouse_encoding_number encoding }
 {
@@ -116,7 +118,7 @@ fn mouse_encoding_number(encoding: MouseProtocolEncoding) -> u8
     }
 }
 
-/// The number of a look of the cursor.
+/// Returns the number of a cursor style.
 fn cursor_style_number(style: CursorStyle) -> u8
     ensures { result ≡ cursor_style_number style }
 {
@@ -131,7 +133,7 @@ fn cursor_style_number(style: CursorStyle) -> u8
     }
 }
 
-/// What is known of a screen.
+/// Converts the state of a screen.
 pub(crate) fn state_for_c(screen: &Screen) -> VtState
     ensures { result ≡ state_for_c screen.now }
 {

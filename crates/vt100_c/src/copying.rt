@@ -1,4 +1,4 @@
-//! The text that was made last, fetched.
+//! Copying of the last text of a handle.
 
 ghost use Rattle.std.specs.Prelude.{◌≡◌, drop, length, min, take};
 ghost use Rattle.vt100_c.specs.Due.{text_at};
@@ -6,8 +6,8 @@ ghost use Rattle.vt100_c.specs.Due.{text_at};
 use crate::handle::Handle;
 use std::alloc::Global;
 
-/// Copies the text that was made last of what a handle holds, as far as there
-/// is room, and says how many bytes were copied; those behind them stay.
+/// Copies the last text of a handle, as far as it fits into `out`, and returns
+/// the number of bytes copied. The rest of `out` is unchanged.
 #[unsafe(no_mangle)]
 pub extern "C" fn vt100_copy(alloc: Global, handle: &mut Handle, out: &mut [u8]) -> usize
     ensures same { handle.new.held ≡ handle.old.held }
@@ -24,7 +24,8 @@ pub extern "C" fn vt100_copy(alloc: Global, handle: &mut Handle, out: &mut [u8])
     count
 }
 
-/// Copies bytes, as far as there is room, and says how many.
+/// Copies bytes as far as they fit into `out`, and returns the number of bytes
+/// copied.
 pub(crate) fn copy(bytes: &[u8], out: &mut [u8]) -> usize
     ensures count { result ≡ min (length bytes.now) (length out.old) }
     ensures text { take result out.new ≡ take result bytes.now }

@@ -1,4 +1,4 @@
-//! Texts that take a terminal from one screen to another.
+//! Output that turns the display of one screen into that of another.
 
 ghost use Rattle.std.specs.Prelude.{◌≡◌, Some, string_bytes};
 ghost use Rattle.vt100_c.specs.Due.{IsAnswer, OnBoth, any_screens, due_at_both, due_beside, due_on_both, of_one_size};
@@ -14,8 +14,16 @@ use crate::object::{Object, Source};
 use crate::status::{BAD_ARGUMENT, NO_OBJECT};
 use std::alloc::Global;
 
-/// The text that takes a terminal from what `prev` shows to what this screen
-/// shows ([`vt100::Screen::contents_diff`]).
+/// Makes the escape sequences that turn the display of `prev` into that of
+/// `handle`'s screen ([`vt100::Screen::contents_diff`]), keeps them with
+/// `handle`, and stores their length.
+///
+/// # Errors
+///
+/// `NO_OBJECT` if a handle is empty, `WRONG_KIND` if one holds neither a parser
+/// nor a saved screen, `OTHER_SIZE` if the screens differ in size,
+/// `BAD_ARGUMENT` if the same handle is passed twice, `OUT_OF_MEMORY` if the
+/// output cannot be allocated; nothing has changed.
 #[unsafe(no_mangle)]
 pub extern "C" fn vt100_contents_diff(
     alloc: Global,
@@ -30,8 +38,17 @@ pub extern "C" fn vt100_contents_diff(
     make(alloc, handle, prev, Difference::Contents, len)
 }
 
-/// The same, where rows may move first, and never a longer text
-/// ([`vt100::Screen::contents_diff_scrolling`]).
+/// Makes the escape sequences that turn the display of `prev` into that of
+/// `handle`'s screen, moving rows first if they have scrolled
+/// ([`vt100::Screen::contents_diff_scrolling`]), keeps them with `handle`, and
+/// stores their length.
+///
+/// # Errors
+///
+/// `NO_OBJECT` if a handle is empty, `WRONG_KIND` if one holds neither a parser
+/// nor a saved screen, `OTHER_SIZE` if the screens differ in size,
+/// `BAD_ARGUMENT` if the same handle is passed twice, `OUT_OF_MEMORY` if the
+/// output cannot be allocated; nothing has changed.
 #[unsafe(no_mangle)]
 pub extern "C" fn vt100_contents_diff_scrolling(
     alloc: Global,
@@ -46,8 +63,16 @@ pub extern "C" fn vt100_contents_diff_scrolling(
     make(alloc, handle, prev, Difference::Scrolling, len)
 }
 
-/// The text that takes a terminal from what `prev` shows and its input modes to
-/// what this screen shows and its own ([`vt100::Screen::state_diff`]).
+/// Makes the escape sequences that turn the display and input modes of `prev`
+/// into those of `handle`'s screen ([`vt100::Screen::state_diff`]), keeps them
+/// with `handle`, and stores their length.
+///
+/// # Errors
+///
+/// `NO_OBJECT` if a handle is empty, `WRONG_KIND` if one holds neither a parser
+/// nor a saved screen, `OTHER_SIZE` if the screens differ in size,
+/// `BAD_ARGUMENT` if the same handle is passed twice, `OUT_OF_MEMORY` if the
+/// output cannot be allocated; nothing has changed.
 #[unsafe(no_mangle)]
 pub extern "C" fn vt100_state_diff(
     alloc: Global,
@@ -62,8 +87,15 @@ pub extern "C" fn vt100_state_diff(
     make(alloc, handle, prev, Difference::State, len)
 }
 
-/// The text that takes a terminal from the input modes of `prev` to those of
-/// this screen ([`vt100::Screen::input_mode_diff`]).
+/// Makes the escape sequences that change the input modes of `prev` to those of
+/// `handle`'s screen ([`vt100::Screen::input_mode_diff`]), keeps them with
+/// `handle`, and stores their length.
+///
+/// # Errors
+///
+/// `NO_OBJECT` if a handle is empty, `WRONG_KIND` if one holds neither a parser
+/// nor a saved screen, `BAD_ARGUMENT` if the same handle is passed twice,
+/// `OUT_OF_MEMORY` if the output cannot be allocated; nothing has changed.
 #[unsafe(no_mangle)]
 pub extern "C" fn vt100_input_mode_diff(
     alloc: Global,
@@ -78,7 +110,7 @@ pub extern "C" fn vt100_input_mode_diff(
     make(alloc, handle, prev, Difference::InputMode, len)
 }
 
-/// Makes a difference, keeps it with the first handle, and says how long it is.
+/// Makes a difference, keeps it with the first handle, and stores its length.
 fn make(
     alloc: Global,
     handle: &mut Handle,
@@ -99,10 +131,11 @@ fn make(
     status
 }
 
-/// Makes the difference from what another handle holds.
+/// Makes the difference from the screen in `prev` for `object`, which was taken
+/// out of its own handle.
 ///
-/// The first handle was full, and is empty now. So is the other one only where
-/// C gave one handle twice: that is a bad argument.
+/// If `prev` is empty now, it is the handle of the object, so C passed one
+/// handle twice: that is a bad argument.
 fn make_beside(
     alloc: Global,
     object: &mut Object,
@@ -123,8 +156,8 @@ fn make_beside(
     status
 }
 
-/// Makes the difference from another source, keeps it with the object, and says
-/// how long it is.
+/// Makes the difference from the screen of `prev`, keeps it with the object,
+/// and stores its length.
 fn renew(object: &mut Object, prev: &Source, difference: Difference, len: &mut usize) -> u8
     ensures source { object.new.source ≡ object.old.source }
     ensures answer { IsAnswer

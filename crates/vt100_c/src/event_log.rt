@@ -1,4 +1,4 @@
-//! The records of a parser's events, fetched and forgotten.
+//! Reading and clearing of the records of a parser's events.
 
 ghost use Rattle.std.specs.Prelude.{◌≡◌, IfSome, None, Some, drop, length, min, take};
 ghost use Rattle.vt100_c.specs.Calls.{OnSource};
@@ -14,9 +14,14 @@ use crate::status::{NO_OBJECT, OK, WRONG_KIND};
 use std::alloc::Global;
 use vt100::Parser;
 
-/// Says how many bytes the records take that weren't cleared yet, and whether
-/// none is missing: 1 for that, else 0, and then those behind the missing one
-/// are left out too.
+/// Stores the length in bytes of the records since the log was last cleared,
+/// and whether it is whole: 1 if no record is missing, otherwise 0. After a
+/// missing record no more are added.
+///
+/// # Errors
+///
+/// `NO_OBJECT` if the handle is empty, `WRONG_KIND` if it holds no parser;
+/// nothing is stored.
 #[unsafe(no_mangle)]
 pub extern "C" fn vt100_events(
     alloc: Global,
@@ -40,8 +45,9 @@ pub extern "C" fn vt100_events(
     status
 }
 
-/// Copies the records, as far as there is room, and says how many bytes were
-/// copied; those behind them stay. They stay in the log, too.
+/// Copies the records of a parser's events, as far as they fit into `out`, and
+/// returns the number of bytes copied. The rest of `out` and the log are
+/// unchanged.
 #[unsafe(no_mangle)]
 pub extern "C" fn vt100_copy_events(alloc: Global, handle: &mut Handle, out: &mut [u8]) -> usize
     ensures same { handle.new.held ≡ handle.old.held }
@@ -58,8 +64,12 @@ pub extern "C" fn vt100_copy_events(alloc: Global, handle: &mut Handle, out: &mu
     count
 }
 
-/// Forgets the records and the rows that they report, and that some are
-/// missing.
+/// Clears a parser's log: its records, the rows that they report, and the note
+/// that records are missing.
+///
+/// # Errors
+///
+/// `NO_OBJECT` if the handle is empty, `WRONG_KIND` if it holds no parser.
 #[unsafe(no_mangle)]
 pub extern "C" fn vt100_clear_events(alloc: Global, handle: &mut Handle) -> u8
     ensures { OnSource Empties handle.old.held result handle.new.held }
@@ -73,8 +83,12 @@ pub extern "C" fn vt100_clear_events(alloc: Global, handle: &mut Handle) -> u8
     status
 }
 
-/// Sets after how many bytes of records and of cells of rows that scrolled off
-/// a parser loses records, and forgets the records.
+/// Sets the limit of a parser's log, in bytes of records and of cells of rows
+/// that scrolled off, after which records are lost. It clears the log.
+///
+/// # Errors
+///
+/// `NO_OBJECT` if the handle is empty, `WRONG_KIND` if it holds no parser.
 #[unsafe(no_mangle)]
 pub extern "C" fn vt100_set_event_limit(alloc: Global, handle: &mut Handle, bytes: usize) -> u8
     ensures { OnSource (Limits bytes) handle.old.held result handle.new.held }
@@ -88,7 +102,7 @@ pub extern "C" fn vt100_set_event_limit(alloc: Global, handle: &mut Handle, byte
     status
 }
 
-/// The log of a parser.
+/// Returns the log of a source, if it is a parser.
 pub(crate) fn log_of(source: &Source) -> Option<&Events>
     ensures some { IfSome result (λ log. log_in source.now ≡ Some log.now) }
     ensures none { result ≡ None → log_in source.now ≡ None }
@@ -101,8 +115,8 @@ pub(crate) fn log_of(source: &Source) -> Option<&Events>
     }
 }
 
-/// Copies the records of a parser, as far as there is room, and says how many
-/// bytes that are; of anything else none.
+/// Copies the records of a source, as far as they fit into `out`, and returns
+/// the number of bytes copied, which is 0 if it is no parser.
 fn copy_records(source: &Source, out: &mut [u8]) -> usize
     ensures count { result ≡ min (length (records_of (log_in source.now))) (length out.old) }
     ensures text { take result out.new ≡ take result (records_of (log_in source.now)) }
@@ -114,8 +128,8 @@ fn copy_records(source: &Source, out: &mut [u8]) -> usize
     }
 }
 
-/// Says how long the records are and whether none is missing, if there is a
-/// log.
+/// Stores the length of the records and whether none is missing, if the source
+/// has a log.
 fn tell(source: &Source, len: &mut usize, is_whole: &mut u8) -> u8
     ensures status { result ≡ due_to (log_in source.now) }
     ensures len { result ≡ ok → len.new ≡ length (records_of (log_in source.now)) }
@@ -133,7 +147,7 @@ fn tell(source: &Source, len: &mut usize, is_whole: &mut u8) -> u8
     }
 }
 
-/// Empties the log, if there is one.
+/// Clears the log of a source, if it has one.
 fn clear(source: &mut Source) -> u8
     ensures { Empties source.old result source.new }
 {
@@ -148,7 +162,7 @@ fn clear(source: &mut Source) -> u8
     }
 }
 
-/// Sets the limit of the log, if there is one.
+/// Sets the limit of a source's log, if it has one.
 fn set_limit(source: &mut Source, bytes: usize) -> u8
     ensures { Limits bytes source.old result source.new }
 {
@@ -170,7 +184,7 @@ fn set_log_limit(parser: &mut Parser<Events>, bytes: usize)
     parser.callbacks_mut().set_limit(bytes);
 }
 
-/// Empties a parser's log.
+/// Clears the log of a parser.
 fn clear_log(parser: &mut Parser<Events>)
     ensures { parser.new ≡ record parser.old { callbacks = emptied parser.old.callbacks } }
 {

@@ -1,4 +1,4 @@
-//! Calls of the terminal, kept until C fetches them.
+//! The log that keeps the calls of a terminal until C reads them.
 
 ghost use Rattle.std.specs.Prelude.{◌≡◌, ◌&&◌, ◌<◌, OnErr, OnOk, length};
 ghost use Rattle.std.specs.List.{slice_get};
@@ -13,29 +13,29 @@ use vt_rows::Row;
 use vt100::capture::RowContents;
 use vt100::{Call, Callbacks, Screen};
 
-/// After how many bytes a new log loses records: 1 MiB.
+/// The limit of a new log in bytes, after which records are lost: 1 MiB.
 pub(crate) const DEFAULT_LIMIT: usize = 1_048_576;
 
-/// The records of the calls since the log was cleared, in order, and a copy of
-/// each row that they report.
+/// A log with the records of the calls since it was cleared, in order, and a
+/// copy of each row that they report.
 ///
 /// If an allocation for a record fails, or the log has reached its limit, the
-/// record is lost. Then the log isn't whole, and nothing is added until it is
-/// cleared, so that no call is ever out of order.
+/// record is lost. The log then isn't whole, and nothing is added until it is
+/// cleared, so no call is ever out of order.
 #[derive(Drop)]
 pub struct Events {
     alloc: Global,
     wanted: u16,
 
-    /// After how many bytes records are lost.
+    /// The number of bytes after which records are lost.
     limit: usize,
 
-    /// How many of these bytes are left.
+    /// The number of bytes that are left of the limit.
     room: usize,
     records: Vec<u8>,
 
-    /// The rows that are kept come first. The memory of the others is for rows
-    /// to come, so that most rows take none.
+    /// The kept rows, followed by spare ones whose memory later rows reuse, so
+    /// that most rows need no allocation.
     rows: Vec<Row>,
     row_count: usize,
     is_whole: bool,
@@ -62,8 +62,8 @@ impl Model for Events {
 }
 
 impl Events {
-    /// An empty log of a limit in bytes; bit k of `wanted` says whether calls of
-    /// kind k are kept.
+    /// Creates an empty log with a limit in bytes. Bit k of `wanted` says
+    /// whether calls of kind k are kept.
     pub(crate) fn new(alloc: Global, wanted: u16, limit: usize) -> Events
         ensures { result ≡ nothing_logged wanted limit }
     {
@@ -79,28 +79,28 @@ impl Events {
         }
     }
 
-    /// The records.
+    /// Returns the records.
     pub(crate) fn records(&self) -> &[u8]
         ensures { result.now ≡ self.now.records }
     {
         self.records.as_slice()
     }
 
-    /// The number of rows that the records report.
+    /// Returns the number of rows that the records report.
     pub(crate) fn row_count(&self) -> usize
         ensures { result ≡ length self.now.rows }
     {
         self.row_count
     }
 
-    /// How many bytes are left of the limit.
+    /// Returns the number of bytes that are left of the limit.
     pub(crate) fn room(&self) -> usize
         ensures { result ≡ self.now.room }
     {
         self.room
     }
 
-    /// A row that a record reports, counted from 0.
+    /// Returns a row that a record reports, counted from 0.
     #[tactic(auto, using(crate::proofs::Reported::first_sound))]
     pub(crate) fn row(&self, index: usize) -> Option<RowContents<'_>>
         ensures { result ≡ slice_get self.now.rows index }
@@ -111,22 +111,22 @@ impl Events {
         }
     }
 
-    /// Whether no record is missing.
+    /// Returns whether no record is missing.
     pub(crate) fn is_whole(&self) -> bool
         ensures { result ≡ self.now.is_whole }
     {
         self.is_whole
     }
 
-    /// 1 where no record is missing, else 0.
+    /// Returns 1 if no record is missing, and 0 otherwise.
     pub(crate) fn whole_bit(&self) -> u8
         ensures { result ≡ bit_of self.now.is_whole }
     {
         if self.is_whole { 1 } else { 0 }
     }
 
-    /// Forgets the records, and that some are missing. A log that had reached its
-    /// limit gives back the memory of its rows.
+    /// Clears the records and the note that some are missing. A log that had
+    /// reached its limit also frees the memory of its rows.
     pub(crate) fn clear(&mut self)
         ensures { self.new ≡ emptied self.old }
     {
@@ -139,7 +139,7 @@ impl Events {
         self.is_whole = true;
     }
 
-    /// Forgets the records, and sets the limit in bytes.
+    /// Clears the records, and sets the limit in bytes.
     pub(crate) fn set_limit(&mut self, limit: usize)
         ensures { self.new ≡ nothing_logged self.old.wanted limit }
     {
@@ -147,7 +147,7 @@ impl Events {
         self.clear();
     }
 
-    /// Whether a call of a kind is to be kept.
+    /// Returns whether calls of this kind are kept at present.
     fn keeps(&self, kind: u8) -> bool
         requires { kind < 16 }
         ensures { result ≡ (self.now.is_whole && is_wanted self.now.wanted kind) }
@@ -155,7 +155,8 @@ impl Events {
         self.is_whole && records::is_wanted(self.wanted, kind)
     }
 
-    /// Keeps a call, or loses it, or leaves the log where it isn't to be kept.
+    /// Adds the record of a call, if it is wanted; a call whose record cannot
+    /// be added is lost.
     fn note(&mut self, call: Call<'_>)
         ensures { LogsIt (call_of call.entry) self.old self.new }
     {
@@ -167,7 +168,11 @@ impl Events {
         }
     }
 
-    /// Adds the record of a call, or leaves the log.
+    /// Adds the record of a call.
+    ///
+    /// # Errors
+    ///
+    /// If an allocation fails; the log is unchanged.
     fn add(&mut self, call: Call<'_>) -> Result<(), AllocError>
         ensures ok { OnOk result (self.new ≡ with_record (call_of call.entry) self.old) }
         ensures err { OnErr result (self.new ≡ self.old) }
@@ -180,8 +185,8 @@ impl Events {
         Ok(())
     }
 
-    /// Keeps the report of a row, or loses it, or leaves the log unchanged if it
-    /// isn't wanted.
+    /// Adds the record of a row, if it is wanted; a row whose record cannot be
+    /// added is lost.
     fn note_row(&mut self, row: &RowContents<'_>, alternate: bool)
         ensures { LogsIt (calls.OnScroll row.now alternate) self.old self.new }
     {
@@ -193,7 +198,11 @@ impl Events {
         }
     }
 
-    /// Adds the record of a row, or leaves the log.
+    /// Adds the record of a row.
+    ///
+    /// # Errors
+    ///
+    /// If an allocation fails; the log is unchanged.
     fn add_row(&mut self, row: &RowContents<'_>, alternate: bool) -> Result<(), AllocError>
         ensures ok { OnOk result (self.new ≡ with_record (calls.OnScroll row.now alternate) self.old) }
         ensures err { OnErr result (self.new ≡ self.old) }
@@ -211,8 +220,8 @@ impl Events {
     }
 }
 
-/// Each call that is wanted is kept once, with all that it lent, and the screen
-/// stays.
+/// Callbacks that keep each wanted call once, with its arguments, and leave the
+/// screen alone.
 impl Callbacks for Events {
     ghost use Rattle.vt100_c.specs.Records.{Logs};
 

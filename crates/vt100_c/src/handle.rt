@@ -1,4 +1,4 @@
-//! A handle that C holds.
+//! The handle of an object, which C holds.
 
 ghost use Rattle.std.specs.Prelude.{◌≡◌, IsSome, is_some, Option, Some, None};
 ghost use Rattle.vt100_c.specs.Held.{held_at};
@@ -10,7 +10,7 @@ use std::alloc::Global;
 use std::marker::Model;
 use std::ptr::null_mut;
 
-/// Where an object is, or null, and then it holds nothing.
+/// A pointer to an object, or null for an empty handle.
 #[repr(C)]
 #[derive(Drop)]
 pub struct Handle {
@@ -22,18 +22,19 @@ impl Model for Handle {
     ghost also_owns = { λ handle. held_at handle.at handle.held };
 }
 
-// An object may go to another thread, and then so may its handle.
+// An object may be sent to another thread, and therefore its handle may, too.
 unsafe impl Send for Handle {}
 
 impl Handle {
-    /// Whether it holds an object.
+    /// Returns whether the handle holds an object.
     pub(crate) fn is_full(&mut self) -> bool
         ensures { (self.new ≡ self.old) × (result ≡ is_some self.old.held) }
     {
         !self.at.is_null()
     }
 
-    /// Takes the object out; the handle is empty until it is put back.
+    /// Takes the object out of the handle, which is then empty until it is put
+    /// back.
     pub(crate) fn take_out(&mut self, alloc: Global) -> Box<Object>
         requires { IsSome self.old.held }
         ensures { (self.old.held ≡ Some result.value) × (self.new.held ≡ None) }
@@ -41,15 +42,15 @@ impl Handle {
         self.take(alloc).into_box()
     }
 
-    /// Puts an object behind it. What it held before is no more reached, so it
-    /// is to be empty.
+    /// Puts an object into the handle, which must be empty: what it held before
+    /// could no longer be reached.
     pub(crate) fn put_back(&mut self, object: Box<Object>)
         ensures { self.new.held ≡ Some object.value }
     {
         self.put(Parts::of(object));
     }
 
-    /// Takes out the parts of the object's box.
+    /// Takes the parts of the object's box out of the handle.
     fn take(&mut self, alloc: Global) -> Parts<Object, Global>
         requires { IsSome self.old.held }
         ensures { (self.old.held ≡ Some result.value) × (self.new.held ≡ None) }
@@ -59,7 +60,7 @@ impl Handle {
         Parts { at, alloc }
     }
 
-    /// Puts the parts of an object's box behind it.
+    /// Puts the parts of an object's box into the handle.
     fn put(&mut self, parts: Parts<Object, Global>)
         ensures { self.new.held ≡ Some parts.value }
     {

@@ -1,4 +1,5 @@
-//! The terminal for C: functions over handles of one word, with a status each.
+//! The terminal for C: functions that take handles, which are one word each,
+//! and return a status.
 #![tactic(auto)]
 
 mod captures;

@@ -1,4 +1,4 @@
-//! Making, saving, exchanging and freeing what handles hold.
+//! Creating, saving, exchanging and freeing the objects of handles.
 
 ghost use Rattle.std.specs.Prelude.{◌≡◌, IfErr, IfOk, IfSome, None, Some, is_some, unwrap_or};
 ghost use Rattle.vt100_c.specs.Calls.{Fills, is_size};
@@ -17,8 +17,13 @@ use std::mem;
 use std::num::NonZeroU16;
 use vt100::{Parser, Screen};
 
-/// Makes a parser with a fresh screen behind `out`. Bit k of `wanted` says
-/// whether events of kind k are kept.
+/// Creates a parser with a fresh screen in the empty handle `out`. Bit k of
+/// `wanted` says whether events of kind k are kept.
+///
+/// # Errors
+///
+/// `IN_USE` if `out` isn't empty, `BAD_ARGUMENT` if `rows` or `cols` is 0,
+/// `OUT_OF_MEMORY` if an allocation fails; nothing has changed.
 #[unsafe(no_mangle)]
 pub extern "C" fn vt100_parser_new(
     alloc: Global,
@@ -43,8 +48,14 @@ pub extern "C" fn vt100_parser_new(
     }
 }
 
-/// Saves the screen of a parser, or a saved one, behind `out`; of a capture, a
-/// copy of it.
+/// Saves a copy in the empty handle `out`: of the screen of a parser or a saved
+/// screen, or of a capture.
+///
+/// # Errors
+///
+/// `NO_OBJECT` if `handle` is empty, `IN_USE` if `out` isn't, `WRONG_KIND` if
+/// `handle` holds a mirror, `OUT_OF_MEMORY` if the copy cannot be allocated;
+/// nothing has changed.
 #[unsafe(no_mangle)]
 pub extern "C" fn vt100_save(alloc: Global, handle: &mut Handle, out: &mut Handle) -> u8
     ensures same { handle.new.held ≡ handle.old.held }
@@ -65,8 +76,14 @@ pub extern "C" fn vt100_save(alloc: Global, handle: &mut Handle, out: &mut Handl
     }
 }
 
-/// Exchanges the screens of two handles, each a parser or a saved screen. The
-/// same handle twice is a bad argument.
+/// Exchanges the screens of two handles, each of which holds a parser or a
+/// saved screen.
+///
+/// # Errors
+///
+/// `NO_OBJECT` if a handle is empty, `WRONG_KIND` if one holds neither a parser
+/// nor a saved screen, `BAD_ARGUMENT` if the same handle is passed twice;
+/// nothing has changed.
 #[unsafe(no_mangle)]
 pub extern "C" fn vt100_swap(alloc: Global, handle: &mut Handle, other: &mut Handle) -> u8
     ensures { Swaps handle.old.held other.old.held result handle.new.held other.new.held }
@@ -76,7 +93,7 @@ pub extern "C" fn vt100_swap(alloc: Global, handle: &mut Handle, other: &mut Han
     }
     let mut first = handle.take_out(alloc);
     if !other.is_full() {
-        // It was full before: this is the same handle twice.
+        // Both handles were full before, so this is the same handle twice.
         handle.put_back(first);
         return BAD_ARGUMENT;
     }
@@ -87,7 +104,7 @@ pub extern "C" fn vt100_swap(alloc: Global, handle: &mut Handle, other: &mut Han
     status
 }
 
-/// Frees what a handle holds, and empties it.
+/// Frees the object of a handle, which is then empty.
 #[unsafe(no_mangle)]
 pub extern "C" fn vt100_free(alloc: Global, handle: &mut Handle)
     ensures { handle.new.held ≡ None }
@@ -97,7 +114,7 @@ pub extern "C" fn vt100_free(alloc: Global, handle: &mut Handle)
     }
 }
 
-/// The kind of what a handle holds; 0 for nothing.
+/// Returns the kind of the object that a handle holds, or 0 if it is empty.
 #[unsafe(no_mangle)]
 pub extern "C" fn vt100_kind(alloc: Global, handle: &mut Handle) -> u8
     ensures same { handle.new.held ≡ handle.old.held }
@@ -112,7 +129,7 @@ pub extern "C" fn vt100_kind(alloc: Global, handle: &mut Handle) -> u8
     kind
 }
 
-/// Numbers of rows and columns that a screen may have.
+/// Returns `rows` and `cols` as a size, or `None` if one of them is 0.
 pub(crate) fn size_of(rows: u16, cols: u16) -> Option<(NonZeroU16, NonZeroU16)>
     ensures some { is_some result ≡ is_size rows cols }
     ensures rows { IfSome result (λ size. size.0.value ≡ rows) }
@@ -127,7 +144,7 @@ pub(crate) fn size_of(rows: u16, cols: u16) -> Option<(NonZeroU16, NonZeroU16)>
     Some((some_rows, some_cols))
 }
 
-/// Puts a source behind an empty handle, with an empty text.
+/// Puts a source with an empty text into an empty handle.
 pub(crate) fn hold(alloc: Global, source: Source, out: &mut Handle) -> u8
     requires { out.old.held ≡ None }
     ensures { Fills (λ held. held ≡ source) result out.new.held }
@@ -145,7 +162,12 @@ pub(crate) fn hold(alloc: Global, source: Source, out: &mut Handle) -> u8
     }
 }
 
-/// What is saved of a source, or the status of what refuses it.
+/// Returns the copy of a source that is saved.
+///
+/// # Errors
+///
+/// `WRONG_KIND` if the source is a mirror, `OUT_OF_MEMORY` if an allocation
+/// fails.
 fn copy_of(source: &Source) -> Result<Source, u8>
     ensures ok { IfOk result (λ copy. saved_from source.now ≡ Some copy) }
     ensures err { IfErr result (λ status. status ≡ refusal_of (saved_from source.now)) }
@@ -161,7 +183,11 @@ fn copy_of(source: &Source) -> Result<Source, u8>
     }
 }
 
-/// A saved screen.
+/// Returns a saved screen that is a copy of a screen.
+///
+/// # Errors
+///
+/// `OUT_OF_MEMORY` if an allocation fails.
 fn saved(screen: &Screen) -> Result<Source, u8>
     ensures ok { IfOk result (λ copy. copy ≡ source.Screen screen.now) }
     ensures err { IfErr result (λ status. status ≡ out_of_memory) }
@@ -186,7 +212,7 @@ fn swap(first: &mut Source, second: &mut Source) -> u8
     }
 }
 
-/// Exchanges a screen and that of a source, if it has one.
+/// Exchanges a screen with that of a source, if it has one.
 fn swap_with(screen: &mut Screen, source: &mut Source) -> u8
     ensures status { result ≡ swap_status (Some screen.old) (screen_in source.old) }
     ensures screen { screen.new ≡ unwrap_or (screen_in source.old) screen.old }

@@ -1,4 +1,4 @@
-//! The texts of screens, by name.
+//! The texts and output that are made of screens, by name.
 
 ghost use Rattle.std.specs.Prelude.{◌≡◌, ◌<◌, ◌≤◌, ◌&&◌, IfErr, IfOk, IsErr, Ok, false, length};
 ghost use Rattle.std.specs.Prelude.{nat_lt, string_bytes, true};
@@ -16,54 +16,59 @@ use crate::object::{Source, screen_of};
 use crate::status::{BAD_ARGUMENT, OK, OTHER_SIZE, OUT_OF_MEMORY, WRONG_KIND};
 use vt100::{Error, Screen};
 
-/// A text of a screen.
+/// The kinds of text and output that are made from one screen.
 #[derive(Clone, Copy)]
 pub enum Text {
-    /// All rows that are shown, without attributes.
+    /// The displayed rows, without attributes.
     Contents,
 
-    /// From a row and a column up to a row and a column, without attributes.
+    /// The text between two positions, each a row and a column, without
+    /// attributes.
     Between(u16, u16, u16, u16),
 
-    /// What redraws the screen.
+    /// The escape sequences that redraw the screen.
     Formatted,
 
-    /// What redraws it whatever the scroll region is.
+    /// The escape sequences that redraw the screen in any scroll region.
     FormattedReset,
 
-    /// The rows with SGR alone.
+    /// The displayed rows with SGR as the only escape sequences.
     FormattedBasic,
 
-    /// What redraws the screen and sets its input modes.
+    /// The escape sequences that redraw the screen and set its input modes.
     State,
 
-    /// What sets the cursor.
+    /// The escape sequences that set the cursor.
     CursorState,
 
-    /// What sets the attributes.
+    /// The escape sequences that set the current attributes.
     Attributes,
 
-    /// What sets the input modes.
+    /// The escape sequences that set the input modes.
     InputMode,
 }
 
-/// A text that takes one screen to another.
+/// The kinds of output that turn one screen into another.
 #[derive(Clone, Copy)]
 pub enum Difference {
-    /// What is shown.
+    /// The escape sequences for the display.
     Contents,
 
-    /// What is shown, where rows may move first.
+    /// The escape sequences for the display, which may move rows first.
     Scrolling,
 
-    /// What is shown, and the input modes.
+    /// The escape sequences for the display and the input modes.
     State,
 
-    /// The input modes.
+    /// The escape sequences for the input modes.
     InputMode,
 }
 
-/// The screen of a source is made a text, if there is one.
+/// Makes a text or output of this kind from a source's screen, if it has one.
+///
+/// # Errors
+///
+/// The status of the call.
 pub(crate) fn text_in(source: &Source, text: Text) -> Result<String, u8>
     ensures text { IfOk result
         (λ made. OnScreen (screen_in source.now) (λ screen. string_bytes made ≡ text_of text screen)) }
@@ -77,7 +82,11 @@ pub(crate) fn text_in(source: &Source, text: Text) -> Result<String, u8>
     }
 }
 
-/// A screen is made a text.
+/// Makes a text or output of this kind from a screen.
+///
+/// # Errors
+///
+/// The status of the call.
 fn text_of(screen: &Screen, text: Text) -> Result<String, u8>
     ensures text { IfOk result (λ made. string_bytes made ≡ text_of text screen.now) }
     ensures answer { IsAnswer (due_for text screen.now) (status_in result) }
@@ -99,8 +108,11 @@ fn text_of(screen: &Screen, text: Text) -> Result<String, u8>
     }
 }
 
-/// The text from a row and a column up to a row and a column, if it begins on
-/// the screen.
+/// Returns the text between two positions, if the first one is on the screen.
+///
+/// # Errors
+///
+/// The status of the call.
 #[tactic(auto, using(crate::proofs::Refused::where_some))]
 fn between(screen: &Screen, start: (u16, u16), end: (u16, u16)) -> Result<String, u8>
     ensures text { IfOk result
@@ -116,7 +128,8 @@ fn between(screen: &Screen, start: (u16, u16), end: (u16, u16)) -> Result<String
     or_status(screen.contents_between(start.0, start.1, end.0, end.1))
 }
 
-/// Whether a range of several rows begins past the columns of the screen.
+/// Returns whether a range of several rows begins past the columns of the
+/// screen.
 fn is_outside(screen: &Screen, start: (u16, u16), end_row: u16) -> bool
     ensures value { result ≡ (nat_lt start.0 end_row && nat_lt screen.now.page.width start.1) }
     ensures inside { result ≡ false → start.0 < end_row → start.1 ≤ screen.now.page.width }
@@ -125,7 +138,12 @@ fn is_outside(screen: &Screen, start: (u16, u16), end_row: u16) -> bool
     start.0 < end_row && cols.get() < start.1
 }
 
-/// The difference of two sources is made a text, if both have a screen.
+/// Makes a difference of this kind from `prev` to `source`, if both have a
+/// screen.
+///
+/// # Errors
+///
+/// The status of the call.
 pub(crate) fn difference_in(
     source: &Source,
     prev: &Source,
@@ -148,8 +166,12 @@ pub(crate) fn difference_in(
     }
 }
 
-/// The difference of two screens is made a text, if they are of one size where
-/// it wants that.
+/// Makes a difference of this kind from `prev` to `screen`, if they have one
+/// size or the kind doesn't require it.
+///
+/// # Errors
+///
+/// The status of the call.
 fn difference_of(screen: &Screen, prev: &Screen, difference: Difference) -> Result<String, u8>
     ensures text { IfOk result (λ made. IsDifference difference screen.now prev.now (string_bytes made)) }
     ensures answer { IsAnswer (due_for_both difference screen.now prev.now) (status_in result) }
@@ -164,7 +186,12 @@ fn difference_of(screen: &Screen, prev: &Screen, difference: Difference) -> Resu
     }
 }
 
-/// What takes the one to the other, if they are of one size.
+/// Returns the escape sequences that turn the display of `prev` into that of
+/// `screen`, if they have one size.
+///
+/// # Errors
+///
+/// The status of the call.
 #[tactic(auto, using(crate::proofs::Refused::where_some))]
 fn contents_diff(screen: &Screen, prev: &Screen) -> Result<String, u8>
     ensures text { IfOk result (λ made. IsDifference between.Contents screen.now prev.now (string_bytes made)) }
@@ -178,7 +205,12 @@ fn contents_diff(screen: &Screen, prev: &Screen) -> Result<String, u8>
     or_status(screen.contents_diff(prev))
 }
 
-/// The same, where rows may move first.
+/// Returns the escape sequences that turn the display of `prev` into that of
+/// `screen`, moving rows first, if they have one size.
+///
+/// # Errors
+///
+/// The status of the call.
 #[tactic(auto, using(crate::proofs::Refused::where_some))]
 fn contents_diff_scrolling(screen: &Screen, prev: &Screen) -> Result<String, u8>
     ensures text { IfOk result (λ made. IsDifference between.Scrolling screen.now prev.now (string_bytes made)) }
@@ -192,7 +224,12 @@ fn contents_diff_scrolling(screen: &Screen, prev: &Screen) -> Result<String, u8>
     or_status(screen.contents_diff_scrolling(prev))
 }
 
-/// The same with the input modes.
+/// Returns the escape sequences that turn the display and the input modes of
+/// `prev` into those of `screen`, if they have one size.
+///
+/// # Errors
+///
+/// The status of the call.
 #[tactic(auto, using(crate::proofs::Refused::where_some))]
 fn state_diff(screen: &Screen, prev: &Screen) -> Result<String, u8>
     ensures text { IfOk result (λ made. IsDifference between.State screen.now prev.now (string_bytes made)) }
@@ -206,7 +243,12 @@ fn state_diff(screen: &Screen, prev: &Screen) -> Result<String, u8>
     or_status(screen.state_diff(prev))
 }
 
-/// The same of the input modes alone.
+/// Returns the escape sequences that change the input modes of `prev` to those
+/// of `screen`.
+///
+/// # Errors
+///
+/// The status of the call.
 #[tactic(auto, using(crate::proofs::Refused::where_some))]
 fn input_mode_diff(screen: &Screen, prev: &Screen) -> Result<String, u8>
     ensures text { IfOk result (λ made. IsDifference between.InputMode screen.now prev.now (string_bytes made)) }
@@ -217,7 +259,7 @@ fn input_mode_diff(screen: &Screen, prev: &Screen) -> Result<String, u8>
     or_status(screen.input_mode_diff(prev))
 }
 
-/// Whether both screens are of one size.
+/// Returns whether two screens have one size.
 pub(crate) fn is_sized_as(screen: &Screen, prev: &Screen) -> bool
     ensures value { result ≡ same_size screen.now.page prev.now.page }
     ensures size { result ≡ true → SameSize screen.now.page prev.now.page }
@@ -227,7 +269,7 @@ pub(crate) fn is_sized_as(screen: &Screen, prev: &Screen) -> bool
     rows.get() == prev_rows.get() && cols.get() == prev_cols.get()
 }
 
-/// A text, or the status of the error.
+/// Converts an error to its status.
 pub(crate) fn or_status(made: Result<String, Error>) -> Result<String, u8>
     requires { OnlyOutOfMemory made }
     ensures text { IfOk result (λ text. made ≡ Ok text) }
@@ -241,7 +283,8 @@ pub(crate) fn or_status(made: Result<String, Error>) -> Result<String, u8>
     }
 }
 
-/// Keeps a text that was made, and says how long it is.
+/// Keeps a text in `place` and stores its length, or returns the status of the
+/// error.
 pub(crate) fn keep(place: &mut String, made: Result<String, u8>, len: &mut usize) -> u8
     requires { IfErr made (λ status. ¬ (status ≡ ok)) }
     ensures status { result ≡ status_in made }

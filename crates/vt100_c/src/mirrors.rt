@@ -1,4 +1,4 @@
-//! Mirrors: a terminal, and viewers that are kept equal to it by texts.
+//! Mirrors: a terminal, and viewers that escape sequences keep equal to it.
 
 ghost use Rattle.std.specs.Prelude.{◌≡◌};
 ghost use Rattle.vt100_c.specs.Calls.{OnObject, OnSource};
@@ -16,7 +16,13 @@ use crate::viewers;
 use std::alloc::Global;
 use vt_mirror::Mirror;
 
-/// Makes a mirror with a fresh screen and no viewer behind `out`.
+/// Creates a mirror with a fresh screen and no viewers in the empty handle
+/// `out`.
+///
+/// # Errors
+///
+/// `IN_USE` if `out` isn't empty, `BAD_ARGUMENT` if `rows` or `cols` is 0,
+/// `OUT_OF_MEMORY` if an allocation fails; nothing has changed.
 #[unsafe(no_mangle)]
 pub extern "C" fn vt100_mirror_new(
     alloc: Global,
@@ -39,7 +45,13 @@ pub extern "C" fn vt100_mirror_new(
     }
 }
 
-/// Adds a viewer to a mirror, and says its number.
+/// Adds a viewer to a mirror, and stores its number.
+///
+/// # Errors
+///
+/// `NO_OBJECT` if the handle is empty, `WRONG_KIND` if it holds no mirror,
+/// `NO_NUMBER` if all numbers have been used, `OUT_OF_MEMORY` if an allocation
+/// fails; nothing has changed.
 #[unsafe(no_mangle)]
 pub extern "C" fn vt100_join(alloc: Global, handle: &mut Handle, viewer: &mut u64) -> u8
     ensures call { OnSource (JoinsSource viewer.old viewer.new) handle.old.held result handle.new.held }
@@ -55,6 +67,11 @@ pub extern "C" fn vt100_join(alloc: Global, handle: &mut Handle, viewer: &mut u6
 }
 
 /// Removes a viewer from a mirror.
+///
+/// # Errors
+///
+/// `NO_OBJECT` if the handle is empty, `WRONG_KIND` if it holds no mirror,
+/// `BAD_ARGUMENT` if there is no viewer with this number; nothing has changed.
 #[unsafe(no_mangle)]
 pub extern "C" fn vt100_leave(alloc: Global, handle: &mut Handle, viewer: u64) -> u8
     ensures { OnSource (LeavesSource viewer) handle.old.held result handle.new.held }
@@ -68,9 +85,15 @@ pub extern "C" fn vt100_leave(alloc: Global, handle: &mut Handle, viewer: u64) -
     status
 }
 
-/// Makes a viewer's next update, and keeps its text with the mirror. Says how
-/// long it is, and for which size a full one is; a difference is for none, and
-/// both numbers are 0.
+/// Makes a viewer's next update, keeps its text with the mirror, and stores its
+/// length and, for a full update, the size it is for. For a difference, `rows`
+/// and `cols` are 0.
+///
+/// # Errors
+///
+/// `NO_OBJECT` if the handle is empty, `WRONG_KIND` if it holds no mirror,
+/// `BAD_ARGUMENT` if there is no viewer with this number, `OUT_OF_MEMORY` if an
+/// allocation fails; nothing has changed.
 #[unsafe(no_mangle)]
 pub extern "C" fn vt100_update(
     alloc: Global,
@@ -93,7 +116,12 @@ pub extern "C" fn vt100_update(
     status
 }
 
-/// The same as [`vt100_update`], with a difference that may move rows first.
+/// Makes a viewer's next update, as [`vt100_update`] does, but with a
+/// difference that may move rows first.
+///
+/// # Errors
+///
+/// Those of [`vt100_update`].
 #[unsafe(no_mangle)]
 pub extern "C" fn vt100_update_scrolling(
     alloc: Global,
@@ -116,7 +144,7 @@ pub extern "C" fn vt100_update_scrolling(
     status
 }
 
-/// Adds a viewer, if it is a mirror.
+/// Adds a viewer, if the source is a mirror.
 fn join(source: &mut Source, viewer: &mut u64) -> u8
     ensures call { JoinsSource viewer.old viewer.new source.old result source.new }
     ensures refused { ¬ (result ≡ ok) → viewer.new ≡ viewer.old }
@@ -129,7 +157,7 @@ fn join(source: &mut Source, viewer: &mut u64) -> u8
     }
 }
 
-/// Removes a viewer, if it is a mirror.
+/// Removes a viewer, if the source is a mirror.
 fn leave(source: &mut Source, viewer: u64) -> u8
     ensures { LeavesSource viewer source.old result source.new }
 {
@@ -141,7 +169,7 @@ fn leave(source: &mut Source, viewer: u64) -> u8
     }
 }
 
-/// Makes an update, if it is a mirror.
+/// Makes a viewer's next update, if the object is a mirror.
 fn update(object: &mut Object, viewer: u64, rows: &mut u16, cols: &mut u16, len: &mut usize) -> u8
     ensures call { UpdatesObject Drawn viewer
         (numbers rows.old cols.old len.old) (numbers rows.new cols.new len.new) object.old result object.new }
@@ -158,7 +186,8 @@ fn update(object: &mut Object, viewer: u64, rows: &mut u16, cols: &mut u16, len:
     }
 }
 
-/// The same, with a difference that may move rows first.
+/// Makes a viewer's next update, whose difference may move rows first, if the
+/// object is a mirror.
 fn update_scrolling(
     object: &mut Object,
     viewer: u64,

@@ -1,4 +1,4 @@
-//! What a handle holds.
+//! The object that a handle holds.
 
 ghost use Rattle.std.specs.Prelude.{◌≡◌, IfSome, Some, None};
 ghost use Rattle.vt100_c.specs.Sources.{kind_of, screen_in};
@@ -8,7 +8,7 @@ use vt_mirror::Mirror;
 use vt100::capture::BasicFormattedCaptureState;
 use vt100::{Parser, Screen};
 
-/// What it is.
+/// The value of an object: a parser, a saved screen, a mirror or a capture.
 #[derive(Drop)]
 pub enum Source {
     /// A parser, with its screen and its log of events.
@@ -20,18 +20,21 @@ pub enum Source {
     /// A mirror, with its viewers.
     Mirror(Mirror),
 
-    /// What stands behind a capture.
+    /// The state of a capture.
     Capture(BasicFormattedCaptureState),
 }
 
-/// What a handle holds, and the text that was last made of it.
+/// An object that a handle holds: a value, and the text that was last made of
+/// it.
 #[derive(Drop)]
 pub struct Object {
+    /// The value.
     pub(crate) source: Source,
+    /// The text that was last made of the value.
     pub(crate) text: String,
 }
 
-/// The screen of a parser, or a saved one.
+/// Returns the screen of a source, if it is a parser or a saved screen.
 pub(crate) fn screen_of(source: &Source) -> Option<&Screen>
     ensures some { IfSome result (λ screen. screen_in source.now ≡ Some screen.now) }
     ensures none { result ≡ None → screen_in source.now ≡ None }
@@ -44,7 +47,7 @@ pub(crate) fn screen_of(source: &Source) -> Option<&Screen>
     }
 }
 
-/// The number of a source's kind.
+/// Returns the number of a source's kind.
 pub(crate) fn kind_of(source: &Source) -> u8
     ensures { result ≡ kind_of source.now }
 {

@@ -1,4 +1,4 @@
-//! The two parts of a box, as long as a handle's word stands for it.
+//! The two parts of a box, while a handle's word stands for it.
 
 ghost use Rattle.std.specs.Prelude.{◌≡◌};
 ghost use Rattle.std_alloc.specs.Box.Ownership.{box_owns};
@@ -6,9 +6,10 @@ ghost use Rattle.std_alloc.specs.Box.Ownership.{box_owns};
 use std::alloc::Allocator;
 use std::marker::Model;
 
-/// What a box is made of: where its value is, and what frees it.
+/// The parts of a box: the pointer to its value, and the allocator that frees
+/// it.
 ///
-/// They can't be let go, only be made a box again, or be put behind a handle.
+/// They cannot be dropped, only made a box again or put into a handle.
 pub struct Parts<T, A: Allocator> {
     pub(crate) at: *mut T,
     pub(crate) alloc: A,
@@ -20,7 +21,7 @@ impl<T, A: Allocator> Model for Parts<T, A> {
 }
 
 impl<T, A: Allocator> Parts<T, A> {
-    /// Those of a box.
+    /// Takes a box apart.
     pub(crate) fn of(whole: Box<T, A>) -> Parts<T, A>
     where
         T: Drop,
@@ -30,7 +31,7 @@ impl<T, A: Allocator> Parts<T, A> {
         Parts { at, alloc }
     }
 
-    /// The box again.
+    /// Makes a box of the parts again.
     pub(crate) fn into_box(self) -> Box<T, A>
         ensures { result.value ≡ self.value }
     {

@@ -14,10 +14,16 @@ use std::alloc::Global;
 use vt_mirror::Mirror;
 use vt100::Parser;
 
-/// After how many bytes of rows reading stops: 64 KiB.
+/// The number of bytes of rows after which reading stops: 64 KiB.
 const BATCH: usize = 65_536;
 
-/// Reads bytes.
+/// Parses bytes, with a parser or a mirror.
+///
+/// # Errors
+///
+/// `NO_OBJECT` if the handle is empty, `WRONG_KIND` if it holds neither a
+/// parser nor a mirror, `OUT_OF_MEMORY` if an allocation fails, and `FAILED`
+/// from then on. The steps before the failing one stay applied.
 #[unsafe(no_mangle)]
 pub extern "C" fn vt100_process(alloc: Global, handle: &mut Handle, bytes: &[u8]) -> u8
     ensures { OnSource (Reads bytes.now) handle.old.held result handle.new.held }
@@ -31,8 +37,17 @@ pub extern "C" fn vt100_process(alloc: Global, handle: &mut Handle, bytes: &[u8]
     status
 }
 
-/// Reads bytes up to and with the first one that leaves an event, or loses one,
-/// and says how many were read.
+/// Parses bytes with a parser, up to and including the first one that leaves or
+/// loses an event, and stores how many were read.
+///
+/// Reading continues over rows that are recorded without their texts, until
+/// those of this call take 64 KiB or the log reaches its limit.
+///
+/// # Errors
+///
+/// `NO_OBJECT` if the handle is empty, `WRONG_KIND` if it holds no parser,
+/// `OUT_OF_MEMORY` if an allocation fails, and `FAILED` from then on. The
+/// number stored is then that of the bytes before the failing one.
 #[unsafe(no_mangle)]
 pub extern "C" fn vt100_process_until(
     alloc: Global,
@@ -54,7 +69,7 @@ pub extern "C" fn vt100_process_until(
     status
 }
 
-/// Reads bytes, if the source is for that.
+/// Parses bytes, if the source is a parser or a mirror.
 fn process(source: &mut Source, bytes: &[u8]) -> u8
     ensures { Reads bytes.now source.old result source.new }
 {
@@ -66,22 +81,22 @@ fn process(source: &mut Source, bytes: &[u8]) -> u8
     }
 }
 
-/// A parser reads bytes.
+/// Parses bytes with a parser, and returns the status.
 fn read(parser: &mut Parser<Events>, bytes: &[u8]) -> u8
     ensures { ReadsParser parser.old bytes.now result parser.new }
 {
     answered(parser.process(bytes))
 }
 
-/// A mirror reads bytes.
+/// Parses bytes with a mirror, and returns the status.
 fn read_mirror(mirror: &mut Mirror, bytes: &[u8]) -> u8
     ensures { ReadsMirror mirror.old bytes.now result mirror.new }
 {
     answered(mirror.process(bytes))
 }
 
-/// Reads bytes up to an event, if the source is for that; the status, and how
-/// many were read.
+/// Parses bytes up to an event, if the source is a parser. Returns the status
+/// and the number of bytes read.
 fn process_until(source: &mut Source, bytes: &[u8]) -> (u8, usize)
     ensures { ReadsUntilEvent bytes.now result.1 source.old result.0 source.new }
 {
@@ -93,17 +108,21 @@ fn process_until(source: &mut Source, bytes: &[u8]) -> (u8, usize)
     }
 }
 
-/// Where a log is when reading begins.
+/// The state of a log when reading begins.
 #[derive(Clone, Copy)]
 pub struct Mark {
+    /// The length of the records in bytes.
     pub(crate) len: usize,
+    /// The number of reported rows.
     pub(crate) rows: usize,
+    /// The number of bytes that are left of the limit.
     pub(crate) room: usize,
+    /// Whether no record is missing.
     pub(crate) is_whole: bool,
 }
 
-/// Reads bytes with a parser up to an event. Returns the status, and how many
-/// bytes were read.
+/// Parses bytes with a parser up to an event. Returns the status and the number
+/// of bytes read.
 #[tactic(auto, using(crate::proofs::Answering::quiet_now))]
 fn read_until(parser: &mut Parser<Events>, bytes: &[u8]) -> (u8, usize)
     ensures { ReadsUntil bytes.now result.1 parser.old result.0 parser.new }
@@ -112,8 +131,8 @@ fn read_until(parser: &mut Parser<Events>, bytes: &[u8]) -> (u8, usize)
     read_from(parser, bytes, mark)
 }
 
-/// Reads bytes with a parser until its log has an event since a mark at which
-/// reading stops. Returns the status, and how many bytes were read.
+/// Parses bytes with a parser until its log has, since a mark, an event at
+/// which reading stops. Returns the status and the number of bytes read.
 fn read_from(parser: &mut Parser<Events>, bytes: &[u8], mark: Mark) -> (u8, usize)
     requires { is_quiet mark parser.old.callbacks ≡ true }
     ensures { ReadsFrom mark bytes.now result.1 parser.old result.0 parser.new }
@@ -132,8 +151,8 @@ fn read_from(parser: &mut Parser<Events>, bytes: &[u8], mark: Mark) -> (u8, usiz
     (OK, at)
 }
 
-/// Reads the longest prefix of these bytes of which only the last byte can leave
-/// an event. Returns the status, and how many bytes were read.
+/// Parses the longest prefix of `bytes` of which only the last byte can leave
+/// an event. Returns the status and the number of bytes read.
 #[inline(always)]
 fn read_unit(parser: &mut Parser<Events>, bytes: &[u8]) -> (u8, usize)
     requires { 0 < length bytes.now }
@@ -143,7 +162,7 @@ fn read_unit(parser: &mut Parser<Events>, bytes: &[u8]) -> (u8, usize)
     (answered(answer), count)
 }
 
-/// Where a log is.
+/// Returns the mark of a log in its present state.
 fn mark_of(log: &Events) -> Mark
     ensures { result ≡ mark_of log.now }
 {
@@ -155,8 +174,9 @@ fn mark_of(log: &Events) -> Mark
     }
 }
 
-/// Whether reading goes on: a log got only rows without texts since a mark, has
-/// room, and has lost nothing.
+/// Returns whether reading continues: since the mark the log got only rows
+/// without texts, which take less than a batch, it has not reached its limit,
+/// and it has lost nothing.
 #[inline(always)]
 fn is_quiet(mark: Mark, log: &Events) -> bool
     ensures { result ≡ is_quiet mark log.now }
@@ -169,8 +189,8 @@ fn is_quiet(mark: Mark, log: &Events) -> bool
         && (log.is_whole() || !mark.is_whole)
 }
 
-/// Whether so many bytes of records are those of so many rows without texts, and
-/// of nothing else.
+/// Returns whether this many bytes of records are those of this many rows
+/// without texts, and of nothing else.
 #[inline(always)]
 fn are_bare_rows(bytes: usize, rows: usize) -> bool
     ensures { result ≡ are_bare_rows bytes rows }

@@ -1,5 +1,6 @@
-//! The record of a call, as C reads it: its kind in a byte, two numbers of four bytes, the length
-//! of its text in eight bytes, and the text; the low byte of a number first.
+//! The record of a call, as C reads it: its kind in one byte, two numbers of
+//! four bytes each, the length of its text in eight bytes, and the text.
+//! Numbers have their low byte first.
 
 ghost use Rattle.std.specs.Prelude.{◌≡◌, ◌+◌, ◌<◌, ◌≤◌, ◌++◌, IfOk, OnErr, OnOk};
 ghost use Rattle.std.specs.Prelude.{◌-◌, ◌*◌, ◌^◌, ◌∷◌, [], false, length, map, min, string_bytes, take};
@@ -20,13 +21,13 @@ use vt_rows::{Row, plain};
 use vt100::Call;
 use vt100::capture::RowContents;
 
-/// How many bytes a record has before its text.
+/// The number of bytes that a record has before its text.
 pub(crate) const HEAD_LEN: usize = 17;
 
 /// The kind of the report of a row.
 pub(crate) const ON_SCROLL: u8 = 12;
 
-/// Whether the bit of a kind is set.
+/// Returns whether the bit of a kind is set.
 pub(crate) fn is_wanted(wanted: u16, kind: u8) -> bool
     requires { kind < 16 }
     ensures { result ≡ is_wanted wanted kind }
@@ -34,21 +35,21 @@ pub(crate) fn is_wanted(wanted: u16, kind: u8) -> bool
     (wanted >> kind) % 2 == 1
 }
 
-/// Whether rows are recorded without their texts.
+/// Returns whether rows are recorded without their texts.
 pub(crate) fn is_bare(wanted: u16) -> bool
     ensures { result ≡ is_wanted wanted without_text }
 {
     is_wanted(wanted, 13)
 }
 
-/// How many bytes the cells of a copied row take.
+/// Returns how many bytes the cells of a copied row take.
 pub(crate) fn cells_size(row: &RowContents<'_>) -> usize
     ensures { result ≡ min (length (trimmed_row row.now).cells * 40) (2 ^ 64 - 1) }
 {
     trimmed(row).cells().len().saturating_mul(40)
 }
 
-/// The kind of a call.
+/// Returns the kind of a call.
 pub(crate) fn kind_of(call: Call<'_>) -> u8
     ensures kind { result ≡ kind_of (call_of call.entry) }
     ensures few { result < 16 }
@@ -69,9 +70,11 @@ pub(crate) fn kind_of(call: Call<'_>) -> u8
     }
 }
 
-/// Writes the record of a call behind the others.
+/// Appends the record of a call.
 ///
-/// Fails where memory is refused; then the records are as they were.
+/// # Errors
+///
+/// If an allocation fails; the records are unchanged.
 pub(crate) fn write_call(
     alloc: Global,
     records: &mut Vec<u8>,
@@ -107,12 +110,11 @@ pub(crate) fn write_call(
     }
 }
 
-/// Writes the record of a row after the others, with its plain text unless it
-/// is to be bare.
+/// Appends the record of a row, with its plain text unless `is_bare`.
 ///
 /// # Errors
 ///
-/// If an allocation fails; the records are unchanged then.
+/// If an allocation fails; the records are unchanged.
 pub(crate) fn write_row(
     alloc: Global,
     records: &mut Vec<u8>,
@@ -138,7 +140,7 @@ pub(crate) fn write_row(
     )
 }
 
-/// Copies a row without the default blanks at its end.
+/// Returns a copy of a row without the default blanks at its end.
 ///
 /// # Errors
 ///
@@ -148,7 +150,7 @@ fn kept_row(alloc: Global, row: &RowContents<'_>) -> Result<Row, AllocError>
     ensures sound { IfOk result (λ copy. IsRow (length copy.cells) copy) }
 {
     let kept = trimmed(row);
-    // For the proof: a row that is lent is sound.
+    // Only for the proof: a borrowed row is valid.
     let _ = kept.cells();
     match Row::trimmed_copy(alloc, row.cells(), row.wrapped()) {
         Ok(copy) => Ok(copy),
@@ -156,12 +158,13 @@ fn kept_row(alloc: Global, row: &RowContents<'_>) -> Result<Row, AllocError>
     }
 }
 
-/// Puts a copy of a row, without the default blanks at its end, after so many
-/// rows; in the memory of the row that is there, if there is one.
+/// Stores a copy of a row, without the default blanks at its end, after the
+/// first `count` rows. It reuses the memory of the row that is stored there, if
+/// there is one.
 ///
 /// # Errors
 ///
-/// If an allocation fails; the rows are unchanged then.
+/// If an allocation fails; the rows are unchanged.
 pub(crate) fn hold_row(
     alloc: Global,
     rows: &mut Vec<Row>,
@@ -190,7 +193,7 @@ pub(crate) fn hold_row(
 ///
 /// # Errors
 ///
-/// If it needs more memory and the allocation fails; the row is unchanged then.
+/// If it needs more memory and the allocation fails; the row is unchanged.
 fn replace(place: &mut Row, row: &RowContents<'_>) -> Result<(), AllocError>
     requires { IsRow (length place.old.cells) place.old }
     ensures ok { OnOk result (place.new ≡ trimmed_row row.now) }
@@ -198,7 +201,7 @@ fn replace(place: &mut Row, row: &RowContents<'_>) -> Result<(), AllocError>
     ensures sound { IsRow (length place.new.cells) place.new }
 {
     let kept = trimmed(row);
-    // For the proof: a row that is lent is sound.
+    // Only for the proof: a borrowed row is valid.
     let _ = kept.cells();
     match place.leave_for(row.cells(), row.wrapped(), &mut ()) {
         Ok(()) => Ok(()),
@@ -206,7 +209,11 @@ fn replace(place: &mut Row, row: &RowContents<'_>) -> Result<(), AllocError>
     }
 }
 
-/// The plain text of a row.
+/// Returns the plain text of a row.
+///
+/// # Errors
+///
+/// If an allocation fails.
 fn text_of(alloc: Global, row: &RowContents<'_>) -> Result<String, AllocError>
     ensures { IfOk result
         (λ text. string_bytes text ≡ plain_text 0 (length row.now.cells) row.now.cells) }
@@ -219,9 +226,11 @@ fn text_of(alloc: Global, row: &RowContents<'_>) -> Result<String, AllocError>
     }
 }
 
-/// Writes a record behind the others.
+/// Appends a record.
 ///
-/// Fails where memory is refused; then the records are as they were.
+/// # Errors
+///
+/// If an allocation fails; the records are unchanged.
 fn write(
     records: &mut Vec<u8>,
     kind: u8,
@@ -241,7 +250,7 @@ fn write(
     Ok(())
 }
 
-/// Writes bytes for which there is room.
+/// Appends bytes, for which there must be room.
 fn put(records: &mut Vec<u8>, bytes: &[u8])
     requires { vec_len records.old + length bytes.now ≤ vec_capacity records.old }
     ensures items { records.new.items ≡ records.old.items ++ bytes.now }
@@ -251,9 +260,11 @@ fn put(records: &mut Vec<u8>, bytes: &[u8])
     let _ = records.extend_from_slice(bytes);
 }
 
-/// Texts, each behind its length.
+/// Returns texts in sequence, each after its length.
 ///
-/// Fails where memory is refused.
+/// # Errors
+///
+/// If an allocation fails.
 fn parts(alloc: Global, texts: &[&[u8]]) -> Result<Vec<u8>, AllocError>
     ensures { IfOk result (λ joined. joined.items ≡ flat_map part_of (map (λ text. text.now) texts.now)) }
 {
@@ -265,9 +276,11 @@ fn parts(alloc: Global, texts: &[&[u8]]) -> Result<Vec<u8>, AllocError>
     Ok(joined)
 }
 
-/// A character, and groups of numbers behind it.
+/// Returns a character followed by groups of numbers.
 ///
-/// Fails where memory is refused.
+/// # Errors
+///
+/// If an allocation fails.
 fn code_and_groups(alloc: Global, code: char, groups: &[&[u16]]) -> Result<Vec<u8>, AllocError>
     ensures { IfOk result (λ joined. joined.items
         ≡ to_le_bytes w32 code ++ flat_map group_of (map (λ group. group.now) groups.now)) }
@@ -280,9 +293,11 @@ fn code_and_groups(alloc: Global, code: char, groups: &[&[u16]]) -> Result<Vec<u
     Ok(joined)
 }
 
-/// Writes the numbers of a group behind how many they are.
+/// Appends the length of a group and its numbers.
 ///
-/// Fails where memory is refused.
+/// # Errors
+///
+/// If an allocation fails.
 fn write_group(joined: &mut Vec<u8>, group: &[u16]) -> Result<(), AllocError>
     ensures { OnOk result (joined.new.items ≡ joined.old.items ++ group_of group.now) }
 {
@@ -293,7 +308,7 @@ fn write_group(joined: &mut Vec<u8>, group: &[u16]) -> Result<(), AllocError>
     Ok(())
 }
 
-/// The number of a byte that may be missing.
+/// Returns the number of an optional byte, which is 256 for none.
 fn number(byte: Option<u8>) -> u32
     ensures { result ≡ number_of byte }
 {
@@ -303,7 +318,7 @@ fn number(byte: Option<u8>) -> u32
     }
 }
 
-/// 1 where the test holds.
+/// Returns 1 if the test holds, and 0 if not.
 fn bit(test: bool) -> u32
     ensures { result ≡ bit_of test }
 {

@@ -1,4 +1,4 @@
-//! The texts of the rows that a screen shows where those of another one stand.
+//! Output that turns the rows of one screen into those of another.
 
 ghost use Rattle.std.specs.Prelude.{◌≡◌, IfOk, length, string_bytes};
 ghost use Rattle.vt100_c.specs.Due.{AnswersOrStays, IsAnswer, OnBoth, due_at_both, due_beside, due_on_both};
@@ -16,11 +16,20 @@ use crate::status::{BAD_ARGUMENT, NO_OBJECT, OTHER_SIZE, WRONG_KIND};
 use std::alloc::Global;
 use vt100::Screen;
 
-/// Makes the texts that show the rows of a screen where those of `prev` stand,
-/// one behind the other, in `width` columns from `start` on, keeps them with
-/// the first handle, and says how long they are and where each ends. `start` is
-/// one of the columns, and `ends` has a place for each row; more places stay as
-/// they are ([`Screen::rows_diff`]).
+/// Makes the escape sequences that turn each displayed row of `prev` into that
+/// of `handle`'s screen ([`Screen::rows_diff`]), in `width` columns from
+/// `start` on, keeps them in sequence with `handle`, and stores their length
+/// and where each row's output ends.
+///
+/// `ends` must have a place for each row; further places are unchanged.
+///
+/// # Errors
+///
+/// `NO_OBJECT` if a handle is empty, `WRONG_KIND` if one holds neither a parser
+/// nor a saved screen, `OTHER_SIZE` if the screens differ in size,
+/// `BAD_ARGUMENT` if the same handle is passed twice or if `start` is no column
+/// or `ends` is too short, `OUT_OF_MEMORY` if the output cannot be allocated;
+/// nothing has changed.
 #[unsafe(no_mangle)]
 pub extern "C" fn vt100_rows_diff(
     alloc: Global,
@@ -45,10 +54,11 @@ pub extern "C" fn vt100_rows_diff(
     status
 }
 
-/// The rows of a source where those of what another handle holds stand.
+/// Returns the output that turns the rows of the screen in `prev` into those of
+/// `source`, whose object was taken out of its own handle.
 ///
-/// The first handle was full, and is empty now. So is the other one only where
-/// C gave one handle twice: that is a bad argument.
+/// If `prev` is empty now, it is the handle of the object, so C passed one
+/// handle twice: that is a bad argument.
 fn beside(
     alloc: Global,
     source: &Source,
@@ -71,7 +81,8 @@ fn beside(
     made
 }
 
-/// The rows of a source where those of another one stand, if both have a screen.
+/// Returns the output that turns the rows of one source into those of another,
+/// if both have a screen.
 fn changed_in(
     alloc: Global,
     source: &Source,
@@ -93,8 +104,9 @@ fn changed_in(
     }
 }
 
-/// The rows of a screen where those of another one stand, if both are of one
-/// size, there is a place for each end, and they begin at a column.
+/// Returns the output that turns the rows of one screen into those of another,
+/// if both have one size, `ends` has a place for each row, and the range begins
+/// at a column.
 fn changed_of(
     alloc: Global,
     screen: &Screen,

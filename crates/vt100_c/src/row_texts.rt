@@ -1,4 +1,4 @@
-//! The texts of rows, put one behind the other.
+//! The texts of rows in sequence, with the places at which they end.
 
 ghost use Rattle.std.specs.Prelude.{◌≡◌, ◌<◌, ◌≤◌, ◌++◌, IfOk, OnOk, length, slice_set, string_bytes};
 ghost use Rattle.vt_cells.specs.Refusals.{OnlyOutOfMemory};
@@ -9,7 +9,12 @@ ghost use Rattle.vt_screen.specs.RowsShown.{changed_rows, formatted_rows};
 use std::alloc::Global;
 use vt100::{Error, Screen};
 
-/// The texts of the rows in `width` columns from `start` on, with their ends.
+/// Returns the plain texts of the rows in `width` columns from `start` on, in
+/// sequence, and stores where each ends.
+///
+/// # Errors
+///
+/// `Error::OutOfMemory` if the text cannot be allocated.
 pub(crate) fn plain(
     alloc: Global,
     screen: &Screen,
@@ -33,7 +38,12 @@ pub(crate) fn plain(
     Ok(joined)
 }
 
-/// The texts that show the rows where rows are blank, with their ends.
+/// Returns the output that draws each row on a blank row, in sequence, and
+/// stores where each row's output ends.
+///
+/// # Errors
+///
+/// `Error::OutOfMemory` if the output cannot be allocated.
 pub(crate) fn formatted(
     alloc: Global,
     screen: &Screen,
@@ -57,8 +67,12 @@ pub(crate) fn formatted(
     Ok(joined)
 }
 
-/// The texts that show the rows where those of another screen stand, with their
-/// ends.
+/// Returns the output that turns each row of `prev` into that of `screen`, in
+/// sequence, and stores where each row's output ends.
+///
+/// # Errors
+///
+/// `Error::OutOfMemory` if the output cannot be allocated.
 pub(crate) fn changed(
     alloc: Global,
     screen: &Screen,
@@ -83,7 +97,11 @@ pub(crate) fn changed(
     Ok(joined)
 }
 
-/// Puts the text of a row behind those before, and notes where it ends.
+/// Appends the text of a row, and stores where it ends.
+///
+/// # Errors
+///
+/// `Error::OutOfMemory` if the text cannot be allocated.
 fn add(joined: &mut String, ends: &mut [usize], row: usize, text: &str) -> Result<(), Error>
     requires { row < length ends.old }
     ensures text { OnOk result (string_bytes joined.new ≡ string_bytes joined.old ++ text.now) }

@@ -1,4 +1,4 @@
-//! The texts of the rows that a screen shows, one behind the other.
+//! The texts of displayed rows, in sequence.
 
 ghost use Rattle.std.specs.Prelude.{◌≡◌, ◌<◌, ◌≤◌, IfErr, IfOk, length, string_bytes};
 ghost use Rattle.std.specs.Prelude.{drop, if◌then◌else◌, take, true};
@@ -17,10 +17,17 @@ use crate::status::{BAD_ARGUMENT, NO_OBJECT, OUT_OF_MEMORY, WRONG_KIND};
 use std::alloc::Global;
 use vt100::Screen;
 
-/// Makes the texts of the rows that are shown, one behind the other, in `width`
-/// columns from `start` on, keeps them, and says how long they are and where
-/// each ends. `ends` has a place for each row, and more places stay as they are
-/// ([`Screen::rows`]).
+/// Makes the plain texts of the displayed rows ([`Screen::rows`]) in `width`
+/// columns from `start` on, keeps them in sequence with the handle, and stores
+/// their length and where each ends.
+///
+/// `ends` must have a place for each row; further places are unchanged.
+///
+/// # Errors
+///
+/// `NO_OBJECT` if the handle is empty, `WRONG_KIND` if it holds neither a
+/// parser nor a saved screen, `BAD_ARGUMENT` if `ends` is too short,
+/// `OUT_OF_MEMORY` if the text cannot be allocated; nothing has changed.
 #[unsafe(no_mangle)]
 pub extern "C" fn vt100_rows(
     alloc: Global,
@@ -44,8 +51,19 @@ pub extern "C" fn vt100_rows(
     status
 }
 
-/// The same for the texts that show the rows where rows are blank; `start` is one
-/// of the columns ([`Screen::rows_formatted`]).
+/// Makes the escape sequences that draw each displayed row on a blank row
+/// ([`Screen::rows_formatted`]), in `width` columns from `start` on, keeps them
+/// in sequence with the handle, and stores their length and where each row's
+/// output ends.
+///
+/// `ends` must have a place for each row; further places are unchanged.
+///
+/// # Errors
+///
+/// `NO_OBJECT` if the handle is empty, `WRONG_KIND` if it holds neither a
+/// parser nor a saved screen, `BAD_ARGUMENT` if `start` is no column or `ends`
+/// is too short, `OUT_OF_MEMORY` if the output cannot be allocated; nothing has
+/// changed.
 #[unsafe(no_mangle)]
 pub extern "C" fn vt100_rows_formatted(
     alloc: Global,
@@ -69,7 +87,7 @@ pub extern "C" fn vt100_rows_formatted(
     status
 }
 
-/// The rows of a source, if it has a screen.
+/// Returns the plain texts of the rows of a source, if it has a screen.
 fn plain_in(
     alloc: Global,
     source: &Source,
@@ -88,7 +106,8 @@ fn plain_in(
     }
 }
 
-/// The rows of a screen, if there is a place for each end.
+/// Returns the plain texts of the rows of a screen, if `ends` has a place for
+/// each row.
 fn plain_of(
     alloc: Global,
     screen: &Screen,
@@ -109,7 +128,8 @@ fn plain_of(
     Ok(text)
 }
 
-/// The rows, to be shown, of a source, if it has a screen.
+/// Returns the output that draws the rows of a source on blank rows, if it has
+/// a screen.
 fn formatted_in(
     alloc: Global,
     source: &Source,
@@ -128,8 +148,8 @@ fn formatted_in(
     }
 }
 
-/// The rows, to be shown, of a screen, if there is a place for each end, and they
-/// begin at a column.
+/// Returns the output that draws the rows of a screen on blank rows, if `ends`
+/// has a place for each row and the range begins at a column.
 fn formatted_of(
     alloc: Global,
     screen: &Screen,
@@ -150,7 +170,7 @@ fn formatted_of(
     Ok(text)
 }
 
-/// Whether there is a place for each row's end.
+/// Returns whether `ends` has a place for each row of a screen.
 fn has_places(screen: &Screen, ends: &[usize]) -> bool
     ensures yes { result ≡ true → length screen.now.page.rows ≤ length ends.now }
     ensures value { has_places (length ends.now) screen.now ≡ (if result then ok else bad_argument) }
@@ -159,7 +179,8 @@ fn has_places(screen: &Screen, ends: &[usize]) -> bool
     usize::from(rows.get()) <= ends.len()
 }
 
-/// The same, and whether a range of columns begins at one.
+/// Returns whether `ends` has a place for each row of a screen and a range of
+/// columns begins at one.
 pub(crate) fn has_range(screen: &Screen, start: u16, ends: &[usize]) -> bool
     ensures yes { result ≡ true → length screen.now.page.rows ≤ length ends.now }
     ensures start { result ≡ true → start < screen.now.page.width }
@@ -169,8 +190,12 @@ pub(crate) fn has_range(screen: &Screen, start: u16, ends: &[usize]) -> bool
     start < cols.get() && has_places(screen, ends)
 }
 
-/// A place for the end of each row. They are noted here first, so that nothing
-/// is told where memory is refused at a later row.
+/// Returns places for the ends of all rows. Ends are stored here first, so that
+/// C gets none of them if an allocation fails at a later row.
+///
+/// # Errors
+///
+/// `OUT_OF_MEMORY` if the places cannot be allocated.
 pub(crate) fn places_for(alloc: Global, screen: &Screen) -> Result<Vec<usize>, u8>
     ensures len { IfOk result (λ places. length places.items ≡ length screen.now.page.rows) }
     ensures memory { IfErr result (λ status. status ≡ out_of_memory) }
@@ -183,7 +208,7 @@ pub(crate) fn places_for(alloc: Global, screen: &Screen) -> Result<Vec<usize>, u
     }
 }
 
-/// Tells the ends; what is behind them stays.
+/// Copies the ends of all rows to C; further places are unchanged.
 pub(crate) fn write_ends(places: &[usize], ends: &mut [usize])
     requires { length places.now ≤ length ends.old }
     ensures ends { take (length places.now) ends.new ≡ places.now }

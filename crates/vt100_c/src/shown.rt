@@ -1,4 +1,4 @@
-//! Cells and rows that are shown.
+//! Displayed cells and rows.
 
 ghost use Rattle.std.specs.Prelude.{◌≡◌, ◌<◌, drop, length};
 ghost use Rattle.vt_screen.specs.Screen.{visible_row};
@@ -16,7 +16,13 @@ use std::alloc::Global;
 use vt_cells::cell;
 use vt100::Screen;
 
-/// Writes the cell that is shown at a row and a column, counted from 0.
+/// Stores the displayed cell at a row and column, counted from 0.
+///
+/// # Errors
+///
+/// `NO_OBJECT` if the handle is empty, `WRONG_KIND` if it holds neither a
+/// parser nor a saved screen, `BAD_ARGUMENT` if there is no such cell; nothing
+/// is stored.
 #[unsafe(no_mangle)]
 pub extern "C" fn vt100_get_cell(
     alloc: Global,
@@ -40,8 +46,14 @@ pub extern "C" fn vt100_get_cell(
     status
 }
 
-/// Writes the cells of a row that is shown, as many as the screen has columns;
-/// what is behind them stays.
+/// Stores the cells of a displayed row, as many as the screen has columns; the
+/// rest of `out` is unchanged.
+///
+/// # Errors
+///
+/// `NO_OBJECT` if the handle is empty, `WRONG_KIND` if it holds neither a
+/// parser nor a saved screen, `BAD_ARGUMENT` if there is no such row or `out`
+/// is too short; nothing is stored.
 #[unsafe(no_mangle)]
 pub extern "C" fn vt100_get_cells(
     alloc: Global,
@@ -65,8 +77,13 @@ pub extern "C" fn vt100_get_cells(
     status
 }
 
-/// Writes whether the text of a row that is shown goes on in the row below: 1
-/// or 0.
+/// Stores whether a displayed row is wrapped, as 1 or 0.
+///
+/// # Errors
+///
+/// `NO_OBJECT` if the handle is empty, `WRONG_KIND` if it holds neither a
+/// parser nor a saved screen, `BAD_ARGUMENT` if there is no such row; nothing
+/// is stored.
 #[unsafe(no_mangle)]
 pub extern "C" fn vt100_row_wrapped(
     alloc: Global,
@@ -89,7 +106,7 @@ pub extern "C" fn vt100_row_wrapped(
     status
 }
 
-/// Writes a cell of a source's screen, if there is one.
+/// Stores a cell of a source's screen, if there is one.
 fn write_cell(source: &Source, row: u16, col: u16, out: &mut VtCell) -> u8
     ensures status { result ≡ due_on (has_cell row col) (screen_in source.now) }
     ensures cell { result ≡ ok → OnScreen (screen_in source.now)
@@ -102,7 +119,7 @@ fn write_cell(source: &Source, row: u16, col: u16, out: &mut VtCell) -> u8
     }
 }
 
-/// Writes the cell at a place, if there is one.
+/// Stores the displayed cell of a screen at a row and column, if there is one.
 fn write_shown(screen: &Screen, row: u16, col: u16, out: &mut VtCell) -> u8
     ensures status { result ≡ has_cell row col screen.now }
     ensures cell { result ≡ ok → out.new ≡ cell_for_c (shown_cell row col screen.now) }
@@ -117,7 +134,8 @@ fn write_shown(screen: &Screen, row: u16, col: u16, out: &mut VtCell) -> u8
     }
 }
 
-/// Writes a row of a source's screen, if there is one and room for it.
+/// Stores a row of a source's screen, if there is one and `out` has room for
+/// it.
 fn write_cells(source: &Source, row: u16, out: &mut [VtCell]) -> u8
     ensures status { result ≡ due_on (has_row_and_room row (length out.old)) (screen_in source.now) }
     ensures cells { result ≡ ok → OnScreen (screen_in source.now) (λ screen. IsRowForC row screen out.new) }
@@ -131,7 +149,8 @@ fn write_cells(source: &Source, row: u16, out: &mut [VtCell]) -> u8
     }
 }
 
-/// Writes a row that is shown, if there is one and room for it.
+/// Stores a displayed row of a screen, if there is one and `out` has room for
+/// it.
 fn write_row(screen: &Screen, row: u16, out: &mut [VtCell]) -> u8
     ensures status { result ≡ has_row_and_room row (length out.old) screen.now }
     ensures cells { result ≡ ok → IsRowForC row screen.now out.new }
@@ -147,7 +166,7 @@ fn write_row(screen: &Screen, row: u16, out: &mut [VtCell]) -> u8
     OK
 }
 
-/// Writes the cells of a row that is shown, as many as the screen has columns.
+/// Stores the cells of a displayed row, as many as the screen has columns.
 fn fill_row(screen: &Screen, row: u16, out: &mut [VtCell])
     requires shown { row < length screen.now.page.rows }
     requires room { length out.old ≡ screen.now.page.width }
@@ -160,7 +179,8 @@ fn fill_row(screen: &Screen, row: u16, out: &mut [VtCell])
     }
 }
 
-/// The cell that is shown in a row at a column; a blank where it has none.
+/// Returns the displayed cell of a row at a column, or a blank if the row has
+/// no such column.
 fn shown_cell(screen: &Screen, row: u16, col: u16) -> VtCell
     requires { row < length screen.now.page.rows }
     ensures { result ≡ cell_for_c (shown_cell row col screen.now) }
@@ -171,7 +191,8 @@ fn shown_cell(screen: &Screen, row: u16, col: u16) -> VtCell
     }
 }
 
-/// Writes whether a row of a source's screen goes on below, if there is one.
+/// Stores whether a row of a source's screen is wrapped, if there is such a
+/// row.
 fn write_wrapped(source: &Source, row: u16, out: &mut u8) -> u8
     ensures status { result ≡ due_on (has_row row) (screen_in source.now) }
     ensures wrapped { result ≡ ok → OnScreen (screen_in source.now)
@@ -184,7 +205,7 @@ fn write_wrapped(source: &Source, row: u16, out: &mut u8) -> u8
     }
 }
 
-/// Writes whether a row that is shown goes on below, if there is one.
+/// Stores whether a displayed row is wrapped, if there is such a row.
 fn write_goes_on(screen: &Screen, row: u16, out: &mut u8) -> u8
     ensures status { result ≡ has_row row screen.now }
     ensures wrapped { result ≡ ok → out.new ≡ bit 1 (visible_row screen.now row).wrapped }

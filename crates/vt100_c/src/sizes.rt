@@ -1,4 +1,4 @@
-//! Another size, and scrollback.
+//! Resizing, and scrollback.
 
 ghost use Rattle.vt100_c.specs.Calls.{OnSource};
 ghost use Rattle.vt100_c.specs.Sizes.{Clears, OnScreen, ResizesMirror, ResizesParser, ResizesScreen};
@@ -14,8 +14,14 @@ use std::num::NonZeroU16;
 use vt_mirror::Mirror;
 use vt100::{Parser, Screen};
 
-/// Gives the screen another size. The events of a parser tell of the rows that
-/// leave.
+/// Resizes the screen of a parser, a saved screen or a mirror. The events of a
+/// parser report the rows that scroll off and aren't kept.
+///
+/// # Errors
+///
+/// `NO_OBJECT` if the handle is empty, `BAD_ARGUMENT` if `rows` or `cols` is 0,
+/// `WRONG_KIND` if it holds a capture, `OUT_OF_MEMORY` if an allocation fails;
+/// nothing has changed.
 #[unsafe(no_mangle)]
 pub extern "C" fn vt100_set_size(alloc: Global, handle: &mut Handle, rows: u16, cols: u16) -> u8
     ensures { OnSource (SetsSize rows cols) handle.old.held result handle.new.held }
@@ -29,7 +35,13 @@ pub extern "C" fn vt100_set_size(alloc: Global, handle: &mut Handle, rows: u16, 
     status
 }
 
-/// Gives the screen of a parser, or a saved one, another size; nobody is told.
+/// Resizes the screen of a parser or a saved screen without events.
+///
+/// # Errors
+///
+/// `NO_OBJECT` if the handle is empty, `BAD_ARGUMENT` if `rows` or `cols` is 0,
+/// `WRONG_KIND` if it holds neither a parser nor a saved screen,
+/// `OUT_OF_MEMORY` if an allocation fails; nothing has changed.
 #[unsafe(no_mangle)]
 pub extern "C" fn vt100_screen_set_size(
     alloc: Global,
@@ -48,7 +60,14 @@ pub extern "C" fn vt100_screen_set_size(
     status
 }
 
-/// Scrolls the view back by rows of scrollback, at most by all.
+/// Scrolls the display back by `rows` rows of scrollback, at most by all of
+/// them.
+///
+/// # Errors
+///
+/// `NO_OBJECT` if the handle is empty, `WRONG_KIND` if it holds neither a
+/// parser nor a saved screen, `OUT_OF_MEMORY` if a row cannot be extended;
+/// nothing has changed.
 #[unsafe(no_mangle)]
 pub extern "C" fn vt100_set_scrollback(alloc: Global, handle: &mut Handle, rows: usize) -> u8
     ensures { OnSource (OnScreen (ScrollsBack rows)) handle.old.held result handle.new.held }
@@ -62,7 +81,12 @@ pub extern "C" fn vt100_set_scrollback(alloc: Global, handle: &mut Handle, rows:
     status
 }
 
-/// Gives up scrollback; nobody is told.
+/// Erases scrollback without events.
+///
+/// # Errors
+///
+/// `NO_OBJECT` if the handle is empty, `WRONG_KIND` if it holds neither a
+/// parser nor a saved screen.
 #[unsafe(no_mangle)]
 pub extern "C" fn vt100_clear_scrollback(alloc: Global, handle: &mut Handle) -> u8
     ensures { OnSource (OnScreen Clears) handle.old.held result handle.new.held }
@@ -76,7 +100,7 @@ pub extern "C" fn vt100_clear_scrollback(alloc: Global, handle: &mut Handle) -> 
     status
 }
 
-/// Gives a source another size, if there is such a size.
+/// Resizes the screen of a source, if neither number is 0.
 fn set_size(source: &mut Source, rows: u16, cols: u16) -> u8
     ensures { SetsSize rows cols source.old result source.new }
 {
@@ -86,7 +110,7 @@ fn set_size(source: &mut Source, rows: u16, cols: u16) -> u8
     resize(source, some_rows, some_cols)
 }
 
-/// Gives a source another size, if it has one.
+/// Resizes the screen of a source, if it has one.
 fn resize(source: &mut Source, rows: NonZeroU16, cols: NonZeroU16) -> u8
     ensures { ResizesSource rows.value cols.value source.old result source.new }
 {
@@ -98,7 +122,7 @@ fn resize(source: &mut Source, rows: NonZeroU16, cols: NonZeroU16) -> u8
     }
 }
 
-/// Gives a parser's screen another size.
+/// Resizes the screen of a parser.
 fn resize_parser(parser: &mut Parser<Events>, rows: NonZeroU16, cols: NonZeroU16) -> u8
     ensures { ResizesParser rows.value cols.value parser.old result parser.new }
 {
@@ -108,7 +132,7 @@ fn resize_parser(parser: &mut Parser<Events>, rows: NonZeroU16, cols: NonZeroU16
     }
 }
 
-/// Gives a screen another size.
+/// Resizes a screen.
 fn resize_screen(screen: &mut Screen, rows: NonZeroU16, cols: NonZeroU16) -> u8
     ensures { ResizesScreen rows.value cols.value screen.old result screen.new }
 {
@@ -118,14 +142,14 @@ fn resize_screen(screen: &mut Screen, rows: NonZeroU16, cols: NonZeroU16) -> u8
     }
 }
 
-/// Gives a mirror's screen another size.
+/// Resizes the screen of a mirror.
 fn resize_mirror(mirror: &mut Mirror, rows: NonZeroU16, cols: NonZeroU16) -> u8
     ensures { ResizesMirror rows.value cols.value mirror.old result mirror.new }
 {
     answered(mirror.set_size(rows, cols))
 }
 
-/// Gives the screen of a source another size, if there is such a size.
+/// Resizes the screen of a source without events, if neither number is 0.
 fn set_screen_size(source: &mut Source, rows: u16, cols: u16) -> u8
     ensures { SetsScreenSize rows cols source.old result source.new }
 {
@@ -135,7 +159,8 @@ fn set_screen_size(source: &mut Source, rows: u16, cols: u16) -> u8
     resize_own(source, some_rows, some_cols)
 }
 
-/// Gives the screen of a source another size, if it has one of its own.
+/// Resizes the screen of a source without events, if it is a parser or a saved
+/// screen.
 fn resize_own(source: &mut Source, rows: NonZeroU16, cols: NonZeroU16) -> u8
     ensures { OnScreen (ResizesScreen rows.value cols.value) source.old result source.new }
 {
@@ -147,7 +172,7 @@ fn resize_own(source: &mut Source, rows: NonZeroU16, cols: NonZeroU16) -> u8
     }
 }
 
-/// Scrolls the view of a source back.
+/// Scrolls back the display of a source.
 fn set_scrollback(source: &mut Source, rows: usize) -> u8
     ensures { OnScreen (ScrollsBack rows) source.old result source.new }
 {
@@ -159,7 +184,7 @@ fn set_scrollback(source: &mut Source, rows: usize) -> u8
     }
 }
 
-/// Scrolls the view of a screen back.
+/// Scrolls back the display of a screen.
 fn scroll_back(screen: &mut Screen, rows: usize) -> u8
     ensures { ScrollsBack rows screen.old result screen.new }
 {
@@ -169,7 +194,7 @@ fn scroll_back(screen: &mut Screen, rows: usize) -> u8
     }
 }
 
-/// Gives up the scrollback of a source.
+/// Erases the scrollback of a source.
 fn clear_scrollback(source: &mut Source) -> u8
     ensures { OnScreen Clears source.old result source.new }
 {
@@ -181,7 +206,7 @@ fn clear_scrollback(source: &mut Source) -> u8
     }
 }
 
-/// Gives up the scrollback of a screen.
+/// Erases the scrollback of a screen.
 fn clear(screen: &mut Screen) -> u8
     ensures { Clears screen.old result screen.new }
 {

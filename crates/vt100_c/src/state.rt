@@ -1,4 +1,4 @@
-//! What is known of a screen.
+//! The state of a screen, without its cells.
 
 ghost use Rattle.std.specs.Prelude.{◌≡◌};
 ghost use Rattle.vt100_c.specs.Due.{HoldsScreen, OnScreen, any_screen, due_at, due_on};
@@ -13,8 +13,13 @@ use crate::object::{Source, screen_of};
 use crate::status::{NO_OBJECT, OK, WRONG_KIND};
 use std::alloc::Global;
 
-/// Writes what is known of a screen: its size and cursor, its modes, what the
-/// next character is drawn with, and how much scrollback there is.
+/// Stores the state of a screen: its size and cursor, its modes, the attributes
+/// of newly printed text, and its scrollback.
+///
+/// # Errors
+///
+/// `NO_OBJECT` if the handle is empty, `WRONG_KIND` if it holds neither a
+/// parser nor a saved screen; nothing is stored.
 #[unsafe(no_mangle)]
 pub extern "C" fn vt100_get_state(alloc: Global, handle: &mut Handle, out: &mut VtState) -> u8
     ensures same { handle.new.held ≡ handle.old.held }
@@ -31,7 +36,7 @@ pub extern "C" fn vt100_get_state(alloc: Global, handle: &mut Handle, out: &mut 
     status
 }
 
-/// Writes what is known of a source's screen, if it has one.
+/// Stores the state of a source's screen, if it has one.
 fn write_state(source: &Source, out: &mut VtState) -> u8
     ensures status { result ≡ due_on any_screen (screen_in source.now) }
     ensures state { result ≡ ok → OnScreen (screen_in source.now) (λ screen. out.new ≡ state_for_c screen) }

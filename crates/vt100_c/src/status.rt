@@ -1,38 +1,38 @@
-//! What a call answers.
+//! The statuses that calls return.
 
 ghost use Rattle.std.specs.Prelude.{◌≡◌};
 ghost use Rattle.vt100_c.specs.Status.{answered, status_of};
 
 use vt100::Error;
 
-/// All went well.
+/// The call succeeded.
 pub(crate) const OK: u8 = 0;
 
-/// Memory was refused.
+/// An allocation failed.
 pub(crate) const OUT_OF_MEMORY: u8 = 1;
 
-/// A parser or mirror ran out of memory before, and reads no more.
+/// The parser or mirror ran out of memory before, and reads nothing more.
 pub(crate) const FAILED: u8 = 2;
 
 /// An argument is out of its range.
 pub(crate) const BAD_ARGUMENT: u8 = 3;
 
-/// The handle holds something of a kind that the call isn't for.
+/// The handle holds an object of a kind that the call is not for.
 pub(crate) const WRONG_KIND: u8 = 4;
 
-/// Two screens are of different sizes.
+/// Two screens have different sizes.
 pub(crate) const OTHER_SIZE: u8 = 5;
 
 /// The handle is empty.
 pub(crate) const NO_OBJECT: u8 = 6;
 
-/// The handle that is to be filled isn't empty.
+/// The handle that the call fills isn't empty.
 pub(crate) const IN_USE: u8 = 7;
 
 /// A mirror has no number left for a viewer.
 pub(crate) const NO_NUMBER: u8 = 8;
 
-/// The status of an error.
+/// Returns the status of an error.
 pub(crate) fn status_of(error: Error) -> u8
     ensures { result ≡ status_of error }
 {
@@ -43,7 +43,7 @@ pub(crate) fn status_of(error: Error) -> u8
     }
 }
 
-/// The status of an answer that gives nothing else.
+/// Returns the status of a result without a value.
 pub(crate) fn answered(answer: Result<(), Error>) -> u8
     ensures { result ≡ answered answer }
 {

@@ -1,4 +1,4 @@
-//! Texts of a screen.
+//! The text of a screen, and the output that reproduces it.
 
 ghost use Rattle.std.specs.Prelude.{Some};
 ghost use Rattle.vt100_c.specs.Due.{IsAnswer, any_screen, due_at, due_on, has_start};
@@ -13,7 +13,15 @@ use crate::object::Object;
 use crate::status::NO_OBJECT;
 use std::alloc::Global;
 
-/// The text of the rows that are shown, without attributes ([`vt100::Screen::contents`]).
+/// Makes the text of the displayed rows, without attributes
+/// ([`vt100::Screen::contents`]), keeps it with the handle, and stores its
+/// length.
+///
+/// # Errors
+///
+/// `NO_OBJECT` if the handle is empty, `WRONG_KIND` if it holds neither a
+/// parser nor a saved screen, `OUT_OF_MEMORY` if the text cannot be allocated;
+/// nothing has changed.
 #[unsafe(no_mangle)]
 pub extern "C" fn vt100_contents(alloc: Global, handle: &mut Handle, len: &mut usize) -> u8
     ensures answer { IsAnswer (due_at any_screen handle.old.held) result }
@@ -23,8 +31,15 @@ pub extern "C" fn vt100_contents(alloc: Global, handle: &mut Handle, len: &mut u
     make(alloc, handle, Text::Contents, len)
 }
 
-/// The text from a column of one row up to a column of another
-/// ([`vt100::Screen::contents_between`]).
+/// Makes the text between two positions ([`vt100::Screen::contents_between`]),
+/// keeps it with the handle, and stores its length.
+///
+/// # Errors
+///
+/// `NO_OBJECT` if the handle is empty, `WRONG_KIND` if it holds neither a
+/// parser nor a saved screen, `BAD_ARGUMENT` if a range of several rows begins
+/// past the screen's columns, `OUT_OF_MEMORY` if the text cannot be allocated;
+/// nothing has changed.
 #[unsafe(no_mangle)]
 pub extern "C" fn vt100_contents_between(
     alloc: Global,
@@ -43,8 +58,15 @@ pub extern "C" fn vt100_contents_between(
     make(alloc, handle, text, len)
 }
 
-/// The text that redraws the screen on any plain terminal of its size
-/// ([`vt100::Screen::contents_formatted`]).
+/// Makes the escape sequences that redraw the screen on a plain terminal of its
+/// size ([`vt100::Screen::contents_formatted`]), keeps them with the handle,
+/// and stores their length.
+///
+/// # Errors
+///
+/// `NO_OBJECT` if the handle is empty, `WRONG_KIND` if it holds neither a
+/// parser nor a saved screen, `OUT_OF_MEMORY` if the output cannot be
+/// allocated; nothing has changed.
 #[unsafe(no_mangle)]
 pub extern "C" fn vt100_contents_formatted(
     alloc: Global,
@@ -58,8 +80,16 @@ pub extern "C" fn vt100_contents_formatted(
     make(alloc, handle, Text::Formatted, len)
 }
 
-/// The text that redraws the screen on a terminal of its size, whatever its
-/// scroll region and origin mode are ([`vt100::Screen::contents_formatted_reset`]).
+/// Makes the escape sequences that redraw the screen on a terminal of its size
+/// with any scroll region and origin mode
+/// ([`vt100::Screen::contents_formatted_reset`]), keeps them with the handle,
+/// and stores their length.
+///
+/// # Errors
+///
+/// `NO_OBJECT` if the handle is empty, `WRONG_KIND` if it holds neither a
+/// parser nor a saved screen, `OUT_OF_MEMORY` if the output cannot be
+/// allocated; nothing has changed.
 #[unsafe(no_mangle)]
 pub extern "C" fn vt100_contents_formatted_reset(
     alloc: Global,
@@ -73,8 +103,15 @@ pub extern "C" fn vt100_contents_formatted_reset(
     make(alloc, handle, Text::FormattedReset, len)
 }
 
-/// The text of the rows that are shown, with SGR and line ends alone
-/// ([`vt100::Screen::contents_formatted_basic`]).
+/// Makes the text of the displayed rows with SGR as the only escape sequences
+/// ([`vt100::Screen::contents_formatted_basic`]), keeps it with the handle, and
+/// stores its length.
+///
+/// # Errors
+///
+/// `NO_OBJECT` if the handle is empty, `WRONG_KIND` if it holds neither a
+/// parser nor a saved screen, `OUT_OF_MEMORY` if the text cannot be allocated;
+/// nothing has changed.
 #[unsafe(no_mangle)]
 pub extern "C" fn vt100_contents_formatted_basic(
     alloc: Global,
@@ -88,8 +125,15 @@ pub extern "C" fn vt100_contents_formatted_basic(
     make(alloc, handle, Text::FormattedBasic, len)
 }
 
-/// The text that redraws the screen and sets its input modes
-/// ([`vt100::Screen::state_formatted`]).
+/// Makes the escape sequences that redraw the screen and set its input modes
+/// ([`vt100::Screen::state_formatted`]), keeps them with the handle, and stores
+/// their length.
+///
+/// # Errors
+///
+/// `NO_OBJECT` if the handle is empty, `WRONG_KIND` if it holds neither a
+/// parser nor a saved screen, `OUT_OF_MEMORY` if the output cannot be
+/// allocated; nothing has changed.
 #[unsafe(no_mangle)]
 pub extern "C" fn vt100_state_formatted(alloc: Global, handle: &mut Handle, len: &mut usize) -> u8
     ensures answer { IsAnswer (due_at any_screen handle.old.held) result }
@@ -99,8 +143,15 @@ pub extern "C" fn vt100_state_formatted(alloc: Global, handle: &mut Handle, len:
     make(alloc, handle, Text::State, len)
 }
 
-/// The text that sets the cursor on a terminal that shows the rest
-/// ([`vt100::Screen::cursor_state_formatted`]).
+/// Makes the escape sequences that set the cursor on a terminal that displays
+/// the rest of the screen ([`vt100::Screen::cursor_state_formatted`]), keeps
+/// them with the handle, and stores their length.
+///
+/// # Errors
+///
+/// `NO_OBJECT` if the handle is empty, `WRONG_KIND` if it holds neither a
+/// parser nor a saved screen, `OUT_OF_MEMORY` if the output cannot be
+/// allocated; nothing has changed.
 #[unsafe(no_mangle)]
 pub extern "C" fn vt100_cursor_state_formatted(
     alloc: Global,
@@ -114,8 +165,15 @@ pub extern "C" fn vt100_cursor_state_formatted(
     make(alloc, handle, Text::CursorState, len)
 }
 
-/// The text that sets the current attributes
-/// ([`vt100::Screen::attributes_formatted`]).
+/// Makes the escape sequences that set the current attributes
+/// ([`vt100::Screen::attributes_formatted`]), keeps them with the handle, and
+/// stores their length.
+///
+/// # Errors
+///
+/// `NO_OBJECT` if the handle is empty, `WRONG_KIND` if it holds neither a
+/// parser nor a saved screen, `OUT_OF_MEMORY` if the output cannot be
+/// allocated; nothing has changed.
 #[unsafe(no_mangle)]
 pub extern "C" fn vt100_attributes_formatted(
     alloc: Global,
@@ -129,7 +187,15 @@ pub extern "C" fn vt100_attributes_formatted(
     make(alloc, handle, Text::Attributes, len)
 }
 
-/// The text that sets the input modes ([`vt100::Screen::input_mode_formatted`]).
+/// Makes the escape sequences that set the input modes
+/// ([`vt100::Screen::input_mode_formatted`]), keeps them with the handle, and
+/// stores their length.
+///
+/// # Errors
+///
+/// `NO_OBJECT` if the handle is empty, `WRONG_KIND` if it holds neither a
+/// parser nor a saved screen, `OUT_OF_MEMORY` if the output cannot be
+/// allocated; nothing has changed.
 #[unsafe(no_mangle)]
 pub extern "C" fn vt100_input_mode_formatted(
     alloc: Global,
@@ -143,7 +209,8 @@ pub extern "C" fn vt100_input_mode_formatted(
     make(alloc, handle, Text::InputMode, len)
 }
 
-/// Makes a text, keeps it with the handle, and says how long it is.
+/// Makes a text of the screen that a handle holds, keeps it with the handle,
+/// and stores its length.
 fn make(alloc: Global, handle: &mut Handle, text: Text, len: &mut usize) -> u8
     ensures answer { IsAnswer (due_at (due_for text) handle.old.held) result }
     ensures text { MakesText text handle.old.held result handle.new.held }
@@ -158,7 +225,8 @@ fn make(alloc: Global, handle: &mut Handle, text: Text, len: &mut usize) -> u8
     status
 }
 
-/// Makes a text, keeps it with the object, and says how long it is.
+/// Makes a text of an object's screen, keeps it with the object, and stores its
+/// length.
 fn renew(object: &mut Object, text: Text, len: &mut usize) -> u8
     ensures answer { IsAnswer (due_on (due_for text) (screen_in object.old.source)) result }
     ensures text { MakesText text (Some object.old) result (Some object.new) }

@@ -1,4 +1,4 @@
-//! Viewers of a mirror, and what they are told.
+//! The viewers of a mirror, and the updates that they get.
 
 ghost use Rattle.std.specs.Prelude.{◌≡◌, string_bytes};
 ghost use Rattle.vt100_c.specs.Mirrors.{Joins, LeavesIt, status_after, text_after, numbers, numbers_after};
@@ -8,7 +8,7 @@ use crate::status::{BAD_ARGUMENT, OK, status_of};
 use vt_mirror::{Mirror, Update};
 use vt100::Error;
 
-/// Adds a viewer, and says its number.
+/// Adds a viewer, and stores its number.
 pub(crate) fn join(mirror: &mut Mirror, viewer: &mut u64) -> u8
     ensures call { Joins result viewer.old viewer.new mirror.old mirror.new }
     ensures refused { ¬ (result ≡ ok) → viewer.new ≡ viewer.old }
@@ -22,7 +22,7 @@ pub(crate) fn join(mirror: &mut Mirror, viewer: &mut u64) -> u8
     }
 }
 
-/// Removes a viewer, if there is one of this number.
+/// Removes a viewer, if there is one with this number.
 pub(crate) fn leave(mirror: &mut Mirror, viewer: u64) -> u8
     ensures { LeavesIt viewer result mirror.old mirror.new }
 {
@@ -33,7 +33,7 @@ pub(crate) fn leave(mirror: &mut Mirror, viewer: u64) -> u8
     }
 }
 
-/// Keeps the text of an update, and says its numbers.
+/// Keeps the text of an update, and stores its length and the size it is for.
 pub(crate) fn hand_over(
     answer: Result<Option<Update>, Error>,
     text: &mut String,

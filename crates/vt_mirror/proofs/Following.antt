@@ -1,4 +1,4 @@
--- A terminal that reads what a run wrote.
+-- A terminal that reads the output of a run.
 use Rattle.std.proofs.Common.{◌≡◌, ℕ, List, [], ◌∷◌, subst}
 use Rattle.std.specs.List.{AllByRecursion, FoldsTo}
 use Rattle.vt_grid.specs.Page.{SameSize}

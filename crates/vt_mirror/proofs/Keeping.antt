@@ -19,7 +19,7 @@ use Rattle.vt_mirror.specs.declared.texts.DiffCache.{DiffCache}
 use Rattle.vt_mirror.specs.declared.texts.KeptDiff.{KeptDiff}
 use Rattle.vt_mirror.proofs.Bookkeeping.{at_other, by_number, put_viewers}
 
--- ---- the screens that are noted, and their copies
+-- ---- the recorded screens and their copies
 
 lookup_here : (b : Bool) (e : ℕ × Note) (there : Option ScreenValue) (noted : Option Note) → there ≡ screen_of noted →
     cond b (Some e.1.screen) there ≡ screen_of (cond b (Some e.1) noted)
@@ -38,7 +38,7 @@ note_is viewers notes viewer e =
     ap (λ (entries : List (ℕ × ScreenValue)). lookup (is_at (nat_cmp viewer)) entries) e
     ∙ lookup_screens (is_at (nat_cmp viewer)) notes
 
--- ---- which copies are kept
+-- ---- the copies that are kept
 
 no_version : (note other : Note) → AreOfOneVersion note other → note.version ≡ 0 → ⊥
 no_version note other same none = omega (arith, same.numbered, none)
@@ -46,7 +46,7 @@ no_version note other same none = omega (arith, same.numbered, none)
 no_version_too : (note other : Note) → AreOfOneVersion note other → other.version ≡ 0 → ⊥
 no_version_too note other same none = omega (arith, same.numbered, same.equal, none)
 
--- none but those that were kept before, and some without a version
+-- Only copies are kept that were kept before, and some without a version.
 pub no_more_kept : (old new : Copies) (version : ℕ)
     → ((note : Note) → IsKept new note → IsKept old note ⊎ (note.version ≡ 0))
     → AreShared old version → AreShared new version
@@ -64,12 +64,12 @@ no_more_kept old new version was s = record {
   agree_two one other (inr none) is_too same = absurd (no_version one other same none)
   agree_two one other (inl is) (inr none) same = absurd (no_version_too one other same none)
 
--- none but those that were kept before
+-- Only copies are kept that were kept before.
 pub fewer_kept : (old new : Copies) (version : ℕ) → ((note : Note) → IsKept new note → IsKept old note) →
     AreShared old version → AreShared new version
 fewer_kept old new version was s = no_more_kept old new version (λ note is. inl (was note is)) s
 
--- and one with the next version
+-- Copies are kept that were kept before, and one with the next version.
 pub one_more_kept : (old new : Copies) (version after : ℕ) (added : Note)
     → added.version ≡ after → after ≡ suc version
     → ((note : Note) → IsKept new note → IsKept old note ⊎ (note ≡ added))
@@ -101,7 +101,7 @@ same_some x y e = cc
 none_some : {A : Type 0} (x : A) → None ≡ Some x → ⊥
 none_some x e = cc
 
--- what is noted after one viewer's note was put, or taken out
+-- The note of a viewer after the note of one viewer was stored or removed.
 pub noted_after : (viewer : ℕ) (had has : BTreeMap ℕ Note) (put : Option Note) (other : ℕ) (note : Note)
     → map.UpdatesBy nat_cmp (nat_cmp viewer) had has put → noted_at has.entries other ≡ Some note
     → (noted_at had.entries other ≡ Some note) ⊎ (put ≡ Some note)
@@ -110,7 +110,7 @@ noted_after viewer had has put other note u e =
     (λ here. inr (sym u.1 ∙ (ap (noted_at has.entries) (sym here) ∙ e)))
     (λ apart. inl (sym (u.2 other (at_other viewer other apart)) ∙ e))
 
--- a copy of the current screen was put
+-- A copy of the current screen was stored.
 pub kept_put : (viewer : ℕ) (screen : ScreenValue) (had has : BTreeMap ℕ Note) (old : Copies) (put note : Note)
     → old.notes ≡ had.entries → map.UpdatesBy nat_cmp (nat_cmp viewer) had has (Some put)
     → IsCurrentNote screen old.current put
@@ -129,7 +129,7 @@ kept_put viewer screen had has old put note e u is (inl noted) =
       by_side (inr here) = by_copy here is.shared
 kept_put viewer screen had has old put note e u is (inr other) = inl (inr other)
 
--- one was taken out
+-- A copy was removed.
 pub kept_left : (viewer : ℕ) (had has : BTreeMap ℕ Note) (old : Copies) (note : Note)
     → old.notes ≡ had.entries → map.UpdatesBy nat_cmp (nat_cmp viewer) had has None
     → IsKept (record old { notes = has.entries }) note → IsKept old note
@@ -140,7 +140,7 @@ kept_left viewer had has old note e u (inl noted) =
       by_side (inr never) = absurd (none_some note never)
 kept_left viewer had has old note e u (inr other) = inr other
 
--- the copy of the current screen was made, if there was none
+-- The copy of the current screen was made, if there was none.
 pub shared_renewed : (screen : ScreenValue) (old : Copies) (version after : ℕ) (renewed : Option Note)
     → IsRenewed screen version old.current after renewed
     → AreShared old version → AreShared (record old { current = renewed }) after
@@ -155,7 +155,7 @@ shared_renewed screen old version after renewed (inr new) s =
       old_or_new note (inr (inl is)) = inr (same_some note new.0 (sym is ∙ new.1))
       old_or_new note (inr (inr diff)) = inl (inr (inr diff))
 
--- the screen changed
+-- The screen changed, so its copy and the differences were dropped.
 pub shared_changed : (old : Copies) (diff scrolling : Option Note) (version : ℕ) → diff ≡ None → scrolling ≡ None →
     AreShared old version →
     AreShared (record { notes = old.notes; current = None; diff = diff; scrolling = scrolling }) version
@@ -168,7 +168,7 @@ shared_changed old diff scrolling version no_diff no_scrolling s =
       was note (inr (inr (inl is))) = absurd (none_some note (sym no_diff ∙ is))
       was note (inr (inr (inr is))) = absurd (none_some note (sym no_scrolling ∙ is))
 
--- nothing is noted
+-- All recorded screens were dropped.
 pub shared_cleared : (old : Copies) (notes : List (ℕ × Note)) (version : ℕ) → notes ≡ [] →
     AreShared old version → AreShared (record old { notes = notes }) version
 shared_cleared old notes version empty s =
@@ -178,7 +178,7 @@ shared_cleared old notes version empty s =
           absurd (none_some note (ap (λ (entries : List (ℕ × Note)). noted_at entries noted.0) (sym empty) ∙ noted.1))
       was note (inr other) = inr other
 
--- nothing is kept
+-- No copy is kept.
 shared_none : (notes : List (ℕ × Note)) → notes ≡ [] →
     AreShared (record { notes = notes; current = None; diff = None; scrolling = None }) 0
 shared_none notes empty = record {
@@ -212,7 +212,7 @@ fresh_kept numbers notes diff scrolling e f no_diff no_scrolling = record {
       (sym no_scrolling) (shared_none notes f));
 }
 
--- a difference from the screen noted for a viewer was kept, or nothing changed
+-- A difference from the screen recorded for a viewer was stored, or nothing changed.
 pub shared_diff : (old : Copies) (version viewer : ℕ) (note : Note) (from : Option Note)
     → noted_at old.notes viewer ≡ Some note → (from ≡ old.diff) ⊎ (from ≡ Some note)
     → AreShared old version → AreShared (record old { diff = from }) version
@@ -238,7 +238,7 @@ shared_scrolling old version viewer note from noted kept s =
       was n (inr (inr (inr is))) (inl same) = inr (inr (inr (sym same ∙ is)))
       was n (inr (inr (inr is))) (inr new) = inl (viewer, noted ∙ (sym new ∙ is))
 
--- ---- and what a mirror sees of it
+-- ---- changes as a mirror sees them
 
 pub note_put : (old : ViewersValue) (viewer : ℕ) (note : Note) (had has : BTreeMap ℕ Note)
     → old.notes ≡ screens_of had.entries → map.UpdatesBy nat_cmp (nat_cmp viewer) had has (Some note)
@@ -288,7 +288,7 @@ note_left_viewers old viewer was is had has e f u w a =
     (note_left old viewer was is had has e f u w)
     a (λ h. absurd (false≢true h)) (omega arith) (λ _. refl)
 
--- nothing is noted any more
+-- No screen is recorded any more.
 pub cleared_viewers : (viewers : ViewersValue) (notes : List (ℕ × Note)) → notes ≡ [] → AreViewers viewers →
     AreViewers (record viewers { notes = screens_of notes })
 cleared_viewers viewers notes empty a = record {
@@ -298,13 +298,13 @@ cleared_viewers viewers notes empty a = record {
       (ap (λ (es : List (ℕ × Note)). lookup (is_at (nat_cmp viewer)) (screens_of es)) (sym empty) ∙ is));
 }
 
--- ---- what is found for a viewer
+-- ---- the kept values found for a viewer
 
 pub found_note : (viewers : ViewersValue) (notes : List (ℕ × Note)) (viewer : ℕ) (found : Option Note) →
     viewers.notes ≡ screens_of notes → found ≡ noted_at notes viewer → screen_of found ≡ note_of viewers viewer
 found_note viewers notes viewer found e is = ap screen_of is ∙ sym (note_is viewers notes viewer e)
 
--- its copy and one that is kept have one version
+-- A viewer's copy that has the version of a kept copy is a copy of the same screen.
 found_same : (viewers : ViewersValue) (copies : Copies) (version viewer : ℕ) (note copy : Note)
     → viewers.notes ≡ screens_of copies.notes → AreShared copies version → Some note ≡ noted_at copies.notes viewer
     → IsKept copies copy → AreOfOneVersion note copy → note_of viewers viewer ≡ Some copy.screen
@@ -312,7 +312,7 @@ found_same viewers copies version viewer note copy e s noted is same =
     sym (found_note viewers copies.notes viewer (Some note) e noted)
     ∙ ap (λ (screen : ScreenValue). Some screen) (s.agree note copy (inl (viewer, sym noted)) is same)
 
--- that of the current screen
+-- A viewer's copy that has the version of the current copy is a copy of the current screen.
 pub found_current : (viewers : ViewersValue) (copies : Copies) (version : ℕ) (current : Option ScreenValue)
     (viewer : ℕ) (note copy : Note)
     → viewers.notes ≡ screens_of copies.notes → current ≡ screen_of copies.current → AreShared copies version
@@ -324,7 +324,7 @@ found_current viewers copies version current viewer note copy e f s noted is sam
   f ∙ ap screen_of is,
 )
 
--- that of a kept difference
+-- A viewer's copy that has the version of a stored difference is a copy of the screen that the difference starts from.
 pub found_diff : (viewers : ViewersValue) (copies : Copies) (version : ℕ) (last : Option KeptDiff)
     (seen : Option DiffFrom) (viewer : ℕ) (note : Note) (diff : KeptDiff) (text : List ℕ)
     → viewers.notes ≡ screens_of copies.notes → seen ≡ diff_of last → AreShared copies version
@@ -337,7 +337,7 @@ found_diff viewers copies version last seen viewer note diff text e f s noted is
   f ∙ (ap diff_of is ∙ ap (λ (t : List ℕ). Some (diff.from.screen, t)) (sym bytes)),
 )
 
--- what a cache keeps after it was given a difference
+-- The copy that a cache keeps after a difference was stored.
 pub from_kept : (old new : DiffCache) (note : Note) (text : List ℕ)
     → (new ≡ old) ⊎ ((diff : KeptDiff) × (new.last ≡ Some diff) × (diff.from ≡ note) × (string_bytes diff.text ≡ text))
     → (from_of new.last ≡ from_of old.last) ⊎ (from_of new.last ≡ Some note)

@@ -15,9 +15,9 @@ use Rattle.vt_screen.specs.CallsOfRun.{screen_in}
 use Rattle.vt_screen.proofs.MadeOf.{difference_made, made_append, made_nothing, redraw_made}
 use Rattle.vt_mirror.specs.Runs.{IsUpdatedAfter, multiples, screens_on_way}
 
--- ---- which screens
+-- ---- the screens of the updates
 
--- where a list grows, the screens at these places stay, up to the length before
+-- The screens after the first intervals are unchanged when the input grows.
 same_screens : (first : ScreenValue) (every count : ℕ) (input more : List ℕ) → count * every ≤ length input →
     map (λ n. screen_in start first (take n (input ++ more))) (multiples every count)
     ≡ map (λ n. screen_in start first (take n input)) (multiples every count)
@@ -38,7 +38,7 @@ count_is every count input whole some =
       sum_zero : (n : ℕ) → n ≡ n + 0
       sum_zero n = omega arith
 
--- fewer bytes than are read between two updates make no update due
+-- Fewer bytes than an interval make no update due.
 pub fewer_on_way : (first : ScreenValue) (every count : ℕ) (input more : List ℕ) → length input ≡ count * every →
     length more < every → screens_on_way first every (input ++ more) ≡ screens_on_way first every input
 fewer_on_way first every count input more whole fewer =
@@ -57,7 +57,7 @@ pub next_length : (every count : ℕ) (input more : List ℕ) → length input �
     length (input ++ more) ≡ suc count * every
 next_length every count input more whole much = omega (arith, length-append input more, whole, much)
 
--- as many make one due
+-- A full interval makes one more update due.
 pub more_on_way : (first : ScreenValue) (every count : ℕ) (input more : List ℕ) → 0 < every
     → length input ≡ count * every → length more ≡ every
     → screens_on_way first every (input ++ more)
@@ -81,7 +81,7 @@ pub none_on_way : (first : ScreenValue) (every : ℕ) → 0 < every → screens_
 none_on_way first every some =
     ap (λ (n : ℕ). map (λ n. screen_in start first (take n [])) (multiples every n)) (count_is every 0 [] (omega arith) some)
 
--- ---- texts and the last screen, with one more
+-- ---- one more text and last screen
 
 pub last_of_more : (first : ScreenValue) (nexts : List ScreenValue) (screen : ScreenValue) →
     last_screen first (nexts ++ (screen ∷ [])) ≡ screen

@@ -21,7 +21,7 @@ use Rattle.vt_mirror.specs.Sharing.{IsRedraw, IsSharing}
 use Rattle.vt_mirror.specs.Viewers.{note_of}
 use Rattle.vt_mirror.proofs.Noted.{noted_none, noted_parser, own_size}
 
--- ---- a screen differs from itself by nothing
+-- ---- the difference of a screen from itself is empty
 
 pub unchanged : (self : ScreenValue) → IsScreen self → IsColored self → IsDrawn self self []
 unchanged self is colored =
@@ -52,7 +52,7 @@ unchanged_scrolling self is colored steady =
       shorter = omega arith;
     }
 
--- ---- what is kept
+-- ---- the kept values
 
 abbrev pub CopiesScreen : Parsing (Unit {0}) → Option ScreenValue → Type 0
 CopiesScreen parser o = IfSome o (λ screen. screen ≡ parser.screen)
@@ -66,7 +66,7 @@ HasScrolling parser o = IfSome o (λ diff. Scrolls parser.screen diff.0 diff.1)
 abbrev HasRedraw : Parsing (Unit {0}) → Option (List ℕ) → Type 0
 HasRedraw parser o = IfSome o (IsRedraw parser.screen)
 
--- a redraw was kept, or nothing changed
+-- A redraw was stored, or nothing changed.
 pub sharing_redrawn : (parser : Parsing (Unit {0})) (old new : KeptValue) (text : List ℕ)
     → (new ≡ old) ⊎ (new ≡ record old { redraw = Some text }) → IsRedraw parser.screen text
     → IsSharing parser old → IsSharing parser new
@@ -75,7 +75,7 @@ sharing_redrawn parser old new text (inr kept) is s =
     subst (λ (k : KeptValue). IsSharing parser k) (sym kept)
     (record { sized = s.sized; current = s.current; diff = s.diff; scrolling = s.scrolling; redraw = is })
 
--- the screen changed, but not its size
+-- The screen changed, but not its size.
 pub sharing_changed : (parser after : Parsing (Unit {0})) (old new : KeptValue)
     → new ≡ record old { current = None; diff = None; scrolling = None; redraw = None }
     → SameSize after.screen.page parser.screen.page → IsSharing parser old → IsSharing after new
@@ -90,7 +90,7 @@ sharing_changed parser after old new e size s =
       redraw = tt;
     })
 
--- its size changed, too
+-- The screen and its size changed.
 pub sharing_resized : (after : Parsing (Unit {0})) (old new : KeptValue)
     → new ≡ record {
       viewers = record (old.viewers) { notes = [] };
@@ -109,12 +109,12 @@ sharing_resized after old new e =
       redraw = tt;
     })
 
--- the parser is the one that it was
+-- The parser is unchanged.
 pub sharing_parser : (parser after : Parsing (Unit {0})) (kept : KeptValue) → after ≡ parser →
     IsSharing parser kept → IsSharing after kept
 sharing_parser parser after kept same s = subst (λ (p : Parsing (Unit {0})). IsSharing p kept) (sym same) s
 
--- viewers came and went
+-- Viewers joined or left.
 pub sharing_viewers : (parser : Parsing (Unit {0})) (old new : KeptValue) → new ≡ record old { viewers = new.viewers }
     → IsMirror (record { parser = parser; viewers = new.viewers }) → IsSharing parser old → IsSharing parser new
 sharing_viewers parser old new e sized s = record {
@@ -125,7 +125,7 @@ sharing_viewers parser old new e sized s = record {
   redraw = subst (HasRedraw parser) (sym (ap (λ (k : KeptValue). k.redraw) e)) s.redraw;
 }
 
--- the current screen was noted
+-- The current screen was recorded for a viewer.
 pub sharing_noted : (parser : Parsing (Unit {0})) (old new : KeptValue)
     → IsMirror (record { parser = parser; viewers = new.viewers }) → CopiesScreen parser new.current
     → new.diff ≡ old.diff → new.scrolling ≡ old.scrolling → new.redraw ≡ old.redraw
@@ -138,7 +138,7 @@ sharing_noted parser old new sized current e f g s = record {
   redraw = subst (HasRedraw parser) (sym g) s.redraw;
 }
 
--- a difference was kept, or the one that was before
+-- A difference was stored, or the cache is unchanged.
 abbrev Kept : KeptValue → (viewer : ℕ) → (was is : Option DiffFrom) → List ℕ → Type 0
 Kept old viewer was is text =
     (is ≡ was) ⊎ ((screen : ScreenValue) × (note_of old.viewers viewer ≡ Some screen) × (is ≡ Some (screen, text)))

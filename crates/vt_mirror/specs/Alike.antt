@@ -4,7 +4,7 @@ use Rattle.vt_grid.specs.Page.{SameSize}
 use Rattle.vt_screen.specs.Screen.{ScreenValue}
 use Rattle.vt_screen.specs.Shown.{shown}
 
--- the copy has the screen's size and displays what the screen displays
+-- The copy has the screen's size and displays what the screen displays.
 pub record ShowsAlike (screen copy : ScreenValue) : Type 0 where
   pub shown : shown copy ≡ shown screen
   pub size : SameSize copy.page screen.page

@@ -1,4 +1,4 @@
--- What each call of a mirror answers, and what it leaves.
+-- The results of each call of a mirror, and the mirror it leaves.
 use Rattle.std.specs.Prelude.{◌≡◌, ◌⊎◌, ℕ, ◌-◌, ◌^◌, ◌<◌, ◌≤◌, Bool, true, false, List, [], Option, Some, None, Err, Ok}
 use Rattle.std.specs.Prelude.{length, string_bytes, IfErr, IfOk}
 use Rattle.std.specs.declared.result.Result.{Result}
@@ -23,14 +23,16 @@ use Rattle.vt_mirror.specs.Viewers.{Puts, ViewersValue, is_viewer, next_number, 
 use Rattle.vt_mirror.specs.declared.update.Update.{Update}
 use Rattle.vt_mirror.specs.declared.update.Update.TheVariants.{Diff, Full}
 
--- bytes are read as by the parser alone, whose callbacks do nothing; the size stays, and so do the viewers
+-- A call of `process`: bytes are read as by a parser whose callbacks do nothing; the size and the viewers are
+-- unchanged.
 pub record MirrorProcesses (old : MirrorValue) (bytes : List ℕ)
     (answer : Result (Unit {0}) Error) (new : MirrorValue) : Type 0 where
   pub viewers : new.viewers ≡ old.viewers
   pub size : SameSize new.parser.screen.page old.parser.screen.page
   pub parser : ParserProcesses quietly old.parser bytes answer new.parser
 
--- another size, and nothing is noted any more; the size that it has changes nothing and is never refused
+-- A call of `set_size`: the screen is resized, and no screen is recorded for any viewer; a resize to the present size
+-- changes nothing and never fails.
 pub record Resizes (old : MirrorValue) (rows cols : ℕ)
     (answer : Result (Unit {0}) Error) (new : MirrorValue) : Type 0 where
   pub same : has_size rows cols old.parser.screen ≡ true → (answer ≡ Ok tt) × (new ≡ old)
@@ -42,12 +44,12 @@ pub record Resizes (old : MirrorValue) (rows cols : ℕ)
       })
   pub refused : IfErr answer (λ error. (error ≡ OutOfMemory) × (new ≡ old))
 
--- the greatest number that is given
+-- The greatest viewer number.
 abbrev pub greatest : ℕ
 greatest = 2 ^ 64 - 1
 
--- a new viewer gets the next number, and nothing is noted for it yet;
--- behind the greatest number there is none; refused, all is as before
+-- A call of `join`: a new viewer gets the next number, and no screen is recorded for it yet; after the greatest number
+-- there is none, and an error changes nothing.
 pub record JoinsMirror (old : ViewersValue) (answer : Result ℕ Error) (new : ViewersValue) : Type 0 where
   pub number : IfOk answer (λ viewer. viewer ≡ next_number old.last)
   pub last : IfOk answer (λ viewer. new.last ≡ Some viewer)
@@ -56,13 +58,13 @@ pub record JoinsMirror (old : ViewersValue) (answer : Result ℕ Error) (new : V
   pub only : IfErr answer (λ error. (error ≡ OutOfMemory) ⊎ ((error ≡ NoNumber) × (old.last ≡ Some greatest)))
   pub refused : IfErr answer (λ _. new ≡ old)
 
--- a viewer goes; the answer is whether there was one
+-- A call of `leave`: the viewer is removed, and the result says whether there was one.
 pub record Leaves (old : ViewersValue) (viewer : ℕ) (answer : Bool) (new : ViewersValue) : Type 0 where
   pub was : answer ≡ is_viewer old viewer
   pub last : new.last ≡ old.last
   pub puts : Puts old viewer false None new
 
--- the redraw of a screen, with its size: at least one row and one column
+-- The redraw of a screen, with its size of at least one row and one column.
 pub record IsFull (self : ScreenValue) (rows cols : ℕ) (text : List ℕ) : Type 0 where
   pub tall : rows ≡ length self.page.rows
   pub wide : cols ≡ self.page.width
@@ -75,7 +77,7 @@ pub record IsFull (self : ScreenValue) (rows cols : ℕ) (text : List ℕ) : Typ
   pub controls : IsMadeOf drawing_finals drawing_controls text
   pub again : KeepsPlain text
 
--- a difference from a screen of the same size: it is empty where both show the same, and only there
+-- A difference between screens of one size; it is empty if both display the same and, for a steady screen, only then.
 pub record IsDiff (self prev : ScreenValue) (text : List ℕ) : Type 0 where
   pub size : SameSize self.page prev.page
   pub redraws : Redraws (shown self) (IsReaderOf (shown self) (shown prev)) KeepsRest text
@@ -83,12 +85,12 @@ pub record IsDiff (self prev : ScreenValue) (text : List ℕ) : Type 0 where
   pub empty : IsSteady (shown self) → text ≡ [] → shown self ≡ shown prev
   pub again : KeepsPlain text
 
--- how a difference is made: drawn alone, or behind rows that move first
+-- How a difference is made: only drawn, or with rows moved first.
 pub data Kind : Type 0 where
   Drawn : Kind
   Scrolling : Kind
 
--- one that is drawn touches near what differs alone
+-- A difference that is only drawn touches only what is near a differing row.
 pub record IsDrawn (self prev : ScreenValue) (text : List ℕ) : Type 0 where
   pub diff : IsDiff self prev text
   pub is : text ≡ bytes_of_all (difference (shown self) (shown prev))
@@ -96,7 +98,7 @@ pub record IsDrawn (self prev : ScreenValue) (text : List ℕ) : Type 0 where
   pub touches : IsSteady (shown self)
       → TouchesOnly (IsReaderOf (shown self) (shown prev)) text (IsLocal (shown self) (shown prev))
 
--- one that scrolls starts from a steady screen, and is never longer
+-- A difference that moves rows first starts from a steady screen, and is never longer than one that is only drawn.
 pub record Scrolls (self prev : ScreenValue) (text : List ℕ) : Type 0 where
   pub diff : IsDiff self prev text
   pub from_steady : IsSteady (shown prev)
@@ -112,19 +114,19 @@ abbrev pub IsFullUpdate : (self : ScreenValue) → Update → Type 0
 IsFullUpdate self (Full rows cols text) = IsFull self rows cols (string_bytes text)
 IsFullUpdate self (Diff text) = ⊥
 
--- where a screen is noted, a full redraw of a kind that scrolls alone, and only if that screen is not steady
+-- A full redraw although a screen is recorded: only in the kind that scrolls, if that screen is not steady.
 abbrev pub IsFullAfter : Kind → (self prev : ScreenValue) → (rows cols : ℕ) → (text : List ℕ) → Type 0
 IsFullAfter Drawn self prev rows cols text = ⊥
 IsFullAfter Scrolling self prev rows cols text = (IsSteady (shown prev) → ⊥) × IsFull self rows cols text
 
--- a full redraw where nothing is noted, and else the difference, of this kind, from the screen that is, if one may
--- start from it
+-- An update: a full redraw if no screen is recorded, and otherwise a difference of this kind from the recorded screen,
+-- if one may start from it.
 abbrev pub IsUpdate : Kind → (self : ScreenValue) → Option ScreenValue → Update → Type 0
 IsUpdate kind self (Some prev) (Diff text) = IsOfKind kind self prev (string_bytes text)
 IsUpdate kind self (Some prev) (Full rows cols text) = IsFullAfter kind self prev rows cols (string_bytes text)
 IsUpdate kind self None update = IsFullUpdate self update
 
--- a viewer gets an update, and the mirror's screen, which is a screen, is noted for it
+-- A viewer gets an update, and the mirror's screen, which is valid, is recorded for it.
 pub record GivesUpdate (kind : Kind) (old : MirrorValue) (viewer : ℕ) (update : Update) (new : MirrorValue) : Type 0 where
   pub is : is_viewer old.viewers viewer ≡ true
   pub whole : IsScreen old.parser.screen
@@ -134,12 +136,13 @@ pub record GivesUpdate (kind : Kind) (old : MirrorValue) (viewer : ℕ) (update 
   pub last : new.viewers.last ≡ old.viewers.last
   pub puts : Puts old.viewers viewer true (Some old.parser.screen) new.viewers
 
--- what an answer of an update means; none is for a number that is no viewer's
+-- What the result of an update means; `None` is for a number without a viewer.
 abbrev pub Answers : Kind → (old : MirrorValue) → ℕ → Option Update → (new : MirrorValue) → Type 0
 Answers kind old viewer None new = (is_viewer old.viewers viewer ≡ false) × (new ≡ old)
 Answers kind old viewer (Some update) new = GivesUpdate kind old viewer update new
 
--- an update is asked for; no viewer is answered none and is never refused; refused, all is as before
+-- A call of `update` or `update_scrolling`: `None` if there is no viewer with this number, which is never an error; an
+-- error changes nothing.
 pub record Asks (kind : Kind) (old : MirrorValue) (viewer : ℕ)
     (answer : Result (Option Update) Error) (new : MirrorValue) : Type 0 where
   pub nobody : is_viewer old.viewers viewer ≡ false → answer ≡ Ok None

@@ -1,4 +1,4 @@
--- Aids of proofs, which only private functions cite.
+-- Auxiliary definitions that only private functions cite.
 use Rattle.std.specs.Prelude.{◌≡◌, ℕ, ◌*◌, ◌+◌, ◌<◌, ◌≤◌, Bool, false, true, List, ◌∷◌, length, Some, None, string_bytes}
 use Rattle.std.specs.Io.KnownBytes.{Appends, Consumes, IsAtEnd}
 use Rattle.std.specs.List.{AllByRecursion}
@@ -16,33 +16,33 @@ use Rattle.vt_show.specs.Shown.{AppendsPart}
 use Rattle.vt_mirror.specs.declared.update.Update.{Update}
 use Rattle.vt_mirror.specs.declared.update.Update.TheVariants.{Diff, Full}
 
--- the text of an update
+-- The text of an update.
 abbrev pub text_of_update : Update → List ℕ
 text_of_update (Diff text) = string_bytes text
 text_of_update (Full rows cols text) = string_bytes text
 
--- a viewer got an update, and the text was written
+-- A viewer got an update, and its text was written.
 pub record WritesUpdate (old : MirrorValue) (viewer : ℕ) (new : MirrorValue)
     (written grown : Option (List ℕ)) : Type 0 where
   pub update : Update
   pub gives : GivesUpdate Drawn old viewer update new
   pub appends : Appends written grown (text_of_update update)
 
--- a viewer got an update, and a beginning of the text was written
+-- A viewer got an update, and a prefix of its text was written.
 pub record WritesUpdatePart (old : MirrorValue) (viewer : ℕ) (new : MirrorValue)
     (written grown : Option (List ℕ)) : Type 0 where
   pub update : Update
   pub gives : GivesUpdate Drawn old viewer update new
   pub part : AppendsPart written grown (text_of_update update)
 
--- bytes were read by the mirror; its viewers and its size are as before
+-- Bytes were read by the mirror; its viewers and its size are unchanged.
 pub record ReadsBytes (bytes : List ℕ) (old new : MirrorValue) (left rest : Option (List ℕ)) : Type 0 where
   pub reads : Consumes left rest bytes
   pub ran : Ran quietly old.parser bytes new.parser
   pub viewers : new.viewers ≡ old.viewers
   pub size : SameSize new.parser.screen.page old.parser.screen.page
 
--- so many bytes, or fewer and none is left
+-- `every` bytes were read, or fewer if none is left.
 pub record ReadsStretch (every : ℕ) (is_whole : Bool)
     (old new : MirrorValue) (left rest : Option (List ℕ)) : Type 0 where
   pub bytes : List ℕ
@@ -51,32 +51,33 @@ pub record ReadsStretch (every : ℕ) (is_whole : Bool)
   pub fewer : is_whole ≡ false → length bytes < every
   pub end : is_whole ≡ false → IsAtEnd rest
 
--- among them, with so many left to read
+-- Some of the bytes before the next update were read, and `still` are left to read.
 pub record InStretch (every still : ℕ) (old new : MirrorValue) (left rest : Option (List ℕ)) : Type 0 where
   pub bytes : List ℕ
   pub reads : ReadsBytes bytes old new left rest
   pub some : 0 < still
   pub count : length bytes + still ≡ every
 
--- a read failed within the bytes before the next update
+-- A read failed before all bytes for the next update were read.
 pub record ReadsFewer (every : ℕ) (left rest : Option (List ℕ)) : Type 0 where
   pub bytes : List ℕ
   pub fewer : length bytes < every
   pub reads : Consumes left rest bytes
 
--- memory was refused within them, or behind them
+-- An allocation failed before the next update, after at most `every` bytes were read.
 pub record ReadsAtMost (every : ℕ) (left rest : Option (List ℕ)) : Type 0 where
   pub bytes : List ℕ
   pub few : length bytes ≤ every
   pub reads : Consumes left rest bytes
 
--- before the first update of a viewer of a mirror that has read nothing
+-- A mirror that has read nothing, with a viewer before its first update.
 pub record IsBegun (mirror : MirrorValue) (viewer : ℕ) : Type 0 where
   pub scanner : StandsFor mirror.parser.scanner start
   pub views : is_viewer mirror.viewers viewer ≡ true
   pub note : note_of mirror.viewers viewer ≡ None
 
--- after an update, with all that was due written; what was read is so many times the bytes between two updates
+-- The state after an update: everything that was due is written, and the number of bytes read is a multiple of the
+-- interval.
 pub record IsWritten (every viewer : ℕ) (old new : MirrorValue) (left rest written grown : Option (List ℕ)) : Type 0 where
   pub input : List ℕ
   pub count : ℕ

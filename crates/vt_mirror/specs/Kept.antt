@@ -9,23 +9,23 @@ use Rattle.vt_mirror.specs.declared.copies.Note.{Note}
 use Rattle.vt_mirror.specs.declared.texts.DiffCache.{DiffCache}
 use Rattle.vt_mirror.specs.declared.texts.KeptDiff.{KeptDiff}
 
--- ---- what a mirror sees of it
+-- ---- what a mirror sees of the kept values
 
--- a screen, and the text of a difference from it
+-- A screen, and the text of a difference from it.
 abbrev pub DiffFrom : Type 0
 DiffFrom = ScreenValue × List ℕ
 
 pub record KeptValue : Type 0 where
   pub viewers : ViewersValue
-  -- a copy of the current screen, if there is one
+  -- A copy of the current screen, if there is one.
   pub current : Option ScreenValue
-  -- the differences kept for `Mirror::update` and `Mirror::update_scrolling`
+  -- The differences stored for `Mirror::update` and `Mirror::update_scrolling`.
   pub diff : Option DiffFrom
   pub scrolling : Option DiffFrom
-  -- the text of the current screen's redraw
+  -- The text of the current screen's redraw, if it is stored.
   pub redraw : Option (List ℕ)
 
--- the noted screens, without the versions of their copies
+-- The recorded screens, without the versions of their copies.
 abbrev pub screens_of : List (ℕ × Note) → List (ℕ × ScreenValue)
 screens_of notes = map (λ (e : ℕ × Note). (e.0, e.1.screen)) notes
 
@@ -41,12 +41,13 @@ abbrev pub from_of : Option KeptDiff → Option Note
 from_of None = None
 from_of (Some diff) = Some diff.from
 
--- ---- copies of one version are of one screen
+-- ---- copies of one version are copies of one screen
 
 abbrev pub noted_at : List (ℕ × Note) → ℕ → Option Note
 noted_at notes viewer = lookup (is_at (nat_cmp viewer)) notes
 
--- all copies that are kept: by viewer, of the current screen, and of the screens that the kept differences start from
+-- All copies that are kept: those recorded for viewers, that of the current screen, and those that the stored
+-- differences start from.
 pub record Copies : Type 0 where
   pub notes : List (ℕ × Note)
   pub current : Option Note
@@ -62,13 +63,13 @@ IsKept copies note =
     ((viewer : ℕ) × (noted_at copies.notes viewer ≡ Some note))
     ⊎ ((copies.current ≡ Some note) ⊎ ((copies.diff ≡ Some note) ⊎ (copies.scrolling ≡ Some note)))
 
--- both have the same version, which is not 0: 0 stands for no version
+-- Two copies have the same version, which is not 0; 0 stands for no version.
 pub record AreOfOneVersion (one other : Note) : Type 0 where
   pub numbered : 0 < one.version
   pub equal : one.version ≡ other.version
 
 pub record AreShared (copies : Copies) (version : ℕ) : Type 0 where
-  -- `version` is the last one that was given
+  -- `version` is the last one that was given to a copy.
   pub below : (note : Note) → IsKept copies note → note.version ≤ version
   pub agree : (one other : Note) → IsKept copies one → IsKept copies other →
       AreOfOneVersion one other → one.screen ≡ other.screen
@@ -77,7 +78,7 @@ pub record AreKept (value : ViewersValue) (copies : Copies) (version : ℕ) : Ty
   pub viewers : AreViewers value
   pub shared : AreShared copies version
 
--- the copy of the current screen is as before, or a new one with the next version, if there was none
+-- The copy of the current screen is unchanged, or is a new one with the next version if there was none.
 abbrev pub IsRenewed : (screen : ScreenValue) → (version : ℕ) (current : Option Note)
     → (after : ℕ) (renewed : Option Note) → Type 0
 IsRenewed screen version current after renewed =
@@ -85,7 +86,7 @@ IsRenewed screen version current after renewed =
     ⊎ ((note : Note) × (renewed ≡ Some note) × (note.version ≡ after)
     × (after ≡ suc version) × (note.screen ≡ screen) × (current ≡ None))
 
--- a copy of the current screen for a viewer: it is the one that is kept, or has no version
+-- A copy of the current screen for a viewer: the shared one, or one without a version.
 pub record IsCurrentNote (self : ScreenValue) (current : Option Note) (note : Note) : Type 0 where
   pub screen : note.screen ≡ self
   pub shared : (current ≡ Some note) ⊎ (note.version ≡ 0)

@@ -1,4 +1,4 @@
--- What a run over an input writes for its one viewer: the text of an update at the start, one after each so many bytes,
+-- What a run over an input writes for its one viewer: an update at the start, one after each interval of `every` bytes,
 -- and one at the end.
 use Rattle.std.specs.Prelude.{◌≡◌, ℕ, zero, suc, ◌*◌, ◌/◌, ◌<◌, ◌≤◌, ◌⊎◌, List, [], ◌∷◌, ◌++◌, length, map, take, Err, OnOk}
 use Rattle.std.specs.Io.KnownBytes.{Appends, Consumes, IsAtEnd, Keeps}
@@ -16,30 +16,30 @@ use Rattle.vt_show.specs.declared.faults.Fault.{Fault}
 use Rattle.vt_show.specs.declared.faults.Fault.TheVariants.{Memory, Read, Write}
 use Rattle.vt_show.specs.Shown.{AppendsPart}
 
--- ---- of which screens the viewer gets an update, after the first one
+-- ---- the screens of which the viewer gets an update, after the first one
 
--- a number, twice that, and so on: so many multiples
+-- The first `count` multiples of a number.
 abbrev pub multiples : (number count : ℕ) → List ℕ
 multiples number zero = []
 multiples number (suc count) = multiples number count ++ (suc count * number ∷ [])
 
--- the screens after each so many bytes of an input
+-- The screens after each full interval of the input.
 abbrev pub screens_on_way : (first : ScreenValue) (every : ℕ) → List ℕ → List ScreenValue
 screens_on_way first every input =
     map (λ n. screen_in start first (take n input)) (multiples every (length input / every))
 
--- and the one at its end
+-- The screens after each full interval of the input, and the one at its end.
 abbrev pub screens_to_end : (first : ScreenValue) (every : ℕ) → List ℕ → List ScreenValue
 screens_to_end first every input = screens_on_way first every input ++ (screen_in start first input ∷ [])
 
--- each is whole, and has the first one's size
+-- A screen that is valid and has the size of the first one.
 pub record IsUpdatedAfter (first screen : ScreenValue) : Type 0 where
   pub sound : IsScreen screen
   pub colored : IsColored screen
   pub size : SameSize screen.page first.page
 
--- ---- their texts: what `Screen::contents_formatted` returns for the first one, and `Screen::contents_diff` for each
--- next one against the one before it
+-- ---- the texts of these updates: what `Screen::contents_formatted` returns for the first screen, and
+-- `Screen::contents_diff` for each next one against the one before it
 
 abbrev pub text_on_way : (first : ScreenValue) (every : ℕ) → List ℕ → List ℕ
 text_on_way first every input = chain_text first (screens_on_way first every input)
@@ -49,7 +49,7 @@ text_to_end first every input = chain_text first (screens_to_end first every inp
 
 -- ---- what was read, and what was written for it
 
--- for an input that was read to its end
+-- The input was read to its end, and all updates were written.
 pub record WritesToEnd (first : ScreenValue) (every : ℕ) (left rest written grown : Option (List ℕ)) : Type 0 where
   pub input : List ℕ
   pub reads : Consumes left rest input
@@ -57,15 +57,14 @@ pub record WritesToEnd (first : ScreenValue) (every : ℕ) (left rest written gr
   pub controls : IsMadeOf drawing_finals drawing_controls (text_to_end first every input)
   pub updated : AllByRecursion (IsUpdatedAfter first) (first ∷ screens_to_end first every input)
 
--- for bytes behind which a read failed: all updates that were due
+-- A read failed, and all updates that were due for what was read were written.
 pub record WritesOnWay (first : ScreenValue) (every : ℕ) (left rest written grown : Option (List ℕ)) : Type 0 where
   pub input : List ℕ
   pub reads : Consumes left rest input
   pub appends : Appends written grown (text_on_way first every input)
   pub controls : IsMadeOf drawing_finals drawing_controls (text_on_way first every input)
 
--- for bytes at whose end memory was refused: all updates but that for the last bytes, at most as many as are read
--- between two updates
+-- An allocation failed: all updates were written except the one for the last bytes, at most as many as an interval.
 pub record WritesBehind (first : ScreenValue) (every : ℕ) (left rest written grown : Option (List ℕ)) : Type 0 where
   pub input : List ℕ
   pub last : List ℕ
@@ -74,27 +73,27 @@ pub record WritesBehind (first : ScreenValue) (every : ℕ) (left rest written g
   pub appends : Appends written grown (text_on_way first every input)
   pub controls : IsMadeOf drawing_finals drawing_controls (text_on_way first every input)
 
--- memory was refused, before the first update or later
+-- An allocation failed, before the first update or later.
 abbrev pub WritesSome : (first : ScreenValue) (every : ℕ) → (left rest written grown : Option (List ℕ)) → Type 0
 WritesSome first every left rest written grown =
     (Keeps left rest × Keeps written grown) ⊎ WritesBehind first every left rest written grown
 
--- writing the first update failed, before anything was read: a beginning of its text was written
+-- Writing the first update failed before anything was read: a prefix of its text was written.
 pub record FailsAtFirst (first : ScreenValue) (left rest written grown : Option (List ℕ)) : Type 0 where
   pub reads : Keeps left rest
   pub part : AppendsPart written grown (shown_text first)
   pub controls : IsMadeOf drawing_finals drawing_controls (shown_text first)
 
--- these texts were written, and a beginning of the next one
+-- The earlier texts were written, and a prefix of the next one.
 pub record AppendsThenPart (earlier next : List ℕ) (written grown : Option (List ℕ)) : Type 0 where
   pub taken : List ℕ
   pub lost : List ℕ
   pub parts : next ≡ taken ++ lost
   pub appends : Appends written grown (earlier ++ taken)
 
--- writing a later update failed: the one before it was due after `input`, and this one after the bytes `last` behind
--- that, which are as many as are read between two updates, or fewer and none is left. All updates before it were
--- written, and a beginning of its text: the difference between the screens after the two
+-- Writing a later update failed: the one before it was due after `input`, and this one after the following bytes
+-- `last`, which are a full interval, or fewer if none is left. All updates before it were written, and a prefix of its
+-- text, the difference between the screens after the two.
 pub record FailsLater (first : ScreenValue) (every : ℕ) (left rest written grown : Option (List ℕ)) : Type 0 where
   pub input : List ℕ
   pub count : ℕ
@@ -107,13 +106,13 @@ pub record FailsLater (first : ScreenValue) (every : ℕ) (left rest written gro
   pub controls : IsMadeOf drawing_finals drawing_controls (text_on_way first every input
       ++ shown_change (screen_in start first input) (screen_in start first (input ++ last)))
 
--- the text of one update was not written whole, and nothing after it
+-- A prefix of one update was written, and nothing after it.
 abbrev pub WritesPart : (first : ScreenValue) (every : ℕ) → (left rest written grown : Option (List ℕ)) → Type 0
 WritesPart first every left rest written grown =
     FailsAtFirst first left rest written grown ⊎ FailsLater first every left rest written grown
 
--- the input is read to its end, or up to a fault, and the updates are written that were due. `error` is how a fault is
--- returned
+-- The input is read to its end, or up to a fault, and the updates that were due are written; `error` turns a fault into
+-- the error that is returned.
 pub record UpdatesOrFails {E : Type 0} (error : Fault → E) (first : ScreenValue) (every : ℕ)
     (left rest written grown : Option (List ℕ)) (result : Result (Unit {0}) E) : Type 0 where
   pub end : OnOk result (IsAtEnd rest)

@@ -1,4 +1,4 @@
--- What a mirror knows of the copies and the texts that it keeps.
+-- What a mirror knows of the copies and texts that it keeps.
 use Rattle.std.specs.Prelude.{◌≡◌, ℕ, List, IfSome}
 use Rattle.vt_cells.specs.Op.{bytes_of_all}
 use Rattle.vt_redraw.specs.Redraw.{redraw}
@@ -11,14 +11,15 @@ use Rattle.vt_mirror.specs.Calls.{IsDrawn, Scrolls}
 use Rattle.vt_mirror.specs.Kept.{KeptValue}
 use Rattle.vt_mirror.specs.Mirror.{IsMirror}
 
--- the text is the redraw of a screen
+-- The text is the redraw of a screen.
 pub record IsRedraw (self : ScreenValue) (text : List ℕ) : Type 0 where
   pub is : text ≡ bytes_of_all (redraw (shown self))
   pub redraws : Redraws (shown self) (IsReader (shown self)) KeepsRest text
   pub controls : IsMadeOf drawing_finals drawing_controls text
   pub again : KeepsPlain text
 
--- the noted screens have the mirror's size, the current copy is of the mirror's screen, and so are the kept texts
+-- The recorded screens have the mirror's size, and the current copy and the stored texts are those of the mirror's
+-- screen.
 pub record IsSharing (parser : Parsing (Unit {0})) (kept : KeptValue) : Type 0 where
   pub sized : IsMirror (record { parser = parser; viewers = kept.viewers })
   pub current : IfSome kept.current (λ screen. screen ≡ parser.screen)

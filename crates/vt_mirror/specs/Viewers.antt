@@ -7,32 +7,33 @@ use Rattle.std.specs.Ordering.{nat_cmp}
 use Rattle.vt_screen.specs.Screen.{ScreenValue}
 
 pub record ViewersValue : Type 0 where
-  -- the number that was given last
+  -- The last number that was returned to a viewer.
   pub last : Option ℕ
-  -- the numbers of those that are viewers
+  -- The numbers of the current viewers.
   pub numbers : List ℕ
-  -- by number, the screen of a viewer's last update since the last resize
+  -- The screen of each viewer's last update since the last resize, by viewer number.
   pub notes : List (ℕ × ScreenValue)
 
 abbrev pub is_viewer : ViewersValue → ℕ → Bool
 is_viewer viewers viewer = list_any (is_at (nat_cmp viewer)) viewers.numbers
 
--- the screen that is noted for a number
+-- The screen that is recorded for a viewer number.
 abbrev pub note_of : ViewersValue → ℕ → Option ScreenValue
 note_of viewers viewer = lookup (is_at (nat_cmp viewer)) viewers.notes
 
--- the number that the next viewer gets
+-- The number of the next viewer.
 abbrev pub next_number : Option ℕ → ℕ
 next_number None = 0
 next_number (Some last) = last + 1
 
--- numbers were given, and screens are noted for viewers alone
+-- Viewers have numbers that were returned, and screens are recorded only for viewers.
 pub record AreViewers (viewers : ViewersValue) : Type 0 where
   pub numbers : (viewer : ℕ) → is_viewer viewers viewer ≡ true → viewer + 1 ≤ next_number viewers.last
   pub notes : (viewer : ℕ) (screen : ScreenValue) →
       note_of viewers viewer ≡ Some screen → is_viewer viewers viewer ≡ true
 
--- whether one number is a viewer's, and what is noted for it, become these; of the other numbers nothing changes
+-- Viewers after a change to one number: whether it has a viewer, and which screen is recorded for it; nothing changes
+-- for other numbers.
 pub record Puts (old : ViewersValue) (viewer : ℕ) (is : Bool)
     (note : Option ScreenValue) (new : ViewersValue) : Type 0 where
   pub here : is_viewer new viewer ≡ is

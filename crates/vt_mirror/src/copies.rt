@@ -1,4 +1,4 @@
-//! Copies of a screen, which viewers share.
+//! Copies of a screen that viewers share.
 
 ghost use Rattle.std.specs.Prelude.{◌≡◌, ◌↔◌, IfOk, IfSome, true};
 ghost use Rattle.vt_cells.specs.Refusals.{OnlyOutOfMemory};
@@ -36,7 +36,7 @@ impl DisplayCopy {
     ///
     /// # Errors
     ///
-    /// `OutOfMemory` if an allocation fails.
+    /// `Error::OutOfMemory` if an allocation fails.
     fn new(screen: &Screen) -> Result<DisplayCopy, Error>
         ensures ok { IfOk result (λ copy. copy ≡ screen.now) }
         ensures memory { OnlyOutOfMemory result }
@@ -46,7 +46,7 @@ impl DisplayCopy {
         Ok(DisplayCopy { of, copy })
     }
 
-    /// Returns a screen that displays the same.
+    /// Returns a screen that displays the same as the screen that was copied.
     fn screen(&self) -> &Screen
         ensures { ShowsAlike self.now result.now }
     {
@@ -74,7 +74,7 @@ impl SharedCopy {
     ///
     /// # Errors
     ///
-    /// `OutOfMemory` if an allocation fails.
+    /// `Error::OutOfMemory` if an allocation fails.
     pub(crate) fn new(alloc: Global, screen: &Screen) -> Result<SharedCopy, Error>
         ensures ok { IfOk result (λ copy. copy ≡ screen.now) }
         ensures memory { OnlyOutOfMemory result }
@@ -87,7 +87,7 @@ impl SharedCopy {
     }
 
     /// Returns the copy for one more holder, without an allocation, or `None`
-    /// if it has as many as can be counted.
+    /// if it already has as many holders as can be counted.
     pub(crate) fn share(&self) -> Option<SharedCopy>
         ensures { IfSome result (λ copy. copy ≡ self.now) }
     {
@@ -97,7 +97,7 @@ impl SharedCopy {
         }
     }
 
-    /// Returns a screen that displays the same.
+    /// Returns a screen that displays the same as the screen that was copied.
     pub(crate) fn screen(&self) -> &Screen
         ensures { ShowsAlike self.now result.now }
     {
@@ -110,17 +110,19 @@ impl SharedCopy {
     }
 }
 
-/// A copy of a screen with a version: copies of one version are of one screen.
+/// A copy of a screen with a version number. Copies with one version are copies
+/// of one screen.
 #[derive(Drop)]
 pub(crate) struct Note {
-    /// 0 if the copy has no version.
+    /// The version number, or 0 if the copy has none.
     pub(crate) version: u64,
+    /// The copy of the screen.
     pub(crate) screen: SharedCopy,
 }
 
 impl Note {
     /// Returns the note for one more holder, without an allocation, or `None`
-    /// if its copy has as many as can be counted.
+    /// if its copy already has as many holders as can be counted.
     pub(crate) fn share(&self) -> Option<Note>
         ensures { IfSome result (λ note. note ≡ self.now) }
     {

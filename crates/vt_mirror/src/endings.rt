@@ -1,12 +1,14 @@
-//! How a run ends.
+//! The message and exit status with which a run ends.
 
 ghost use Rattle.std.specs.Prelude.{◌≡◌};
 ghost use Rattle.vt_mirror.specs.Endings.{line_of, status_of};
 
 use vt_show::Fault;
 
-/// The line for standard error, without its end, and the exit status: those of
-/// a fault, or of wrong arguments where there is none.
+/// Returns the line for standard error, without its line end, and the exit
+/// status: for a fault, or for wrong arguments if `fault` is `None`.
+///
+/// # Examples
 ///
 /// ```text
 /// assert_eq!(ending(Some(Fault::Read)), ("vtmirror: read failed", 1));

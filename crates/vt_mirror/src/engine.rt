@@ -1,4 +1,5 @@
-//! From an input to the updates of one viewer.
+//! The engine of the program `vtmirror`, which turns an input into the updates
+//! of one viewer.
 
 ghost use Rattle.std.specs.Io.KnownBytes.{Keeps};
 ghost use Rattle.std.specs.Prelude.{◌≡◌, ◌≢◌, ◌<◌, ◌↔◌, Err, IfErr, IfOk, None, OnOk, Some, map, string_bytes, true};
@@ -17,27 +18,29 @@ use std::io::{Read, Write};
 use std::num::NonZeroU16;
 use vt_show::{Fault, write_text};
 
-/// How many bytes are read at once, at most.
+/// The largest number of bytes that are read at once.
 const BUFFER_SIZE: usize = 8192;
 
-/// Reads the input to its end into a mirror of this size without scrollback
-/// that has one viewer, and writes the text of that viewer's update at the
-/// start, after every `every` bytes, and at the end. Each text is flushed, so
-/// that a fresh terminal of this size that reads what is written shows the
-/// screen as it was at the last update, if it was steady at each.
+/// Reads the input to its end into a mirror of this size, without scrollback
+/// and with one viewer, and writes that viewer's updates.
+///
+/// An update is written at the start, after every `every` bytes, and at the
+/// end, and each is flushed. A fresh terminal of this size that reads the
+/// output displays the screen as it was at the last update, if the screen was
+/// steady (each glyph reproduces itself when printed) at each update.
 ///
 /// # Errors
 ///
 /// What was written before a fault stays, and nothing more is written.
 ///
-/// - `Read` after any error of a read, also an interrupted one. All updates
-///   that were due for what was read were written.
-/// - `Memory` if an allocation fails. At most one update that was due was not
-///   written.
-/// - `Write` after any error of a write or a flush, or if the writer takes no
-///   bytes; an interrupted write is tried again. All updates before the one
-///   that failed were written, and a beginning of that one's text, or all of
-///   it. Nothing was read after the bytes that it was due for.
+/// - `Fault::Read` after any error of a read, including an interrupted one. All
+///   updates that were due for what was read have been written.
+/// - `Fault::Memory` if an allocation fails. At most one update that was due
+///   has not been written.
+/// - `Fault::Write` after any error of a write or a flush, or if the writer
+///   accepts no bytes; an interrupted write is tried again. All updates before
+///   the failing one have been written, and a prefix of that one, or all of it.
+///   Nothing was read after the bytes that it was due for.
 pub fn run<R: Read, W: Write>(
     alloc: Global,
     reader: &mut R,
@@ -59,9 +62,13 @@ pub fn run<R: Read, W: Write>(
     run_viewer(&mut mirror, viewer, reader, writer, every)
 }
 
-/// Does as [`run`] what the words after the program's name ask for. For words
-/// that ask for nothing (see [`arguments`](crate::arguments)) the answer is
-/// `None` in place of a fault, and nothing is read or written.
+/// Calls [`run`] with the size and the interval that the command-line arguments
+/// give. `words` doesn't include the program's name.
+///
+/// # Errors
+///
+/// Those of [`run`], or `None` if the arguments are wrong (see
+/// [`arguments`](crate::arguments)); then nothing is read or written.
 pub fn run_words<R: Read, W: Write>(
     alloc: Global,
     words: &[String],
@@ -84,7 +91,8 @@ pub fn run_words<R: Read, W: Write>(
     }
 }
 
-/// Reads the input to its end, and writes the updates of a viewer that was told nothing.
+/// Reads the input to its end, writing one update per interval of `every` bytes
+/// for a viewer that has had no update.
 fn run_viewer<R: Read, W: Write>(
     mirror: &mut Mirror,
     viewer: u64,
@@ -109,8 +117,8 @@ fn run_viewer<R: Read, W: Write>(
     Err(Fault::Read)
 }
 
-/// Has the mirror read so many bytes, or all that are left where these are fewer, and answers
-/// whether there were so many.
+/// Reads `every` bytes into the mirror, or all that are left if there are
+/// fewer. Returns whether there were as many.
 fn read_stretch<R: Read>(
     mirror: &mut Mirror,
     reader: &mut R,
@@ -144,7 +152,7 @@ fn read_stretch<R: Read>(
     Err(Fault::Read)
 }
 
-/// Writes the text of the viewer's update, and flushes it.
+/// Writes the viewer's update, and flushes it.
 fn write_update<W: Write>(mirror: &mut Mirror, viewer: u64, writer: &mut W) -> Result<(), Fault>
     requires { is_viewer mirror.old.viewers viewer ≡ true }
     ensures writes { OnOk result

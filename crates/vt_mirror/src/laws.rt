@@ -1,5 +1,5 @@
-//! What holds over lists of calls, as facts: these functions do nothing, and
-//! their clauses say what is proved.
+//! Laws about lists of calls. These functions do nothing when run; their
+//! clauses state what is proved.
 
 ghost use Rattle.std.specs.List.{AllByRecursion, FoldsTo};
 ghost use Rattle.std.specs.Prelude.{◌≡◌, ◌∷◌, ℕ, List};
@@ -20,25 +20,25 @@ ghost use Rattle.vt100.specs.Pieces.{IsFine, IsPlainParser, Processes, Processin
 
 use vt100::Callbacks;
 
-/// After any list of calls of a fresh [`Mirror`](crate::Mirror), refused ones
-/// among them, a viewer shows the screen as it was at its last update: any
-/// parser, with any callbacks, that was plain before its first update, took
-/// the size of each full one by `Parser::set_size` before it read it, and read
-/// the texts of all its updates in order, each in any pieces (`shows`). Each
-/// update may be of [`update`](crate::Mirror::update) or of
-/// [`update_scrolling`](crate::Mirror::update_scrolling). It may have joined
-/// late, may have fallen behind by any number of calls, and may have left since.
+/// States that a viewer displays the screen as it was at its last update, after
+/// any list of calls of a fresh [`Mirror`](crate::Mirror), failed ones
+/// included.
 ///
-/// Premises are that the mirror's screen was steady at these updates (see
-/// `Screen::contents_formatted`), and that the viewer's own calls of
-/// `set_size` answered Ok; its calls of `process` do so, by
-/// `vt100::laws::quiet_pieces`. That each viewer's
-/// screen is one (`IsScreen`) is said there, and it holds of every parser, by
-/// the clause `whole` of `Screen::size`.
+/// - `shows`: the viewer may be any parser, with any callbacks, that was plain
+///   before its first update, took the size of each full update by
+///   `Parser::set_size` before reading it, and read all its updates in order,
+///   each in any chunks. Each update may come from
+///   [`update`](crate::Mirror::update) or
+///   [`update_scrolling`](crate::Mirror::update_scrolling). The viewer may have
+///   joined late, may have missed any number of calls, and may have left since.
+/// - `numbers`: no viewer number is returned twice; those that successive calls
+///   of [`join`](crate::Mirror::join) return count up.
 ///
-/// No viewer number is given twice: those that calls of
-/// [`join`](crate::Mirror::join) give, one after the other, count up
-/// (`numbers`).
+/// The premises are that the mirror's screen was steady at these updates (see
+/// `Screen::contents_formatted`), and that the viewer's own calls of `set_size`
+/// returned `Ok`; its calls of `process` do so by `vt100::laws::quiet_pieces`.
+/// The premise that the viewer's screen is a valid one (`IsScreen`) holds for
+/// every parser, by the clause `whole` of `Screen::size`.
 pub fn viewers<CB: Callbacks>()
     ensures shows { (number : ℕ) (calls : List MirrorCall) (old new : Watching CB) →
         IsFresh old.mirror → IsNew old → FoldsTo (Goes number) old calls new → ShowsSeen new }
@@ -46,27 +46,28 @@ pub fn viewers<CB: Callbacks>()
         FoldsTo MirrorDoes old calls new → CountUp (next_number old.viewers.last) (numbers_given calls) }
 {}
 
-/// A viewer whose updates are all of
-/// [`update_scrolling`](crate::Mirror::update_scrolling) heals: after any list of
-/// calls of a fresh [`Mirror`](crate::Mirror) it shows the screen as it was at
-/// its last update, if that screen was steady, whatever screens came before.
-/// Steady or not, it is a plain terminal.
+/// States that a viewer whose updates all come from
+/// [`update_scrolling`](crate::Mirror::update_scrolling) heals: after any list
+/// of calls of a fresh [`Mirror`](crate::Mirror) it displays the screen as it
+/// was at its last update, if that screen was steady, whatever screens came
+/// before.
 ///
-/// The viewer is as that of [`viewers`], and all its calls of `process` and
-/// `set_size` answer Ok.
+/// Steady or not, the viewer is a plain terminal. It is as in [`viewers`], and
+/// all its calls of `process` and `set_size` return `Ok`.
 pub fn heals<CB: Callbacks>()
     ensures shows { (number : ℕ) (calls : List MirrorCall) (old new : Watching CB) →
         IsFresh old.mirror → IsNew old → FoldsTo (GoesAny CB.does number) old calls new → ShowsSteady new }
 {}
 
-/// What [`run`](crate::run) writes for an input, read in any pieces by a plain
-/// terminal of its size, leaves it plain and showing the screen after the
-/// input. Each call answers Ok; callbacks, scrollback, the other page and the
-/// modes are as before.
+/// States that a plain terminal that reads the output of [`run`](crate::run),
+/// in any chunks, is plain and displays the screen after the input. Each call
+/// returns `Ok`; callbacks, scrollback, the other page and the modes are
+/// unchanged.
 ///
-/// Premises are that the screen was steady at each update (see
-/// `Screen::contents_formatted`). That each of them is whole and of one size
-/// (`IsUpdatedAfter`) is said where the run answers Ok.
+/// The premises are that the terminal has the size of the run, and that the
+/// screen was steady at each update (see `Screen::contents_formatted`). The
+/// premise `IsUpdatedAfter`, that each of these screens is valid and of one
+/// size, is part of what a successful run ensures.
 pub fn runs<CB: Callbacks>()
     ensures shows { (first : ScreenValue) (every : ℕ) (input : List ℕ) (p q : Parsing CB) (calls : List Processing) →
         IsScreen p.screen → IsPlainParser p → SameSize first.page p.screen.page →

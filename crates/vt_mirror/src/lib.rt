@@ -1,5 +1,5 @@
-//! Mirrors: one terminal, and any number of viewers that are kept equal to it
-//! by texts; and the engine of the program `vtmirror`.
+//! Mirrors: one terminal, and any number of viewers that escape sequences keep
+//! equal to it; and the engine of the program `vtmirror`.
 #![tactic(auto)]
 
 mod copies;

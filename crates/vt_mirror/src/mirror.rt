@@ -1,4 +1,4 @@
-//! A terminal and its viewers.
+//! A terminal with viewers.
 
 ghost use Rattle.std.specs.Prelude.{◌≡◌, IfOk, IsTrue, None, OnErr, OnOk, Some, [], string_bytes, true};
 ghost use Rattle.vt_cells.specs.Refusals.{OnlyOutOfMemory};
@@ -19,19 +19,22 @@ use std::num::NonZeroU16;
 use vt100::{Error, Parser, Screen};
 
 /// A terminal in memory with any number of viewers: terminals elsewhere that
-/// are kept equal to it by escape sequences.
+/// escape sequences keep equal to it.
 ///
-/// A viewer has a number, and the mirror keeps for it what the screen displayed
-/// at its last update. So a viewer may miss any number of calls, and its next
-/// update makes up for all of them. What follows for viewers over any list of
-/// calls is [`laws::viewers`](crate::laws::viewers).
+/// A viewer has a number, and the mirror records what the screen displayed at
+/// the viewer's last update. So a viewer may miss any number of calls, and its
+/// next update makes up for all of them.
+/// [`laws::viewers`](crate::laws::viewers) states what follows for viewers over
+/// any list of calls.
 ///
 /// Viewers that were updated to the same screen share one copy of it, and those
-/// of them that are updated next share the text. So a further viewer that keeps
-/// up takes little memory and time; only a viewer whose last update was to a
-/// screen of its own needs a copy and a difference of its own. A copy has
-/// neither scrollback nor the page that is not displayed (see
+/// of them that are updated next share the update's text. So a further viewer
+/// that keeps up takes little memory and time; only a viewer whose last update
+/// was to a screen of its own needs a copy and a difference of its own. A copy
+/// has neither scrollback nor the page that is not displayed (see
 /// `Screen::shown_copy`).
+///
+/// # Examples
 ///
 /// ```text
 /// let mut mirror = Mirror::new(rt.alloc(), rows, cols, 0)?;
@@ -58,7 +61,7 @@ impl Model for Mirror {
     ghost invariant = { λ m. IsSharing m.parser m.viewers };
 }
 
-// One call wherever it is given up, as of a screen.
+// Dropping is written out, so that it is one call in the proofs of callers, as for a screen.
 impl Drop for Mirror {
     fn drop(self) {
         let Mirror {
@@ -70,12 +73,12 @@ impl Drop for Mirror {
 }
 
 impl Mirror {
-    /// Creates a mirror with a fresh screen and no viewer. Of the rows that
+    /// Creates a mirror with a fresh screen and no viewers. Of the rows that
     /// scroll off the top, the last `scrollback_capacity` are kept.
     ///
     /// # Errors
     ///
-    /// `OutOfMemory` if the screen cannot be allocated.
+    /// `Error::OutOfMemory` if the screen cannot be allocated.
     pub fn new(
         alloc: Global,
         rows: NonZeroU16,
@@ -96,31 +99,31 @@ impl Mirror {
         })
     }
 
-    /// Parses `bytes` and applies them to the screen, as `Parser::process` does.
-    /// The viewers get the changes with their next updates.
+    /// Parses `bytes` and applies them to the screen, as `Parser::process`
+    /// does. Viewers see the changes with their next updates.
     ///
     /// # Errors
     ///
-    /// `OutOfMemory` if an allocation fails: all steps before it were taken, and
-    /// from then on the mirror reads nothing and returns `Failed`. Viewers can
-    /// still join, leave and be updated.
+    /// `Error::OutOfMemory` if an allocation fails. The steps before the
+    /// failing one stay applied; from then on the mirror reads nothing and
+    /// returns `Error::Failed`. Viewers can still join, leave and be updated.
     pub fn process(&mut self, bytes: &[u8]) -> Result<(), Error>
         ensures call { MirrorProcesses self.old bytes.now result self.new }
     {
-        // For the proof alone: the contract of `size` says that every screen is
-        // whole, and bytes leave the size of a whole screen.
+        // Only for the proof: the contract of `size` says that every screen is valid, and bytes
+        // keep the size of a valid screen.
         self.parser.screen().size();
         self.viewers.discard_current();
         self.parser.process(bytes)
     }
 
-    /// Changes the size of the screen, as `Parser::set_size` does. After that
-    /// nothing is noted for any viewer, so that its next update is a full one.
-    /// The size that the screen has changes nothing and never fails.
+    /// Resizes the screen, as `Parser::set_size` does. The next update of every
+    /// viewer is then a full one. A resize to the present size changes nothing
+    /// and never fails.
     ///
     /// # Errors
     ///
-    /// `OutOfMemory` if an allocation fails; then nothing has changed.
+    /// `Error::OutOfMemory` if an allocation fails; nothing has changed.
     pub fn set_size(&mut self, rows: NonZeroU16, cols: NonZeroU16) -> Result<(), Error>
         ensures call { Resizes self.old rows.value cols.value result self.new }
     {
@@ -133,12 +136,12 @@ impl Mirror {
     }
 
     /// Adds a viewer and returns its number: 0 for the first one, and one more
-    /// than the last number for each later one. No number is given twice.
+    /// than the last number for each later one. No number is returned twice.
     ///
     /// # Errors
     ///
-    /// `NoNumber` if and only if `u64::MAX` was given, `OutOfMemory` if an
-    /// allocation fails; then nothing has changed.
+    /// `Error::NoNumber` if and only if `u64::MAX` was returned before,
+    /// `Error::OutOfMemory` if an allocation fails; nothing has changed.
     pub fn join(&mut self) -> Result<u64, Error>
         ensures parser { self.new.parser ≡ self.old.parser }
         ensures call { JoinsMirror self.old.viewers result self.new.viewers }
@@ -146,7 +149,7 @@ impl Mirror {
         self.viewers.join()
     }
 
-    /// Removes a viewer. Returns whether there was one of this number.
+    /// Removes a viewer. Returns whether there was a viewer with this number.
     pub fn leave(&mut self, viewer: u64) -> bool
         ensures parser { self.new.parser ≡ self.old.parser }
         ensures call { Leaves self.old.viewers viewer result self.new.viewers }
@@ -154,26 +157,27 @@ impl Mirror {
         self.viewers.leave(viewer)
     }
 
-    /// Returns the viewer's next update: a full one if nothing is noted for it,
-    /// as at first and after a resize, and otherwise the difference from the
-    /// screen of its last update. The result is `None` if and only if there is no
-    /// viewer of this number.
+    /// Returns the viewer's next update, or `None` if and only if there is no
+    /// viewer with this number.
     ///
-    /// A full update has at least one row and one column. A difference is empty
-    /// if the screen displays what it displayed at the viewer's last update, and,
-    /// if it is steady, only then; reading it touches only what is near a
-    /// change, as that of `Screen::contents_diff` does.
+    /// The first update, and the first one after a resize, is a full redraw,
+    /// with at least one row and one column. Every other update is the
+    /// difference from the screen of the viewer's last update. It is empty if
+    /// the screen displays the same as at that update and, if the screen is
+    /// steady (each glyph reproduces itself when printed), only then. Reading
+    /// it touches only what is near a change, as with `Screen::contents_diff`.
     ///
-    /// A plain terminal that takes the size of each full update before it reads
-    /// it, and that reads all updates of one viewer in order, displays the
-    /// mirror's screen as it was at the last of them, if it was steady at each
-    /// (see `Screen::contents_formatted`).
+    /// A plain terminal (in ground state, with the full scroll region, origin
+    /// mode off and no scrollback displayed) that takes the size of each full
+    /// update before reading it, and that reads all updates of one viewer in
+    /// order, displays the mirror's screen as it was at the last of them, if it
+    /// was steady at each (see `Screen::contents_formatted`).
     ///
     /// # Errors
     ///
-    /// `OutOfMemory` if the text, or the copy of the screen that is noted,
-    /// cannot be allocated; then nothing has changed, and the same update can be
-    /// requested again.
+    /// `Error::OutOfMemory` if the text, or the copy of the screen that is
+    /// recorded, cannot be allocated; nothing has changed, and the same update
+    /// can be requested again.
     pub fn update(&mut self, viewer: u64) -> Result<Option<Update>, Error>
         ensures call { Asks Drawn self.old viewer result self.new }
     {
@@ -185,20 +189,20 @@ impl Mirror {
         Ok(Some(update))
     }
 
-    /// Returns the viewer's next update, as [`update`](Mirror::update) does, with
-    /// a difference that may move rows first, as that of
-    /// `Screen::contents_diff_scrolling` does: it is never longer, after text has
-    /// scrolled it may be much shorter, and it may touch any row.
+    /// Returns the viewer's next update, as [`update`](Mirror::update) does,
+    /// but with a difference that may move rows first.
     ///
-    /// Where the screen of the viewer's last update was not steady, the update is
-    /// a full one. So a viewer that gets updates of this function alone displays
-    /// each steady screen, whatever came before (`laws::heals`).
-    ///
-    /// A viewer may get either kind from one update to the next.
+    /// Like that of `Screen::contents_diff_scrolling`, the difference is never
+    /// longer, may be much shorter after text has scrolled, and may touch any
+    /// row. If the screen of the viewer's last update was not steady, the
+    /// update is a full one. So a viewer that only gets updates of this
+    /// function displays each steady screen, whatever came before
+    /// (`laws::heals`). The two functions may be mixed from one update to the
+    /// next.
     ///
     /// # Errors
     ///
-    /// `OutOfMemory` if an allocation fails, as `update` does; then nothing has
+    /// `Error::OutOfMemory` if an allocation fails, as in `update`; nothing has
     /// changed, and the same update can be requested again.
     pub fn update_scrolling(&mut self, viewer: u64) -> Result<Option<Update>, Error>
         ensures call { Asks Scrolling self.old viewer result self.new }
@@ -211,16 +215,15 @@ impl Mirror {
         Ok(Some(update))
     }
 
-    /// Returns whether the viewer's last update is known to be up to date: true
-    /// means that the screen has not changed since then, so that its next update
-    /// is an empty difference, or a full one if it is one of `update_scrolling`
-    /// and the screen is not steady. The test takes no allocation and reads no
-    /// cell.
+    /// Returns true only if the screen has not changed since the viewer's last
+    /// update, so that its next update would be an empty difference, or a full
+    /// one if it is one of `update_scrolling` and the screen is not steady. The
+    /// test allocates nothing and reads no cell.
     ///
-    /// It returns false for a number that is no viewer's, for a viewer that had
-    /// no update since the last resize, and for every viewer whose last update
-    /// was before the last call of [`process`](Mirror::process), even if the
-    /// bytes changed nothing that is displayed.
+    /// It returns false if there is no viewer with this number, if the viewer
+    /// has had no update since the last resize, and if
+    /// [`process`](Mirror::process) was called since its last update, even if
+    /// the bytes changed nothing that is displayed.
     pub fn is_current(&self, viewer: u64) -> bool
         ensures { IsTrue result → note_of self.now.viewers viewer ≡ Some self.now.parser.screen }
     {
@@ -231,7 +234,7 @@ impl Mirror {
     ///
     /// # Errors
     ///
-    /// `OutOfMemory` if its text cannot be allocated.
+    /// `Error::OutOfMemory` if its text cannot be allocated.
     fn full(&mut self) -> Result<Update, Error>
         ensures same { self.new ≡ self.old }
         ensures ok { IfOk result (λ update. IsFullUpdate self.old.parser.screen update) }
@@ -247,12 +250,12 @@ impl Mirror {
         Ok(full_of(screen, text))
     }
 
-    /// Returns the difference from the screen noted for a viewer, or the full
-    /// redraw if nothing is noted.
+    /// Returns the difference from the screen recorded for a viewer, or the
+    /// full redraw if none is recorded.
     ///
     /// # Errors
     ///
-    /// `OutOfMemory` if its text cannot be allocated.
+    /// `Error::OutOfMemory` if its text cannot be allocated.
     fn drawn_update(&mut self, viewer: u64) -> Result<Update, Error>
         ensures same { self.new ≡ self.old }
         ensures whole { IsScreen self.new.parser.screen }
@@ -262,7 +265,7 @@ impl Mirror {
         ensures memory { OnlyOutOfMemory result }
     {
         let screen = self.parser.screen();
-        // For the proof alone: its contract says that every screen is whole.
+        // Only for the proof: the contract of `size` says that every screen is valid.
         screen.size();
         let Some(prev) = self.viewers.noted(viewer) else {
             return self.full();
@@ -280,12 +283,13 @@ impl Mirror {
         Ok(Update::Diff(text))
     }
 
-    /// Returns the difference from the screen noted for a viewer, which may move
-    /// rows first, or the full redraw if nothing is noted.
+    /// Returns the difference from the screen recorded for a viewer, which may
+    /// move rows first, or the full redraw if none is recorded or that screen
+    /// is not steady.
     ///
     /// # Errors
     ///
-    /// `OutOfMemory` if its text cannot be allocated.
+    /// `Error::OutOfMemory` if its text cannot be allocated.
     fn scrolling_update(&mut self, viewer: u64) -> Result<Update, Error>
         ensures same { self.new ≡ self.old }
         ensures whole { IsScreen self.new.parser.screen }
@@ -295,7 +299,7 @@ impl Mirror {
         ensures memory { OnlyOutOfMemory result }
     {
         let screen = self.parser.screen();
-        // For the proof alone: its contract says that every screen is whole.
+        // Only for the proof: the contract of `size` says that every screen is valid.
         screen.size();
         let Some(prev) = self.viewers.noted(viewer) else {
             return self.full();
@@ -317,11 +321,11 @@ impl Mirror {
         Ok(Update::Diff(text))
     }
 
-    /// Notes the screen for a viewer.
+    /// Records the current screen for a viewer.
     ///
     /// # Errors
     ///
-    /// `OutOfMemory` if an allocation fails; then nothing has changed.
+    /// `Error::OutOfMemory` if an allocation fails; nothing has changed.
     fn note(&mut self, viewer: u64) -> Result<(), Error>
         requires { is_viewer self.old.viewers viewer ≡ true }
         ensures parser { self.new.parser ≡ self.old.parser }
@@ -337,7 +341,7 @@ impl Mirror {
     }
 }
 
-/// Returns the full update of this text.
+/// Returns the full update with this text and the size of the screen.
 fn full_of(screen: &Screen, text: String) -> Update
     requires { IsRedraw screen.now (string_bytes text) }
     ensures { IsFullUpdate screen.now result }

@@ -1,4 +1,4 @@
-//! Texts of differences, which viewers share.
+//! The texts of differences, which viewers share.
 
 ghost use Rattle.std.specs.Prelude.{◌≡◌, ◌⊎◌, IfSome, None, Some, string_bytes};
 ghost use Rattle.vt_mirror.specs.Kept.{AreOfOneVersion};
@@ -7,22 +7,22 @@ ghost use Rattle.vt_mirror.specs.declared.texts.KeptDiff.{KeptDiff};
 use crate::copies::Note;
 use std::alloc::Global;
 
-/// The text of a difference, and a copy of the screen that it starts from.
+/// The text of a difference, with a copy of the screen that it starts from.
 #[derive(Drop)]
 pub(crate) struct KeptDiff {
     from: Note,
     text: String,
 }
 
-/// The last difference to the current screen, kept for all viewers that are to
-/// read the same one.
+/// The last difference to the current screen, kept for all viewers that need
+/// the same one.
 #[derive(Drop)]
 pub(crate) struct DiffCache {
     last: Option<KeptDiff>,
 }
 
 impl DiffCache {
-    /// Creates a cache that keeps nothing.
+    /// Creates an empty cache.
     pub(crate) fn new() -> DiffCache
         ensures { result.last ≡ None }
     {
@@ -30,7 +30,7 @@ impl DiffCache {
     }
 
     /// Returns the text of the difference from the screen that `note` is a copy
-    /// of, if it is kept.
+    /// of, if it is in the cache.
     pub(crate) fn get(&self, note: &Note) -> Option<&str>
         ensures { IfSome result (λ text. (diff : KeptDiff) × (self.now.last ≡ Some diff)
             × AreOfOneVersion note.now diff.from × (text.now ≡ string_bytes diff.text)) }
@@ -41,9 +41,9 @@ impl DiffCache {
         }
     }
 
-    /// Keeps the text of the difference from the screen that `note` is a copy of,
-    /// if other viewers have that copy too. If an allocation fails, the cache is
-    /// unchanged.
+    /// Stores the text of the difference from the screen that `note` is a copy
+    /// of, if other viewers share that copy. If an allocation fails, the cache
+    /// is unchanged.
     pub(crate) fn keep(&mut self, note: &Note, text: &str, alloc: Global)
         ensures { (self.new ≡ self.old) ⊎ ((diff : KeptDiff) × (self.new.last ≡ Some diff)
             × (diff.from ≡ note.now) × (string_bytes diff.text ≡ text.now)) }
@@ -60,7 +60,7 @@ impl DiffCache {
         self.last = Some(KeptDiff { from, text });
     }
 
-    /// Drops what is kept, since the screen changes.
+    /// Empties the cache, since the screen changes.
     pub(crate) fn clear(&mut self)
         ensures { self.new.last ≡ None }
     {

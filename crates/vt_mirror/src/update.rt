@@ -1,32 +1,32 @@
-//! What a viewer is to read.
+//! The updates that viewers read.
 
 ghost use Rattle.std.specs.Prelude.{◌≡◌};
 ghost use Rattle.vt_mirror.specs.Internals.{text_of_update};
 
-/// What a viewer is to read next.
+/// The next update for a viewer to read.
 #[derive(PartialEq, Eq, Debug, Drop)]
 pub enum Update {
-    /// A text for a viewer that has read all its updates before, as
-    /// `Screen::contents_diff` or `Screen::contents_diff_scrolling` gives it;
-    /// empty where nothing changed.
+    /// The escape sequences for a viewer that has read all its previous
+    /// updates, as `Screen::contents_diff` or `Screen::contents_diff_scrolling`
+    /// returns them; empty if nothing changed.
     Diff(String),
 
-    /// A text for any plain terminal of this size, as
-    /// `Screen::contents_formatted` gives it.
+    /// The escape sequences for any plain terminal of this size, as
+    /// `Screen::contents_formatted` returns them.
     Full {
-        /// How many rows the mirror has.
+        /// The number of rows of the mirror.
         rows: u16,
 
-        /// How many columns the mirror has.
+        /// The number of columns of the mirror.
         cols: u16,
 
-        /// The text of the redraw.
+        /// The escape sequences of the redraw.
         text: String,
     },
 }
 
 impl Update {
-    /// The text.
+    /// Returns the escape sequences of the update.
     pub(crate) fn text(&self) -> &str
         ensures { result.now ≡ text_of_update self.now }
     {

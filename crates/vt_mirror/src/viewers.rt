@@ -19,24 +19,25 @@ use vt100::{Error, Screen};
 /// share.
 #[derive(Drop)]
 pub(crate) struct Viewers {
-    /// The number that was given last.
+    /// The last number that was returned to a viewer.
     last: Option<u64>,
     numbers: BTreeSet<u64>,
 
-    /// The screen of each viewer's last update since the last resize. Viewers
-    /// that were updated to one screen share a copy of it.
+    /// A copy of the screen of each viewer's last update since the last resize.
+    /// Viewers that were updated to one screen share the copy.
     notes: BTreeMap<u64, Note>,
 
-    /// The last version that a copy got.
+    /// The last version that a copy was given.
     version: u64,
 
     /// A copy of the current screen, if one was made since it changed.
     current: Option<Note>,
 
-    /// The last difference to the current screen.
+    /// The last difference to the current screen, for `Mirror::update`.
     diff: DiffCache,
 
-    /// The last difference to the current screen that may scroll.
+    /// The last difference to the current screen that may scroll, for
+    /// `Mirror::update_scrolling`.
     scrolling: DiffCache,
 
     /// The text of the current screen's redraw.
@@ -89,8 +90,8 @@ impl Viewers {
     ///
     /// # Errors
     ///
-    /// `NoNumber` if the greatest number was given, `OutOfMemory` if an
-    /// allocation fails; then nothing has changed.
+    /// `Error::NoNumber` if the greatest number was returned before,
+    /// `Error::OutOfMemory` if an allocation fails; nothing has changed.
     pub(crate) fn join(&mut self) -> Result<u64, Error>
         ensures call { JoinsMirror self.old.viewers result self.new.viewers }
         ensures rest { self.new ≡ record self.old { viewers = self.new.viewers } }
@@ -114,14 +115,15 @@ impl Viewers {
         self.numbers.remove(&viewer)
     }
 
-    /// Returns whether the number is a viewer's.
+    /// Returns whether a viewer has this number.
     pub(crate) fn has(&self, viewer: u64) -> bool
         ensures { result ≡ is_viewer self.now.viewers viewer }
     {
         self.numbers.contains(&viewer)
     }
 
-    /// Returns a screen that displays what the screen noted for a viewer does.
+    /// Returns a screen that displays the same as the one recorded for a
+    /// viewer.
     pub(crate) fn noted(&self, viewer: u64) -> Option<&Screen>
         ensures some { IfSome result (λ copy. (screen : ScreenValue)
             × (note_of self.now.viewers viewer ≡ Some screen) × ShowsAlike screen copy.now) }
@@ -133,8 +135,8 @@ impl Viewers {
         }
     }
 
-    /// Returns whether the screen noted for a viewer is the current one. It may
-    /// be so even if the result is false.
+    /// Returns true only if the screen recorded for a viewer is the current
+    /// one.
     pub(crate) fn is_current(&self, viewer: u64) -> bool
         ensures { IsTrue result → (screen : ScreenValue)
             × (note_of self.now.viewers viewer ≡ Some screen) × (self.now.current ≡ Some screen) }
@@ -148,8 +150,8 @@ impl Viewers {
         }
     }
 
-    /// Returns the text of the difference from the screen noted for a viewer, if
-    /// it is kept.
+    /// Returns the text of the difference from the screen recorded for a
+    /// viewer, if it is in the cache.
     pub(crate) fn kept_diff(&self, viewer: u64) -> Option<&str>
         ensures { IfSome result (λ text. (screen : ScreenValue)
             × (note_of self.now.viewers viewer ≡ Some screen) × (self.now.diff ≡ Some (screen, text.now))) }
@@ -159,8 +161,8 @@ impl Viewers {
         Some(text)
     }
 
-    /// Keeps the text of the difference from the screen noted for a viewer, if
-    /// other viewers may ask for it and memory can be allocated.
+    /// Stores the text of the difference from the screen recorded for a viewer,
+    /// if other viewers may need it and memory can be allocated.
     pub(crate) fn keep_diff(&mut self, viewer: u64, text: &str, alloc: Global)
         ensures rest { self.new ≡ record self.old { diff = self.new.diff } }
         ensures diff { (self.new.diff ≡ self.old.diff) ⊎ ((screen : ScreenValue)
@@ -172,8 +174,8 @@ impl Viewers {
         self.diff.keep(note, text, alloc);
     }
 
-    /// Returns the text of the difference that may scroll from the screen noted
-    /// for a viewer, if it is kept.
+    /// Returns the text of the difference that may scroll from the screen
+    /// recorded for a viewer, if it is in the cache.
     pub(crate) fn kept_scrolling(&self, viewer: u64) -> Option<&str>
         ensures { IfSome result (λ text. (screen : ScreenValue)
             × (note_of self.now.viewers viewer ≡ Some screen) × (self.now.scrolling ≡ Some (screen, text.now))) }
@@ -183,8 +185,9 @@ impl Viewers {
         Some(text)
     }
 
-    /// Keeps the text of the difference that may scroll from the screen noted
-    /// for a viewer, if other viewers may ask for it and memory can be allocated.
+    /// Stores the text of the difference that may scroll from the screen
+    /// recorded for a viewer, if other viewers may need it and memory can be
+    /// allocated.
     pub(crate) fn keep_scrolling(&mut self, viewer: u64, text: &str, alloc: Global)
         ensures rest { self.new ≡ record self.old { scrolling = self.new.scrolling } }
         ensures scrolling { (self.new.scrolling ≡ self.old.scrolling) ⊎ ((screen : ScreenValue)
@@ -196,7 +199,7 @@ impl Viewers {
         self.scrolling.keep(note, text, alloc);
     }
 
-    /// Returns the text of the current screen's redraw, if it is kept.
+    /// Returns the text of the current screen's redraw, if it is stored.
     pub(crate) fn kept_redraw(&self) -> Option<&str>
         ensures { option_copied result ≡ self.now.redraw }
     {
@@ -206,8 +209,8 @@ impl Viewers {
         }
     }
 
-    /// Keeps the text of the current screen's redraw, if there are other viewers
-    /// and memory can be allocated.
+    /// Stores the text of the current screen's redraw, if there are other
+    /// viewers and memory can be allocated.
     pub(crate) fn keep_redraw(&mut self, text: &str, alloc: Global)
         ensures { (self.new ≡ self.old) ⊎ (self.new ≡ record self.old { redraw = Some text.now }) }
     {
@@ -220,11 +223,11 @@ impl Viewers {
         self.redraw = Some(text);
     }
 
-    /// Notes the current screen for a viewer.
+    /// Records the current screen for a viewer.
     ///
     /// # Errors
     ///
-    /// `OutOfMemory` if an allocation fails; then the notes are unchanged.
+    /// `Error::OutOfMemory` if an allocation fails; the records are unchanged.
     pub(crate) fn note(&mut self, viewer: u64, screen: &Screen, alloc: Global) -> Result<(), Error>
         requires viewer { is_viewer self.old.viewers viewer ≡ true }
         requires current { IfSome self.old.current (λ current. current ≡ screen.now) }
@@ -247,7 +250,8 @@ impl Viewers {
         Ok(())
     }
 
-    /// Drops the copy of the current screen and all texts, since it changes.
+    /// Drops the copy of the current screen and all texts, since the screen
+    /// changes.
     pub(crate) fn discard_current(&mut self)
         ensures { self.new ≡ record self.old { current = None; diff = None; scrolling = None; redraw = None } }
     {
@@ -257,7 +261,8 @@ impl Viewers {
         self.redraw = None;
     }
 
-    /// Drops all that is kept of screens, notes too, since the size changes.
+    /// Drops all copies and texts, including the screens recorded for viewers,
+    /// since the size changes.
     pub(crate) fn discard_all(&mut self)
         ensures { self.new ≡ record {
           viewers = record (self.old.viewers) { notes = [] };
@@ -272,14 +277,14 @@ impl Viewers {
     }
 }
 
-/// Returns a copy of the current screen for a viewer: the one that is kept, or
-/// else a new one with the next version, which is kept too. If there is no next
-/// version, or the copy has as many holders as can be counted, it is a copy
-/// without a version, for this viewer alone.
+/// Returns a copy of the current screen for a viewer: the shared one, or else a
+/// new one with the next version, which is then shared. If there is no next
+/// version, or the shared copy already has as many holders as can be counted,
+/// it returns a copy without a version, for this viewer alone.
 ///
 /// # Errors
 ///
-/// `OutOfMemory` if a copy is needed and cannot be allocated.
+/// `Error::OutOfMemory` if a copy is needed and cannot be allocated.
 fn current_note(
     alloc: Global,
     screen: &Screen,
@@ -319,7 +324,7 @@ fn current_note(
 ///
 /// # Errors
 ///
-/// `OutOfMemory` if it cannot be allocated.
+/// `Error::OutOfMemory` if it cannot be allocated.
 fn own_note(alloc: Global, screen: &Screen) -> Result<Note, Error>
     ensures ok { IfOk result (λ note. (note.screen ≡ screen.now) × (note.version ≡ 0)) }
     ensures memory { OnlyOutOfMemory result }
@@ -328,7 +333,8 @@ fn own_note(alloc: Global, screen: &Screen) -> Result<Note, Error>
     Ok(Note { version: 0, screen })
 }
 
-/// Returns the number after the one that was given last.
+/// Returns the number after the last one, or `None` if that is the greatest
+/// number.
 fn next_after(last: Option<u64>) -> Option<u64>
     ensures some { IfSome result (λ viewer. (viewer ≡ next_number last) × (last ≢ Some greatest)) }
     ensures none { IfNone result (last ≡ Some greatest) }

@@ -1,4 +1,4 @@
-//! What the words after the program's name ask for.
+//! The command-line arguments of the program `vtmirror`.
 
 ghost use Rattle.std.specs.Int.NonZero.{non_zero_u16_get};
 ghost use Rattle.std.specs.Prelude.{map, string_bytes, IfNone, IfSome};
@@ -7,10 +7,14 @@ ghost use Rattle.vt_mirror.specs.Arguments.{AskForNothing, AsksToMirror};
 use std::num::NonZeroU16;
 use vt_show::size;
 
-/// Rows, columns, and how many bytes are read between updates, from exactly
-/// three words; `None` for other words.
+/// Returns the rows, the columns and the number of bytes between updates that
+/// exactly three command-line arguments give, or `None` if the arguments are
+/// wrong.
 ///
-/// Each is decimal digits with a value from 1 to 65535, leading zeros allowed.
+/// Each argument is decimal digits with a value from 1 to 65535; leading zeros
+/// are allowed.
+///
+/// # Examples
 ///
 /// ```text
 /// assert_eq!(arguments(&["24", "80", "0"]), None);
@@ -30,7 +34,7 @@ pub fn arguments(words: &[&str]) -> Option<(NonZeroU16, NonZeroU16, NonZeroU16)>
     Some((rows, cols, every))
 }
 
-/// What words that are owned ask for, as `arguments` reads them.
+/// Returns what owned command-line arguments give, as [`arguments`] reads them.
 pub(crate) fn asked(words: &[String]) -> Option<(NonZeroU16, NonZeroU16, NonZeroU16)>
     ensures some { IfSome result (λ a.
         AsksToMirror (map (λ word. string_bytes word) words.now) (non_zero_u16_get a.0)

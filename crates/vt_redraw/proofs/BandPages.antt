@@ -1,4 +1,4 @@
--- Lines deleted and inserted on a plain page move a band of its rows.
+-- Rows deleted and inserted on a plain page move a band of its rows.
 use Rattle.std.proofs.Common.{◌≡◌, ℕ, ◌+◌, ◌-◌, ◌<◌, ◌==◌, Bool, true, false, List, length, inl, inr, refl, sym}
 use Rattle.std.proofs.Common.{ap, ◌∙◌, arith}
 use Rattle.std.specs.Prelude.{◌&&◌, nat_le, nat_lt, min, if◌then◌else◌}
@@ -16,9 +16,9 @@ use Rattle.vt_redraw.specs.Moved.{IsBand, band_source, rows_moved}
 use Rattle.vt_redraw.specs.declared.band.Band.{Band}
 use Rattle.vt_redraw.proofs.Moving.{length-rows_moved, row_or-rows_moved, row_or-unflagged, unflagged_if}
 
--- ---- a row after lines were deleted or inserted
+-- ---- a row after rows were deleted or inserted
 
--- also past the end, where it is blank
+-- A row after rows moved up, also past the end, where it is blank.
 up_at : (width top bottom n : ℕ) (rows : List RowValue) (r : ℕ)
     → row_or width (rows_up width top bottom n rows) r
     ≡ row_or width rows (if nat_lt r (length rows) then up_source (length rows) top bottom n r else length rows)
@@ -48,9 +48,9 @@ down_at width top n rows r h =
     ∙ (ap (λ (b : Bool). unflagged_if b (row_or width (moved_rows width source rows) r)) t
     ∙ ap (unflagged_if (r + 1 == length rows)) (row_or-moved_rows width source rows r h))
 
--- ---- where a row comes from
+-- ---- the row that moves to a row
 
--- up, at the end of the page
+-- The row that moves up to row r, if the band ends with the page.
 source_up : (height : ℕ) (band : Band) (r : ℕ) → IsBand height band → band.up ≡ true → band.bottom ≡ height → r < height
     → up_source height band.top (height - 1) band.count r ≡ band_source band height r
 source_up height band r is up end h =
@@ -58,7 +58,7 @@ source_up height band r is up end h =
     let b = is.rows in
     rw up (grind (arith, nat_tests))
 
--- up, with rows below
+-- The row that moves up to row r, if rows remain below the band.
 source_between_up : (height : ℕ) (band : Band) (r : ℕ) → IsBand height band → band.up ≡ true → r < height
     → (if nat_lt (down_source height (band.bottom - band.count) (height - 1) band.count r) height
     then up_source height band.top (height - 1) band.count
@@ -71,7 +71,7 @@ source_between_up height band r is up h =
     let c = is.inside in
     rw up (grind (arith, nat_tests))
 
--- down, at the end of the page
+-- The row that moves down to row r, if the band ends with the page.
 source_down : (height : ℕ) (band : Band) (r : ℕ) → IsBand height band → band.up ≡ false → band.bottom ≡ height →
     r < height → down_source height band.top (height - 1) band.count r ≡ band_source band height r
 source_down height band r is up end h =
@@ -79,7 +79,7 @@ source_down height band r is up end h =
     let b = is.rows in
     rw up (grind (arith, nat_tests))
 
--- down, with rows below
+-- The row that moves down to row r, if rows remain below the band.
 source_between_down : (height : ℕ) (band : Band) (r : ℕ) → IsBand height band → band.up ≡ false → r < height
     → (if nat_lt (down_source height band.top (height - 1) band.count r) height
     then up_source height (band.bottom - band.count) (height - 1) band.count
@@ -104,7 +104,7 @@ same_rows width band rows new size same =
     (λ r h. let i : r < length rows = omega (arith, size) in
     same r i ∙ sym (row_or-rows_moved width band rows r i))
 
--- a blank row has no flag
+-- A blank row is not wrapped.
 unflag_blank : (b : Bool) (width : ℕ) → unflagged_if b (blank_row default_attrs width) ≡ blank_row default_attrs width
 unflag_blank true width = refl
 unflag_blank false width = refl
@@ -141,7 +141,7 @@ down_moved width rows band is up end =
     ∙ ap (λ (k : ℕ). unflagged_if (r + 1 == length rows) (row_or width rows k))
     (source_down (length rows) band r is up end h))
 
--- lines deleted at one row, and as many inserted at another
+-- Rows deleted at one row, and as many inserted at another.
 between_at : (width gone in_at n : ℕ) (rows : List RowValue) (r : ℕ) → r < length rows
     → row_or width (rows_down width in_at (length rows - 1) n (rows_up width gone (length rows - 1) n rows)) r
     ≡ unflagged_if (r + 1 == length rows)
@@ -194,7 +194,7 @@ down_between width rows band is up =
 
 -- ---- on a plain page
 
--- the page with these rows, and the cursor at a row's begin
+-- A page with these rows, and the cursor at the beginning of a row.
 abbrev pub page_at_row : List RowValue → ℕ → Page → Page
 page_at_row rows row page = record page { rows = rows; row = row; column = 0 }
 

@@ -21,7 +21,7 @@ use Rattle.vt_redraw.specs.Script.{Scripted, ops_then, no_ops, placed_op, pen_at
 use Rattle.vt_redraw.specs.Script.{erase_run, flag_behind, flag_past, cells_written}
 use Rattle.vt_redraw.specs.declared.pen.Pen.{Pen}
 
--- ---- how far a writer has come
+-- ---- the state of a writer
 
 pub leads_start : (text : List ℕ) (whole : Scripted) → Leads text whole text whole
 leads_start text whole = record { bytes = refl; pen = refl; flag = refl }
@@ -29,7 +29,7 @@ leads_start text whole = record { bytes = refl; pen = refl; flag = refl }
 pub leads_then : (t u v : List ℕ) (x y z : Scripted) → Leads u y t x → Leads v z u y → Leads v z t x
 leads_then t u v x y z p q = record { bytes = q.bytes ∙ p.bytes; pen = q.pen ∙ p.pen; flag = q.flag ∙ p.flag }
 
--- the text of some operations was appended, and the rest is to write
+-- The output of some operations was appended, and the rest is still to write.
 pub leads_after : (text longer : List ℕ) (ops : List Op) (rest whole : Scripted) →
     longer ≡ text ++ bytes_of_all ops → whole ≡ ops_then ops rest → Leads longer rest text whole
 leads_after text longer ops rest whole e f =
@@ -50,13 +50,13 @@ leads_same text rest whole f = record {
   flag = ap (λ (w : Scripted). w.flag) (sym f);
 }
 
--- at the end
+-- Nothing is left to write.
 pub leads_text : (text start : List ℕ) (rest whole : Scripted) (pen : Pen) (flag : Bool) →
     rest ≡ no_ops pen flag → Leads text rest start whole → text ≡ start ++ bytes_of_all whole.ops
 leads_text text start rest whole pen flag e h =
     sym (append-nil text) ∙ (ap (λ (w : Scripted). text ++ bytes_of_all w.ops) (sym e) ∙ h.bytes)
 
--- ---- settled cells need nothing
+-- ---- cells that are done
 
 nothing_left : (r c : ℕ) (pen : Pen) (flag : Bool) (k : ℕ) (xs : List CellValue) →
     cells_written r c pen flag k xs [] ≡ no_ops pen flag
@@ -76,9 +76,9 @@ settled_passed r c pen flag (suc k) (x ∷ xs) (y ∷ ys) =
     settled_passed r (c + 1) pen flag k xs ys
     ∙ ap (λ (n : ℕ). cells_written r n pen flag 0 (drop k xs) (drop k ys)) (omega arith)
 
--- ---- one cell, said on lists
+-- ---- one cell, in terms of lists
 
--- the right half behind a wide glyph that stands needs nothing either
+-- The continuation cell of a wide character that is displayed needs no output either.
 half_passed : (r c : ℕ) (pen : Pen) (flag : Bool) (xs ys : List CellValue) →
     (0 < length xs → is_right_half (at xs 0) ≡ true) →
     cells_written r c pen flag 1 xs ys ≡ cells_written r c pen flag 0 xs ys
@@ -160,12 +160,12 @@ run_erased r c pen flag (blank a) xs y ys n h b count =
 run_erased r c pen flag (glyph text wide a) xs y ys n h b count = absurd cc
 run_erased r c pen flag right_half xs y ys n h b count = absurd cc
 
--- ---- the same, from a column on
+-- ---- one cell, from a column on
 
 from_column : (xs : List CellValue) (c : ℕ) → c < length xs → drop c xs ≡ at xs c ∷ drop (c + 1) xs
 from_column xs c h = drop_more xs c default_blank h
 
--- from column c on, what the first cell gives, if the rest is read there
+-- The output from column c on begins with that of the cell at column c.
 at_column : (r c : ℕ) (pen : Pen) (flag : Bool) (xs ys : List CellValue) → c < length xs → length xs ≤ length ys →
     cells_from r c pen flag xs ys ≡ cells_written r c pen flag 0 (at xs c ∷ drop (c + 1) xs) (at ys c ∷ drop (c + 1) ys)
 at_column r c pen flag xs ys h le =
@@ -173,7 +173,7 @@ at_column r c pen flag xs ys h le =
     ∙ ap (λ (zs : List CellValue). cells_written r c pen flag 0 (at xs c ∷ drop (c + 1) xs) zs)
     (from_column ys c (omega arith))
 
--- the columns behind n of those from c on
+-- The columns n after column c.
 behind : (c n : ℕ) (xs : List CellValue) → c < length xs → drop n (at xs c ∷ drop (c + 1) xs) ≡ drop (c + n) xs
 behind c n xs h = ap (drop n) (sym (from_column xs c h)) ∙ drop-drop n c xs
 
@@ -188,7 +188,7 @@ first_half xs ys c range h some =
     let size = length-drop (c + 1) xs in
     ap is_right_half (head_at xs (c + 1)) ∙ range.halves c h (omega arith)
 
--- ---- columns that need nothing
+-- ---- columns that need no output
 
 pub passes_none : (c : ℕ) (xs ys : List CellValue) → Passes c c xs ys
 passes_none c xs ys = record { same = λ r pen flag. refl }
@@ -204,7 +204,7 @@ passes_cell c xs ys h range same = record {
       ∙ passed r c pen flag (at xs c) (drop (c + 1) xs) (at ys c) (drop (c + 1) ys) same (first_half xs ys c range);
 }
 
--- cells that are the same need nothing
+-- Cells that are equal need no output.
 pub passes_run : (c n : ℕ) (xs ys : List CellValue) → IsRange xs ys → (0 < n → c + n ≤ length xs)
     → ((k : ℕ) → k < n → at xs (c + k) ≡ at ys (c + k)) → Passes c (c + n) xs ys
 passes_run c zero xs ys range inside same =
@@ -297,7 +297,7 @@ run_some a xs c n h b same count =
     ∙ (ap (λ (z : CellValue). blank_run a (z ∷ drop (c + 1) xs)) first ∙ run_first a (drop (c + 1) xs))) in
     omega arith
 
--- a glyph has its columns in the row that the reader shows
+-- A glyph has all its columns in the row that the terminal displays.
 pub glyph_inside : (xs ys : List CellValue) (c : ℕ) → c < length xs →
     IsRange xs ys → c + glyph_columns (is_wide (at xs c)) ≤ length ys
 glyph_inside xs ys c h range = by_width (is_wide (at xs c)) refl where
@@ -313,7 +313,7 @@ unfolding cells_written
 cells_end r c pen flag xs ys h =
     ap (λ (zs : List CellValue). cells_written r c pen flag 0 zs (drop c ys)) (drop_all c xs h)
 
--- ---- the same, of a cell that was read
+-- ---- a cell that was read from a column
 
 pub glyph_leads : (r c n : ℕ) (pen next : Pen) (flag then : Bool)
     (xs ys : List CellValue) (x : CellValue) (text longer : List ℕ) →
@@ -339,7 +339,7 @@ over_end r c pen flag xs ys h =
     ap (λ (zs : List CellValue). cells_written r c pen flag 0 (drop c xs) zs) (drop_all c ys h)
     ∙ nothing_left r c pen flag 0 (drop c xs)
 
--- the cells of two rows of one width
+-- The cells of two rows of equal width satisfy the premise of a range.
 pub range_of : (xs ys : List CellValue) → length xs ≡ length ys → IsPaired xs → IsRange xs ys
 range_of xs ys same paired = record {
   inside = omega arith;
@@ -349,7 +349,7 @@ range_of xs ys same paired = record {
 
 -- ---- the first column of a range
 
--- a right half there, where the reader has one too
+-- A continuation cell in the first column, if the terminal has one there, too.
 pub half_stands : (r c : ℕ) (pen : Pen) (flag : Bool) (xs ys : List CellValue) (text : List ℕ) →
     c < length xs → length xs ≤ length ys → is_right_half (at xs c) ≡ true → is_right_half (at ys c) ≡ true →
     Leads text (cells_from r (c + 1) pen flag xs ys) text
@@ -374,7 +374,7 @@ half_stands r c pen flag xs ys text h le e f =
       both (blank a) more y rest e f = absurd cc
       both (glyph text wide a) more y rest e f = absurd cc
 
--- another first column is as in a row
+-- Any other cell in the first column is written as in a row.
 pub begin_same : (r c : ℕ) (pen : Pen) (flag : Bool) (xs ys : List CellValue) (text : List ℕ) →
     is_right_half (at xs c) ≡ false →
     Leads text (cells_from r c pen flag xs ys) text
@@ -430,7 +430,7 @@ one_erased r c m pen flag right_half more right_half under e f k = absurd cc
 one_erased r c m pen flag (blank a) more y under e f k = absurd cc
 one_erased r c m pen flag (glyph text wide a) more y under e f k = absurd cc
 
--- a right half there, where the reader has none
+-- A continuation cell in the first column, if the terminal has none there.
 pub half_erased : (r c n m : ℕ) (pen next : Pen) (flag then : Bool) (xs ys : List CellValue) (text longer : List ℕ) →
     c < length xs → length xs ≤ length ys → is_right_half (at xs c) ≡ true → is_right_half (at ys c) ≡ false →
     n ≡ blank_run default_attrs (drop (c + 1) xs) → m ≡ n + 1 →

@@ -1,4 +1,4 @@
--- The cursor goes where it is to be, also behind the last column, and only what is saved may change.
+-- The cursor moves to its position, also to a pending wrap, and besides only what is saved may change.
 use Rattle.std.proofs.Common.{◌≡◌, ℕ, zero, suc, ◌+◌, ◌-◌, ◌<◌, ◌≤◌, ◌==◌, nat_lt, Bool, true, false, List, [], ◌∷◌}
 use Rattle.std.proofs.Common.{◌++◌, length, get_or, replicate, Option, Some, None, refl, sym, ap, ◌∙◌, subst, arith}
 use Rattle.std.specs.Prelude.{if◌then◌else◌}
@@ -31,7 +31,7 @@ use Rattle.vt_redraw.proofs.Spaces.{space_prints}
 use Rattle.vt_redraw.proofs.Link.{same_pen, going_behind_draws, erase_last, print_bare}
 use Rattle.vt_redraw.proofs.Rows.{Stands, PrintsRow}
 
--- ---- rows by number
+-- ---- rows by index
 
 pub record Split (rows : List RowValue) (n : ℕ) (d : RowValue) : Type 0 where
   pub done : List RowValue
@@ -52,7 +52,7 @@ all_row P [] n d h k = absurd (omega arith)
 all_row P (x ∷ xs) zero d h k = k.0
 all_row P (x ∷ xs) (suc n) d h k = all_row P xs n d (omega arith) k.1
 
--- ---- the nearest row that does not end blank
+-- ---- the nearest row whose last column is not blank
 
 abbrev pub NearestIs : ℕ → List RowValue → ℕ → Option ℕ → Type 0
 NearestIs width rows n None = ends_blank (row_or width rows n).cells ≡ true
@@ -73,7 +73,7 @@ nearest_is width rows (suc n) =
     (nearest width rows n) (Some (suc n)) (NearestIs width rows (suc n))
     (λ t. nearest_next width rows n (nearest width rows n) t (nearest_is width rows n)) (λ t. (omega arith, t))
 
--- the blank last column of a row
+-- A row whose last column is blank.
 pub record EndsBlank (cells : List CellValue) : Type 0 where
   pub pre : List CellValue
   pub attrs : Attrs
@@ -137,7 +137,7 @@ down_draws base rows (suc n) i c height a bottom size h =
     (down_draws base rows n (i + 1) c height a bottom size (omega arith)
     ∙ ap (λ (z : ℕ). Some (at_pen base rows (pen_at z c a))) e)
 
--- behind the last glyph of row i, and down to row r
+-- A wrap is made pending after the last glyph of row i, and the cursor goes down to row r.
 under_last_draws : (May : ℕ → ℕ → Type 0) (base : Canvas) (rows : List RowValue) (pen : Pen) (i r height : ℕ) →
     Reads base height base.page.width → length rows ≡ height →
     AllByRecursion (Stands base.page.width) rows → AllByRecursion (PrintsRow base.page.width) rows →
@@ -173,12 +173,12 @@ under_last_draws May base rows pen i r height reads size all prints le low withi
     (down_draws base rows (r - i) i base.page.width height pen.attrs reads.bottom size (omega arith)
     ∙ ap (λ (z : ℕ). Some (at_pen base rows (pen_at z base.page.width pen.attrs))) n)))
 
--- what is saved on the way
+-- A canvas with this cursor position and these attributes saved.
 abbrev pub saved_at : Canvas → ℕ → ℕ → Attrs → Canvas
 saved_at base row column attrs =
     with_saved (record { row = row; column = column; origin = base.page.origin; attrs = attrs }) base
 
--- behind a space that is erased again
+-- A wrap is made pending by a space that is erased again.
 pub blank_passed_draws : (May : ℕ → ℕ → Type 0) (base : Canvas)
     (done below : List RowValue) (pre : List CellValue) (r : ℕ) (was b : Attrs) →
     0 < base.page.width → length done ≡ r → length pre + 1 ≡ base.page.width →
@@ -240,16 +240,16 @@ over_blank_draws May base done below pre pen r height b reads e rows w h within 
     (ap (λ (z : ℕ). mid base done below row false (pen_at r z pen.attrs)) col))
     (blank_passed_draws May base done below pre r pen.attrs b reads.has_columns e w h may)
 
--- the last column of a row that ends blank
+-- The last column of a row that ends with a blank.
 pub last_blank_column : (pre : List CellValue) (b : Attrs) → last_column (pre ++ blank b ∷ []) ≡ length pre
 last_blank_column pre b =
     let n : length (pre ++ blank b ∷ []) ≡ length pre + 1 = length-append pre (blank b ∷ []) in
     let i : length pre + 1 - 1 ≡ length pre = omega arith in
     rw (n, i, get_or_at pre (blank b) [] default_blank (length pre) refl) refl
 
--- ---- the rule
+-- ---- the rule for the cursor
 
--- the operations draw this, but for what is saved
+-- The operations draw `goal`, except for what is saved.
 abbrev pub Puts : (ℕ → ℕ → Type 0) → List Op → (start goal : Canvas) → Type 0
 Puts May ops start goal = (saved : Saved) × DrawsIn May ops start (with_saved saved goal)
 

@@ -1,4 +1,4 @@
--- Rows cut to a width are rows of a picture, and those of a page are cut to themselves.
+-- Rows cut to a width are rows of a picture, and cutting those of a page changes nothing.
 use Rattle.std.proofs.Common.{◌≡◌, ℕ, suc, ◌-◌, ◌&&◌, Bool, true, false, not, List}
 use Rattle.std.proofs.Common.{[], ◌∷◌, length, refl, sym, ap, ◌∙◌, arith}
 use Rattle.std.specs.Prelude.{All}
@@ -15,7 +15,7 @@ use Rattle.vt_redraw.specs.Picture.{IsPicture, cut_rows, picture_of, picture_ove
 use Rattle.vt_redraw.proofs.Rows.{flags_end}
 use Rattle.vt_redraw.proofs.Difference.{flags_end_of}
 
--- a row of cells, of any width
+-- A valid row of any width.
 abbrev pub IsAnyRow : RowValue → Type 0
 IsAnyRow row = IsRow (length row.cells) row
 
@@ -55,7 +55,7 @@ cut_last width (x ∷ y ∷ rows) =
     let e : suc (length cut) - 1 ≡ suc (length cut - 1) = omega arith in
     ap (λ (k : ℕ). (row_or width (here ∷ cut) k).wrapped) e ∙ cut_last width (y ∷ rows)
 
--- the rows that are shown, as many as a page has and cut to its width, are those of a picture
+-- The displayed rows, as many as a page has and cut to its width, are those of a picture.
 pub picture_over_is : (visible : List RowValue) (canvas : Canvas) → IsPage canvas.page →
     length visible ≡ length canvas.page.rows → All IsAnyRow visible → IsPicture (picture_over visible canvas)
 picture_over_is visible canvas is size rows =
@@ -88,7 +88,7 @@ cut_same width (x ∷ y ∷ rows) is last =
     (flag_stays x.wrapped (ends_blank x.cells) is.0.flagged)
     ∙ ap (λ (z : List RowValue). x ∷ z) (cut_same width (y ∷ rows) is.1 last))
 
--- with no scrollback in view, that is what the page shows
+-- The displayed picture is that of the page if no scrollback is displayed.
 pub picture_over_page : (canvas : Canvas) → IsPage canvas.page →
     picture_over canvas.page.rows canvas ≡ picture_of canvas
 picture_over_page canvas is =

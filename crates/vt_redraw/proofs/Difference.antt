@@ -1,4 +1,5 @@
--- The difference turns what one canvas shows into another picture: cells, flags, cursor, attributes and hiding.
+-- The difference turns what one canvas displays into another picture: rows, cursor, attributes, and whether the cursor
+-- is hidden.
 use Rattle.std.proofs.Common.{◌≡◌, ℕ, zero, suc, ◌-◌, ◌<◌, ◌≤◌, Bool, true, false, List, [], ◌∷◌}
 use Rattle.std.proofs.Common.{◌++◌, length, Some, inr, refl, sym, ap, ◌∙◌, subst, arith}
 use Rattle.std.specs.Prelude.{All}
@@ -87,7 +88,7 @@ flags_end_of width (x ∷ y ∷ ys) h =
 
 -- ---- rows, cursor and attributes
 
--- the end of the row by which a pending wrap is placed, on a screen of this width
+-- The end of the row at which a pending wrap is made may be touched, on a screen of this width.
 abbrev PlacesAt : (self prev : Picture) → ℕ → Type 0
 PlacesAt self prev w =
     self.column ≡ w → (k : ℕ) →
@@ -192,11 +193,12 @@ difference_in self prev any is steady other size plain e =
           rest.1,
     )
 
--- the operations draw this, but for what is saved
+-- The operations draw `goal`, except for what is saved.
 abbrev pub Shows : List Op → (start goal : Canvas) → Type 0
 Shows ops start goal = (saved : Saved) × Draws ops start (with_saved saved goal)
 
--- drawn on a plain canvas that shows `prev`, it shows `self`, and only what is saved may have changed besides
+-- The difference, drawn on a plain canvas that displays `prev`, displays `self`; besides, only what is saved may
+-- change.
 pub difference_draws : (self prev : Picture) (any : Canvas) → IsPicture self → IsSteady self →
     IsPicture prev → SamePictureSize self prev → IsPlainPage any.page → picture_of any ≡ prev →
     Shows (difference self prev) any (with_picture self any)
@@ -204,7 +206,7 @@ difference_draws self prev any is steady other size plain e =
     let puts = difference_in self prev any is steady other size plain e in
     (puts.0, puts.1.draws)
 
--- and it touches only what is near a difference, but for the end of the row by which a pending wrap is placed
+-- The difference touches only what is near a differing row, and the end of the row at which a pending wrap is made.
 pub difference_local : (self prev : Picture) (any : Canvas) → IsPicture self → IsSteady self →
     IsPicture prev → SamePictureSize self prev → IsPlainPage any.page → picture_of any ≡ prev →
     Touches (IsLocal self prev) (difference self prev) any

@@ -1,4 +1,4 @@
--- The difference of a picture with itself is empty, and only that one is.
+-- The difference of a picture with itself is empty, and no other difference is.
 use Rattle.std.proofs.Common.{◌≡◌, ℕ, ◌+◌, ◌-◌, ◌&&◌, ◌||◌, Bool, true, false, not, List, []}
 use Rattle.std.proofs.Common.{◌∷◌, length, Option, Some, None, refl, sym, ap, ◌∙◌, arith}
 use Rattle.std.proofs.lemmas.Bool.{cond_both}
@@ -19,7 +19,7 @@ use Rattle.vt_redraw.specs.Redraw.{link_of, rows_below, rows_written, pen_of, cu
 use Rattle.vt_redraw.proofs.Standing.{row_nothing, starts_none}
 use Rattle.vt_redraw.proofs.Difference.{difference_draws}
 
--- ---- nothing differs
+-- ---- equal pictures
 
 neither : (b c : Bool) → c ≡ false → (not true || (b && c)) ≡ false
 neither b c h = grind (arith, h)
@@ -56,9 +56,9 @@ difference_self picture =
     let t : is_at pen picture.row picture.column ≡ true = grind (arith, nat_tests) in
     rw (n.0, n.1, same_bool-itself picture.hidden, t, same_attrs-itself picture.attrs) refl
 
--- ---- and nothing is left out
+-- ---- an empty difference
 
--- a plain canvas that shows a picture
+-- A plain canvas that displays a picture.
 abbrev pub showing : Picture → Canvas
 showing picture = record {
   page = record {
@@ -85,18 +85,18 @@ picture_or : Picture → Option Canvas → Picture
 picture_or other (Some canvas) = picture_of canvas
 picture_or other None = other
 
--- the same but for a width that is the same too
+-- Pictures that are equal once their equal widths are set.
 pub same_picture : (self other : Picture) (width : ℕ) → self.width ≡ width →
     record self { width = width } ≡ other → self ≡ other
 same_picture self other width e h = ap (λ (w : ℕ). record self { width = w }) e ∙ h
 
--- two lists of operations that draw two pictures on one canvas are the same only if the pictures are
+-- Operations that draw two pictures on one canvas draw equal pictures.
 pub draws_tell : (ops : List Op) (canvas one two : Canvas) → drawn_all ops canvas ≡ Some one →
     drawn_all ops canvas ≡ Some two → picture_of one ≡ picture_of two
 unfolding picture_or
 draws_tell ops canvas one two h k = ap (picture_or (picture_of one)) (sym h ∙ k)
 
--- where nothing is to be drawn, both pictures are the same
+-- Two pictures are equal if their difference is empty.
 pub empty_only : (self prev : Picture) → IsPicture self → IsSteady self →
     IsPicture prev → SamePictureSize self prev → difference self prev ≡ [] → self ≡ prev
 empty_only self prev is steady other size e =

@@ -1,4 +1,4 @@
--- The cells of a row of a picture, where they lie and behind.
+-- The cells of a row of a picture: the stored ones and the blanks after them.
 use Rattle.std.proofs.Common.{min, append-nil, ◌≡◌, ℕ, zero, suc, ◌+◌, ◌-◌, ◌<◌, ◌≤◌, ◌==◌, ◌&&◌}
 use Rattle.std.proofs.Common.{nat_lt, not, Bool, true, false, List, [], ◌∷◌, ◌++◌, length, take}
 use Rattle.std.proofs.Common.{drop, ⊎_elim, refl, sym, ap, ◌∙◌, arith, Some, None}
@@ -21,7 +21,7 @@ use Rattle.vt_redraw.specs.Redraw.{nearest}
 use Rattle.vt_redraw.specs.Internals.{filled, is_split, kept_len, cell_past_cut}
 use Rattle.vt_redraw.specs.Script.{is_nil, is_torn, erase_run, starts_other}
 
--- one right half is left from column k on
+-- A single continuation cell is left from column k on.
 pub torn_at : (cells : List CellValue) (k : ℕ) →
     ((k + 1 == length cells) && is_right_half (at cells k)) ≡ is_torn (drop k cells)
 torn_at [] zero = refl
@@ -39,7 +39,7 @@ torn_at (x ∷ xs) (suc k) =
     let e : (suc k + 1 == suc (length xs)) ≡ (k + 1 == length xs) = grind (arith, nat_tests) in
     ap (λ (b : Bool). b && is_right_half (at xs k)) e ∙ torn_at xs k
 
--- nothing is left
+-- No cell is left from column k on.
 pub nil_at : (cells : List CellValue) (k : ℕ) → k ≤ length cells → is_nil (drop k cells) ≡ (k == length cells)
 nil_at [] zero h = refl
 nil_at [] (suc k) h = absurd (omega arith)
@@ -48,7 +48,7 @@ nil_at (x ∷ xs) (suc k) h =
     let e : (k == length xs) ≡ (suc k == suc (length xs)) = grind (arith, nat_tests) in
     nil_at xs k (omega arith) ∙ e
 
--- an erasure that leaves columns behind it has a count
+-- An erasure that doesn't reach the end of the row has a count.
 pub erase_run_counted : (count end : ℕ) (cells : List CellValue) →
     end < length cells → erase_run count (drop end cells) ≡ EraseChars count
 erase_run_counted count end [] h = absurd (omega arith)
@@ -75,7 +75,7 @@ at-behind cells cols end k h l =
     get_or-append_right cells (replicate (cols - length cells) end) (length cells) k default_blank refl h
     ∙ get_or-replicate (cols - length cells) (k - length cells) end default_blank (omega arith)
 
--- a cell of some of those that lie in a row
+-- A cell of a slice of a row's stored cells.
 pub at-part : (cells : List CellValue) (cols : ℕ) (end : CellValue) (flag : Bool) (start stop k : ℕ) (row : RowValue)
     → record { cells = filled cells cols end; wrapped = flag } ≡ row → start + k < stop → stop ≤ length cells
     → at (slice_range cells start stop) k ≡ at row.cells (start + k)
@@ -83,21 +83,21 @@ at-part cells cols end flag start stop k row is below inside =
     get_or-chunk start (stop - start) cells k default_blank (omega arith)
     ∙ sym (at-filled cells cols end (start + k) (omega arith)) ∙ ap (λ r. at r.cells (start + k)) is
 
--- a row begins with another glyph
+-- Whether a row begins with a glyph that the terminal does not display there, by its first cell.
 pub starts_at : (xs ys : List CellValue) → 0 < length xs → 0 < length ys →
     starts_other xs ys ≡ (is_glyph (at xs 0) && not (same_cell (at xs 0) (at ys 0)))
 starts_at [] ys h l = absurd (omega arith)
 starts_at (x ∷ xs) [] h l = absurd (omega arith)
 starts_at (x ∷ xs) (y ∷ ys) h l = refl
 
--- line feeds, one more
+-- One more line feed.
 pub feeds_more : (n : ℕ) → bytes_of_all (replicate (n + 1) LineFeed) ≡ bytes_of_all (replicate n LineFeed) ++ 0x0A ∷ []
 feeds_more zero = refl
 feeds_more (suc n) =
     let e : suc n + 1 ≡ suc (n + 1) = omega arith in
     ap (λ (k : ℕ). bytes_of_all (replicate k LineFeed)) e ∙ ap (λ (bytes : List ℕ). 0x0A ∷ bytes) (feeds_more n)
 
--- the nearest row that does not end blank: this one, or one above it
+-- The nearest row whose last column is not blank is this one, or one above it.
 pub nearest_here : (width : ℕ) (rows : List RowValue) (n : ℕ) →
     ends_blank (row_or width rows n).cells ≡ false → nearest width rows n ≡ Some n
 nearest_here width rows zero h = cond-false (ends_blank (row_or width rows 0).cells) None (Some 0) h
@@ -118,7 +118,7 @@ take_past (x ∷ xs) ys n =
     let e : suc (length xs) + n ≡ suc (length xs + n) = omega arith in
     ap (λ (k : ℕ). take k (x ∷ (xs ++ ys))) e ∙ ap (λ (zs : List CellValue). x ∷ zs) (take_past xs ys n)
 
--- the first columns of such cells
+-- The first columns of stored cells and the blanks after them.
 pub filled_taken : (cells : List CellValue) (cols stop : ℕ) (end : CellValue) → stop ≤ cols → length cells ≤ cols →
     filled (take (min (length cells) stop) cells) stop end ≡ take stop (filled cells cols end)
 filled_taken cells cols stop end h l =
@@ -142,9 +142,9 @@ filled_taken cells cols stop end h l =
     ∙ ap (λ (n : ℕ). take n (filled cells cols end)) sum))))
     (cases_lt stop (length cells))
 
--- ---- a row cut or grown
+-- ---- a row that is cut or extended
 
--- a cell that comes along with what it needs stays
+-- A cell is unchanged by a cut that keeps its continuation cell.
 stays : (cols : ℕ) (cells : List CellValue) (k : ℕ) → IsPaired cells →
     (is_wide (at cells k) ≡ true → nat_lt (k + 1) cols ≡ true) → moved_at cols (λ j. j) cells k ≡ at cells k
 stays cols cells zero paired h =
@@ -158,18 +158,18 @@ stays cols cells (suc k) paired h =
     grind (arith, nat_tests) in
     rw (wide, half) refl
 
--- the half of a glyph that is cut in two
+-- The first column of a wide character that is cut in two becomes blank.
 halved : (cols : ℕ) (cells : List CellValue) (k : ℕ) → k + 1 ≡ cols →
     is_wide (at cells k) ≡ true → moved_at cols (λ j. j) cells k ≡ blank (attrs_of (at cells k))
 halved cols cells k e wide =
     let t : (is_wide (at cells k) && not (nat_lt (k + 1) cols && (k + 1 == k + 1))) ≡ true = grind (arith, nat_tests) in
     rw t refl
 
--- past the end
+-- A cell past the end is a default blank.
 past : (cols : ℕ) (cells : List CellValue) (k : ℕ) → length cells ≤ k → at cells k ≡ default_blank
 past cols cells k h = get_or_past cells k default_blank h
 
--- a wide glyph has its right half
+-- A wide character has its continuation cell.
 pub room : (cells : List CellValue) (k : ℕ) → IsPaired cells → is_wide (at cells k) ≡ true → k + 1 < length cells
 room cells k paired wide =
     ⊎_elim (λ (h : k + 1 < length cells). h)
@@ -180,7 +180,7 @@ room cells k paired wide =
     absurd cc)
     (cases_lt (k + 1) (length cells))
 
--- the row is cut so that a glyph is split
+-- The cells of a row that is cut within a wide character.
 split_columns : (cols : ℕ) (cells : List CellValue) → 0 < cols → IsPaired cells →
     cols < length cells → is_wide (at cells (cols - 1)) ≡ true → (k : ℕ) → k < cols →
     at (filled (take (cols - 1) cells) cols (blank (attrs_of (at cells (cols - 1))))) k ≡ moved_at cols (λ j. j) cells k
@@ -199,7 +199,7 @@ split_columns cols cells pos paired inside wide k h =
     ∙ sym (halved cols cells k (omega arith) (ap (λ (j : ℕ). is_wide (at cells j)) last ∙ wide))))
     (cases_lt k (cols - 1))
 
--- or so that none is
+-- The cells of a row that is cut between characters.
 whole_columns : (cols : ℕ) (cells : List CellValue) → IsPaired cells →
     is_split cols cells ≡ false → (k : ℕ) → k < cols →
     at (filled (take cols cells) cols default_blank) k ≡ moved_at cols (λ j. j) cells k
@@ -225,7 +225,7 @@ whole_columns cols cells paired whole k h =
     at-behind kept cols default_blank k (omega arith) h ∙ (sym gone ∙ sym (stays cols cells k paired (λ w. absurd cc))))
     (cases_lt k (length cells))
 
--- the cells that are kept where they lie and what stands behind them are the row cut or grown
+-- The unchanged cells and the cell after them make up the cut or extended row.
 pub filled_resized : (cols : ℕ) (cells : List CellValue) → 0 < cols → IsPaired cells →
     filled (take (kept_len cols cells) cells) cols (cell_past_cut cols cells) ≡ resized cols cells
 unfolding resized

@@ -1,4 +1,4 @@
--- Each operation of a redraw or a difference has numbers and texts that read back.
+-- Each operation of a redraw or a difference has only numbers and text that are read back unchanged.
 use Rattle.std.proofs.Common.{◌≡◌, ℕ, zero, suc, ◌+◌, ◌-◌, ◌<◌, ◌≤◌, ◌^◌, ◌==◌, ◌&&◌, ◌||◌, nat_lt, Bool, true, false}
 use Rattle.std.proofs.Common.{not, List, [], ◌∷◌, ◌++◌, length, drop, replicate, Option, Some, None, refl, arith}
 use Rattle.std.specs.Prelude.{All, if◌then◌else◌}
@@ -319,7 +319,7 @@ cursor_fits pen width rows r c lt h some l was fit =
     (λ (t : nat_lt c width ≡ true). let low = ltb-true c width t in going_fits pen r c (omega arith) (omega arith))
     (λ _. pending_fits (nearest width rows r) pen width rows r (nearest_below width rows r) lt h some l was fit))
 
--- ---- the whole
+-- ---- whole pictures
 
 fit_rows : (width : ℕ) (rows : List RowValue) → AllByRecursion (IsRow width) rows →
     AllByRecursion (λ row. All (λ cell. FitsAttrs (attrs_of cell)) row.cells) rows →

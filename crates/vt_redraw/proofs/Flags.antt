@@ -1,4 +1,4 @@
--- Whether a row goes on below, after a change of some of its columns.
+-- Whether a row is wrapped after a change of some of its columns.
 use Rattle.std.proofs.Common.{◌≡◌, ℕ, zero, suc, ◌-◌, ◌&&◌, ◌||◌, Bool, true, false, not, List, [], ◌∷◌}
 use Rattle.std.proofs.Common.{◌++◌, length, drop, refl, sym, ap, ◌∙◌, append_assoc, append-nil, arith}
 use Rattle.vt_cells.specs.Cell.{CellValue, blank, glyph, right_half, is_blank}
@@ -6,7 +6,7 @@ use Rattle.vt_cells.specs.Attrs.{Attrs}
 use Rattle.vt_rows.specs.Cells.{at, ends_blank, blanks, opened}
 use Rattle.vt_redraw.specs.Script.{is_nil, is_torn}
 
--- the last column is blank, said cell after cell
+-- Whether the last column is blank, by recursion over the cells.
 abbrev pub ends : List CellValue → Bool
 ends [] = true
 ends (x ∷ []) = is_blank x
@@ -21,7 +21,7 @@ ends_is (x ∷ y ∷ xs) =
     ap (λ (k : ℕ). is_blank (at (x ∷ y ∷ xs) k)) e
     ∙ (ap (λ (k : ℕ). is_blank (at (y ∷ xs) k)) (sym f) ∙ ends_is (y ∷ xs))
 
--- the flag that is left with these cells
+-- Whether a row stays wrapped with these cells.
 abbrev pub kept : Bool → List CellValue → Bool
 kept flag cells = flag && not (ends cells)
 
@@ -44,7 +44,8 @@ ends_append [] y ys = refl
 ends_append (x ∷ []) y ys = refl
 ends_append (x ∷ z ∷ xs) y ys = ends_append (z ∷ xs) y ys
 
--- the last column of a row whose rest is `rest`, behind cells that end so, where a torn half became so
+-- Whether the last column of a row is blank if `rest` is left of it after a change; n and o say so for an empty rest
+-- and for an orphaned continuation cell.
 abbrev pub ends_after : Bool → Bool → List CellValue → Bool
 ends_after n o [] = n
 ends_after n o (right_half ∷ []) = o
@@ -60,7 +61,7 @@ ends_new xs o (glyph text wide b ∷ ys) = ends_append xs (glyph text wide b) ys
 ends_new xs o (right_half ∷ []) = ends_append xs o []
 ends_new xs o (right_half ∷ y ∷ ys) = ends_append xs o (y ∷ ys)
 
--- the flag after a change, by what is left of what stood there
+-- Whether a row stays wrapped after a change, by the cells that are left of it.
 flag_after : (f n o : Bool) (rest : List CellValue) →
     (f ≡ true → is_nil rest ≡ false → is_torn rest ≡ false → ends rest ≡ false) →
     (f && not (ends_after n o rest)) ≡ (f && not ((is_nil rest && n) || (is_torn rest && o)))
@@ -92,7 +93,7 @@ end_rest n o (blank a) (z ∷ zs) m h = sym (ends_drop m (z ∷ zs) h)
 end_rest n o (glyph text wide a) (z ∷ zs) m h = sym (ends_drop m (z ∷ zs) h)
 end_rest n o right_half (z ∷ zs) m h = sym (ends_drop m (z ∷ zs) h)
 
--- `new` takes the place of y and of m cells behind it
+-- The cells `new` replace y and the m cells after it.
 pub flag_step : (pre new : List CellValue) (y : CellValue)
     (ys : List CellValue) (q o : CellValue) (m : ℕ) (f b : Bool) →
     ends (pre ++ new) ≡ b → Sound f (pre ++ opened o (y ∷ ys)) →

@@ -1,4 +1,4 @@
--- A whole row's item of a difference is empty where the rows are the same, and only there.
+-- The item of a difference for a whole row is empty if the rows are equal, and only then.
 use Rattle.std.proofs.Common.{◌≡◌, ℕ, zero, suc, ◌+◌, ◌-◌, ◌<◌, ◌&&◌, ◌↔◌, Bool, true, false, not, List}
 use Rattle.std.proofs.Common.{[], ◌∷◌, ◌++◌, length, take, drop, refl, sym, ap, ◌∙◌, subst, arith}
 use Rattle.std.specs.Prelude.{if◌then◌else◌}
@@ -26,7 +26,7 @@ use Rattle.vt_redraw.proofs.Link.{last_cases}
 use Rattle.vt_redraw.proofs.RangeDraws.{begun_paired, begun_over_paired}
 use Rattle.vt_redraw.proofs.Standing.{cells_nothing}
 
--- ---- texts of nothing
+-- ---- empty output
 
 none_of : (xs ys : List ℕ) → xs ++ ys ≡ [] → (xs ≡ []) × (ys ≡ [])
 none_of [] ys h = (refl, h)
@@ -141,7 +141,7 @@ cells_none r c pen flag (glyph text true a ∷ right_half ∷ xs) (y ∷ z ∷ y
         absurd (some_text text true a is.0
         (no_doing pen r c a (Print text) (none_of_ops (placed_op pen r c a (Print text)) _ none).0))
 
--- ---- the flag
+-- ---- whether the row is wrapped
 
 last_is_text : (cells : List CellValue) → Paired cells → ends cells ≡ false →
     AllByRecursion IsCell cells → text_of (last_glyph cells) ≡ [] → ⊥
@@ -155,7 +155,7 @@ last_is_text cells h e is none =
     last_text [] text true a is none = some_text text true a is.0 none
     last_text (x ∷ pre) text wide a is none = last_text pre text wide a is.1 none
 
--- the operations behind cells that stand
+-- The operations after cells that are all displayed.
 abbrev end_ops : ℕ → Bool → Bool → List CellValue → List Op
 end_ops r flag wanted cells =
     let b = row_break r (pen_at r 0 default_attrs) flag wanted cells in
@@ -214,7 +214,7 @@ range_is r w flag xs ys e h =
     (begun_paired xs h)
     ∙ ap (λ (z : List CellValue). cells_written r 0 (pen_at r 0 default_attrs) flag 0 xs z) (begun_over_paired xs ys h))
 
--- the item behind cells that are written so
+-- The operations of an item after its cells.
 abbrev item_behind : ℕ → Scripted → Bool → List CellValue → List Op
 item_behind r w wanted cells =
     let b = row_break r w.pen w.flag wanted cells in

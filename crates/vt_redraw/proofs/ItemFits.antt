@@ -1,4 +1,4 @@
--- Each operation of a row's item has numbers and texts that read back.
+-- Each operation of a row's item has only numbers and text that are read back unchanged.
 use Rattle.std.proofs.Common.{◌≡◌, ℕ, zero, suc, ◌-◌, ◌<◌, ◌≤◌, ◌^◌, ◌&&◌, Bool, false}
 use Rattle.std.proofs.Common.{not, List, [], ◌∷◌, ◌++◌, length, take, drop, refl, arith}
 use Rattle.std.specs.List.{AllByRecursion}

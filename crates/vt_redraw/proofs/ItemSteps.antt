@@ -1,4 +1,4 @@
--- Steps of the writer of one row.
+-- Steps of the writer of a single row.
 use Rattle.std.proofs.Common.{◌≡◌, ℕ, zero, suc, ◌+◌, ◌-◌, ◌<◌, ◌≤◌, ◌&&◌, not, Bool, true, false, List, [], ◌++◌}
 use Rattle.std.proofs.Common.{length, take, drop, sym, ap, ◌∙◌, arith, append_assoc, append-nil, ⊎_elim}
 use Rattle.std.specs.Prelude.{if◌then◌else◌}
@@ -20,7 +20,7 @@ use Rattle.vt_redraw.specs.declared.pen.Pen.{Pen}
 use Rattle.vt_redraw.proofs.CellSteps.{settled_passed}
 use Rattle.vt_redraw.proofs.Filling.{room}
 
--- the first columns of a row are a range of it
+-- The first columns of a row satisfy the premise of a range.
 pub range_taken : (xs ys : List CellValue) (stop : ℕ) → length xs ≡ length ys → IsPaired xs → IsRange (take stop xs) ys
 range_taken xs ys stop same paired =
     let size = length-take stop xs in
@@ -42,7 +42,7 @@ range_taken xs ys stop same paired =
           (cases_lt k stop);
     }
 
--- the same cells, cut first or begun first
+-- Cutting the end of a row and then its beginning gives the range.
 pub range_is : (start stop : ℕ) (xs : List CellValue) →
     start ≤ stop → drop start (take stop xs) ≡ in_range start stop xs
 range_is start stop xs h =
@@ -58,7 +58,7 @@ cut_written r start stop pen flag xs ys h =
     ap (λ (zs : List CellValue). cells_written r start pen flag 0 (with_whole_start zs) (with_whole_start_over zs (drop start ys)))
     (range_is start stop xs h)
 
--- what the code's range is, with the row's cells cut
+-- The code's range, with the row's end cut, is that of the script.
 pub range_wrote : (r start stop : ℕ) (pen : Pen) (flag : Bool) (cut xs ys : List CellValue) →
     start ≤ stop → cut ≡ take stop xs → pen ≡ pen_at r start default_attrs →
     cells_written r start pen flag 0 (with_whole_start (drop start cut)) (with_whole_start_over (drop start cut) (drop start ys))
@@ -177,7 +177,7 @@ part_redraw r start stop linked x t0 t1 part t =
     (sym (cond-false (is_whole start stop (length x.cells) && linked) (linked_item r x.cells)
     (range_written r start stop false x.cells (blanks default_attrs (length x.cells))) part))
 
--- whether the row above a row goes on below
+-- Whether the row above a row is wrapped.
 pub linked_below : (width : ℕ) (rows : List RowValue) (row : ℕ) → 0 < row →
     is_linked width rows row ≡ (row_or width rows (row - 1)).wrapped
 linked_below width rows zero h = absurd (omega (arith, h))

@@ -1,4 +1,4 @@
--- The last glyph of a row printed again, and the break to the row below.
+-- The last glyph of a row printed again, and the break to the next row.
 use Rattle.std.proofs.Common.{◌≡◌, ◌≢◌, ◌⊎◌, ℕ, suc, ◌+◌, ◌-◌, ◌<◌, ◌≤◌, ◌==◌, ◌&&◌, min, Bool, true, false, not, List}
 use Rattle.std.proofs.Common.{[], ◌∷◌, ◌++◌, length, take, drop, Some, inl, inr, refl, sym, ap, ◌∙◌, subst, arith}
 use Rattle.std.proofs.lemmas.Bool.{cond_both, and_parts, eqb-true}
@@ -60,7 +60,7 @@ longer_two text a xs e = record {
   is = ap (λ (z : List CellValue). glyph text true a ∷ right_half ∷ z) e.is;
 }
 
--- a row that doesn't end blank ends in a glyph
+-- A row whose last column is not blank ends in a glyph.
 pub ends_glyph : (xs : List CellValue) → Paired xs → ends xs ≡ false → EndsGlyph xs
 ends_glyph [] h e = absurd (cc)
 ends_glyph (blank a ∷ []) h e = absurd (cc)
@@ -93,7 +93,7 @@ last_glyph_is : (pre : List CellValue) (text : List ℕ) (wide : Bool) (a : Attr
 last_glyph_is pre text true a = rw (last_column_is pre text true a) (glyph_at pre text true a [] (length pre) refl)
 last_glyph_is pre text false a = rw (last_column_is pre text false a) (glyph_at pre text false a [] (length pre) refl)
 
--- what holds of a row that ends in any glyph, holds of one that does not end blank
+-- What holds for every row that ends in a glyph, holds for a row whose last column is not blank.
 pub last_cases : (P : List CellValue → ℕ → CellValue → Type 0) →
     ((pre : List CellValue) (text : List ℕ) (wide : Bool) (a : Attrs) → Paired pre →
     P (pre ++ glyph_cells text wide a) (length pre) (glyph text wide a)) →
@@ -118,7 +118,7 @@ prints_last width (x ∷ pre) text wide a h = prints_last width pre text wide a 
 still : (flag : Bool) → (flag && not false) ≡ flag
 still flag = grind (arith)
 
--- over itself
+-- A glyph is printed over itself.
 pub print_again : (May : ℕ → ℕ → Type 0) (base : Canvas) (done below : List RowValue)
     (pre : List CellValue) (text : List ℕ) (wide : Bool) (a : Attrs) (flag : Bool) (r : ℕ) →
     Prints base.page.width text wide → length done ≡ r → length pre + glyph_columns wide ≡ base.page.width →
@@ -153,7 +153,7 @@ print_again May base done below pre text true a flag r prints e w h sound may =
     }))
     (ap (λ (f : Bool). mid base done below row f (pen_at r (length pre + 2) a)) (still flag))
 
--- the pen goes behind the last glyph, and nothing else changes
+-- The pen moves after the last glyph, and nothing else changes.
 pub record GoesBehind (May : ℕ → ℕ → Type 0) (w : Scripted) (base : Canvas) (done below : List RowValue)
     (cells : List CellValue) (flag : Bool) (r : ℕ) (pen : Pen) : Type 0 where
   pub draws : DrawsIn May w.ops (mid base done below cells flag pen) (mid base done below cells flag w.pen)
@@ -217,7 +217,7 @@ going_behind_draws May base done below xs flag r height pen reads e rows w h ful
 
 -- ---- the break
 
--- what stands where the last glyph was erased
+-- The cells that remain where the last glyph was erased.
 abbrev pub blanked : Bool → Attrs → List CellValue
 blanked false a = blank a ∷ []
 blanked true a = blank a ∷ default_blank ∷ []
@@ -289,7 +289,7 @@ print_bare May base done below pre text true b a r prints e w h may =
       torn = λ t. absurd (cc);
     })
 
--- what is left for the next row: where the flag stands still, it is to
+-- The canvas after a break; a row that is still wrapped must be wrapped.
 pub record Broke (May : ℕ → ℕ → Type 0) (w : Scripted) (base : Canvas) (done below : List RowValue)
     (start : Canvas) (cells : List CellValue) (wanted : Bool) (height : ℕ) : Type 0 where
   pub draws : DrawsIn May w.ops start (mid base done below cells w.flag w.pen)
@@ -378,14 +378,14 @@ no_tail [] (y ∷ ys) h = absurd (omega arith)
 no_tail (x ∷ xs) [] h = absurd (omega arith)
 no_tail (x ∷ xs) (y ∷ ys) h = no_tail xs ys (omega arith)
 
--- where a row and the one that the reader shows differ, what may be touched
+-- The positions that may be touched if a row and the one that the terminal displays differ.
 pub record RowMay (May : ℕ → ℕ → Type 0) (width r : ℕ) (x y : RowValue) : Type 0 where
   pub lets : Lets May r 0 x.cells y.cells
   pub begin : May r 0
   pub second : is_wide (at x.cells 0) ≡ true → May r 1
   pub last : (k : ℕ) → last_column x.cells ≤ k → k < width → May r k
 
--- its cells, and the break
+-- A row's cells and the break are drawn.
 differing_draws : (May : ℕ → ℕ → Type 0) (base : Canvas) (done below : List RowValue)
     (x y : RowValue) (o : CellValue) (r k height : ℕ) (pen : Pen) (flag : Bool) →
     Reads base height base.page.width → length done ≡ r → r + suc (length below) ≡ height →
@@ -417,7 +417,7 @@ differing_draws May base done below x y o r k height pen flag reads e rows w h v
 same_row : (xs : List CellValue) (o : CellValue) (k : ℕ) → Paired (drop k xs) → shown [] o k xs xs ≡ xs
 same_row xs o k h = ap (λ (z : List CellValue). take k xs ++ z) (opened_paired o (drop k xs) h) ∙ take-append-drop k xs
 
--- a row that the reader shows already
+-- A row that the terminal displays already is left unchanged.
 standing_draws : (May : ℕ → ℕ → Type 0) (base : Canvas) (done below : List RowValue)
     (x : RowValue) (o : CellValue) (r k height : ℕ) (pen : Pen) →
     Ready x.cells x.cells [] o k x.wrapped → Within pen height base.page.width →
@@ -436,7 +436,7 @@ standing_draws May base done below x o r k height pen ready within =
       keeps = λ t. t;
     })
 
--- where the reader shows another row, the flag is what it was for a row that stood
+-- A row is drawn; if the terminal displays an equal row, it must still be wrapped as that row is.
 pub row_draws : (May : ℕ → ℕ → Type 0) (base : Canvas) (done below : List RowValue)
     (x y : RowValue) (o : CellValue) (r k height : ℕ) (pen : Pen) (flag : Bool) →
     Reads base height base.page.width → length done ≡ r → r + suc (length below) ≡ height →

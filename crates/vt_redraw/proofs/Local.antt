@@ -18,7 +18,7 @@ use Rattle.vt_redraw.proofs.Lets.{Lets}
 use Rattle.vt_redraw.proofs.Link.{RowMay}
 use Rattle.vt_redraw.proofs.Rows.{BelowMay, RowsMay}
 
--- ---- cells that don't stand alike
+-- ---- cells that are not equal
 
 alike_from : (xs ys : List CellValue) (k g : ℕ) → begin_of xs k ≡ g →
     (is_glyph (at xs g) && same_cell (at xs g) (at ys g)) ≡ false → stands_alike xs ys k ≡ false
@@ -69,7 +69,7 @@ may_right self prev r c x y near e f h s =
 
 -- ---- a row
 
--- xs are the cells of a row from column c on
+-- The cells xs are those of a row from column c on.
 abbrev From : (row : List CellValue) → ℕ → List CellValue → Type 0
 From row c xs = (k : ℕ) → at row (c + k) ≡ at xs k
 
@@ -137,7 +137,7 @@ lets_of self prev r c (right_half ∷ xs) (y ∷ ys) near p f g = absurd p
 from_start : (row : List CellValue) → From row 0 row
 from_start row k = let e : 0 + k ≡ k = omega arith in ap (at row) e
 
--- the last glyph begins where every column from there on has its begin
+-- The last glyph covers every column from its first one on.
 last_begins : (xs : List CellValue) (k : ℕ) → IsPaired xs →
     last_column xs ≤ k → k < length xs → begin_of xs k ≡ last_column xs
 last_begins xs k p = by_last (is_right_half (at xs (length xs - 1))) refl where
@@ -179,7 +179,7 @@ row_local self prev r near is =
 
 -- ---- the rows
 
--- xs are the rows from row r on
+-- The rows xs are those of a picture from row r on.
 abbrev RowsFrom : (picture : Picture) → ℕ → List RowValue → Type 0
 RowsFrom picture r xs = (k : ℕ) → row_of_picture picture (r + k) ≡ get_or xs k (blank_row default_attrs picture.width)
 

@@ -17,14 +17,14 @@ use Rattle.vt_redraw.specs.Moved.{band_source, moved, rows_moved}
 use Rattle.vt_redraw.specs.Picture.{Picture, SamePictureSize}
 use Rattle.vt_redraw.specs.declared.band.Band.{Band}
 
--- a row that no longer goes on below, or as it was
+-- A row that is not wrapped if b holds, and otherwise is unchanged.
 abbrev pub unflagged_if : Bool → RowValue → RowValue
 unflagged_if b row = record row { wrapped = if b then false else row.wrapped }
 
 pub length-unflagged : (width r : ℕ) (rows : List RowValue) → length (unflagged width r rows) ≡ length rows
 length-unflagged width r rows = length-set rows r (record (row_or width rows r) { wrapped = false })
 
--- one row loses its flag
+-- One row ceases to be wrapped.
 pub row_or-unflagged : (width last r : ℕ) (rows : List RowValue) → last < length rows →
     row_or width (unflagged width last rows) r ≡ unflagged_if (r == last) (row_or width rows r)
 row_or-unflagged width last r rows h =
@@ -48,7 +48,7 @@ All-unflagged width r rows h =
     All-set (IsRow width) rows r (record row { wrapped = false })
     (IsRow-wrapped width row false (λ e. cc) (IsRow-row_or width rows r h)) h
 
--- ---- the rows when the band has moved
+-- ---- the rows after a band has moved
 
 pub length-rows_moved : (width : ℕ) (band : Band) (rows : List RowValue) →
     length (rows_moved width band rows) ≡ length rows

@@ -1,4 +1,4 @@
--- Marks on a blank line never get back to a narrow glyph in column 0, once the cursor is past it.
+-- On a blank row, combining characters never return to a narrow glyph in column 0 once the cursor is past it.
 use Rattle.std.proofs.Common.{◌≡◌, ℕ, zero, suc, ◌+◌, ◌-◌, ◌<◌, ◌≤◌, ◌==◌, ◌&&◌, nat_lt, Bool, true, false, not}
 use Rattle.std.proofs.Common.{List, [], ◌∷◌, length, set, Option, Some, None, refl, sym, ap, ◌∙◌, subst, arith}
 use Rattle.std.specs.Prelude.{if◌then◌else◌}
@@ -29,13 +29,13 @@ is_narrow (blank attrs) = false
 is_narrow (glyph text wide attrs) = not wide
 is_narrow right_half = false
 
--- one row of the blank line
+-- A canvas of one row with these cells.
 abbrev pub line : ℕ → Attrs → List CellValue → Bool → ℕ → Canvas
 line width attrs cells flag col = mid (blank_line width attrs) [] [] cells flag (pen_at 0 col attrs)
 
 -- ---- past a narrow glyph in column 0
 
--- the cursor is past a narrow glyph in column 0, and never gets back to it
+-- The cursor is past a narrow glyph in column 0.
 pub record IsPast (width : ℕ) (cells : List CellValue) (col : ℕ) : Type 0 where
   pub size : length cells ≡ width
   pub inside : col ≤ width
@@ -50,7 +50,7 @@ pub record Past (width : ℕ) (attrs : Attrs) (canvas : Canvas) : Type 0 where
   pub is : canvas ≡ line width attrs cells flag col
   pub past : IsPast width cells col
 
--- where a mark goes then
+-- The column of the glyph that a combining character joins.
 record IsBehind (col k : ℕ) : Type 0 where
   pub some : 1 ≤ k
   pub before : k < col
@@ -127,7 +127,7 @@ is_right_half-widened wide (blank attrs) = refl
 is_right_half-widened wide (glyph text was attrs) = refl
 is_right_half-widened wide right_half = refl
 
--- the line with other cells and another column
+-- A canvas of one row with other cells and another cursor column.
 past_line : (width : ℕ) (attrs : Attrs) (cells new : List CellValue) (flag : Bool) (col to : ℕ) (page : Page) →
     page ≡ (line width attrs new (kept flag new) to).page → IsPast width new to →
     Past width attrs (record (line width attrs cells flag col) { page = page })
@@ -146,7 +146,7 @@ carried_there s t w wt lt eq a b c d h = grind (arith, a, b, c, d, h)
 room_left : (col width : ℕ) → col ≤ width → (col == width) ≡ false → col < width
 room_left col width h e = grind (arith, nat_tests)
 
--- the width follows a mark that was put at column k
+-- The width follows the text after a combining character has joined the glyph in column k.
 past_followed : (width : ℕ) (attrs : Attrs) (cells : List CellValue) (flag : Bool) (col k m : ℕ) →
     is_selector m ≡ true → takes_mark (at cells k) ≡ true → IsPast width cells col → IsBehind col k →
     ((is_selector m && (takes_mark (at cells k) && not (is_wide (at cells k))))
@@ -209,7 +209,7 @@ past_followed width attrs cells flag col k m selector takes past place never =
     })
     (λ _. same))
 
--- a mark leaves the cursor past the glyph, unless a row scrolls off
+-- A combining character leaves the cursor past the glyph, unless a row scrolls off.
 mark_past : (width : ℕ) (attrs : Attrs) (cells : List CellValue) (flag : Bool) (col m : ℕ) →
     IsPast width cells col → carries m (line width attrs cells flag col).page ≡ false →
     Past width attrs

@@ -1,4 +1,4 @@
--- The texts of glyphs read back as they were meant.
+-- The text of glyphs is read back unchanged.
 use Rattle.std.proofs.Common.{◌≡◌, ◌≢◌, ℕ, Bool, List, [], ◌∷◌, Some, refl, sym, ap}
 use Rattle.std.specs.List.{AllByRecursion}
 use Rattle.unicode_width.proofs.Computing.{unicode_width}
@@ -6,7 +6,7 @@ use Rattle.vt_cells.specs.Glyph.{columns_of, IsMark, IsGlyphText}
 use Rattle.vt_cells.proofs.Glyphs.{IsGlyphText-spelled}
 use Rattle.vt_redraw.specs.Fits.{IsDrawn, IsDrawnText}
 
--- U+FFFD takes a column, so it is no mark
+-- U+FFFD takes a column, so it is no combining character.
 replacement_columns : columns_of 0xFFFD ≡ Some 1
 unfolding columns_of unicode_width
 replacement_columns = refl

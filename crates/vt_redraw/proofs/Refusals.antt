@@ -1,4 +1,4 @@
--- Texts that a sink may refuse: a text is not empty if a part of it isn't.
+-- Output that a sink may refuse: output isn't empty if a part of it isn't.
 use Rattle.std.proofs.Common.{◌≡◌, ℕ, ◌-◌, ◌<◌, ◌≤◌, Bool, true, false, List, [], ◌∷◌, ◌++◌}
 use Rattle.std.proofs.Common.{length, refl, sym, subst, ap, arith}
 use Rattle.std.proofs.Common.{append-nil, append_assoc, length-append, replicate, ◌∙◌}
@@ -20,7 +20,7 @@ use Rattle.vt_redraw.specs.declared.pen.Pen.{Pen}
 use Rattle.vt_redraw.proofs.ItemSteps.{part_item, whole_item}
 use Rattle.vt_redraw.proofs.RowSteps.{from_settled}
 
--- ---- two texts
+-- ---- concatenated output
 
 pub some_first : (xs ys : List ℕ) → 0 < length xs → 0 < length (xs ++ ys)
 some_first xs ys some = let size = length-append xs ys in omega arith
@@ -28,7 +28,7 @@ some_first xs ys some = let size = length-append xs ys in omega arith
 pub some_behind : (xs ys : List ℕ) → 0 < length ys → 0 < length (xs ++ ys)
 some_behind xs ys some = let size = length-append xs ys in omega arith
 
--- ---- two lists of operations
+-- ---- concatenated operations
 
 pub ops_first : (xs ys : List Op) → 0 < length (bytes_of_all xs) → 0 < length (bytes_of_all (xs ++ ys))
 ops_first xs ys some =
@@ -40,7 +40,7 @@ ops_behind xs ys some =
     subst (λ (z : List ℕ). 0 < length z) (sym (flat_map-append bytes_of xs ys))
     (some_behind (bytes_of_all xs) (bytes_of_all ys) some)
 
--- ---- what is behind a text that was written or gathered
+-- ---- output after what was written or buffered
 
 pub grown : (before more after : List ℕ) → after ≡ before ++ more → length before ≤ length after
 grown before more after e =
@@ -52,7 +52,7 @@ pub grown_gathered : (before buffer after : List ℕ) → after ≡ gathered bef
 unfolding gathered
 grown_gathered before buffer after e = grown before buffer after e
 
--- what was still to be written isn't empty, so the whole isn't
+-- The whole output isn't empty if what is still to write isn't.
 pub leads_some : (old mid buffer : List ℕ) (rest whole : Scripted) → Leads (gathered mid buffer) rest old whole →
     length old ≤ length mid → 0 < length (buffer ++ bytes_of_all rest.ops) → 0 < length (bytes_of_all whole.ops)
 leads_some old mid buffer rest whole leads le some =
@@ -61,7 +61,7 @@ leads_some old mid buffer rest whole leads le some =
     (ap (λ (xs : List ℕ). gathered mid buffer ++ xs) (append-nil (bytes_of_all rest.ops)) ∙ leads.bytes) le
     (omega arith)
 
--- the same with nothing gathered
+-- The whole output isn't empty if what is still to write isn't, with an empty buffer.
 pub rest_some : (old mid : List ℕ) (rest whole : Scripted) → Leads mid rest old whole →
     length old ≤ length mid → 0 < length (bytes_of_all rest.ops) → 0 < length (bytes_of_all whole.ops)
 rest_some old mid rest whole leads le some =
@@ -71,7 +71,7 @@ rest_some old mid rest whole leads le some =
     ap (λ (xs : List ℕ). length xs) leads.bytes in
     omega arith
 
--- what is written next isn't empty
+-- The whole output isn't empty if what is written next isn't.
 pub behind_some : (old mid more : List ℕ) (rest whole : Scripted) → Leads (mid ++ more) rest old whole →
     length old ≤ length mid → 0 < length more → 0 < length (bytes_of_all whole.ops)
 behind_some old mid more rest whole leads le some =
@@ -82,7 +82,7 @@ behind_some old mid more rest whole leads le some =
     ap (λ (xs : List ℕ). length xs) leads.bytes in
     omega arith
 
--- what is written first isn't empty
+-- The whole output isn't empty if what is written first isn't.
 pub start_some : (first : List ℕ) (rest whole : Scripted) → Leads first rest [] whole →
     0 < length first → 0 < length (bytes_of_all whole.ops)
 start_some first rest whole leads some =
@@ -93,7 +93,7 @@ pub buffer_some : (buffer xs ys : List ℕ) → (0 < length xs → 0 < length ys
 buffer_some [] xs ys more some = more some
 buffer_some (x ∷ buffer) xs ys more some = omega arith
 
--- what was gathered is written before a text
+-- The buffer is written before other output, so the output has not become shorter.
 pub grown_behind : (before buffer mid more after : List ℕ) → mid ≡ gathered before buffer → after ≡ mid ++ more →
     length before ≤ length after
 grown_behind before buffer mid more after e f =
@@ -101,7 +101,7 @@ grown_behind before buffer mid more after e f =
     let then = grown mid more after f in
     omega arith
 
--- operations that are written behind what was gathered
+-- Operations that are written after the buffer.
 pub gathers_behind : {A E : Type 0} (result : Result A E) (start before mid end behind : List ℕ) (ops : List Op) →
     mid ≡ gathered start before → behind ≡ [] → AppendsOrStops result mid end ops →
     GathersOrStops result start before end behind ops
@@ -113,7 +113,7 @@ gathers_behind result start before mid end behind ops flushed empty appends = re
   some = on_err_weaker result (some_behind before (bytes_of_all ops)) appends.some;
 }
 
--- a text behind another one isn't empty
+-- The whole output isn't empty if a part after its first part isn't.
 pub text_behind_some : (old first mid more whole : List ℕ) → mid ≡ old ++ first → mid ++ more ≡ old ++ whole →
     0 < length more → 0 < length whole
 text_behind_some old first mid more whole e f some =
@@ -125,7 +125,7 @@ text_behind_some old first mid more whole e f some =
 
 -- ---- rows
 
--- what a row wrote where nothing was refused, and what a link did
+-- The output of a row, and that of a link, if nothing was refused.
 pub wrote_all : (text : List ℕ) (whole : Scripted) →
     Writes text (text ++ bytes_of_all whole.ops) whole.pen whole.flag whole
 wrote_all text whole = record { bytes = refl; stands = refl; goes_on = refl }
@@ -146,7 +146,7 @@ row_some r k pen flag x ys some =
     ops_first cells.ops (row_break r cells.pen cells.flag x.wrapped x.cells).ops
     (subst (λ (w : Scripted). 0 < length (bytes_of_all w.ops)) (from_settled r k pen flag x.cells ys) some)
 
--- ---- one row for itself
+-- ---- a single row
 
 pub range_some : (r start stop : ℕ) (x y : RowValue) (w : Scripted) →
     w ≡ range_written r start stop y.wrapped x.cells y.cells → 0 < length (bytes_of_all w.ops) →
@@ -166,7 +166,7 @@ range_some r start stop x y w e some = by_case (is_whole start stop (length x.ce
       whole e refl refl refl refl)
       (some_first (bytes_of_all w.ops) more some)
 
--- ---- a wrap that is pending under the last glyph
+-- ---- a wrap that is made pending after the last glyph
 
 pub under_last_text : (pen last : Pen) (i r : ℕ) (cells : List CellValue) (t0 t1 t2 t3 : List ℕ) →
     t1 ≡ t0 ++ bytes_of_all (behind_last_glyph i pen cells).ops → last ≡ (behind_last_glyph i pen cells).pen →

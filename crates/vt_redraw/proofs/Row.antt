@@ -1,4 +1,4 @@
--- The operations of a row draw its cells over those that the reader shows.
+-- The operations of a row draw its cells over those that the terminal displays.
 use Rattle.std.proofs.Common.{◌≡◌, ℕ, zero, suc, ◌+◌, ◌<◌, ◌≤◌, ◌==◌, Bool, true, false, List, [], ◌∷◌, ◌++◌}
 use Rattle.std.proofs.Common.{length, take, drop, Some, refl, sym, ap, ◌∙◌, subst, append-nil, arith}
 use Rattle.std.proofs.lemmas.Bool.{cond_both}
@@ -45,7 +45,7 @@ behind_wide text a right_half ys h = (refl, h)
 behind_wide text a (blank b) ys h = absurd h
 behind_wide text a (glyph other wide b) ys h = absurd h
 
--- a pen in the row, at most behind its last column
+-- A pen in the row, at most after its last column, is within the page.
 pen_within : (base : Canvas) (done below : List RowValue) (pre : List CellValue) (r c height left col : ℕ) (a : Attrs) →
     Place base done below pre r c height left → col ≤ c + left → Within (pen_at r col a) height base.page.width
 pen_within base done below pre r c height left col a at h =
@@ -53,7 +53,7 @@ pen_within base done below pre r c height left col a at h =
     let columns = at.columns in
     record { row = omega arith; col = omega arith }
 
--- where a glyph is printed
+-- There is room for a glyph that is printed here.
 glyph_spot : (base : Canvas) (done below : List RowValue) (pre : List CellValue)
     (o y : CellValue) (ys : List CellValue) (flag : Bool) (r c height left : ℕ) (wide : Bool) →
     Place base done below pre r c height left → glyph_columns wide ≤ left → Paired pre →
@@ -62,14 +62,14 @@ glyph_spot base done below pre o y ys flag r c height left wide at h front sound
     let columns = at.columns in
     record { row = at.above; col = at.before; fits = omega arith; front = front; sound = sound }
 
--- what a row's cells are to draw
+-- The statement that a row's cells are drawn.
 abbrev RowDraws : (ℕ → ℕ → Type 0) → Canvas → (done below : List RowValue) →
     (xs ys pre : List CellValue) → CellValue → (r c k : ℕ) → Pen → Bool → ℕ → Type 0
 RowDraws May base done below xs ys pre o r c k pen flag height =
     Wrote May (cells_written r c pen flag k xs ys) base done below
     (mid base done below (shown pre o k xs ys) flag pen) (pre ++ (xs ++ drop (length xs) ys)) height
 
--- the first cell stands already
+-- The first cell is displayed already.
 same_draws : (May : ℕ → ℕ → Type 0) (w : Scripted) (base : Canvas) (done below : List RowValue)
     (x y : CellValue) (pre ys goal : List CellValue) (o : CellValue) (flag : Bool) (pen : Pen) (height : ℕ) →
     same_cell x y ≡ true → Loose (y ∷ ys) → opened o (x ∷ ys) ≡ x ∷ ys →

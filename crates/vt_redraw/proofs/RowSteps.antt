@@ -15,7 +15,7 @@ use Rattle.vt_redraw.specs.declared.links.Link.{Link}
 use Rattle.vt_redraw.specs.declared.pen.Pen.{Pen}
 use Rattle.vt_redraw.proofs.CellSteps.{leads_after, settled_passed}
 
--- the text of one list of operations, and then of another
+-- The output of two lists of operations is concatenated.
 joined_bytes : (t0 t1 t2 : List ℕ) (xs ys : List Op) → t1 ≡ t0 ++ bytes_of_all xs →
     t2 ≡ t1 ++ bytes_of_all ys → t2 ≡ t0 ++ bytes_of_all (xs ++ ys)
 joined_bytes t0 t1 t2 xs ys e f =
@@ -30,7 +30,7 @@ from_settled r k pen flag xs ys =
     sym (settled_passed r 0 pen flag k xs ys
     ∙ ap (λ (n : ℕ). cells_written r n pen flag 0 (drop k xs) (drop k ys)) (omega arith))
 
--- the cells of a row and the break
+-- The output of the cells of a row and of the break.
 pub row_writes : (r k : ℕ) (pen p1 p2 : Pen) (flag f1 on : Bool)
     (x : RowValue) (ys : List CellValue) (t0 t1 t2 : List ℕ) →
     t1 ≡ t0 ++ bytes_of_all (cells_from r k pen flag x.cells ys).ops →
@@ -51,7 +51,7 @@ row_writes r k pen p1 p2 flag f1 on x ys t0 t1 t2 e f g h =
       goes_on = last.goes_on;
     }
 
--- ---- row after row
+-- ---- rows in sequence
 
 rows_from_here : (width r : ℕ) (rows : List RowValue) → r < length rows →
     drop r rows ≡ row_or width rows r ∷ drop (r + 1) rows

@@ -1,4 +1,4 @@
--- The rows one after the other, each linked with the row above it.
+-- Rows in sequence, each linked with the row above it.
 use Rattle.std.proofs.Common.{◌≡◌, ◌≢◌, ◌⊎◌, ℕ, suc, ◌+◌, ◌<◌, ◌≤◌, ◌&&◌, ◌||◌, Bool, true, false, not, List, [], ◌∷◌}
 use Rattle.std.proofs.Common.{◌++◌, length, drop, Some, inl, inr, refl, sym, ap, ◌∙◌, subst, append_assoc, arith}
 use Rattle.std.specs.List.{AllByRecursion}
@@ -25,13 +25,13 @@ use Rattle.vt_redraw.proofs.Joining.{Joins, ready_start, no_join, link_draws}
 
 -- ---- the rows
 
--- a row of this width: whole glyphs, and a flag only where it does not end blank
+-- A valid row of this width: no wide character is cut, and it is wrapped only if its last column is not blank.
 pub record Stands (width : ℕ) (row : RowValue) : Type 0 where
   pub columns : length row.cells ≡ width
   pub paired : Paired row.cells
   pub sound : Sound row.wrapped row.cells
 
--- the last row does not go on below
+-- The last row is not wrapped.
 abbrev pub ends_unwrapped : RowValue → List RowValue → Type 0
 ends_unwrapped x [] = x.wrapped ≡ false
 ends_unwrapped x (y ∷ ys) = ends_unwrapped y ys
@@ -82,7 +82,7 @@ step_joins May base done below above x y on r height pen reads
     by_cases t (inl f) = inl (f, t)
     by_cases t (inr ne) = inr (λ q. ne (ap (λ (z : RowValue). z.cells) q))
 
--- ---- a row that stands keeps its flag
+-- ---- a row that is equal stays wrapped
 
 not_torn : (xs : List CellValue) → Paired xs → is_torn xs ≡ false
 not_torn [] h = refl
@@ -128,17 +128,17 @@ row_same r k pen flag x y e f =
     ∙ (ap (λ (z : RowValue). (row_written r k pen x.wrapped x z.cells).flag) (sym e)
     ∙ ap (λ (w : Scripted). w.flag) (row_nothing r k pen x))
 
--- so where it falls although it is to stand, the rows differ
+-- The rows differ if the terminal's row ceased to be wrapped although it must be.
 fell : (r k : ℕ) (pen : Pen) (flag : Bool) (x y : RowValue) → (x ≡ y → flag ≡ y.wrapped) →
     (row_written r k pen flag x y.cells).flag ≡ false → x.wrapped ≡ true → x ≢ y
 fell r k pen flag x y same f t e = let s = row_same r k pen flag x y e (same e) in cc
 
--- ---- one after the other
+-- ---- rows in sequence
 
 abbrev pub PrintsRow : ℕ → RowValue → Type 0
 PrintsRow width row = PrintsCells width row.cells
 
--- what the rows under row r may touch: a row that differs, and one under such a row
+-- `May` holds for what the rows below row r touch: rows that differ, and rows directly below such a row.
 abbrev pub BelowMay : (ℕ → ℕ → Type 0) → (width r : ℕ) → (above other : RowValue) → (xs ys : List RowValue) → Type 0
 BelowMay May width r above other [] ys = Unit {0}
 BelowMay May width r above other (x ∷ xs) [] = Unit {0}
@@ -209,13 +209,13 @@ abbrev pub flags_end : List RowValue → Type 0
 flags_end [] = Unit {0}
 flags_end (x ∷ xs) = ends_unwrapped x xs
 
--- what all rows may touch
+-- `May` holds for what all rows touch.
 abbrev pub RowsMay : (ℕ → ℕ → Type 0) → (width : ℕ) → (xs ys : List RowValue) → Type 0
 RowsMay May width [] ys = Unit {0}
 RowsMay May width (x ∷ xs) [] = Unit {0}
 RowsMay May width (x ∷ xs) (y ∷ ys) = (x ≢ y → RowMay May width 0 x y) × BelowMay May width 0 x y xs ys
 
--- the rows that the reader shows become others, cells and flags
+-- The rows that the terminal displays become those of the new picture.
 pub rows_draw : (May : ℕ → ℕ → Type 0) (base : Canvas) (xs ys : List RowValue) (height : ℕ) (pen : Pen) →
     Reads base height base.page.width → length xs ≡ height → length ys ≡ height →
     AllByRecursion (Stands base.page.width) xs → AllByRecursion (Stands base.page.width) ys →

@@ -1,4 +1,4 @@
--- Scripts restore the cursor only where they have saved it.
+-- Scripts restore the cursor only after they have saved it.
 use Rattle.std.proofs.Common.{◌≡◌, ℕ, zero, suc, ◌+◌, ◌-◌, ◌==◌, ◌&&◌, ◌||◌, nat_lt, Bool, true, not, List, []}
 use Rattle.std.proofs.Common.{◌∷◌, ◌++◌, length, drop, replicate, Option, Some, None, refl}
 use Rattle.std.specs.Prelude.{if◌then◌else◌}
@@ -21,7 +21,7 @@ use Rattle.vt_redraw.specs.Redraw.{row_written, link_of, rows_below, rows_writte
 use Rattle.vt_redraw.specs.Redraw.{blank_passed, pending_at, cursor_written, pen_of, script, hiding, difference}
 use Rattle.vt_redraw.specs.Redraw.{blank_like, redraw, pending_alone, cursor_state}
 
--- whether the cursor was saved, after an operation
+-- Whether the cursor was saved, after an operation.
 abbrev pub saved_after : Bool → Op → Bool
 saved_after saved SaveCursor = true
 saved_after saved _ = saved
@@ -30,7 +30,7 @@ abbrev pub IsAllowed : Bool → Op → Type 0
 IsAllowed saved RestoreCursor = saved ≡ true
 IsAllowed saved _ = Unit {0}
 
--- each restoration comes after the cursor was saved
+-- Each restoration comes after the cursor was saved.
 abbrev pub SavesFirst : Bool → List Op → Type 0
 SavesFirst saved [] = Unit {0}
 SavesFirst saved (op ∷ ops) = IsAllowed saved op × SavesFirst (saved_after saved op) ops
@@ -213,7 +213,7 @@ cursor_safe pen width rows r c =
     (λ _. cond_both (nat_lt c width) (move_ops pen r c) (pending_at (nearest width rows r) pen width rows r) IsSafe
     (λ _. going_safe pen r c) (λ _. pending_safe (nearest width rows r) pen width rows r))
 
--- ---- the whole
+-- ---- whole pictures
 
 script_safe : (self prev : Picture) → IsSafe (script self prev)
 unfolding script

@@ -1,4 +1,4 @@
--- A steady glyph's text is never made narrow on the way, so it prints everywhere.
+-- The text of a steady glyph is never made narrow while it is printed, so it prints everywhere.
 use Rattle.std.proofs.Common.{◌≡◌, ℕ, zero, suc, ◌+◌, ◌<◌, ◌≤◌, ◌&&◌, nat_lt, Bool, true, false, not, List}
 use Rattle.std.proofs.Common.{[], ◌∷◌, ◌++◌, drop, Option, Some, None, refl, sym, ap, ◌∙◌, arith}
 use Rattle.std.specs.Prelude.{if◌then◌else◌}
@@ -27,7 +27,7 @@ use Rattle.vt_redraw.proofs.Texts.{next, Grows, Prints, followed}
 use Rattle.vt_redraw.proofs.Printing.{mark_follows, mark_drawn}
 use Rattle.vt_redraw.proofs.Past.{is_narrow, Past, past_marks}
 
--- ---- a glyph alone on a blank line
+-- ---- a glyph alone on a blank row
 
 abbrev alone : ℕ → List ℕ → Bool → Attrs → Canvas
 alone n text wide attrs = put (blank_line (suc n) attrs) [] [] [] (blanks default_attrs n) false 0 0 text wide attrs
@@ -41,7 +41,7 @@ first_cell : (n : ℕ) (text : List ℕ) (wide : Bool) (attrs : Attrs) →
 first_cell n text true attrs = refl
 first_cell n text false attrs = refl
 
--- which is not past a narrow glyph
+-- A glyph alone on a row is not past a narrow glyph.
 alone_not_past : (n : ℕ) (text : List ℕ) (wide : Bool) (attrs : Attrs) →
     Past (suc n) attrs (alone n text wide attrs) → ⊥
 alone_not_past n text wide attrs p =
@@ -55,7 +55,7 @@ alone_not_past n text wide attrs p =
     by_width true e h far = absurd (cc)
     by_width false e h far = omega arith
 
--- a wide glyph made narrow
+-- A wide glyph is made narrow.
 narrowed : (n : ℕ) (text : List ℕ) (attrs : Attrs) → 2 ≤ suc n →
     Past (suc n) attrs (record (alone n text true attrs) { page = made_narrow 0 attrs (alone n text true attrs).page })
 narrowed n text attrs h =
@@ -96,7 +96,7 @@ next_fits width wide text m pos h =
     both false true g = omega arith
     both false false g = omega arith
 
--- a wide glyph that a mark makes narrow
+-- A combining character makes a wide glyph narrow.
 mark_narrows : (n : ℕ) (text : List ℕ) (attrs : Attrs) (m : ℕ) → IsMark m →
     has_room text ≡ true → 2 ≤ suc n → next (suc n) true text m ≡ false →
     drawn_char m (alone n text true attrs)
@@ -164,7 +164,7 @@ steady_grows (m ∷ ms) n text wide attrs whole last marks joins le last_le h =
 
 -- ---- the first character
 
--- marks in column 0 draw nothing
+-- Combining characters in column 0 draw nothing.
 marks_nothing : (ms : List ℕ) (width : ℕ) (attrs : Attrs) → AllByRecursion IsMark ms →
     drawn_text ms (blank_line width attrs) ≡ Some (blank_line width attrs)
 marks_nothing [] width attrs marks = refl
@@ -173,13 +173,13 @@ marks_nothing (m ∷ ms) width attrs marks =
     (char_drawn m (Some 0) (blank_line width attrs) (blank_line width attrs).page marks.0.1 refl refl)
     ∙ marks_nothing ms width attrs marks.1
 
--- a character of two columns draws nothing on one
+-- A character of two columns draws nothing on a screen of one column.
 too_wide : (c k width : ℕ) (attrs : Attrs) → columns_of c ≡ Some (suc (suc k)) →
     nat_lt 1 width ≡ false → drawn_char c (blank_line width attrs) ≡ Some (blank_line width attrs)
 too_wide c k width attrs e h =
     char_drawn c (Some (suc (suc k))) (blank_line width attrs) (blank_line width attrs).page e (rw h refl) (rw h refl)
 
--- a steady glyph prints on every screen of its width
+-- A steady glyph prints on every screen of its width.
 pub steady_prints : (n : ℕ) (text : List ℕ) (wide : Bool) (attrs : Attrs) → IsGlyphText text wide →
     glyph_columns wide ≤ suc n → IsSteadyGlyph (suc n) text wide attrs → Prints (suc n) text wide
 steady_prints n text wide attrs g le steady = by_columns (columns_of g.first) refl

@@ -1,4 +1,4 @@
--- What tells a steady glyph: its width after each of its characters.
+-- How a steady glyph is recognized: by its width after each of its characters.
 use Rattle.std.proofs.Common.{◌≡◌, ◌↔◌, ℕ, zero, suc, ◌+◌, ◌<◌, ◌≤◌, ◌||◌, nat_lt, Bool, true, false, List, []}
 use Rattle.std.proofs.Common.{◌∷◌, ◌++◌, drop, length, take, Some, None, Option, refl, sym, ap, subst, ◌∙◌, arith}
 use Rattle.std.proofs.Common.{eqb-true, get_or, length-append, ◌≢◌, ◌&&◌}
@@ -28,7 +28,7 @@ use Rattle.vt_redraw.proofs.Steady.{steady_prints}
 use Rattle.vt_redraw.proofs.SteadyWithout.{prints_steady, without_cell}
 use Rattle.vt_redraw.proofs.Texts.{next, Grows, Prints}
 
--- ---- lengths, gathered bit by bit
+-- ---- lengths, accumulated bit by bit
 
 pub or_le_left : (a b : ℕ) → a ≤ bit_or a b
 or_le_left a b = omega (arith, or_add_and a b, and_le_r a b)
@@ -71,7 +71,7 @@ pub none_of : (b : Bool) → (b ≡ true → ⊥) → b ≡ false
 none_of true h = absurd (h refl)
 none_of false h = refl
 
--- U+FE0F is no first character, and a mark takes three bytes after one
+-- A text of fewer than four bytes has no U+FE0F, because that is no first character and takes three bytes after one.
 pub short_has_none : (cell : CellValue) → IsCell cell → length (text_of cell) < 4 → has_selector cell ≡ false
 short_has_none (blank attrs) is short = refl
 short_has_none right_half is short = refl
@@ -93,7 +93,7 @@ same_start false false e = refl
 same_start true false e = absurd (cc)
 same_start false true e = absurd (cc)
 
--- a glyph is steady exactly if its text grows to it from its first character
+-- A glyph is steady exactly if its text grows to it from its first character.
 pub steady_grows_so : (width : ℕ) (text : List ℕ) (wide : Bool) (attrs : Attrs) (first : ℕ) (marks : List ℕ)
     (start : Bool) → IsGlyphText text wide → glyph_columns wide ≤ width → chars text ≡ first ∷ marks →
     columns_of first ≡ Some (glyph_columns start) →
@@ -129,7 +129,7 @@ steady_grows_so (suc n) text wide attrs first marks start g le is columns = (
 
 -- ---- rows
 
--- in a row each glyph has its columns
+-- Each glyph of a row has all its columns there.
 pub row_fits : (width : ℕ) (cells : List CellValue) → Paired cells → length cells ≤ width → All (FitsColumns width) cells
 row_fits width [] p le = All-nil (FitsColumns width)
 row_fits width (blank a ∷ cells) p le =
@@ -154,7 +154,7 @@ blank_none (blank a) e = refl
 blank_none (glyph text wide a) e = absurd (cc)
 blank_none right_half e = absurd (cc)
 
--- with blanks after them, cells are steady exactly if they are without
+-- Cells followed by blanks are steady exactly if they are steady without the blanks.
 pub steady_so : (width n : ℕ) (own cells : List CellValue) → own ≡ take n cells →
     All (λ (cell : CellValue). is_blank cell ≡ true) (drop n cells) →
     All (IsSteadyCell width) own ↔ All (IsSteadyCell width) cells
@@ -166,7 +166,7 @@ steady_so width n own cells is rest = (
   λ all. subst (All (IsSteadyCell width)) (sym is) (All-take (IsSteadyCell width) n cells all),
 )
 
--- and have no U+FE0F
+-- Cells followed by blanks have no U+FE0F if they have none without the blanks.
 pub none_so : (n : ℕ) (own cells : List CellValue) → own ≡ take n cells →
     All (λ (cell : CellValue). is_blank cell ≡ true) (drop n cells) →
     All (λ (cell : CellValue). has_selector cell ≡ false) own → All (λ (cell : CellValue). has_selector cell ≡ false) cells
@@ -178,15 +178,15 @@ none_so n own cells is rest all =
 
 -- ---- a glyph printed character by character
 
--- of a glyph's text all but these characters were printed, and gave a text of this width: the glyph is steady exactly
--- if they make it grow to the glyph
+-- All but some last characters of a glyph's text were printed and gave a text of this width: the glyph is steady
+-- exactly if these characters make that text grow to the glyph.
 pub record IsPrintedTo (width : ℕ) (cell printed : CellValue) (wide : Bool) (rest : List ℕ) : Type 0 where
   pub glyph : is_glyph printed ≡ true
   pub marks : AllByRecursion IsMark rest
   pub joins : Joins (text_of printed) rest (text_of cell)
   pub so : IsSteadyCell width cell ↔ Grows width wide (text_of printed) rest (is_wide cell) (text_of cell)
 
--- a glyph's first character, and its marks
+-- The first character of a glyph and its combining characters.
 pub record IsSpelled (cell : CellValue) (first : ℕ) (marks : List ℕ) : Type 0 where
   pub drawn : columns_of first ≢ Some 0
   pub shown : columns_of first ≢ None
@@ -214,7 +214,7 @@ spelled (glyph text wide a) first marks t g e =
       joins = g.spelled;
     })
 
--- a character that is drawn takes two columns or one
+-- A character that takes columns takes one or two.
 pub two_or_one : (c : ℕ) → columns_of c ≢ Some 0 → columns_of c ≢ None →
     columns_of c ≡ Some (glyph_columns (option_eq nat_eq (columns_of c) (Some 2)))
 two_or_one c drawn shown = by_columns (columns_of c) refl
@@ -240,7 +240,7 @@ printed_first width (glyph text wide a) first marks start attrs t g le e columns
       so = steady_grows_so width text wide a first marks start g le e columns;
     }
 
--- the width after one character more
+-- The width after one more character.
 abbrev pub width_then : ℕ → Bool → CellValue → ℕ → Bool
 width_then width wide printed mark =
     if is_selector mark then is_wide_text (text_of printed) && nat_lt 1 width else wide
@@ -283,7 +283,7 @@ printed_mark width cell printed after wide follows mark rest h is by kept =
       );
     }
 
--- a glyph made narrow on the way isn't steady
+-- A glyph that is made narrow while it is printed isn't steady.
 pub printed_narrowed : (width : ℕ) (cell printed after : CellValue) (wide follows : Bool) (mark : ℕ)
     (rest : List ℕ) → IsPrintedTo width cell printed wide (mark ∷ rest) → after ≡ marked mark printed →
     follows ≡ width_then width wide after mark → wide ≡ true → follows ≡ false → IsSteadyCell width cell → ⊥
@@ -295,7 +295,7 @@ printed_narrowed width cell printed after wide follows mark rest h is by was not
     let still : follows ≡ true = new ∙ (h.so.0 steady).1.0 was in
     absurd (cc)
 
--- at the end its width tells
+-- A glyph that is printed in full is steady exactly if it has the right width.
 pub printed_all : (width : ℕ) (cell printed : CellValue) (wide : Bool) → IsPrintedTo width cell printed wide [] →
     (same : Bool) → same ≡ beq wide (is_wide cell) → IsTrue same ↔ IsSteadyCell width cell
 printed_all width cell printed wide h same is = (
@@ -332,7 +332,7 @@ selector_in_text (glyph text wide a) = refl
 selector_in_text (blank a) = ap (list_any is_selector) chars-nil
 selector_in_text right_half = ap (list_any is_selector) chars-nil
 
--- a cell without U+FE0F is steady
+-- A cell without U+FE0F is steady.
 pub cell_without : (width : ℕ) (cell : CellValue) → IsCell cell → FitsColumns width cell → has_selector cell ≡ false →
     IsSteadyCell width cell
 cell_without width (blank a) is le none = tt
@@ -341,7 +341,7 @@ cell_without zero (glyph text true a) g le none = absurd (omega arith)
 cell_without zero (glyph text false a) g le none = absurd (omega arith)
 cell_without (suc n) (glyph text wide a) g le none = without_cell n text wide a g none le
 
--- a cell whose text has at most this many bytes
+-- A cell whose text has at most `bound` bytes.
 pub record IsWithin (bound : ℕ) (cell : CellValue) : Type 0 where
   pub sound : IsCell cell
   pub bytes : length (text_of cell) ≤ bound
@@ -355,7 +355,7 @@ within_short bound short cell h = short_has_none cell h.sound (omega (arith, h.b
 abbrev pub IsSteadyRow : ℕ → RowValue → Type 0
 IsSteadyRow width row = All (IsSteadyCell width) row.cells
 
--- what a test tells of a row, it tells of what the row is
+-- The result of a test of a row holds for an equal row.
 pub row_tells : (width : ℕ) (row other : RowValue) (test : Bool) → row ≡ other → length row.cells ≡ width →
     (IsTrue test ↔ All (IsSteadyCell (length row.cells)) row.cells) → IsTrue test ↔ IsSteadyRow width other
 row_tells width row other test same columns tells =

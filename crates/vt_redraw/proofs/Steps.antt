@@ -1,4 +1,4 @@
--- What single operations draw on a page whose region is all of it.
+-- What single operations draw on a page whose scroll region is the whole page.
 use Rattle.std.proofs.Common.{◌≡◌, ℕ, zero, suc, ◌+◌, ◌-◌, ◌<◌, ◌≤◌, ◌==◌, ◌&&◌, nat_lt, min, true}
 use Rattle.std.proofs.Common.{false, List, [], ◌∷◌, length, Option, Some, refl, sym, ap, ◌∙◌, arith}
 use Rattle.std.proofs.lemmas.Bool.{cond_both, and_parts, eqb-true, ltb-true, ne_eqb, lt-ltb}
@@ -12,14 +12,14 @@ use Rattle.vt_redraw.specs.Script.{pen_at, move_ops, attr_ops}
 use Rattle.vt_redraw.specs.declared.pen.Pen.{Pen}
 use Rattle.vt_grid.proofs.Drawing.{Draws}
 
--- the reading terminal with these rows, its cursor and attributes at the pen
+-- The terminal with these rows, and its cursor and attributes those of the pen.
 abbrev pub at_pen : Canvas → List RowValue → Pen → Canvas
 at_pen base rows pen = record base {
   page = record (base.page) { rows = rows; row = pen.row; column = pen.col };
   attrs = pen.attrs;
 }
 
--- what the reading terminal is besides
+-- The premises about the rest of the terminal.
 pub record Reads (base : Canvas) (height width : ℕ) : Type 0 where
   pub bottom : base.page.bottom + 1 ≡ height
   pub origin : base.page.origin ≡ false
@@ -37,7 +37,7 @@ arrives : (ops : List Op) (a base : Canvas) (rows : List RowValue) (p q : Pen) �
     Draws ops a (at_pen base rows p) → p ≡ q → Draws ops a (at_pen base rows q)
 arrives ops a base rows p q h e = h ∙ ap (λ (x : Pen). Some (at_pen base rows x)) e
 
--- ---- moves
+-- ---- cursor movement
 
 next_row_draws : (base : Canvas) (rows : List RowValue) (pen : Pen) →
     (pen.row == base.page.bottom) ≡ false → nat_lt (pen.row + 1) (length rows) ≡ true →

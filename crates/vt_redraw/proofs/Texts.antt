@@ -1,4 +1,4 @@
--- A glyph's text, character by character, gives what the glyph put at once gives.
+-- Printing a glyph's text character by character has the same effect as putting the glyph at once.
 use Rattle.std.proofs.Common.{◌≡◌, ℕ, zero, suc, ◌+◌, ◌-◌, ◌≤◌, ◌==◌, ◌&&◌, nat_lt, Bool, true, false}
 use Rattle.std.proofs.Common.{not, List, [], ◌∷◌, ◌++◌, length, set, Some, refl, sym, ap, ◌∙◌, arith}
 use Rattle.std.specs.Prelude.{if◌then◌else◌, chars}
@@ -17,11 +17,12 @@ use Rattle.vt_redraw.specs.Script.{pen_at}
 use Rattle.vt_redraw.proofs.Flags.{kept}
 use Rattle.vt_redraw.proofs.Edits.{mid, glyph_cells, cursor_row_is, edited_at}
 
--- whether a glyph is wide after one more mark
+-- Whether a glyph is wide after one more combining character.
 abbrev pub next : ℕ → Bool → List ℕ → ℕ → Bool
 next width wide text mark = if is_selector mark then is_wide_text (text ++ encode_utf8 mark) && nat_lt 1 width else wide
 
--- the text of this width gets these marks and becomes another of that width, and is never made narrow on the way
+-- A text of this width grows by these combining characters to another text and width, and is never made narrow on the
+-- way.
 abbrev pub Grows : ℕ → Bool → List ℕ → List ℕ → Bool → List ℕ → Type 0
 Grows width wide text [] last whole = (wide ≡ last) × (text ≡ whole)
 Grows width wide text (m ∷ ms) last whole =
@@ -29,7 +30,7 @@ Grows width wide text (m ∷ ms) last whole =
     × ((wide ≡ true → next width wide text m ≡ true)
     × Grows width (next width wide text m) (text ++ encode_utf8 m) ms last whole)
 
--- on a screen of this width the text prints as one glyph
+-- The text prints as one glyph on a screen of this width.
 pub record Prints (width : ℕ) (text : List ℕ) (wide : Bool) : Type 0 where
   pub first : ℕ
   pub marks : List ℕ
@@ -39,7 +40,7 @@ pub record Prints (width : ℕ) (text : List ℕ) (wide : Bool) : Type 0 where
   pub fits : glyph_columns wide ≤ width
   pub grows : Grows width start (encode_utf8 first) marks wide text
 
--- ---- where a mark goes
+-- ---- the glyph that a combining character joins
 
 at_second : (pre : List CellValue) (x y : CellValue) (rest : List CellValue) (k : ℕ) →
     suc (length pre) ≡ k → at (pre ++ x ∷ y ∷ rest) k ≡ y
@@ -67,7 +68,7 @@ mark_column_at pre text true attrs rest c e =
     let i : c + 2 - 2 ≡ c = omega arith in
     rw (at_second pre (glyph text true attrs) right_half rest (c + 2 - 1) (omega arith)) i
 
--- the page with a glyph before its cursor
+-- A page with a glyph before its cursor.
 abbrev pub marking : Canvas → (done below : List RowValue) → (pre : List CellValue) → (text : List ℕ) →
     (wide : Bool) → Attrs → (rest : List CellValue) → (flag : Bool) → (r c : ℕ) → Page
 marking base done below pre text wide attrs rest flag r c =
@@ -95,7 +96,7 @@ marked_cell base done below pre text wide attrs rest flag r c e l =
     flag (pen_at r (c + glyph_columns wide) attrs) e)
     ∙ glyph_at pre text wide attrs rest c l
 
--- ---- nothing is carried to the next row
+-- ---- no glyph is carried to the next row
 
 never_carried : (s w wt lt eq : Bool) → (w ≡ false → (if s then wt && lt else w) ≡ true → eq ≡ false) →
     ((s && (true && not w)) && (wt && (lt && eq))) ≡ false
@@ -113,7 +114,7 @@ stays m page k text wide attrs e x room h =
     ∙ rw room (never_carried (is_selector m) wide (is_wide_text (text ++ encode_utf8 m))
     (nat_lt 1 page.width) (page.column == page.width) h))
 
--- ---- the mark is put, and the width follows
+-- ---- the combining character joins, and the width follows
 
 pub put_marked : (base : Canvas) (done below : List RowValue) (pre : List CellValue) (text : List ℕ)
     (wide : Bool) (attrs : Attrs) (rest : List CellValue) (flag : Bool) (r c m : ℕ) →
@@ -139,7 +140,7 @@ put_marked base done below pre text wide attrs rest flag r c m e l room =
     replaced true =
         set_at pre (glyph text true attrs) (right_half ∷ rest) (glyph (text ++ encode_utf8 m) true attrs) c l
 
--- by the width of the glyph and that of its text
+-- The page after the width of a glyph has followed that of its text.
 abbrev pub followed : Bool → Bool → ℕ → Attrs → Page → Page
 followed was wide k attrs page =
     if was then (if wide then page else made_narrow k attrs page) else (if wide then made_wide k attrs page else page)
@@ -152,7 +153,7 @@ followed_is page k attrs text wide a e =
     ap
     (λ (cell : CellValue). followed (is_wide cell) (is_wide_text (text_of cell) && nat_lt 1 page.width) k attrs page) e
 
--- a mark printed behind a glyph of this width, which has room for it
+-- A combining character is printed after a glyph of this width that has room for it.
 pub mark_printed_is : (base : Canvas) (done below : List RowValue) (pre : List CellValue)
     (text : List ℕ) (wide : Bool) (attrs : Attrs) (rest : List CellValue) (flag : Bool) (r c m : ℕ) →
     length done ≡ r → length pre ≡ c → has_room text ≡ true →

@@ -1,4 +1,4 @@
--- Items of ranges that cut nothing, and of rows that do not go on.
+-- Items of ranges that cut no wide character, and of rows that are not wrapped.
 use Rattle.std.proofs.Common.{◌≡◌, ℕ, zero, suc, ◌+◌, ◌-◌, ◌<◌, ◌≤◌, ◌&&◌, Bool, true, false, not}
 use Rattle.std.proofs.Common.{List, [], ◌∷◌, ◌++◌, length, take, drop, refl, sym, ap, ◌∙◌, arith}
 use Rattle.std.proofs.lemmas.Bool.{cond_both}
@@ -18,7 +18,7 @@ use Rattle.vt_redraw.specs.declared.pen.Pen.{Pen}
 use Rattle.vt_redraw.proofs.Halves.{Paired, paired_of}
 use Rattle.vt_redraw.proofs.RangeDraws.{IsClean}
 
--- ---- ranges that cut nothing
+-- ---- ranges that cut no wide character
 
 split_paired : (n : ℕ) (xs : List CellValue) → Paired xs →
     is_right_half (at xs n) ≡ false → Paired (take n xs) × Paired (drop n xs)
@@ -71,7 +71,7 @@ first_half (blank a ∷ xs) h = refl
 first_half (glyph text wide a ∷ xs) h = refl
 first_half (right_half ∷ xs) h = absurd h
 
--- a whole row is a range that cuts nothing
+-- The range of a whole row cuts no wide character.
 pub whole_cuts_none : (self : Picture) (r : ℕ) → IsPicture self →
     r < length self.rows → CutsNone 0 self.width (row_or self.width self.rows r).cells
 whole_cuts_none self r is low =
@@ -80,7 +80,7 @@ whole_cuts_none self r is low =
     let cells = (row_or self.width self.rows r).cells in
     (first_half cells (paired_of cells row.paired), past_half cells self.width (omega arith))
 
--- ---- rows that do not go on stay so
+-- ---- rows that are not wrapped stay so
 
 pub cells_off : (r c : ℕ) (pen : Pen) (k : ℕ) (xs ys : List CellValue) →
     (cells_written r c pen false k xs ys).flag ≡ false
@@ -123,7 +123,7 @@ unfolding row_break
 broken_off r pen true cells = refl
 broken_off r pen false cells = refl
 
--- a whole item leaves the flag off where the row does not go on
+-- An item of a whole row leaves the row not wrapped if it is not wrapped in the picture.
 pub item_off : (r width : ℕ) (x y : RowValue) → length x.cells ≡ width →
     x.wrapped ≡ false → (item_of_difference r 0 width x y).flag ≡ false
 item_off r width x y e off =

@@ -1,4 +1,4 @@
--- A picture that is read from a page and scrollback above it.
+-- A picture that is borrowed from a page and the scrollback above it.
 use Rattle.std.proofs.Common.{◌≡◌, ℕ, zero, suc, ◌+◌, ◌-◌, ◌<◌, ◌≤◌, ◌==◌, Bool, true, false, List}
 use Rattle.std.proofs.Common.{[], ◌∷◌, ◌++◌, length, inl, inr, refl, sym, ap, subst, ◌∙◌, arith}
 use Rattle.std.specs.Prelude.{◌&&◌, ◌||◌, not, All, replicate}
@@ -29,7 +29,7 @@ use Rattle.vt_redraw.specs.declared.pen.Pen.{Pen}
 use Rattle.vt_redraw.proofs.Cuts.{IsAnyRow, length_cut, cut_are, picture_over_is}
 use Rattle.std.proofs.lemmas.List.Elements.{recursion_from_All}
 
--- ---- the rows in view
+-- ---- the displayed rows
 
 pub visible_length : (above : Scrollback) (rows : List RowValue) → length (visible above rows) ≡ length rows
 visible_length above rows =
@@ -63,7 +63,7 @@ viewed_height (Moved band) above rows width pen hidden =
     length-rows_moved width band (cut_rows width (visible above rows))
     ∙ (length_cut width (visible above rows) ∙ visible_length above rows)
 
--- ---- its rows
+-- ---- the rows of the picture
 
 cut_at : (width : ℕ) (rows : List RowValue) (r : ℕ) → r < length rows →
     row_or width (cut_rows width rows) r ≡ cut_row (r + 1 == length rows) width (row_or width rows r)
@@ -76,7 +76,7 @@ cut_at width (x ∷ y ∷ rows) (suc r) h =
     let e : (r + 1 == suc (length rows)) ≡ (suc r + 1 == suc (suc (length rows))) = grind (arith, nat_tests) in
     cut_at width (y ∷ rows) r (omega arith) ∙ ap (λ (b : Bool). cut_row b width (row_or width (y ∷ rows) r)) e
 
--- past the end there are blank rows, cut or not
+-- Past the end there are blank rows, whether cut or not.
 blank_cut : (b : Bool) (width : ℕ) → cut_row b width (blank_row default_attrs width) ≡ blank_row default_attrs width
 blank_cut b width =
     let is = IsRow-blank_row default_attrs width in
@@ -92,7 +92,7 @@ blank_cut b width =
       no_flag true = refl
       no_flag false = refl
 
--- a row of a picture over rows in view
+-- A row of a picture of displayed rows.
 pub seen_at : (width : ℕ) (rows : List RowValue) (r : ℕ) →
     row_or width (cut_rows width rows) r ≡ row_seen false width rows r
 seen_at width rows r = elim (cases_lt r (length rows)) [
@@ -126,7 +126,7 @@ pub blank_at : (height width r : ℕ) → r < height →
     row_or width (replicate height (blank_row default_attrs width)) r ≡ blank_row default_attrs width
 blank_at height width r h = get_or-replicate height r (blank_row default_attrs width) (blank_row default_attrs width) h
 
--- ---- as the code reads them
+-- ---- rows as the code reads them
 
 pub new_is : (above : Scrollback) (page : Page) (rows : List RowValue)
     (width row column : ℕ) (attrs : Attrs) (hidden : Bool) →
@@ -176,20 +176,20 @@ row_sound (Moved band) above rows width pen hidden r is h =
 
 -- ---- a row as the code finds it
 
--- past the end
+-- A row past the end is blank.
 pub row_past : (b : Bool) (width : ℕ) (rows : List RowValue) (r : ℕ) → length rows ≤ r →
     row_seen b width rows r ≡ blank_row default_attrs width
 row_past b width rows r past =
     ap (cut_row (b || (r + 1 == length rows)) width) (get_or_past rows r (blank_row default_attrs width) past)
     ∙ blank_cut (b || (r + 1 == length rows)) width
 
--- a row that no longer goes on below is cut as the last one
+-- A row that ceases to be wrapped is cut as the last row is.
 last_seen : (b c : Bool) (width : ℕ) (row : RowValue) →
     unflagged_if b (cut_row c width row) ≡ cut_row (b || c) width row
 last_seen true c width row = refl
 last_seen false c width row = refl
 
--- when a band has moved, it is the row where it was
+-- After a band has moved, a row is the one that moved there.
 pub moved_seen : (width : ℕ) (band : Band) (rows : List RowValue) (r from : ℕ) → r < length rows →
     from ≡ band_source band (length rows) r →
     row_or width (rows_moved width band (cut_rows width rows)) r
@@ -203,7 +203,7 @@ moved_seen width band rows r from h f =
     ∙ (ap (unflagged_if (r + 1 == length rows)) (seen_at width rows from)
     ∙ last_seen (r + 1 == length rows) (from + 1 == length rows) width (row_or width rows from))))
 
--- ---- as the code finds them
+-- ---- rows of moved bands as the code finds them
 
 pub seen_is : (is_last ends : Bool) (above : Scrollback) (rows : List RowValue) (width r : ℕ) (found row : RowValue) →
     ends ≡ (r + 1 == length rows) → found ≡ row_or width (visible above rows) r →
@@ -257,7 +257,7 @@ pub row_after : (s : Source) (above : Scrollback) (rows : List RowValue) (width 
     row ≡ row_or width (picture_of_source s above rows width pen hidden).rows r
 row_after s above rows width pen hidden band r row e f = rw e f
 
--- the view of a picture of which a band has moved
+-- The view of a picture of which a band has moved.
 pub moved_is : (above : Scrollback) (page : Page) (rows : List RowValue) (width height row : ℕ)
     (attrs drawn : Attrs) (hidden : Bool) (band : Band) →
     rows ≡ page.rows → width ≡ page.width → height ≡ length page.rows →

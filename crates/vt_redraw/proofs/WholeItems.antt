@@ -1,4 +1,4 @@
--- A whole row's item draws the whole row, and lets it go on below only where it is to.
+-- The item of a whole row draws the row, and makes it wrapped only if it must be.
 use Rattle.std.proofs.Common.{◌≡◌, ℕ, suc, ◌+◌, ◌-◌, ◌<◌, ◌≤◌, ◌&&◌, Bool, true, false, not, List, [], ◌∷◌}
 use Rattle.std.proofs.Common.{◌++◌, length, take, drop, Some, refl, sym, ap, ◌∙◌, subst, append-nil, arith}
 use Rattle.std.specs.Prelude.{if◌then◌else◌}
@@ -47,7 +47,7 @@ range_all xs ys w e f =
     take_whole [] = refl
     take_whole (z ∷ zs) = ap (λ (r : List CellValue). z ∷ r) (take_whole zs)
 
--- the row stands, and goes on below only where it is to
+-- The row is displayed, and is wrapped only if it must be.
 pub record DrewRow (w : Scripted) (base : Canvas) (done below : List RowValue)
     (start : Canvas) (x : RowValue) : Type 0 where
   pub draws : Draws w.ops start (mid base done below x.cells w.flag w.pen)
@@ -95,9 +95,9 @@ whole_item_draws base done below r height x y item hx hy =
     and_true true b h = refl
     and_true false b h = h
 
--- ---- items of a redraw under a row that goes on
+-- ---- items of a redraw after a wrapped row
 
--- the first cell stands
+-- The first cell is displayed.
 record Begins (j : Linked) (base : Canvas) (done below : List RowValue)
     (start : Canvas) (xs ys : List CellValue) (height : ℕ) : Type 0 where
   pub torn : CellValue
@@ -209,7 +209,7 @@ begin_draws base done below (blank a ∷ xs) (y ∷ ys) flag r height b e rows h
       within = record { row = omega arith; col = omega arith };
     }
 
--- the rest of the row
+-- The rest of the row is drawn.
 rest_draws : (j : Linked) (base : Canvas) (done below : List RowValue)
     (start : Canvas) (xs ys : List CellValue) (r height : ℕ) →
     Reads base height base.page.width → length done ≡ r → r + suc (length below) ≡ height →
@@ -231,7 +231,7 @@ rest_draws j base done below start xs ys r height reads e rows hx hy prints begi
     (subst (λ (z : List CellValue). DrawsIn Any w.ops middle (mid base done below z w.flag w.pen)) none drawn.draws) in
     all.draws
 
--- read with the cursor in the first column of a blank row
+-- The item is read with the cursor in the first column of a blank row.
 pub linked_item_draws : (base : Canvas) (done below : List RowValue) (xs : List CellValue) (r height : ℕ) →
     Reads base height base.page.width → length done ≡ r → r + suc (length below) ≡ height →
     length xs ≡ base.page.width → Paired xs → PrintsCells base.page.width xs →
@@ -246,7 +246,7 @@ linked_item_draws base done below xs r height reads e rows hx h prints =
     (begin_draws base done below xs ys false r height default_attrs e rows hx hy
     reads.has_columns h (paired_blanks (length xs) default_attrs) (λ t. absurd (cc)) prints)
 
--- the first cell is written alike from anywhere
+-- The output for the first cell doesn't depend on the pen's position.
 first_alike : (r : ℕ) (pen other : Pen) (flag : Bool) (xs ys : List CellValue) → pen.attrs ≡ other.attrs →
     0 < length xs → 0 < length ys → Paired xs → first_written r pen flag xs ys ≡ first_written r other flag xs ys
 first_alike r pen other flag [] ys e n m h = absurd (omega arith)
@@ -255,7 +255,7 @@ first_alike r pen other flag (right_half ∷ xs) (y ∷ ys) e n m h = absurd h
 first_alike r pen other flag (blank a ∷ xs) (y ∷ ys) e n m h = rw e refl
 first_alike r pen other flag (glyph text wide a ∷ xs) (y ∷ ys) e n m h = rw e refl
 
--- read with the cursor pending behind a glyph at the end of the row above, which then goes on
+-- The item is read with a wrap pending after a glyph at the end of the row above, which then is wrapped.
 pub linked_item_wraps : (base : Canvas) (done below : List RowValue)
     (above xs : List CellValue) (on : Bool) (r height : ℕ) →
     Reads base height base.page.width → length done ≡ r → r + suc (suc (length below)) ≡ height → ends above ≡ false →

@@ -13,7 +13,7 @@ no_change : (was new : Attrs) → same_attrs was new ≡ true → [] ≡ change_
 unfolding change_text
 no_change was new t = rw t refl
 
--- a change of attributes in a script has the text of the change
+-- The output of a change of attributes in a script is the text of that change.
 pub changing_bytes : (was new : Attrs) → bytes_of_all (attr_ops was new) ≡ change_text was new
 unfolding attr_ops
 changing_bytes was new =
@@ -24,7 +24,7 @@ changing_bytes was new =
 pub change_written : (was new : Attrs) → change_text was new ≡ bytes_of_all (attr_ops was new)
 change_written was new = sym (changing_bytes was new)
 
--- attributes that are the same need no change
+-- A change between equal attributes has no output.
 pub change_none : (was new : Attrs) → same_attrs was new ≡ true → bytes_of_all (attr_ops was new) ≡ []
 unfolding attr_ops
 change_none was new t = rw t refl
@@ -32,14 +32,14 @@ change_none was new t = rw t refl
 here : (r c row col : ℕ) → r ≡ row → c ≡ col → moving r c row col ≡ []
 here r c row col e f = grind (arith, nat_tests)
 
--- and where the pen is already no move
+-- A move to the pen's own position has no output.
 pub going_none : (pen : Pen) (row col : ℕ) → is_at pen row col ≡ true → bytes_of_all (move_ops pen row col) ≡ []
 unfolding move_ops
 going_none pen row col t =
     let (rows, cols) = two_parts _ _ t in
     ap bytes_of_all (here pen.row pen.col row col (eqb-true pen.row row rows) (eqb-true pen.col col cols))
 
--- ---- the test for a blank in given attributes
+-- ---- the test for a blank with given attributes
 
 pub is_blank_of-blank : (attrs : Attrs) (x : CellValue) →
     is_blank x ≡ true → same_attrs attrs (attrs_of x) ≡ is_blank_of attrs x

@@ -1,5 +1,4 @@
--- The operations whose texts read back as they were meant: numbers that a terminal keeps whole, and texts that it
--- prints.
+-- Operations whose output a terminal reads back unchanged: their numbers fit, and their text is printed.
 use Rattle.std.specs.Prelude.{◌≡◌, ◌≢◌, ℕ, ◌<◌, ◌^◌, List, None, encode_utf8_all}
 use Rattle.std.specs.Char.{IsScalar}
 use Rattle.std.specs.List.{AllByRecursion}
@@ -7,19 +6,19 @@ use Rattle.vt_cells.specs.Glyph.{columns_of}
 use Rattle.vt_cells.specs.Op.{Op, Hide, ClearAttrs, MoveTo, MoveRight, NextRow, LineFeed, Backspace, EraseBelow}
 use Rattle.vt_cells.specs.Op.{EraseRest, EraseChars, SaveCursor, RestoreCursor, ChangeAttrs, Print, FitsAttrs}
 
--- a character that is drawn, or joins the one before it
+-- A character that is printed, or joins the glyph before it.
 pub record IsDrawn (c : ℕ) : Type 0 where
   pub scalar : IsScalar c
   pub shown : columns_of c ≢ None
   pub reported : c ≢ 0xFFFD
 
--- a text of such characters
+-- The UTF-8 encoding of characters that are printed.
 pub record IsDrawnText (text : List ℕ) : Type 0 where
   pub characters : List ℕ
   pub spelled : encode_utf8_all characters ≡ text
   pub printable : AllByRecursion IsDrawn characters
 
--- a row and a column are written from 1 on
+-- An operation whose output is read back unchanged; rows and columns are written counting from 1.
 abbrev pub Fits : Op → Type 0
 Fits (Hide hidden) = Unit {0}
 Fits ClearAttrs = Unit {0}

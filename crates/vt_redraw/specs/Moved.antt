@@ -1,4 +1,4 @@
--- Rows that a terminal moves before a difference is drawn, and the picture that it shows then.
+-- Moving rows of a terminal before a difference is drawn, and the picture that it then displays.
 use Rattle.std.specs.Prelude.{◌≡◌, ◌⊎◌, ℕ, ◌+◌, ◌-◌, ◌<◌, ◌≤◌, ◌==◌, ◌&&◌, nat_le, nat_lt}
 use Rattle.std.specs.Prelude.{List, ◌++◌, length, if◌then◌else◌}
 use Rattle.vt_cells.specs.Attrs.{default_attrs}
@@ -11,13 +11,13 @@ use Rattle.vt_redraw.specs.Redraw.{difference}
 use Rattle.vt_redraw.specs.Script.{attr_ops}
 use Rattle.vt_redraw.specs.declared.band.Band.{Band}
 
--- a band of a picture of this many rows, of which some row is left when it has moved
+-- A band of a picture of this many rows, of which some row is left after it has moved.
 pub record IsBand (height : ℕ) (band : Band) : Type 0 where
   pub some : 0 < band.count
   pub rows : band.top + band.count < band.bottom
   pub inside : band.bottom ≤ height
 
--- where row r comes from: within the band from `count` rows below or above; `past` where it has come free
+-- The row that moves to row r: within the band the one `count` rows below or above, or `past` if row r becomes blank.
 abbrev pub source_within : Band → (past r : ℕ) → ℕ
 source_within band past r =
     if band.up
@@ -28,20 +28,20 @@ abbrev pub band_source : Band → (past r : ℕ) → ℕ
 band_source band past r =
     if nat_le band.top r && nat_lt r band.bottom then source_within band past r else r
 
--- rows that have come free are default blanks; the last row does not go on below
+-- Rows after a band has moved: rows that are left behind are default blanks, and the last row is not wrapped.
 unfoldable pub rows_moved : (width : ℕ) → Band → List RowValue → List RowValue
 rows_moved width band rows =
     unflagged width (length rows - 1) (moved_rows width (band_source band (length rows)) rows)
 
--- the row of the last sequence
+-- The row that the last sequence addresses.
 abbrev pub last_moved : (height : ℕ) → Band → ℕ
 last_moved height band =
     if band.bottom == height then band.top
     else if band.up then band.bottom - band.count
     else band.top
 
--- the picture that a terminal then shows: the cursor is where the last sequence was, and the attributes are the default
--- ones, since a terminal may fill rows with the current background
+-- The picture after a band has moved: the cursor is where the last sequence was, and the attributes are the default
+-- ones, because a terminal may fill rows with the current background.
 abbrev pub moved : Band → Picture → Picture
 moved band picture = record picture {
   rows = rows_moved picture.width band picture.rows;
@@ -52,15 +52,15 @@ moved band picture = record picture {
 
 -- ---- the sequences
 
--- DL or IL at a row
+-- The deletion (DL) and the insertion (IL) of rows at a row.
 abbrev pub lines_deleted_text : (row count : ℕ) → List ℕ
 lines_deleted_text row count = bytes_of (MoveTo row 0) ++ counted count 0x4D
 
 abbrev pub lines_inserted_text : (row count : ℕ) → List ℕ
 lines_inserted_text row count = bytes_of (MoveTo row 0) ++ counted count 0x4C
 
--- what goes away at one end of the band comes in at the other, so that the rows under it stay; there are none where it
--- ends with the last row
+-- The sequences that move a band up or down: as many rows are inserted at one end as are deleted at the other, so that
+-- the rows below don't move, unless the band ends with the last row.
 unfoldable pub up_text : (height : ℕ) → Band → List ℕ
 up_text height band =
     if band.bottom == height then lines_deleted_text band.top band.count
@@ -74,15 +74,15 @@ down_text height band =
 abbrev pub band_text : (height : ℕ) → Band → List ℕ
 band_text height band = if band.up then up_text height band else down_text height band
 
--- before them the attributes become the default ones
+-- The sequences that move a band, after a change to the default attributes.
 abbrev pub moving_text : Band → Picture → List ℕ
 moving_text band prev = bytes_of_all (attr_ops prev.attrs default_attrs) ++ band_text (length prev.rows) band
 
--- the band moves, and then the rest is drawn
+-- The sequences that move a band, followed by the difference from the picture that is then displayed.
 abbrev pub scrolling_text : Band → (self prev : Picture) → List ℕ
 scrolling_text band self prev = moving_text band prev ++ bytes_of_all (difference self (moved band prev))
 
--- the difference as it is, or behind some band that moves
+-- The plain difference, or one after some band has moved.
 abbrev pub IsScrolling : (self prev : Picture) → List ℕ → Type 0
 IsScrolling self prev text =
     (text ≡ bytes_of_all (difference self prev))

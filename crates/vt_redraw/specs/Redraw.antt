@@ -16,18 +16,18 @@ use Rattle.vt_redraw.specs.Script.{last_glyph, cells_written, Linked, no_link, r
 
 -- ---- the rows from the top
 
--- one row: its cells but for those that are settled, and the break
+-- The output for one row: its cells, except for the first ones that are done, and the break.
 unfoldable pub row_written : (r settled : ℕ) → Pen → Bool → RowValue → List CellValue → Scripted
 row_written r settled pen flag x ys =
     let cells = cells_written r 0 pen flag settled x.cells ys in
     ops_then cells.ops (row_break r cells.pen cells.flag x.wrapped x.cells)
 
--- the link with row r
+-- The link from row r to the next row.
 abbrev pub link_of : ℕ → Pen → RowValue → Bool → RowValue → RowValue → Linked
 link_of r pen above on x y =
     if above.wrapped then row_link r pen above.cells on y.wrapped x.cells y.cells else no_link pen y.wrapped
 
--- the rows under row r, which is `above`; on: the reader's row r goes on below
+-- The output for the rows below row r, which is `above`; `on` says whether the terminal's row r is wrapped.
 unfoldable pub rows_below : ℕ → Pen → RowValue → Bool → (xs ys : List RowValue) → Scripted
 rows_below r pen above on [] ys = no_ops pen on
 rows_below r pen above on (x ∷ xs) [] = no_ops pen on
@@ -45,22 +45,22 @@ rows_written pen (x ∷ xs) (y ∷ ys) =
 
 -- ---- the cursor
 
--- the nearest row at or above row n that does not end blank
+-- The nearest row at or above row n whose last column is not blank.
 abbrev pub nearest : ℕ → List RowValue → ℕ → Option ℕ
 nearest width rows zero = if ends_blank (row_or width rows 0).cells then None else Some 0
 nearest width rows (suc n) = if ends_blank (row_or width rows (suc n)).cells then nearest width rows n else Some (suc n)
 
--- from the last column on, which is blank in these attributes: a space, which is then erased
+-- The operations that pass a blank last column: a space is printed and then erased.
 abbrev pub blank_passed : (was attrs : Attrs) → List Op
 blank_passed was attrs =
     Print (0x20 ∷ [])
     ∷ (attr_ops was attrs ++ (SaveCursor ∷ Backspace ∷ EraseChars 1 ∷ RestoreCursor ∷ attr_ops attrs was))
 
--- a wrap pending at the end of row r, whose last column is blank in these attributes
+-- The operations that make a wrap pending at the end of row r, whose last column is blank in these attributes.
 unfoldable pub over_blank : Pen → (r width : ℕ) → Attrs → List Op
 over_blank pen r width attrs = move_ops pen r (width - 1) ++ blank_passed pen.attrs attrs
 
--- a wrap pending at the end of row r: behind the last glyph of row i, and down from there
+-- The operations that make a wrap pending at the end of row r: after the last glyph of row i, and down from there.
 unfoldable pub under_last : Pen → (i r : ℕ) → List CellValue → List Op
 under_last pen i r cells =
     (behind_last_glyph i pen cells).ops
@@ -70,19 +70,19 @@ abbrev pub pending_at : Option ℕ → Pen → ℕ → List RowValue → ℕ →
 pending_at None pen width rows r = over_blank pen r width (attrs_of (at (row_or width rows r).cells (width - 1)))
 pending_at (Some i) pen width rows r = under_last pen i r (row_or width rows i).cells
 
--- the cursor goes where it is to be; the pen's attributes stay
+-- The operations that move the cursor to its position; the pen's attributes are unchanged.
 unfoldable pub cursor_written : Pen → ℕ → List RowValue → (row column : ℕ) → List Op
 cursor_written pen width rows row column =
     if is_at pen row column then []
     else if nat_lt column width then move_ops pen row column
     else pending_at (nearest width rows row) pen width rows row
 
--- ---- the whole
+-- ---- whole pictures
 
 abbrev pub pen_of : Picture → Pen
 pen_of picture = pen_at picture.row picture.column picture.attrs
 
--- rows, cursor and attributes
+-- The operations that turn one picture into another: rows, cursor and attributes.
 unfoldable pub script : (self prev : Picture) → List Op
 script self prev =
     let written = rows_written (pen_of prev) self.rows prev.rows in
@@ -95,7 +95,7 @@ hiding self prev = if same_bool self.hidden prev.hidden then [] else Hide self.h
 unfoldable pub difference : (self prev : Picture) → List Op
 difference self prev = hiding self prev ++ script self prev
 
--- a blank picture of the same size
+-- A blank picture of the same size.
 abbrev pub blank_like : Picture → Picture
 blank_like picture = record {
   rows = replicate (length picture.rows) (blank_row default_attrs picture.width);
@@ -109,7 +109,7 @@ blank_like picture = record {
 unfoldable pub redraw : Picture → List Op
 redraw self = Hide self.hidden ∷ ClearAttrs ∷ MoveTo 0 0 ∷ EraseBelow ∷ script self (blank_like self)
 
--- ---- the cursor alone, for a reader whose cursor may be anywhere
+-- ---- the cursor alone, for a terminal whose cursor may be anywhere
 
 abbrev pub pending_alone : Option ℕ → ℕ → List RowValue → ℕ → List Op
 pending_alone None width rows r =
@@ -126,13 +126,14 @@ cursor_alone self =
     if nat_lt self.column self.width then MoveTo self.row self.column ∷ []
     else pending_alone (nearest self.width self.rows self.row) self.width self.rows self.row
 
--- hiding and the cursor, for a reader that shows the rest and draws with default attributes
+-- The operations that hide or show and move the cursor, for a terminal that displays the rest and has default
+-- attributes.
 unfoldable pub cursor_state : Picture → List Op
 cursor_state self = Hide self.hidden ∷ cursor_alone self
 
--- ---- one picture after the other
+-- ---- pictures in sequence
 
--- each against the one before it
+-- The differences of each picture against the one before it.
 abbrev pub differences : Picture → List Picture → List Op
 differences prev [] = []
 differences prev (x ∷ xs) = difference x prev ++ differences x xs

@@ -1,5 +1,5 @@
--- What turns a row that the reader shows into another: its cells, its link with the row above,
--- and the break to the row below.
+-- What turns a row that the terminal displays into another: its cells, its link with the row above, and the break to
+-- the row below.
 use Rattle.std.specs.Prelude.{ℕ, suc, zero, ◌+◌, ◌-◌, ◌==◌, ◌&&◌, ◌||◌, not, Bool, true}
 use Rattle.std.specs.Prelude.{false, List, [], ◌∷◌, ◌++◌, length, drop, if◌then◌else◌}
 use Rattle.vt_cells.specs.Glyph.{glyph_columns}
@@ -14,30 +14,29 @@ use Rattle.vt_redraw.specs.declared.pen.Pen.{Pen}
 abbrev pub pen_at : ℕ → ℕ → Attrs → Pen
 pen_at row col attrs = record { row = row; col = col; attrs = attrs }
 
--- from the pen to a position, and to other attributes
+-- The operations that move the pen to a position, and that change its attributes.
 unfoldable pub move_ops : Pen → ℕ → ℕ → List Op
 move_ops pen row col = moving pen.row pen.col row col
 
 unfoldable pub attr_ops : Attrs → Attrs → List Op
 attr_ops was new = if same_attrs was new then [] else ChangeAttrs was new ∷ []
 
--- the cell is a blank in these attributes
+-- Whether a cell is a blank with these attributes.
 abbrev pub is_blank_of : Attrs → CellValue → Bool
 is_blank_of attrs (blank b) = same_attrs attrs b
 is_blank_of attrs (glyph text wide b) = false
 is_blank_of attrs right_half = false
 
--- how many blanks of these attributes the cells begin with
+-- The number of blanks with these attributes at the beginning of cells.
 abbrev pub blank_run : Attrs → List CellValue → ℕ
 blank_run attrs cells = prefix_len (is_blank_of attrs) cells
 
--- a run of n blanks: to the end of the row where nothing is behind it
+-- The erasure of a run of n blanks: to the end of the row if nothing comes after it.
 abbrev pub erase_run : ℕ → List CellValue → Op
 erase_run n [] = EraseRest
 erase_run n (x ∷ xs) = EraseChars n
 
--- operations, where the reader's cursor is after them and with which attributes,
--- and whether the reader's row goes on below
+-- Operations, the terminal's cursor and attributes after them, and whether the terminal's row is wrapped then.
 pub record Scripted : Type 0 where
   pub ops : List Op
   pub pen : Pen
@@ -49,33 +48,36 @@ no_ops pen flag = record { ops = []; pen = pen; flag = flag }
 abbrev pub ops_then : List Op → Scripted → Scripted
 ops_then ops written = record { ops = ops ++ written.ops; pen = written.pen; flag = written.flag }
 
--- one operation at a place and in attributes
+-- One operation at a position with these attributes.
 abbrev pub placed_op : Pen → ℕ → ℕ → Attrs → Op → List Op
 placed_op pen row col attrs op = move_ops pen row col ++ (attr_ops pen.attrs attrs ++ op ∷ [])
 
--- ---- the flag of the reader's row, by what is left of the cells that stood there
+-- ---- whether the terminal's row is wrapped, by the cells of it that are left
 
 abbrev pub is_nil : List CellValue → Bool
 is_nil [] = true
 is_nil (x ∷ xs) = false
 
--- one right half is left, in the last column: its left half was overwritten, so it is no right half any more
+-- Whether a single continuation cell is left, in the last column: its wide character was overwritten, so it is no
+-- continuation cell any more.
 abbrev pub is_torn : List CellValue → Bool
 is_torn (right_half ∷ []) = true
 is_torn _ = false
 
--- the reader's row still goes on below after a glyph: unless it is wide and leaves a torn half, which becomes blank
+-- Whether the terminal's row is still wrapped after a glyph: not if the glyph is wide and leaves a single continuation
+-- cell, which becomes blank.
 abbrev pub flag_behind : Bool → Bool → List CellValue → Bool
 flag_behind flag wide rest = flag && not (wide && is_torn rest)
 
--- and after a run of blanks: unless it reaches the last column, or leaves a torn half
+-- Whether the terminal's row is still wrapped after a run of blanks: not if the run reaches the last column or leaves a
+-- single continuation cell.
 abbrev pub flag_past : Bool → List CellValue → Bool
 flag_past flag rest = flag && not (is_nil rest || is_torn rest)
 
 -- ---- the cells of a row, from left to right
 
--- from column c on; the first `settled` cells need nothing,
--- xs are the row's cells from there and ys those that the reader shows
+-- The output for the cells of a row from column c on, of which the first `settled` are done; xs are the row's cells
+-- from there, and ys those that the terminal displays.
 unfoldable pub cells_written : (r c : ℕ) → Pen → (flag : Bool) → (settled : ℕ) → (xs ys : List CellValue) → Scripted
 cells_written r c pen flag settled [] ys = no_ops pen flag
 cells_written r c pen flag settled (x ∷ xs) [] = no_ops pen flag
@@ -91,7 +93,7 @@ cells_written r c pen flag zero (glyph text wide a ∷ xs) (y ∷ ys) =
     (cells_written r (c + 1) (pen_at r (c + glyph_columns wide) a)
     (flag_behind flag wide (drop 1 ys)) (glyph_columns wide - 1) xs ys)
 
--- ---- the last glyph of a row that does not end blank
+-- ---- the last glyph of a row whose last column is not blank
 
 abbrev pub last_column : List CellValue → ℕ
 last_column cells = if is_right_half (at cells (length cells - 1)) then length cells - 2 else length cells - 1
@@ -102,7 +104,7 @@ last_glyph cells = at cells (last_column cells)
 abbrev pub is_at : Pen → ℕ → ℕ → Bool
 is_at pen row col = (pen.row == row) && (pen.col == col)
 
--- the pen behind the last glyph of row r, which is printed again where the pen isn't there
+-- The pen after the last glyph of row r, and the operations that print that glyph again unless the pen is there.
 abbrev pub pen_behind : ℕ → List CellValue → Pen
 pen_behind r cells = pen_at r (length cells) (attrs_of (last_glyph cells))
 
@@ -115,9 +117,9 @@ behind_last_glyph r pen cells =
       flag = true;
     }
 
--- ---- the link of a row with a row above it that goes on
+-- ---- the link of a row with a wrapped row above it
 
--- the same as for a row, and how many of its first cells are settled
+-- Operations, the state of the terminal after them, and how many of the row's first cells are done.
 pub record Linked : Type 0 where
   pub ops : List Op
   pub pen : Pen
@@ -127,7 +129,7 @@ pub record Linked : Type 0 where
 abbrev pub no_link : Pen → Bool → Linked
 no_link pen flag = record { ops = []; pen = pen; flag = flag; settled = 0 }
 
--- the first cell, with the cursor pending at the end of the row above: a blank is drawn as a space, which is erased
+-- The output for the first cell, with a wrap pending in the row above: a blank is printed as a space, which is erased.
 abbrev pub first_written : ℕ → Pen → Bool → (xs ys : List CellValue) → Linked
 first_written r pen flag [] ys = no_link pen flag
 first_written r pen flag (x ∷ xs) [] = no_link pen flag
@@ -145,7 +147,7 @@ first_written r pen flag (glyph text wide a ∷ xs) (y ∷ ys) = record {
   settled = glyph_columns wide;
 }
 
--- the row begins with a glyph that the reader does not show there
+-- Whether the row begins with a glyph that the terminal does not display there.
 abbrev pub starts_other : List CellValue → List CellValue → Bool
 starts_other [] ys = false
 starts_other (x ∷ xs) [] = false
@@ -155,7 +157,8 @@ abbrev pub ops_then_link : List Op → Linked → Linked
 ops_then_link ops link =
     record { ops = ops ++ link.ops; pen = link.pen; flag = link.flag; settled = link.settled }
 
--- row r + 1 under the cells `above` of a row that goes on, of which the reader shows whether it goes on
+-- The link from the cells `above` of a wrapped row r to the next row; `on` says whether the terminal's row r is
+-- wrapped.
 unfoldable pub row_link : ℕ → Pen → (above : List CellValue) →
     (on : Bool) → (flag : Bool) → (xs ys : List CellValue) → Linked
 row_link r pen above on flag xs ys =
@@ -165,7 +168,7 @@ row_link r pen above on flag xs ys =
 
 -- ---- the break to the row below
 
--- the reader's row goes on below and is not to: its last glyph is erased and printed again
+-- The break after a row, by which the terminal's row ceases to be wrapped: its last glyph is erased and printed again.
 abbrev pub break_ops : ℕ → Pen → List CellValue → Scripted
 break_ops r pen cells = record {
   ops =

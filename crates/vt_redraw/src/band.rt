@@ -1,28 +1,29 @@
-//! Rows of a picture that move together.
+//! Bands of rows of a picture that move together.
 
 ghost use Rattle.std.specs.Prelude.{◌≡◌, ◌<◌, ℕ, true, unwrap_or};
 ghost use Rattle.vt_redraw.specs.Moved.{IsBand, band_source, last_moved};
 
-/// Rows that go up or down within a stretch of rows. Those that go past its end
-/// are lost, and those that come free are blank.
+/// A band of rows that move up or down within a range of rows. Rows that move
+/// past the end of the range are lost, and the rows they leave behind become
+/// blank.
 #[derive(Clone, Copy, PartialEq, Eq, Debug)]
 pub struct Band {
-    /// The first row of the stretch, from 0.
+    /// The first row of the range, counted from 0.
     pub top: u16,
 
-    /// The row behind its last one.
+    /// The row after the last row of the range.
     pub bottom: u16,
 
-    /// By how many rows they go.
+    /// The number of rows by which the band moves.
     pub count: u16,
 
-    /// Whether they go up.
+    /// Whether the band moves up; otherwise it moves down.
     pub up: bool,
 }
 
 impl Band {
-    /// Whether this is a stretch of a picture of so many rows, of which some
-    /// row is left when it has moved.
+    /// Returns whether the band lies within a picture of `height` rows and some
+    /// row is left after it has moved.
     pub fn is_within(&self, height: u16) -> bool
         ensures { result ≡ true → IsBand height self.now }
     {
@@ -31,7 +32,8 @@ impl Band {
             && self.bottom <= height
     }
 
-    /// The row of the last sequence that moves it, in a picture of so many rows.
+    /// Returns the row that the last sequence of the move addresses, in a
+    /// picture of `height` rows.
     pub(crate) fn last_moved(&self, height: u16) -> u16
         requires { IsBand height self.now }
         ensures value { result ≡ last_moved height self.now }
@@ -44,7 +46,7 @@ impl Band {
         }
     }
 
-    /// The row that comes to stand in this one; None where it comes free.
+    /// Returns the row that moves to `row`, or `None` if `row` becomes blank.
     pub(crate) fn source(&self, row: u16) -> Option<u16>
         ensures { (past : ℕ) → unwrap_or result past ≡ band_source self.now past row }
     {

@@ -1,4 +1,10 @@
-//! What the cells of a row need over those that the reader shows.
+//! The output that the cells of a row need, given those that the terminal
+//! displays.
+//!
+//! Throughout this crate, *the terminal* is the one that reads the output, and
+//! `over` is the row that it displays. A cell *needs output* if the terminal
+//! does not display it already. A `flag` says whether the terminal's row is
+//! wrapped.
 
 ghost use Rattle.std.specs.Prelude.{◌≡◌, ◌++◌, ◌+◌, ◌<◌, ◌≤◌};
 ghost use Rattle.std.specs.Prelude.{false, OnOk, drop, length};
@@ -14,7 +20,7 @@ use crate::picture_row::PictureRow;
 use vt_cells::term::{BufWrite, ClearRowForward, EraseChar};
 use vt_cells::{Attrs, Buffer, Cell, Pos, Sink, cell};
 
-/// How many columns a glyph takes.
+/// Returns the number of columns that a glyph takes.
 #[inline]
 pub fn columns(cell: &Cell) -> u16
     ensures { result ≡ columns_of cell.now }
@@ -22,7 +28,11 @@ pub fn columns(cell: &Cell) -> u16
     if cell.is_wide() { 2 } else { 1 }
 }
 
-/// Writes a text. No sink is asked to take an empty one.
+/// Writes a string to the sink, which is not called if the string is empty.
+///
+/// # Errors
+///
+/// The error of the sink.
 pub fn write_text<S: Sink>(sink: &mut S, text: &str) -> Result<(), S::Error>
     ensures text { OnOk result (S.text sink.new ≡ S.text sink.old ++ text.now) }
     ensures some { RefusedOnlyIfSome result text.now }
@@ -33,7 +43,12 @@ pub fn write_text<S: Sink>(sink: &mut S, text: &str) -> Result<(), S::Error>
     sink.write_str(text)
 }
 
-/// Writes a glyph at a position; where the pen is then is left to the caller.
+/// Writes a glyph at a position. The caller must set the pen's position
+/// afterwards.
+///
+/// # Errors
+///
+/// The error of the sink; part of the output may have been written.
 #[inline]
 pub fn print_at<S: Sink>(sink: &mut S, pen: &mut Pen, pos: Pos, cell: &Cell) -> Result<(), S::Error>
     ensures ops { AppendsOrStops result (S.text sink.old) (S.text sink.new) (glyph_ops pen.old pos cell.now) }
@@ -44,7 +59,8 @@ pub fn print_at<S: Sink>(sink: &mut S, pen: &mut Pen, pos: Pos, cell: &Cell) -> 
     write_text(sink, cell.contents())
 }
 
-/// Gathers a glyph at a position; where the pen is then is left to the caller.
+/// Buffers a glyph at a position. The caller must set the pen's position
+/// afterwards.
 #[inline]
 fn gather_at<S: Sink>(
     sink: &mut S,
@@ -62,7 +78,7 @@ fn gather_at<S: Sink>(
     buffer.add(sink, cell.contents())
 }
 
-/// Gathers a glyph at a position; the pen ends up behind it.
+/// Buffers a glyph at a position, and moves the pen after it.
 #[inline]
 fn gather_glyph<S: Sink>(
     sink: &mut S,
@@ -81,7 +97,8 @@ fn gather_glyph<S: Sink>(
     Ok(())
 }
 
-/// Erases `count` columns, or the rest of the row where that is all of it.
+/// Writes an erasure of `count` columns, or of the rest of the row if these
+/// columns are all of it.
 #[tactic(auto, using(crate::proofs::Filling::erase_run_counted))]
 fn write_erase<S: Sink>(
     sink: &mut S,
@@ -101,7 +118,11 @@ fn write_erase<S: Sink>(
     }
 }
 
-/// Writes a run of blanks at a position; the pen stays at its first column.
+/// Writes a run of blanks at a position; the pen remains at its first column.
+///
+/// # Errors
+///
+/// The error of the sink; part of the output may have been written.
 pub fn write_run<S: Sink>(
     sink: &mut S,
     pen: &mut Pen,
@@ -121,15 +142,16 @@ pub fn write_run<S: Sink>(
     write_erase(sink, count, end, over)
 }
 
-/// Whether the reader's row still goes on below after a glyph in front of this
-/// column.
+/// Returns whether the terminal's row is still wrapped after a glyph was
+/// printed that ends before column `col`.
 pub fn flag_behind(flag: bool, wide: bool, over: &PictureRow<'_>, col: u16) -> bool
     ensures { result ≡ flag_behind flag wide (drop col over.now.cells) }
 {
     flag && !(wide && over.is_torn(col))
 }
 
-/// And after a run of blanks in front of it.
+/// Returns whether the terminal's row is still wrapped after a run of blanks
+/// was erased that ends before column `col`.
 #[tactic(auto, using(crate::proofs::Filling::nil_at))]
 pub fn flag_past(flag: bool, over: &PictureRow<'_>, col: u16) -> bool
     requires { col ≤ length over.now.cells }
@@ -141,8 +163,8 @@ pub fn flag_past(flag: bool, over: &PictureRow<'_>, col: u16) -> bool
     flag && !over.is_torn(col)
 }
 
-/// Whether the cell at a column needs nothing: it stands there already, or is
-/// the right half of a glyph before it.
+/// Returns whether the cell at a column needs no output: the terminal displays
+/// it already, or it is the continuation cell of a wide character.
 #[inline(always)]
 fn stands(cells: &PictureRow<'_>, over: &PictureRow<'_>, col: u16) -> bool
     requires inside { col < length cells.now.cells }
@@ -153,8 +175,8 @@ fn stands(cells: &PictureRow<'_>, over: &PictureRow<'_>, col: u16) -> bool
     *cell == *over.cell(col) || cell.is_wide_continuation()
 }
 
-/// The first column from `col` on, before `stop`, that needs something, or else
-/// the column where it stopped.
+/// Returns the first column from `col` on and before `stop` whose cell needs
+/// output, or else the column at which the search stopped.
 #[inline(always)]
 fn pass(cells: &PictureRow<'_>, over: &PictureRow<'_>, col: u16, stop: usize) -> u16
     requires inside { stop ≤ length cells.now.cells }
@@ -171,8 +193,8 @@ fn pass(cells: &PictureRow<'_>, over: &PictureRow<'_>, col: u16, stop: usize) ->
     next
 }
 
-/// A column from `col` on, with nothing between them that needs something: the
-/// cells there are the same.
+/// Returns a column at or after `col` before which all cells of both rows are
+/// equal, so that they need no output.
 #[inline]
 fn pass_same(cells: &PictureRow<'_>, over: &PictureRow<'_>, col: u16) -> u16
     requires short { length cells.now.cells < 65536 }
@@ -183,9 +205,11 @@ fn pass_same(cells: &PictureRow<'_>, over: &PictureRow<'_>, col: u16) -> u16
     col + cells.same_run(over, col) as u16
 }
 
-/// The first column from `col` on that needs something, or else one where the
-/// row has ended. Where both rows have cells of their own and where only this
-/// one has, each is a loop over slices.
+/// Returns the first column from `col` on whose cell needs output, or else a
+/// column past the end of the row.
+///
+/// It has one loop over slices for the columns where both rows have stored
+/// cells, and one for those where only `cells` has.
 fn next_other(cells: &PictureRow<'_>, over: &PictureRow<'_>, col: u16) -> u16
     requires range { IsRange cells.now.cells over.now.cells }
     ensures order { col ≤ result }
@@ -200,9 +224,8 @@ fn next_other(cells: &PictureRow<'_>, over: &PictureRow<'_>, col: u16) -> u16
     pass(cells, over, alone, cols)
 }
 
-/// Gathers the cell at a position, a glyph, or writes a run of blanks that
-/// begins there, behind what was gathered. Answers how many columns this
-/// settles.
+/// Buffers the glyph at a position, or writes the buffer and a run of blanks
+/// that begins there. Returns the number of columns that are done.
 fn write_next<S: Sink>(
     sink: &mut S,
     buffer: &mut Buffer,
@@ -231,8 +254,12 @@ fn write_next<S: Sink>(
     Ok(count)
 }
 
-/// Writes what the cells of a row need from a column on; where all of them
-/// stand already, that is found out without more.
+/// Writes the output that the cells of a row need from a column on, and returns
+/// early if they need none.
+///
+/// # Errors
+///
+/// The error of the sink; part of the output may have been written.
 pub fn write_cells<S: Sink>(
     sink: &mut S,
     pen: &mut Pen,
@@ -254,8 +281,8 @@ pub fn write_cells<S: Sink>(
     write_others(sink, pen, flag, Pos { row, col: first }, cells, over)
 }
 
-/// The same for cells of which some need something. Glyphs that follow one
-/// another are gathered, and written together.
+/// Writes the output that the cells of a row need from a column on, if they
+/// need some. Consecutive glyphs are buffered and written together.
 #[tactic(auto, using(vt_cells::proofs::Buffers::nothing_gathered))]
 fn write_others<S: Sink>(
     sink: &mut S,

@@ -1,4 +1,4 @@
-//! Where the reader's cursor goes: to a position, or to a wrap that is pending.
+//! Moving the terminal's cursor to a position, or to a pending wrap.
 
 ghost use Rattle.std.specs.Prelude.{◌≡◌, ◌++◌, ◌+◌, ◌-◌, ◌<◌, ◌≤◌, None};
 ghost use Rattle.std.specs.Prelude.{OnOk, IfSome, Some, length, replicate};
@@ -17,7 +17,7 @@ use crate::view::View;
 use vt_cells::term::{Backspace, BufWrite, EraseChar, LineFeed, MoveTo, RestoreCursor, SaveCursor};
 use vt_cells::{Attrs, Pos, Sink, cell};
 
-/// The nearest row, at or above `row`, that does not end blank.
+/// Returns the nearest row, at or above `row`, whose last column is not blank.
 pub fn nearest(view: &View<'_>, row: u16) -> Option<u16>
     requires { row < length view.now.rows }
     ensures value { result ≡ nearest view.now.width view.now.rows row }
@@ -33,7 +33,11 @@ pub fn nearest(view: &View<'_>, row: u16) -> Option<u16>
     Some(at)
 }
 
-/// Writes a number of line feeds.
+/// Writes `count` line feeds.
+///
+/// # Errors
+///
+/// The error of the sink; part of the output may have been written.
 pub fn write_feeds<S: Sink>(sink: &mut S, count: u16) -> Result<(), S::Error>
     ensures { AppendsOrStops result (S.text sink.old) (S.text sink.new) (replicate count op.LineFeed) }
 {
@@ -43,8 +47,13 @@ pub fn write_feeds<S: Sink>(sink: &mut S, count: u16) -> Result<(), S::Error>
     Ok(())
 }
 
-/// Passes the last column, which is blank in `attrs`, with the cursor there: a
-/// space is drawn over it and erased, while the cursor waits behind it.
+/// Writes the sequences that leave a wrap pending when the cursor is on the
+/// last column, which is blank in `attrs`: a space is printed over it and
+/// erased again while the wrap stays pending.
+///
+/// # Errors
+///
+/// The error of the sink; part of the output may have been written.
 pub fn write_passed<S: Sink>(sink: &mut S, was: Attrs, attrs: Attrs) -> Result<(), S::Error>
     ensures { OnOk result (S.text sink.new ≡ S.text sink.old ++ bytes_of_all (blank_passed was attrs)) }
 {
@@ -57,8 +66,9 @@ pub fn write_passed<S: Sink>(sink: &mut S, was: Attrs, attrs: Attrs) -> Result<(
     write_change(sink, attrs, was)
 }
 
-/// Has a wrap pending at the end of row `row`, from the last glyph of row
-/// `found` on.
+/// Writes the sequences that leave a wrap pending at the end of row `row`, by
+/// printing the last glyph of row `found` and moving down from there by line
+/// feeds.
 #[tactic(auto, unfolding(crate::specs::Redraw::under_last))]
 fn write_under_last<S: Sink>(
     sink: &mut S,
@@ -78,7 +88,8 @@ fn write_under_last<S: Sink>(
     write_feeds(sink, row - found)
 }
 
-/// Has a wrap pending at the end of row `row`, whose last column is blank.
+/// Writes the sequences that leave a wrap pending at the end of row `row`,
+/// whose last column is blank.
 #[tactic(auto, unfolding(crate::specs::Redraw::over_blank))]
 fn write_over_blank<S: Sink>(
     sink: &mut S,
@@ -97,7 +108,7 @@ fn write_over_blank<S: Sink>(
     write_passed(sink, pen.attrs, attrs)
 }
 
-/// Has a wrap pending at the end of row `row`.
+/// Writes the sequences that leave a wrap pending at the end of row `row`.
 fn write_pending<S: Sink>(sink: &mut S, pen: Pen, view: &View<'_>, row: u16) -> Result<(), S::Error>
     requires { row < length view.now.rows }
     ensures { AppendsOrStops result (S.text sink.old) (S.text sink.new)
@@ -109,7 +120,12 @@ fn write_pending<S: Sink>(sink: &mut S, pen: Pen, view: &View<'_>, row: u16) -> 
     }
 }
 
-/// Brings the cursor to where the picture has it; the pen's attributes stay.
+/// Writes the sequences that move the cursor to its position in the picture;
+/// the pen's attributes are unchanged.
+///
+/// # Errors
+///
+/// The error of the sink; part of the output may have been written.
 #[tactic(auto, unfolding(crate::specs::Redraw::cursor_written))]
 pub fn write_cursor<S: Sink>(sink: &mut S, pen: Pen, view: &View<'_>) -> Result<(), S::Error>
     ensures { AppendsOrStops result (S.text sink.old) (S.text sink.new)
@@ -126,9 +142,9 @@ pub fn write_cursor<S: Sink>(sink: &mut S, pen: Pen, view: &View<'_>) -> Result<
     write_pending(sink, pen, view, row)
 }
 
-/// Has a wrap pending at the end of row `row`, from the last glyph of row
-/// `found` on, wherever the reader's cursor is; it draws with default
-/// attributes.
+/// Writes the sequences that leave a wrap pending at the end of row `row`, by
+/// printing the last glyph of row `found`, on a terminal with default
+/// attributes and its cursor anywhere.
 fn write_under_last_alone<S: Sink>(
     sink: &mut S,
     view: &View<'_>,
@@ -151,8 +167,9 @@ fn write_under_last_alone<S: Sink>(
     write_feeds(sink, row - found)
 }
 
-/// Has a wrap pending at the end of row `row`, whose last column is blank,
-/// wherever the reader's cursor is; it draws with default attributes.
+/// Writes the sequences that leave a wrap pending at the end of row `row`,
+/// whose last column is blank, on a terminal with default attributes and its
+/// cursor anywhere.
 fn write_over_blank_alone<S: Sink>(sink: &mut S, view: &View<'_>, row: u16) -> Result<(), S::Error>
     requires { row < length view.now.rows }
     ensures { OnOk result
@@ -165,7 +182,8 @@ fn write_over_blank_alone<S: Sink>(sink: &mut S, view: &View<'_>, row: u16) -> R
     write_passed(sink, Attrs::new(), attrs)
 }
 
-/// Has a wrap pending at the end of row `row`, wherever the reader's cursor is.
+/// Writes the sequences that leave a wrap pending at the end of row `row`, on a
+/// terminal with default attributes and its cursor anywhere.
 fn write_pending_alone<S: Sink>(sink: &mut S, view: &View<'_>, row: u16) -> Result<(), S::Error>
     requires { row < length view.now.rows }
     ensures { OnOk result (S.text sink.new
@@ -178,8 +196,12 @@ fn write_pending_alone<S: Sink>(sink: &mut S, view: &View<'_>, row: u16) -> Resu
     }
 }
 
-/// Brings the cursor of a reader that draws with default attributes, wherever
-/// it is, to where the picture has it.
+/// Writes the sequences that move the cursor to its position in the picture, on
+/// a terminal with default attributes and its cursor anywhere.
+///
+/// # Errors
+///
+/// The error of the sink; part of the output may have been written.
 pub fn write_cursor_alone<S: Sink>(sink: &mut S, view: &View<'_>) -> Result<(), S::Error>
     ensures { OnOk result (S.text sink.new ≡ S.text sink.old ++ bytes_of_all (cursor_alone view.now)) }
 {

@@ -1,5 +1,5 @@
-//! A guess which rows have moved from one picture to another. No promise hangs
-//! on it: after any band has moved, the difference draws what is left.
+//! A guess at the rows that have moved from one picture to another. No promise
+//! depends on it: after any band has moved, the difference draws the rest.
 
 ghost use Rattle.std.specs.Prelude.{◌≡◌, ◌+◌, ◌<◌, ◌≤◌, IfSome, IsSome, length};
 ghost use Rattle.vt_redraw.specs.Moved.{IsBand};
@@ -10,36 +10,38 @@ use crate::picture_row::PictureRow;
 use crate::view::View;
 use vt_cells::Attrs;
 
-/// How many rows are looked at, from the top.
+/// The number of rows, from the top, that are examined.
 const MOST_ROWS: u16 = 256;
 
-/// How many columns from the left may change in a row that moves, such as line
-/// numbers.
+/// The number of columns on the left that may change in a row that moves, such
+/// as line numbers.
 const MARGIN: u16 = 8;
 
-/// About how many bytes a move to another place in a row takes.
+/// The approximate number of bytes that moving the cursor within a row takes.
 const RUN: i32 = 4;
 
-/// How long a text is at least that a move may shorten.
+/// The smallest length of output, in bytes, that moving rows could shorten.
 const LEAST_TEXT: usize = 20;
 
-/// How many columns behind the margin tell rows apart at first sight.
+/// The number of columns after the margin by which rows are told apart at
+/// first.
 const KEYED: u16 = 16;
 
-/// A number for each row that is looked at.
+/// A number for each examined row.
 type Numbers = [i32; 256];
 
-/// The same, to tell rows apart.
+/// A key for each examined row, by which rows are told apart at first.
 type Keys = [u32; 256];
 
-/// By how many rows, and whether up.
+/// The direction and number of rows of a move.
 #[derive(Clone, Copy)]
 struct Shift {
     count: u16,
     up: bool,
 }
 
-/// Rows that come to stand by a shift, and about how many bytes that saves.
+/// A range of rows that a shift moves to the right place, and approximately how
+/// many bytes that saves.
 #[derive(Clone, Copy)]
 struct Stretch {
     gain: i32,
@@ -47,9 +49,9 @@ struct Stretch {
     behind: u16,
 }
 
-/// The band that has most likely moved from `prev` to `view`, where it is worth
-/// while to move it before the rest is drawn; `text` is the difference without
-/// that. Only the first 256 rows are looked at.
+/// Returns the band that has most likely moved from `prev` to `view`, if moving
+/// it before the rest is drawn is worthwhile. `text` is the difference without
+/// a move. Only the first 256 rows are examined.
 pub fn likely_band(view: &View<'_>, prev: &View<'_>, text: &str) -> Option<Band>
     requires { SamePictureSize view.now prev.now }
     ensures band { IfSome result (λ band. IsBand (length prev.now.rows) band) }
@@ -70,7 +72,8 @@ pub fn likely_band(view: &View<'_>, prev: &View<'_>, text: &str) -> Option<Band>
     }
 }
 
-/// What each row needs over the row of `prev` at its place.
+/// Returns the approximate number of bytes that each row needs over the same
+/// row of `prev`.
 fn costs(view: &View<'_>, prev: &View<'_>, height: u16) -> Numbers
     requires size { SamePictureSize view.now prev.now }
     requires inside { height ≤ length view.now.rows }
@@ -83,8 +86,8 @@ fn costs(view: &View<'_>, prev: &View<'_>, height: u16) -> Numbers
     costs
 }
 
-/// About how many bytes a row needs over another one: the columns that differ,
-/// and a move to each run of them.
+/// Returns the approximate number of bytes that a row needs over another: those
+/// of the columns that differ, and of a cursor movement to each run of them.
 fn cost(cells: &PictureRow<'_>, over: &PictureRow<'_>) -> i32 {
     let cols = cells.cols().min(over.cols());
     let mut bytes = 0_i32;
@@ -106,14 +109,14 @@ fn cost(cells: &PictureRow<'_>, over: &PictureRow<'_>) -> i32 {
     bytes
 }
 
-/// A column up to which two rows are the same from this one on.
+/// Returns a column up to which two rows are equal from `col` on.
 fn same_up_to(cells: &PictureRow<'_>, over: &PictureRow<'_>, col: u16) -> u16 {
     let same = cells.same_run(over, col);
     col.saturating_add(u16::try_from(same).unwrap_or(0))
 }
 
-/// A number for what stands behind the margin of each row; rows that are alike
-/// have the same.
+/// Returns a key for the text after the margin of each row. Equal rows have
+/// equal keys.
 fn keys(view: &View<'_>, height: u16) -> Keys
     requires inside { height ≤ length view.now.rows }
     requires few { height ≤ 256 }
@@ -125,7 +128,8 @@ fn keys(view: &View<'_>, height: u16) -> Keys
     keys
 }
 
-/// The number of a row: of the first bytes of some cells.
+/// Returns the key of a row, computed from the first bytes of some of its
+/// cells.
 fn key(cells: &PictureRow<'_>) -> u32 {
     let stop = cells.cols().min(MARGIN + KEYED);
     let mut key = 0_u32;
@@ -139,7 +143,7 @@ fn key(cells: &PictureRow<'_>) -> u32 {
     key
 }
 
-/// The shift by which most of what differs would come to stand.
+/// Returns the shift that would move most of what differs to the right place.
 fn likely_shift(view: &View<'_>, prev: &View<'_>, height: u16, here: &Numbers) -> Option<Shift>
     requires size { SamePictureSize view.now prev.now }
     requires inside { height ≤ length view.now.rows }
@@ -156,7 +160,8 @@ fn likely_shift(view: &View<'_>, prev: &View<'_>, height: u16, here: &Numbers) -
     heaviest(&votes)
 }
 
-/// A row with text votes for each shift that would bring it where it is.
+/// Adds a vote of this weight for each shift that would move a row of `prev` to
+/// `row`, if the row has text.
 fn vote(
     votes: &mut [i32; 512],
     cells: &PictureRow<'_>,
@@ -183,8 +188,8 @@ fn vote(
     }
 }
 
-/// From which column on a row is compared with others: behind its margin, if
-/// there is text; None where it has no text.
+/// Returns the column from which a row is compared with others: the margin if
+/// there is text after it, otherwise 0, or `None` if the row has no text.
 fn compared_from(cells: &PictureRow<'_>) -> Option<u16> {
     let cols = cells.cols();
     let margin = MARGIN.min(cols);
@@ -197,7 +202,7 @@ fn compared_from(cells: &PictureRow<'_>) -> Option<u16> {
     }
 }
 
-/// Whether there is text in columns.
+/// Returns whether there is text in a range of columns.
 fn has_text(cells: &PictureRow<'_>, start: u16, stop: u16) -> bool
     requires { stop ≤ length cells.now.cells }
 {
@@ -209,7 +214,7 @@ fn has_text(cells: &PictureRow<'_>, start: u16, stop: u16) -> bool
     false
 }
 
-/// Whether two rows are the same from a column on.
+/// Returns whether two rows are equal from a column on.
 fn are_alike(cells: &PictureRow<'_>, over: &PictureRow<'_>, start: u16) -> bool {
     let cols = cells.cols().min(over.cols());
     let same = cells.same_run(over, start);
@@ -222,7 +227,7 @@ fn are_alike(cells: &PictureRow<'_>, over: &PictureRow<'_>, start: u16) -> bool 
     true
 }
 
-/// The shift with the most votes; of equal ones the furthest down.
+/// Returns the shift with the most votes; on a tie, the one furthest down.
 fn heaviest(votes: &[i32; 512]) -> Option<Shift> {
     let mut best = 0;
     let mut shift = None;
@@ -239,8 +244,8 @@ fn heaviest(votes: &[i32; 512]) -> Option<Shift> {
     shift
 }
 
-/// For the rows before each one: how much less they would need if they had been
-/// blank.
+/// Returns, for the rows before each row, how many bytes less they would need
+/// in all if the terminal's rows were blank.
 fn savings(view: &View<'_>, height: u16, here: &Numbers) -> [i32; 257]
     requires inside { height ≤ length view.now.rows }
     requires few { height ≤ 256 }
@@ -258,7 +263,8 @@ fn savings(view: &View<'_>, height: u16, here: &Numbers) -> [i32; 257]
     savings
 }
 
-/// What rows between two places would save.
+/// Returns how many bytes less the rows from `first` up to but not including
+/// `behind` would need if the terminal's rows were blank.
 fn between(savings: &[i32; 257], first: u16, behind: u16) -> i32
     requires first { first ≤ 256 }
     requires behind { behind ≤ 256 }
@@ -266,7 +272,8 @@ fn between(savings: &[i32; 257], first: u16, behind: u16) -> i32
     savings[usize::from(behind)].saturating_sub(savings[usize::from(first)])
 }
 
-/// The rows for which the shift saves most; of equal ones the most rows.
+/// Returns the range of rows for which the shift saves most; on a tie, the
+/// longest.
 fn best_stretch(
     view: &View<'_>,
     prev: &View<'_>,
@@ -303,7 +310,7 @@ fn best_stretch(
 }
 
 impl Shift {
-    /// The row that would come to stand in this one.
+    /// Returns the row that the shift would move to `row`.
     fn source(&self, row: u16, height: u16) -> Option<u16>
         requires { row < height }
         ensures { IfSome result (λ from. from < height) }
@@ -315,8 +322,8 @@ impl Shift {
         if from < height { Some(from) } else { None }
     }
 
-    /// What the rows save that come free above a stretch which begins with this
-    /// row.
+    /// Returns how many bytes are saved because rows become blank above a range
+    /// that begins with `row`.
     fn opening(&self, savings: &[i32; 257], from: u16, row: u16) -> i32
         requires from { from ≤ 256 }
         requires row { row ≤ 256 }
@@ -330,7 +337,7 @@ impl Shift {
 }
 
 impl Stretch {
-    /// The stretch with a row more, or a new one that begins with this row.
+    /// Returns the range extended by `row`, or a new one that begins with it.
     fn and_row(&self, row: u16, opening: i32, gain: i32) -> Stretch
         requires { row < 65535 }
         ensures { result.behind ≡ row + 1 }
@@ -350,8 +357,9 @@ impl Stretch {
         }
     }
 
-    /// What it saves as it stands, with the rows that come free below it and
-    /// without what the sequences take.
+    /// Returns how many bytes a move of the range saves if the range ends here.
+    /// Rows that become blank below it count as savings, and the sequences of
+    /// the move as costs.
     fn closed(
         &self,
         shift: Shift,
@@ -374,7 +382,7 @@ impl Stretch {
             .saturating_sub(sequences(bottom < height, attrs))
     }
 
-    /// The band that brings it where it is.
+    /// Returns the band that moves the rows of the range to the right place.
     fn band(&self, shift: Shift) -> Band {
         let Shift { count, up } = shift;
         if up {
@@ -395,8 +403,8 @@ impl Stretch {
     }
 }
 
-/// About how many bytes the sequences of a move take: those at both ends where
-/// rows stay below, and a change of attributes.
+/// Returns the approximate number of bytes that the sequences of a move take:
+/// at both ends if rows remain below, and a change of attributes.
 fn sequences(both: bool, attrs: Attrs) -> i32 {
     let ends = if both { 15 } else { 6 };
     let change = if attrs == Attrs::new() { 0 } else { 3 };

@@ -1,6 +1,5 @@
-//! One row of a picture, written for itself: its columns in a range, for a
-//! reader whose cursor is at the range's begin and which draws with default
-//! attributes.
+//! Output for one row of a picture: a range of its columns, for a terminal with
+//! default attributes and its cursor at the beginning of the range.
 
 ghost use Rattle.std.specs.Prelude.{◌≡◌, ◌++◌, ◌+◌, ◌<◌, ◌≤◌, ◌&&◌, false};
 ghost use Rattle.std.specs.Prelude.{IfOk, OnOk, length};
@@ -21,9 +20,9 @@ use crate::picture_row::PictureRow;
 use crate::view::View;
 use vt_cells::{Attrs, Pos, Sink};
 
-/// Writes a right half in the first column of a range as a default blank,
-/// where the reader has no right half there. Answers the column where the
-/// other cells go on.
+/// Writes a continuation cell in the first column of a range as a default
+/// blank, unless the terminal has a continuation cell there. Returns the column
+/// at which the other cells continue.
 fn write_begin<S: Sink>(
     sink: &mut S,
     pen: &mut Pen,
@@ -54,8 +53,8 @@ fn write_begin<S: Sink>(
     Ok(col + count)
 }
 
-/// Writes the columns of a row in a range, `cells` cut to its end; `flag` says
-/// whether the reader's row goes on below, before and after.
+/// Writes a range of columns of a row, with `cells` cut to its end. `flag` says
+/// whether the terminal's row is wrapped, before and after.
 fn write_range<S: Sink>(
     sink: &mut S,
     pen: &mut Pen,
@@ -74,8 +73,8 @@ fn write_range<S: Sink>(
     write_cells(sink, pen, flag, Pos { row, col }, cells, over)
 }
 
-/// Prints the last glyph of a row again where the row is to go on below and
-/// the reader's does not.
+/// Prints the last glyph of a row again if the row is wrapped and the
+/// terminal's row is not.
 fn write_mark<S: Sink>(
     sink: &mut S,
     pen: &mut Pen,
@@ -97,8 +96,8 @@ fn write_mark<S: Sink>(
     write_last(sink, pen, row, cells)
 }
 
-/// Writes what a whole row needs behind its cells: the break, or the last glyph
-/// again.
+/// Writes the output that a whole row needs after its cells: the break, or its
+/// last glyph again.
 fn write_end<S: Sink>(
     sink: &mut S,
     pen: &mut Pen,
@@ -114,13 +113,16 @@ fn write_end<S: Sink>(
     write_mark(sink, pen, row, on, cells)
 }
 
-/// Writes the columns from `start` up to `stop` of a row of a picture, for a
-/// reader that shows that row of another one, and if that is the whole row,
-/// whether it goes on below.
+/// Writes the columns from `start` up to but not including `stop` of a row of a
+/// picture, for a terminal that displays that row of another picture. If that
+/// is the whole row, it is also made wrapped or not.
 ///
-/// The reader's cursor is at the first of these columns, and it draws with
-/// default attributes. An error is the sink's own, and then part of the text
-/// may have been appended.
+/// The terminal's cursor must be at the first of these columns, and its
+/// attributes must be the default ones.
+///
+/// # Errors
+///
+/// The error of the sink; part of the output may have been written.
 pub fn write_row_diff<S: Sink>(
     sink: &mut S,
     view: &View<'_>,
@@ -153,15 +155,15 @@ pub fn write_row_diff<S: Sink>(
     write_end(sink, &mut pen, row, flag, &cells)
 }
 
-/// Whether a range is the whole row.
+/// Returns whether a range of columns is the whole row.
 fn is_whole(start: u16, stop: u16, cells: &PictureRow<'_>) -> bool
     ensures { result ≡ is_whole start stop (length cells.now.cells) }
 {
     start == 0 && stop == cells.cols()
 }
 
-/// Writes a whole row under a row that goes on: its first cell as if the
-/// reader waited to wrap into it, and the others.
+/// Writes a whole row after a wrapped row: its first cell as if a wrap were
+/// pending in the row above, and then the other cells.
 fn write_linked<S: Sink>(sink: &mut S, row: u16, cells: &PictureRow<'_>) -> Result<(), S::Error>
     requires some { 0 < length cells.now.cells }
     requires paired { IsPaired cells.now.cells }
@@ -182,7 +184,7 @@ fn write_linked<S: Sink>(sink: &mut S, row: u16, cells: &PictureRow<'_>) -> Resu
     write_cells(sink, &mut pen, &mut flag, pos, cells, &over)
 }
 
-/// Writes the columns of a row in a range over a blank row.
+/// Writes a range of columns of a row over a blank row.
 fn write_over_blanks<S: Sink>(
     sink: &mut S,
     pos: Pos,
@@ -205,7 +207,7 @@ fn write_over_blanks<S: Sink>(
     write_range(sink, &mut pen, &mut flag, pos, &cells.up_to(stop), &over)
 }
 
-/// Whether the row above a row goes on below.
+/// Returns whether the row above `row` is wrapped.
 fn is_linked(view: &View<'_>, row: u16) -> bool
     requires { row < length view.now.rows }
     ensures { result ≡ is_linked view.now.width view.now.rows row }
@@ -213,7 +215,8 @@ fn is_linked(view: &View<'_>, row: u16) -> bool
     row > 0 && view.row(row - 1).wrapped()
 }
 
-/// Whether a range is a whole row under one that goes on.
+/// Returns whether a range of columns is a whole row and the row above it is
+/// wrapped.
 fn needs_link(view: &View<'_>, row: u16, start: u16, stop: u16, cells: &PictureRow<'_>) -> bool
     requires { row < length view.now.rows }
     ensures { result ≡ (is_whole start stop (length cells.now.cells) && is_linked view.now.width view.now.rows row) }
@@ -221,12 +224,16 @@ fn needs_link(view: &View<'_>, row: u16, start: u16, stop: u16, cells: &PictureR
     is_whole(start, stop, cells) && is_linked(view, row)
 }
 
-/// Writes the columns from `start` up to `stop` of a row of a picture, for a
-/// reader whose row is blank, or that waits to wrap into it.
+/// Writes the columns from `start` up to but not including `stop` of a row of a
+/// picture, for a terminal whose row is blank, or that has a wrap pending in
+/// the row above.
 ///
-/// The reader's cursor is at the first of these columns, and it draws with
-/// default attributes. An error is the sink's own, and then part of the text
-/// may have been appended.
+/// The terminal's cursor must be at the first of these columns, and its
+/// attributes must be the default ones.
+///
+/// # Errors
+///
+/// The error of the sink; part of the output may have been written.
 pub fn write_row_formatted<S: Sink>(
     sink: &mut S,
     view: &View<'_>,

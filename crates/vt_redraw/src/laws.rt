@@ -1,5 +1,5 @@
-//! What holds of redraws and differences. These functions do nothing: their
-//! clauses are what a proof may cite.
+//! Laws about redraws and differences. These functions do nothing when run;
+//! their clauses state what is proved.
 
 ghost use Rattle.std.specs.Prelude.{◌≡◌, ◌+◌, ◌<◌, ◌≤◌, ◌↔◌, ◌++◌, ℕ, [], Bool, List, Some, false, length, true};
 ghost use Rattle.std.specs.List.{AllByRecursion};
@@ -21,46 +21,50 @@ ghost use Rattle.vt_redraw.specs.Redraw.{cursor_state, difference, differences, 
 ghost use Rattle.vt_redraw.specs.Steady.{HasNoSelector, IsOfSize, IsSteady, IsSteadyCell, heart_text};
 ghost use Rattle.vt_redraw.specs.Touching.{Touches};
 
-/// The difference of two pictures, drawn on any plain canvas that shows the
-/// second, shows the first; besides only what is saved may change.
+/// States that the difference of two pictures, drawn on any plain canvas that
+/// displays the second, displays the first; besides, only what is saved may
+/// change.
 pub fn difference_draws()
     ensures { (self prev : Picture) → (any : Canvas) → IsPicture self → IsSteady self →
         IsPicture prev → SamePictureSize self prev → IsPlainPage any.page → picture_of any ≡ prev →
         (saved : Saved) × (drawn_all (difference self prev) any ≡ Some (with_saved saved (with_picture self any))) }
 {}
 
-/// It touches only positions near a difference, and the end of one row.
+/// States that the difference of two pictures touches only positions near a
+/// difference, and the end of one row.
 pub fn difference_local()
     ensures { (self prev : Picture) → (any : Canvas) → IsPicture self → IsSteady self →
         IsPicture prev → SamePictureSize self prev → IsPlainPage any.page →
         picture_of any ≡ prev → Touches (IsLocal self prev) (difference self prev) any }
 {}
 
-/// The difference of a picture and itself is empty.
+/// States that the difference of a picture and itself is empty.
 pub fn difference_self()
     ensures { (picture : Picture) → difference picture picture ≡ [] }
 {}
 
-/// An empty difference tells that both pictures are the same.
+/// States that two pictures are equal if their difference is empty.
 pub fn empty_only()
     ensures { (self prev : Picture) → IsPicture self → IsSteady self → IsPicture prev →
         SamePictureSize self prev → difference self prev ≡ [] → self ≡ prev }
 {}
 
-/// The redraw of a picture, drawn on any plain canvas of its size, shows it.
+/// States that the redraw of a picture, drawn on any plain canvas of its size,
+/// displays it.
 pub fn redraw_draws()
     ensures { (self : Picture) → (any : Canvas) → IsPicture self → IsSteady self →
         IsPicture (picture_of any) → IsPlainPage any.page → SamePictureSize self (picture_of any) →
         (saved : Saved) × (drawn_all (redraw self) any ≡ Some (with_saved saved (with_picture self any))) }
 {}
 
-/// Pictures of one size with the same redraw are the same.
+/// States that pictures of one size with equal redraws are equal.
 pub fn redraws_only()
     ensures { (a b : Picture) → IsPicture a → IsSteady a → IsPicture b →
         IsSteady b → SamePictureSize a b → redraw a ≡ redraw b → a ≡ b }
 {}
 
-/// A redraw and any chain of differences behind it show the last picture.
+/// States that a redraw followed by any chain of differences displays the last
+/// picture.
 pub fn chain_draws()
     ensures { (self : Picture) → (nexts : List Picture) → (any : Canvas) →
         IsOfSize any.page.width (length any.page.rows) self →
@@ -71,57 +75,60 @@ pub fn chain_draws()
         ≡ Some (with_saved saved (with_picture (last_picture self nexts) any))) }
 {}
 
-/// Each operation of a difference has numbers and texts that read back.
+/// States that each operation of a difference has only numbers and text that a
+/// terminal reads back unchanged.
 pub fn difference_fits()
     ensures { (self prev : Picture) → IsPicture self → IsColoredPicture self →
         FitsAttrs prev.attrs → AllByRecursion Fits (difference self prev) }
 {}
 
-/// So has each operation of a redraw.
+/// States that each operation of a redraw has only numbers and text that a
+/// terminal reads back unchanged.
 pub fn redraw_fits()
     ensures { (self : Picture) → IsPicture self → IsColoredPicture self → AllByRecursion Fits (redraw self) }
 {}
 
-/// So has each operation of the text of the cursor.
+/// States that each operation of the output for the cursor has only numbers and
+/// text that a terminal reads back unchanged.
 pub fn cursor_state_fits()
     ensures { (self : Picture) → IsPicture self → IsColoredPicture self → AllByRecursion Fits (cursor_state self) }
 {}
 
-/// The text of the cursor sets the cursor and whether it is hidden, on a plain
-/// canvas that shows the rows and draws with default attributes.
+/// States that the output for the cursor sets the cursor and whether it is
+/// hidden, on a plain canvas that displays the rows and has default attributes.
 pub fn cursor_state_draws()
     ensures { (self : Picture) → (any : Canvas) → IsPicture self → IsSteady self → IsPlainPage any.page →
         any.page.rows ≡ self.rows → any.page.width ≡ self.width → any.attrs ≡ default_attrs →
         (saved : Saved) × (drawn_all (cursor_state self) any ≡ Some (with_saved saved (with_cursor_of self any))) }
 {}
 
-/// It touches at most the end of one row.
+/// States that the output for the cursor touches at most the end of one row.
 pub fn cursor_state_local()
     ensures { (self : Picture) → (any : Canvas) → IsPicture self → IsSteady self →
         IsPlainPage any.page → any.page.rows ≡ self.rows → any.page.width ≡ self.width →
         any.attrs ≡ default_attrs → Touches (MayPlace self) (cursor_state self) any }
 {}
 
-/// A picture without U+FE0F among its glyphs is steady, whatever the widths of
-/// its characters are.
+/// States that a picture without U+FE0F in its glyphs is steady, whatever the
+/// widths of its characters are.
 pub fn steady_without_selectors()
     ensures { (picture : Picture) → IsPicture picture → HasNoSelector picture → IsSteady picture }
 {}
 
-/// U+2764 with U+FE0F is steady on two columns or more.
+/// States that U+2764 followed by U+FE0F is steady on two columns or more.
 pub fn heart_steady()
     ensures { (width : ℕ) → (attrs : Attrs) → 1 < width → IsSteadyCell width (glyph heart_text true attrs) }
 {}
 
-/// A whole row is a range that cuts no wide glyph.
+/// States that the range of a whole row cuts no wide character.
 pub fn whole_cuts_none()
     ensures { (self : Picture) → (r : ℕ) → IsPicture self → r < length self.rows →
         CutsNone 0 self.width (row_of_picture self r).cells }
 {}
 
-/// A row's item of a difference, drawn on a plain canvas over the row that it
-/// starts from, gives that row the cells of its range; besides only the row's
-/// flag, the cursor and the attributes may change.
+/// States that a row's item of a difference, drawn on a plain canvas over the
+/// row that it starts from, gives that row the cells of its range; besides,
+/// only whether the row is wrapped, the cursor and the attributes may change.
 pub fn difference_item_draws()
     ensures { (self : Picture) → (r start stop : ℕ) → (y : RowValue) → (any : Canvas) → IsPicture self → IsSteady self →
         AwaitsItem self r start y any → start ≤ stop → stop ≤ self.width →
@@ -131,14 +138,15 @@ pub fn difference_item_draws()
         (item_of_difference r start stop (row_of_picture self r) y).pen any) }
 {}
 
-/// Over the whole row it leaves the flag off where the row is not to go on.
+/// States that an item of a difference over a whole row leaves the row not
+/// wrapped if it is not wrapped in the picture.
 pub fn difference_item_off()
     ensures { (r width : ℕ) → (x y : RowValue) → length x.cells ≡ width →
         x.wrapped ≡ false → (changed_row r 0 width x y).wrapped ≡ false }
 {}
 
-/// Over the whole row its text is empty exactly where both pictures have the
-/// same row.
+/// States that an item of a difference over a whole row is empty if and only if
+/// both pictures have the same row.
 pub fn difference_item_empty()
     ensures { (self prev : Picture) → (r : ℕ) → IsPicture self → IsPicture prev → SamePictureSize self prev →
         r < length self.rows →
@@ -146,9 +154,9 @@ pub fn difference_item_empty()
         ↔ (row_of_picture self r ≡ row_of_picture prev r) }
 {}
 
-/// A row's item of a redraw, drawn on a plain canvas over a row of default
-/// blanks, gives that row the cells of its range; besides only the cursor and
-/// the attributes change.
+/// States that a row's item of a redraw, drawn on a plain canvas over a row of
+/// default blanks, gives that row the cells of its range; besides, only the
+/// cursor and the attributes change.
 pub fn redraw_item_draws()
     ensures { (self : Picture) → (r start stop : ℕ) → (linked : Bool) → (any : Canvas) → IsPicture self →
         IsSteady self → AwaitsItem self r start (blank_row default_attrs self.width) any → start ≤ stop →
@@ -158,9 +166,9 @@ pub fn redraw_item_draws()
         (item_of_redraw r start stop linked (row_of_picture self r)).pen any) }
 {}
 
-/// A whole row's item under a row that goes on gives the same row where it is
-/// drawn with a wrap pending behind a glyph at the end of the row above, and
-/// that row then goes on.
+/// States that a whole row's item of a redraw, drawn with a wrap pending after
+/// a glyph at the end of the row above, gives the same row and makes the row
+/// above wrapped.
 pub fn redraw_item_wraps()
     ensures { (self : Picture) → (r : ℕ) → (above : RowValue) → (any : Canvas) → IsPicture self → IsSteady self →
         AwaitsItem self r self.width above any → ends_blank above.cells ≡ false → r + 1 < length self.rows →
@@ -170,15 +178,16 @@ pub fn redraw_item_wraps()
         (item_of_redraw (r + 1) 0 self.width true (row_of_picture self (r + 1))).pen (going_on r any)) }
 {}
 
-/// Each operation of an item of a difference has numbers and texts that read
-/// back.
+/// States that each operation of an item of a difference has only numbers and
+/// text that a terminal reads back unchanged.
 pub fn difference_item_fits()
     ensures { (self : Picture) → (r start stop : ℕ) → (y : RowValue) → IsPicture self →
         IsColoredPicture self → r < length self.rows → start ≤ stop → stop ≤ self.width →
         AllByRecursion Fits (item_of_difference r start stop (row_of_picture self r) y).ops }
 {}
 
-/// So has each operation of an item of a redraw.
+/// States that each operation of an item of a redraw has only numbers and text
+/// that a terminal reads back unchanged.
 pub fn redraw_item_fits()
     ensures { (self : Picture) → (r start stop : ℕ) → (linked : Bool) → IsPicture self →
         IsColoredPicture self → r < length self.rows → start ≤ stop → stop ≤ self.width →

@@ -1,5 +1,6 @@
-//! What a screen shows, and the texts that show it on another terminal: a full
-//! redraw, and the difference from what that terminal shows already.
+//! Pictures of what a screen displays, and the output that displays them on
+//! another terminal: a full redraw, and the difference from what that terminal
+//! displays already.
 #![tactic(auto)]
 
 pub mod band;

@@ -10,7 +10,7 @@ use crate::view::View;
 use vt_cells::term::{BufWrite, DeleteLines, InsertLines, MoveTo};
 use vt_cells::{Attrs, Pos, Sink};
 
-/// Takes rows away from this row on.
+/// Writes the deletion of `count` rows at `row` (DL).
 fn write_deleted<S: Sink>(sink: &mut S, row: u16, count: u16) -> Result<(), S::Error>
     ensures { OnOk result (S.text sink.new ≡ S.text sink.old ++ lines_deleted_text row count) }
 {
@@ -21,7 +21,7 @@ fn write_deleted<S: Sink>(sink: &mut S, row: u16, count: u16) -> Result<(), S::E
     DeleteLines { count }.write_buf(sink)
 }
 
-/// Brings blank rows in at this row.
+/// Writes the insertion of `count` blank rows at `row` (IL).
 fn write_inserted<S: Sink>(sink: &mut S, row: u16, count: u16) -> Result<(), S::Error>
     ensures { OnOk result (S.text sink.new ≡ S.text sink.old ++ lines_inserted_text row count) }
 {
@@ -32,7 +32,7 @@ fn write_inserted<S: Sink>(sink: &mut S, row: u16, count: u16) -> Result<(), S::
     InsertLines { count }.write_buf(sink)
 }
 
-/// Writes the sequences by which a band of a picture of so many rows goes up.
+/// Writes the sequences that move a band up, in a picture of `height` rows.
 #[tactic(auto, unfolding(crate::specs::Moved::up_text))]
 fn write_up<S: Sink>(sink: &mut S, height: u16, band: Band) -> Result<(), S::Error>
     requires { IsBand height band }
@@ -51,7 +51,7 @@ fn write_up<S: Sink>(sink: &mut S, height: u16, band: Band) -> Result<(), S::Err
     write_inserted(sink, bottom - count, count)
 }
 
-/// And those by which it goes down.
+/// Writes the sequences that move a band down, in a picture of `height` rows.
 #[tactic(auto, unfolding(crate::specs::Moved::down_text))]
 fn write_down<S: Sink>(sink: &mut S, height: u16, band: Band) -> Result<(), S::Error>
     requires { IsBand height band }
@@ -70,7 +70,7 @@ fn write_down<S: Sink>(sink: &mut S, height: u16, band: Band) -> Result<(), S::E
     write_inserted(sink, top, count)
 }
 
-/// Writes the sequences that move a band of a picture of so many rows.
+/// Writes the sequences that move a band, in a picture of `height` rows.
 fn write_band<S: Sink>(sink: &mut S, height: u16, band: Band) -> Result<(), S::Error>
     requires { IsBand height band }
     ensures { OnOk result (S.text sink.new ≡ S.text sink.old ++ band_text height band) }
@@ -82,11 +82,12 @@ fn write_band<S: Sink>(sink: &mut S, height: u16, band: Band) -> Result<(), S::E
     }
 }
 
-/// Writes what moves a terminal's rows as those of a band move. What is drawn
-/// then has default attributes.
+/// Writes the sequences that move a band of a terminal's rows. Afterwards the
+/// terminal has default attributes.
 ///
-/// An error is the sink's own, and then part of the text may have been
-/// appended.
+/// # Errors
+///
+/// The error of the sink; part of the output may have been written.
 pub fn write_moves<S: Sink>(sink: &mut S, prev: &View<'_>, band: Band) -> Result<(), S::Error>
     requires { IsBand (length prev.now.rows) band }
     ensures { OnOk result (S.text sink.new ≡ S.text sink.old ++ moving_text band prev.now) }

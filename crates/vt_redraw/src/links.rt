@@ -1,4 +1,8 @@
-//! Links of rows with the rows above them, and breaks between them.
+//! Links between rows, and breaks between them.
+//!
+//! A *link* makes the terminal wrap from one row into the next, so that the
+//! upper row becomes wrapped. A *break* prints the end of a wrapped row again,
+//! so that it ceases to be wrapped.
 
 ghost use Rattle.std.specs.Prelude.{◌≡◌, ◌<◌, ◌&&◌, ◌||◌, [], ◌∷◌, not, nat_le, true, IfOk, OnOk, length};
 ghost use Rattle.vt_cells.specs.Cell.{is_blank, is_glyph};
@@ -15,19 +19,24 @@ use crate::picture_row::PictureRow;
 use vt_cells::term::{Backspace, BufWrite, EraseChar};
 use vt_cells::{Cell, Pos, Sink, cell};
 
-/// What stands after a link: whether the reader's row that was linked goes on
-/// below itself, and how many of its first cells need nothing any more.
+/// The state after a link: whether the terminal's lower row is wrapped itself,
+/// and how many of its first cells are done.
 #[derive(Clone, Copy, Debug)]
 pub struct Link {
-    /// The reader's row goes on below.
+    /// Whether the terminal's lower row is wrapped.
     pub flag: bool,
 
-    /// As many of its cells are settled.
+    /// The number of first cells of the terminal's lower row that need no more
+    /// output.
     pub settled: u16,
 }
 
-/// Prints the last glyph of a row again, unless the pen is behind it already:
-/// the reader then waits to wrap.
+/// Prints the last glyph of a row again, unless the pen is after it already.
+/// The terminal then has a wrap pending.
+///
+/// # Errors
+///
+/// The error of the sink; part of the output may have been written.
 pub fn write_last<S: Sink>(
     sink: &mut S,
     pen: &mut Pen,
@@ -49,8 +58,8 @@ pub fn write_last<S: Sink>(
     Ok(())
 }
 
-/// Writes a blank first cell while the reader waits to wrap: a space, which is
-/// erased again.
+/// Writes a blank first cell while a wrap is pending: a space, which is erased
+/// again.
 fn write_first_blank<S: Sink>(
     sink: &mut S,
     pen: &mut Pen,
@@ -76,15 +85,16 @@ fn write_first_blank<S: Sink>(
     })
 }
 
-/// Whether a row with this flag still goes on below when its first cell was
-/// erased: not if that is its last column.
+/// Returns whether a row is still wrapped after its first cell was erased: not
+/// if that is its last column.
 fn goes_on(flag: bool, over: &PictureRow<'_>) -> bool
     ensures { result ≡ (flag && not (nat_le (length over.now.cells) 1)) }
 {
     flag && !(over.cols() <= 1)
 }
 
-/// Writes a glyph in the first columns while the reader waits to wrap.
+/// Writes a glyph in the first columns of a row while a wrap is pending in the
+/// row above.
 fn write_first_glyph<S: Sink>(
     sink: &mut S,
     pen: &mut Pen,
@@ -109,7 +119,11 @@ fn write_first_glyph<S: Sink>(
     })
 }
 
-/// Writes the first cell of a row while the reader waits to wrap into it.
+/// Writes the first cell of a row while a wrap is pending in the row above.
+///
+/// # Errors
+///
+/// The error of the sink; part of the output may have been written.
 pub fn write_first<S: Sink>(
     sink: &mut S,
     pen: &mut Pen,
@@ -124,16 +138,17 @@ pub fn write_first<S: Sink>(
 {
     let cell = cells.cell(0);
     if cell::is_blank(cell) {
-        // For the proof: a value in the tail, so that its clause is found.
+        // Only for the proof: a value in tail position, so that its clause is found.
         let link = write_first_blank(sink, pen, row, flag, cell, over)?;
         return Ok(link);
     }
-    // For the proof: a value in the tail, so that its clause is found.
+    // Only for the proof: a value in tail position, so that its clause is found.
     let link = write_first_glyph(sink, pen, row, flag, cell, over)?;
     Ok(link)
 }
 
-/// Whether a row begins with a glyph that the reader does not show there.
+/// Returns whether a row begins with a glyph that the terminal does not display
+/// there.
 fn starts_other(cells: &PictureRow<'_>, over: &PictureRow<'_>) -> bool
     requires some { 0 < length cells.now.cells }
     requires over { 0 < length over.now.cells }
@@ -143,8 +158,9 @@ fn starts_other(cells: &PictureRow<'_>, over: &PictureRow<'_>) -> bool
     cell.has_contents() && !(cell == over.cell(0))
 }
 
-/// Whether a row under one that goes on is to be linked with it: the reader's
-/// does not go on, or waits to wrap where the row begins with another glyph.
+/// Returns whether a row after a wrapped row needs a link: the terminal's upper
+/// row is not wrapped, or it has a wrap pending and the row begins with a
+/// different glyph.
 fn needs_link(
     pen: &Pen,
     row: u16,
@@ -161,8 +177,13 @@ fn needs_link(
     !on || (pen.is_at(row, above.cols()) && starts_other(cells, over))
 }
 
-/// Links a row with the row above it, `row`, where that goes on; the reader's
-/// row `row` goes on below or not. The reader wraps into the row then.
+/// Writes the link between row `row` and the next row, if row `row` is wrapped;
+/// `on` says whether the terminal's row is. The terminal then wraps into the
+/// next row.
+///
+/// # Errors
+///
+/// The error of the sink; part of the output may have been written.
 #[tactic(auto, unfolding(crate::specs::Script::row_link))]
 pub fn write_link<S: Sink>(
     sink: &mut S,
@@ -185,13 +206,18 @@ pub fn write_link<S: Sink>(
         return Ok(Link { flag, settled: 0 });
     }
     write_last(sink, pen, row, above)?;
-    // For the proof: a value in the tail, so that its clause is found.
+    // Only for the proof: a value in tail position, so that its clause is found.
     let link = write_first(sink, pen, row + 1, flag, cells, over)?;
     Ok(link)
 }
 
-/// Takes the flag of the reader's row where it goes on and is not to: its last
-/// glyph is erased and printed again. Answers the flag that stands then.
+/// Writes the break after a row if the terminal's row is wrapped and must not
+/// be: its last glyph is erased and printed again. Returns whether the
+/// terminal's row is wrapped then.
+///
+/// # Errors
+///
+/// The error of the sink; part of the output may have been written.
 #[tactic(auto, unfolding(crate::specs::Script::row_break))]
 pub fn write_break<S: Sink>(
     sink: &mut S,

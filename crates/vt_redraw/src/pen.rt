@@ -1,4 +1,4 @@
-//! The writer's view of the terminal that reads a redraw.
+//! What the writer knows of the terminal that reads its output.
 
 ghost use Rattle.std.specs.Prelude.{◌≡◌, ◌≤◌, ◌++◌, OnOk, length};
 ghost use Rattle.vt_cells.specs.Attrs.{default_attrs};
@@ -12,24 +12,25 @@ ghost use Rattle.vt_redraw.specs.Script.{attr_ops, move_ops, is_at, pen_at};
 use vt_cells::term::{BufWrite, ChangeAttrs, MoveFromTo};
 use vt_cells::{Attrs, Buffer, Cell, Pos, Sink, cell};
 
-/// Where the reading terminal's cursor is, and what it draws with.
+/// The position of the terminal's cursor, and the terminal's attributes.
 ///
-/// An error of a call that writes is the sink's own; then part of the text may
-/// have been written.
+/// A call that writes returns the error of the sink; part of the output may
+/// then have been written.
 #[derive(Clone, Copy, PartialEq, Eq, Debug)]
 pub struct Pen {
-    /// The row, from 0.
+    /// The row, counted from 0.
     pub row: u16,
 
-    /// The column, from 0; one past the last column is a pending wrap.
+    /// The column, counted from 0; one past the last column is a pending wrap.
     pub col: u16,
 
-    /// The attributes that it draws with.
+    /// The terminal's current attributes.
     pub attrs: Attrs,
 }
 
 impl Pen {
-    /// The pen after a clear: in the corner, with default attributes.
+    /// Creates the pen after a clear: in the top left corner, with default
+    /// attributes.
     pub fn new() -> Self
         ensures { result ≡ pen_at 0 0 default_attrs }
     {
@@ -40,7 +41,7 @@ impl Pen {
         }
     }
 
-    /// Whether it is at this position.
+    /// Returns whether the pen is at this position.
     #[inline]
     pub fn is_at(&self, row: u16, col: u16) -> bool
         ensures { result ≡ is_at self.now row col }
@@ -49,6 +50,10 @@ impl Pen {
     }
 
     /// Moves to a position, and writes the move.
+    ///
+    /// # Errors
+    ///
+    /// The error of the sink; part of the output may have been written.
     #[inline]
     pub fn move_to<S: Sink>(&mut self, sink: &mut S, to: Pos) -> Result<(), S::Error>
         ensures ops { AppendsOrStops result (S.text sink.old) (S.text sink.new) (move_ops self.old to.row to.col) }
@@ -60,7 +65,7 @@ impl Pen {
         self.jump(sink, to)
     }
 
-    /// Moves to another position, and writes the move.
+    /// Moves to a different position, and writes the move.
     #[inline(never)]
     #[tactic(auto, unfolding(crate::specs::Script::move_ops))]
     fn jump<S: Sink>(&mut self, sink: &mut S, to: Pos) -> Result<(), S::Error>
@@ -77,7 +82,11 @@ impl Pen {
         Ok(())
     }
 
-    /// Takes other attributes, and writes the change.
+    /// Changes the attributes, and writes the change.
+    ///
+    /// # Errors
+    ///
+    /// The error of the sink; part of the output may have been written.
     #[inline]
     pub fn change_attrs<S: Sink>(&mut self, sink: &mut S, new: Attrs) -> Result<(), S::Error>
         ensures ops { AppendsOrStops result (S.text sink.old) (S.text sink.new) (attr_ops self.old.attrs new) }
@@ -91,7 +100,11 @@ impl Pen {
         Ok(())
     }
 
-    /// Moves to a position; what was gathered is written before the move.
+    /// Moves to a position, and writes the buffer and then the move.
+    ///
+    /// # Errors
+    ///
+    /// The error of the sink; part of the output may have been written.
     #[inline]
     pub fn move_behind<S: Sink>(
         &mut self,
@@ -109,7 +122,7 @@ impl Pen {
         self.jump_behind(sink, buffer, to)
     }
 
-    /// Moves to another position in the same way.
+    /// Moves to a different position, and writes the buffer and then the move.
     #[inline(never)]
     #[tactic(auto, using(vt_cells::proofs::Buffers::nothing_gathered))]
     fn jump_behind<S: Sink>(
@@ -126,7 +139,11 @@ impl Pen {
         self.jump(sink, to)
     }
 
-    /// Takes the attributes of a cell, and gathers the change.
+    /// Changes the attributes to those of a cell, and buffers the change.
+    ///
+    /// # Errors
+    ///
+    /// The error of the sink; part of the output may have been written.
     #[inline]
     pub fn draw_as<S: Sink>(
         &mut self,
@@ -150,7 +167,8 @@ impl Pen {
     }
 }
 
-/// Gathers a change of attributes.
+/// Buffers the SGR sequence that changes the attributes from `was` to `new`, or
+/// nothing if they are equal.
 #[inline(never)]
 #[tactic(auto, using(crate::proofs::Writing::change_written))]
 fn add_change<S: Sink>(
@@ -167,7 +185,12 @@ fn add_change<S: Sink>(
     ChangeAttrs { was, new }.add(sink, buffer)
 }
 
-/// Writes a change of attributes.
+/// Writes the SGR sequence that changes the attributes from `was` to `new`, or
+/// nothing if they are equal.
+///
+/// # Errors
+///
+/// The error of the sink; part of the output may have been written.
 #[inline(never)]
 #[tactic(auto, using(crate::proofs::Writing::change_written))]
 pub fn write_change<S: Sink>(sink: &mut S, was: Attrs, new: Attrs) -> Result<(), S::Error>

@@ -1,4 +1,4 @@
-//! The rows of a picture, read where they lie.
+//! The rows of a picture, borrowed from the pages they are stored in.
 
 ghost use Rattle.std.specs.Prelude.{◌≡◌, ◌+◌, ◌<◌, ◌≤◌, ◌&&◌, ℕ, drop, false};
 ghost use Rattle.std.specs.Prelude.{All, length, not, take, true};
@@ -15,11 +15,11 @@ use vt_cells::{Attrs, Cell, cell};
 use vt_rows::RowContents;
 use vt_rows::capture::cells_of;
 
-/// A row of a picture: the cells of a row of a page or of scrollback, as far as
-/// the picture has columns for them, and blanks of one kind behind them.
+/// A row of a picture: the stored cells of a row of a page or of scrollback, as
+/// far as the picture has columns for them, followed by blanks of one kind.
 ///
-/// No cell is copied: a wide glyph that the cut leaves in two is the blank
-/// behind the others.
+/// No cell is copied. If the cut leaves one column of a wide character, that
+/// column is the blank after the stored cells.
 #[derive(Drop)]
 pub struct PictureRow<'a> {
     cells: &'a [Cell],
@@ -40,7 +40,7 @@ impl<'a> Model for PictureRow<'a> {
 }
 
 impl<'a> PictureRow<'a> {
-    /// A row of default blanks that does not go on below.
+    /// Creates a row of default blanks that is not wrapped.
     pub fn blank(cols: u16) -> PictureRow<'a>
         ensures { result ≡ blank_row default_attrs cols }
     {
@@ -52,8 +52,9 @@ impl<'a> PictureRow<'a> {
         }
     }
 
-    /// A row cut or grown to this many columns. It goes on below as it did,
-    /// unless its last column then is blank, or it is the last of the picture.
+    /// Creates a row that is cut or extended to `cols` columns. It is wrapped
+    /// if `row` is, unless its last column is then blank or it is the last row
+    /// of the picture.
     #[tactic(auto, using(crate::proofs::Filling::resized_columns))]
     pub fn cut(row: &RowContents<'a>, cols: u16, is_last: bool) -> PictureRow<'a>
         requires some { 0 < cols }
@@ -66,7 +67,7 @@ impl<'a> PictureRow<'a> {
         cut
     }
 
-    /// Whether a row with this flag goes on below after the cut.
+    /// Returns whether a row that was wrapped or not is wrapped after the cut.
     fn keeps_flag(&self, wrapped: bool, is_last: bool) -> bool
         requires { 0 < length self.now.cells }
         ensures { result ≡ (not is_last && (wrapped && not (ends_blank self.now.cells))) }
@@ -74,7 +75,8 @@ impl<'a> PictureRow<'a> {
         !is_last && wrapped && !self.ends_blank()
     }
 
-    /// A row cut or grown to this many columns, without its flag.
+    /// Creates a row that is cut or extended to `cols` columns and is not
+    /// wrapped.
     #[tactic(auto, using(crate::proofs::Filling::filled_resized, crate::proofs::Filling::kept_inside))]
     fn unwrapped(cells: &'a [Cell], cols: u16) -> PictureRow<'a>
         requires some { 0 < cols }
@@ -92,7 +94,7 @@ impl<'a> PictureRow<'a> {
         }
     }
 
-    /// The first columns of the row, at most all.
+    /// Returns the first `stop` columns of the row.
     #[tactic(auto, using(crate::proofs::Filling::filled_taken))]
     pub fn up_to(&self, stop: u16) -> PictureRow<'_>
         requires { stop ≤ length self.now.cells }
@@ -108,7 +110,7 @@ impl<'a> PictureRow<'a> {
         }
     }
 
-    /// How many columns the row has.
+    /// Returns the number of columns of the row.
     #[inline]
     pub fn cols(&self) -> u16
         ensures { result ≡ length self.now.cells }
@@ -116,7 +118,7 @@ impl<'a> PictureRow<'a> {
         self.cols
     }
 
-    /// How many cells lie in the row it was cut from; the columns behind them
+    /// Returns the number of stored cells of the row; the columns after them
     /// are blanks of one kind.
     #[inline]
     pub fn own_len(&self) -> usize
@@ -125,8 +127,7 @@ impl<'a> PictureRow<'a> {
         self.cells.len()
     }
 
-    /// The cells that lie in the row it was cut from; all columns after them are
-    /// blanks.
+    /// Returns the stored cells of the row; all columns after them are blanks.
     #[inline]
     pub fn own_cells(&self) -> &'a [Cell]
         ensures inside { length result.now ≤ length self.now.cells }
@@ -136,7 +137,7 @@ impl<'a> PictureRow<'a> {
         self.cells
     }
 
-    /// The cell at a column.
+    /// Returns the cell at a column.
     #[inline]
     pub fn cell(&self, col: u16) -> &Cell
         requires { col < length self.now.cells }
@@ -150,9 +151,9 @@ impl<'a> PictureRow<'a> {
         }
     }
 
-    /// How many cells from a column on are the same as those of another row, as
-    /// far as both have cells of their own; some behind them may be, too. Four
-    /// are compared at once.
+    /// Returns how many cells from a column on are equal to those of another
+    /// row, as far as both have stored cells. Further cells may be equal, too.
+    /// Four cells are compared at once.
     pub fn same_run(&self, other: &PictureRow<'_>, col: u16) -> usize
         ensures inside { 0 < result → col + result ≤ length self.now.cells }
         ensures same { (k : ℕ) → k < result
@@ -166,7 +167,7 @@ impl<'a> PictureRow<'a> {
         same_run(&self.cells[start..stop], &other.cells[start..stop])
     }
 
-    /// Whether the row's text goes on in the row below.
+    /// Returns whether the row is wrapped.
     #[inline]
     pub fn wrapped(&self) -> bool
         ensures { result ≡ self.now.wrapped }
@@ -174,7 +175,7 @@ impl<'a> PictureRow<'a> {
         self.wrapped
     }
 
-    /// Whether the last column is blank.
+    /// Returns whether the last column is blank.
     #[inline]
     pub fn ends_blank(&self) -> bool
         requires { 0 < length self.now.cells }
@@ -183,7 +184,8 @@ impl<'a> PictureRow<'a> {
         cell::is_blank(self.cell(self.cols - 1))
     }
 
-    /// Where the glyph begins that covers the last column.
+    /// Returns the column at which the glyph begins that covers the last
+    /// column.
     pub fn last_col(&self) -> u16
         requires some { 0 < length self.now.cells }
         requires paired { IsPaired self.now.cells }
@@ -197,8 +199,8 @@ impl<'a> PictureRow<'a> {
         last
     }
 
-    /// Whether from this column on there is one right half alone, in the last
-    /// column.
+    /// Returns whether the columns from `col` on are a single continuation
+    /// cell, in the last column.
     #[inline]
     #[tactic(auto, using(crate::proofs::Filling::torn_at))]
     pub fn is_torn(&self, col: u16) -> bool
@@ -207,8 +209,8 @@ impl<'a> PictureRow<'a> {
         usize::from(col) + 1 == usize::from(self.cols()) && self.cell(col).is_wide_continuation()
     }
 
-    /// How many blanks of these attributes stand from this column on, one
-    /// after the other.
+    /// Returns how many consecutive blanks with these attributes begin at a
+    /// column.
     pub fn run(&self, col: u16, attrs: Attrs) -> u16
         requires { col ≤ length self.now.cells }
         ensures value { result ≡ blank_run attrs (drop col self.now.cells) }
@@ -223,7 +225,7 @@ impl<'a> PictureRow<'a> {
     }
 }
 
-/// The cells that stand as they are in a row cut to this many columns.
+/// Returns the cells that are unchanged in a row cut to `cols` columns.
 fn kept_cells<'a>(cells: &'a [Cell], cols: u16) -> &'a [Cell]
     requires { 0 < cols }
     ensures { result.now ≡ take (kept_len cols cells.now) cells.now }
@@ -238,8 +240,9 @@ fn kept_cells<'a>(cells: &'a [Cell], cols: u16) -> &'a [Cell]
     &cells[..cols]
 }
 
-/// What stands behind them: the half of a wide glyph that is cut in two, blank
-/// in its attributes, or else default blanks.
+/// Returns the cell after the unchanged cells of a cut row: a blank with the
+/// attributes of the wide character that is cut in two, or else a default
+/// blank.
 fn end_cell(cells: &[Cell], cols: u16) -> Cell
     requires { 0 < cols }
     ensures { result ≡ cell_past_cut cols cells.now }
@@ -251,7 +254,7 @@ fn end_cell(cells: &[Cell], cols: u16) -> Cell
     cell::default_blank()
 }
 
-/// Whether the cell is a blank in these attributes.
+/// Returns whether a cell is a blank with these attributes.
 #[inline]
 pub fn is_blank_of(cell: &Cell, attrs: Attrs) -> bool
     ensures { result ≡ is_blank_of attrs cell.now }

@@ -1,4 +1,4 @@
-//! The texts that show a screen on another terminal.
+//! Output that displays a screen on another terminal.
 
 ghost use Rattle.std.specs.Prelude.{◌≡◌, ◌++◌, OnOk};
 ghost use Rattle.vt_cells.specs.Op.{bytes_of_all};
@@ -13,10 +13,11 @@ use vt_cells::Sink;
 use vt_cells::term::{BufWrite, ClearAttrs, ClearScreen, HideCursor};
 
 /// Writes the full redraw of a picture: whether the cursor is hidden, a clear,
-/// and what a blank screen then needs.
+/// and the script from a blank screen.
 ///
-/// An error is the sink's own, and then part of the text may have been
-/// appended.
+/// # Errors
+///
+/// The error of the sink; part of the output may have been written.
 #[tactic(auto, unfolding(crate::specs::Redraw::redraw))]
 pub fn write_contents_formatted<S: Sink>(sink: &mut S, view: &View<'_>) -> Result<(), S::Error>
     ensures { OnOk result (S.text sink.new ≡ S.text sink.old ++ bytes_of_all (redraw view.now)) }
@@ -31,11 +32,12 @@ pub fn write_contents_formatted<S: Sink>(sink: &mut S, view: &View<'_>) -> Resul
     write_script(sink, view, &blank)
 }
 
-/// Writes what makes a terminal that shows one picture show another, nothing
-/// where they are the same.
+/// Writes the output that turns the display of `prev` into that of `view`,
+/// which is nothing if they are equal.
 ///
-/// An error is the sink's own, and then part of the text may have been
-/// appended.
+/// # Errors
+///
+/// The error of the sink; part of the output may have been written.
 #[tactic(auto, unfolding(crate::specs::Redraw::difference))]
 pub fn write_contents_diff<S: Sink>(
     sink: &mut S,
@@ -50,7 +52,8 @@ pub fn write_contents_diff<S: Sink>(
     write_script(sink, view, prev)
 }
 
-/// Writes whether the cursor is hidden, where that differs.
+/// Writes the sequence that hides or shows the cursor, if that differs between
+/// two pictures.
 fn write_hiding<S: Sink>(sink: &mut S, view: &View<'_>, prev: &View<'_>) -> Result<(), S::Error>
     ensures text { OnOk result (S.text sink.new ≡ S.text sink.old ++ bytes_of_all (hiding view.now prev.now)) }
     ensures some { RefusedOnlyIfSome result (bytes_of_all (hiding view.now prev.now)) }
@@ -62,11 +65,12 @@ fn write_hiding<S: Sink>(sink: &mut S, view: &View<'_>, prev: &View<'_>) -> Resu
     HideCursor { state }.write_buf(sink)
 }
 
-/// Writes whether the cursor is hidden, and the cursor, for a terminal that
-/// shows the rows of the picture already and draws with default attributes.
+/// Writes the sequences that hide or show the cursor and move it, on a terminal
+/// that displays the rows of the picture already and has default attributes.
 ///
-/// An error is the sink's own, and then part of the text may have been
-/// appended.
+/// # Errors
+///
+/// The error of the sink; part of the output may have been written.
 #[tactic(auto, unfolding(crate::specs::Redraw::cursor_state))]
 pub fn write_cursor_state<S: Sink>(sink: &mut S, view: &View<'_>) -> Result<(), S::Error>
     ensures { OnOk result (S.text sink.new ≡ S.text sink.old ++ bytes_of_all (cursor_state view.now)) }

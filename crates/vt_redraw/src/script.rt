@@ -15,8 +15,9 @@ use crate::picture_row::PictureRow;
 use crate::view::View;
 use vt_cells::{Pos, Sink};
 
-/// Writes what a row needs, but for its first cells that are settled: its
-/// cells, and the break. Answers whether the reader's row goes on then.
+/// Writes the output for a row, except for its first cells that are done
+/// already: its cells and the break. Returns whether the terminal's row is
+/// wrapped then.
 #[tactic(auto, using(crate::proofs::CellSteps::range_of))]
 fn write_row<S: Sink>(
     sink: &mut S,
@@ -37,12 +38,13 @@ fn write_row<S: Sink>(
         col: link.settled,
     };
     write_cells(sink, pen, &mut flag, pos, cells, over)?;
-    // For the proof: a value in the tail, so that its clause is found.
+    // Only for the proof: a value in tail position, so that its clause is found.
     let on = write_break(sink, pen, row, flag, cells)?;
     Ok(on)
 }
 
-/// Writes the first row.
+/// Writes the output for the first row. Returns whether the terminal's row is
+/// wrapped then.
 fn write_top<S: Sink>(
     sink: &mut S,
     pen: &mut Pen,
@@ -59,12 +61,12 @@ fn write_top<S: Sink>(
         flag: over.wrapped(),
         settled: 0,
     };
-    // For the proof: a value in the tail, so that its clause is found.
+    // Only for the proof: a value in tail position, so that its clause is found.
     let on = write_row(sink, pen, 0, link, cells, over)?;
     Ok(on)
 }
 
-/// Writes all rows.
+/// Writes the output for all rows, from the top.
 fn write_rows<S: Sink>(
     sink: &mut S,
     pen: &mut Pen,
@@ -92,8 +94,12 @@ fn write_rows<S: Sink>(
     Ok(())
 }
 
-/// Writes what makes a reader that shows one picture show another: the rows,
-/// the cursor and the attributes.
+/// Writes the script that turns the display of one picture into that of
+/// another: the rows, the cursor and the attributes.
+///
+/// # Errors
+///
+/// The error of the sink; part of the output may have been written.
 #[tactic(auto, unfolding(crate::specs::Redraw::script))]
 pub fn write_script<S: Sink>(sink: &mut S, view: &View<'_>, prev: &View<'_>) -> Result<(), S::Error>
     requires size { SamePictureSize view.now prev.now }

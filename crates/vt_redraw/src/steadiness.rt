@@ -1,8 +1,9 @@
-//! Whether a picture is steady: whether each of its glyphs, printed character by
-//! character on a blank row, gives just itself.
+//! Whether a picture is steady: whether each of its glyphs, printed character
+//! by character on a blank row, reproduces itself.
 //!
-//! Only U+FE0F changes the width of a glyph after its first character, so a glyph
-//! without it is steady. One with it is printed here on a cell of its own.
+//! Only U+FE0F changes the width of a glyph after its first character, so a
+//! glyph without it is steady. One with it is printed here on a cell of its
+//! own.
 
 ghost use Rattle.std.specs.Prelude.{◌≡◌, ◌↔◌, ◌&&◌, ◌<◌, All, IsTrue, false, length, nat_lt, true};
 ghost use Rattle.std.specs.Prelude.{if◌then◌else◌};
@@ -16,15 +17,18 @@ use crate::picture_row::PictureRow;
 use crate::view::View;
 use vt_cells::{Attrs, Cell, cell, columns};
 
-/// U+FE0F, variation selector 16, which asks for the look of an emoji.
+/// U+FE0F, variation selector 16, which asks for emoji presentation.
 const SELECTOR: char = '\u{FE0F}';
 
-/// The fewest bytes of a text with [`SELECTOR`] after its first character.
+/// The smallest length, in bytes, of a text with [`SELECTOR`] after its first
+/// character.
 const SELECTED_LEN: usize = 4;
 
-/// Whether each glyph of the picture, printed on a blank row, gives just itself.
+/// Returns whether each glyph of the picture, printed on a blank row,
+/// reproduces itself.
 ///
-/// Of a row whose texts all have fewer than four bytes only their lengths are read.
+/// Of a row whose texts all have fewer than four bytes, only their lengths are
+/// read.
 pub fn is_steady(view: &View<'_>) -> bool
     ensures { IsTrue result ↔ IsSteady view.now }
 {
@@ -37,7 +41,8 @@ pub fn is_steady(view: &View<'_>) -> bool
     true
 }
 
-/// Whether each glyph of the row, printed on a blank row, gives just itself.
+/// Returns whether each glyph of the row, printed on a blank row, reproduces
+/// itself.
 fn is_steady_row(row: &PictureRow<'_>) -> bool
     requires sound { IsRow (length row.now.cells) row.now }
     requires some { 0 < length row.now.cells }
@@ -50,10 +55,11 @@ fn is_steady_row(row: &PictureRow<'_>) -> bool
     are_steady(cells, row.cols())
 }
 
-/// Whether all texts are too short to hold [`SELECTOR`] after a first character.
+/// Returns whether all texts are too short to contain [`SELECTOR`] after a
+/// first character.
 ///
-/// The lengths are gathered in one number without a branch, so a cell takes some
-/// five instructions.
+/// The lengths are accumulated in one number without a branch, so a cell takes
+/// about five instructions.
 fn are_short(cells: &[Cell]) -> bool
     ensures { IsTrue result → All (λ cell. has_selector cell ≡ false) cells.now }
 {
@@ -64,7 +70,8 @@ fn are_short(cells: &[Cell]) -> bool
     lens < SELECTED_LEN
 }
 
-/// Whether each glyph, printed on a blank row of `cols` columns, gives just itself.
+/// Returns whether each glyph, printed on a blank row of `cols` columns,
+/// reproduces itself.
 fn are_steady(cells: &[Cell], cols: u16) -> bool
     requires { All (FitsColumns cols) cells.now }
     ensures { IsTrue result ↔ All (IsSteadyCell cols) cells.now }
@@ -77,8 +84,8 @@ fn are_steady(cells: &[Cell], cols: u16) -> bool
     true
 }
 
-/// Whether a cell is no glyph, or one that, printed on a blank row of `cols`
-/// columns, gives just itself.
+/// Returns whether a cell is no glyph, or one that reproduces itself when
+/// printed on a blank row of `cols` columns.
 #[inline]
 fn is_steady_cell(cell: &Cell, cols: u16) -> bool
     requires { FitsColumns cols cell.now }
@@ -90,7 +97,7 @@ fn is_steady_cell(cell: &Cell, cols: u16) -> bool
     prints_itself(cell, cols)
 }
 
-/// Whether the cell's text contains [`SELECTOR`].
+/// Returns whether the cell's text contains [`SELECTOR`].
 #[inline]
 fn has_selector(cell: &Cell) -> bool
     ensures value { result ≡ has_selector cell.now }
@@ -108,11 +115,11 @@ fn has_selector(cell: &Cell) -> bool
     false
 }
 
-/// Whether the characters of a glyph's text, printed on a blank row of `cols`
-/// columns, give the glyph.
+/// Returns whether the characters of a glyph's text, printed on a blank row of
+/// `cols` columns, reproduce the glyph.
 ///
-/// Its width starts as that of the first character and follows the whole text at
-/// each [`SELECTOR`]. A glyph that is made narrow leaves a blank after it.
+/// Its width starts as that of the first character and follows the whole text
+/// at each [`SELECTOR`]. A glyph that becomes narrow leaves a blank after it.
 fn prints_itself(cell: &Cell, cols: u16) -> bool
     requires glyph { is_glyph cell.now ≡ true }
     requires fits { FitsColumns cols cell.now }
@@ -135,8 +142,8 @@ fn prints_itself(cell: &Cell, cols: u16) -> bool
     wide == cell.is_wide()
 }
 
-/// Whether a glyph that was `wide` is wide after `mark`, which is the last
-/// character of `printed`.
+/// Returns whether a glyph that was `wide` is wide after the combining
+/// character `mark`, which is the last character of `printed`.
 fn width_after(printed: &Cell, mark: char, wide: bool, cols: u16) -> bool
     ensures { result ≡ (if is_selector mark then is_wide_text (text_of printed.now) && nat_lt 1 cols else wide) }
 {

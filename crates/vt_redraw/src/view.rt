@@ -1,4 +1,4 @@
-//! What a screen shows, read where it lies.
+//! A view of what a screen displays, borrowed from its pages.
 
 ghost use Rattle.std.specs.Prelude.{◌≡◌, ◌<◌, ◌+◌, ◌==◌, length};
 ghost use Rattle.vt_grid.specs.Page.{IsPage, row_or};
@@ -16,22 +16,22 @@ use std::marker::Model;
 use vt_cells::Attrs;
 use vt_grid::{Grid, PageRows, Scrollback};
 
-/// Which rows a picture has.
+/// The origin of a picture's rows.
 #[derive(Clone, Copy, PartialEq, Eq, Debug)]
 pub(crate) enum Source {
-    /// Those that are in view.
+    /// The displayed rows of a screen.
     InView,
 
-    /// Default blanks, as many.
+    /// Default blank rows, as many as the screen has rows.
     Blank,
 
-    /// Those in view, of which a band has moved.
+    /// The displayed rows of a screen after a band of them has moved.
     Moved(Band),
 }
 
-/// The picture of a screen: the rows that are in view, each cut to the
-/// screen's columns, the cursor, the attributes and whether the cursor is
-/// hidden. Nothing of it is copied.
+/// A borrowed picture of a screen: its displayed rows, each cut to the screen's
+/// columns, the cursor, the attributes and whether the cursor is hidden.
+/// Nothing of it is copied.
 #[derive(Drop)]
 pub struct View<'a> {
     above: &'a Scrollback,
@@ -55,7 +55,7 @@ impl<'a> Model for View<'a> {
 }
 
 impl<'a> View<'a> {
-    /// The picture of a page with scrollback above it.
+    /// Creates a view of a page with scrollback above it.
     pub fn new(above: &'a Scrollback, grid: &'a Grid, attrs: Attrs, hidden: bool) -> View<'a>
         requires above { IsScrollback above.now }
         requires page { IsPage grid.now }
@@ -80,8 +80,8 @@ impl<'a> View<'a> {
         }
     }
 
-    /// The picture that a terminal shows which showed that of a page, and then
-    /// moved a band of its rows.
+    /// Creates a view of what a terminal displays that displayed a page with
+    /// scrollback above it and then moved a band of its rows.
     pub fn moved(above: &'a Scrollback, grid: &'a Grid, hidden: bool, band: Band) -> View<'a>
         requires above { IsScrollback above.now }
         requires page { IsPage grid.now }
@@ -106,8 +106,8 @@ impl<'a> View<'a> {
         }
     }
 
-    /// A blank picture of the same size: default blanks, the cursor in the
-    /// corner, default attributes.
+    /// Creates a blank view of the same size: default blanks, the cursor in the
+    /// top left corner, default attributes.
     pub fn blanked(&self) -> View<'a>
         ensures { result ≡ blank_like self.now }
     {
@@ -121,7 +121,7 @@ impl<'a> View<'a> {
         }
     }
 
-    /// How many rows the picture has.
+    /// Returns the number of rows of the picture.
     #[inline]
     pub fn rows(&self) -> u16
         ensures value { result ≡ length self.now.rows }
@@ -130,7 +130,7 @@ impl<'a> View<'a> {
         self.rows.len() as u16
     }
 
-    /// How many columns the picture has.
+    /// Returns the number of columns of the picture.
     #[inline]
     pub fn cols(&self) -> u16
         ensures value { result ≡ self.now.width }
@@ -139,7 +139,7 @@ impl<'a> View<'a> {
         self.cols
     }
 
-    /// Where the cursor is, and what is drawn with.
+    /// Returns the position of the cursor and the current attributes.
     #[inline]
     pub fn pen(&self) -> Pen
         ensures value { result ≡ pen_of self.now }
@@ -148,7 +148,7 @@ impl<'a> View<'a> {
         self.pen
     }
 
-    /// Whether the cursor is hidden.
+    /// Returns whether the cursor is hidden.
     #[inline]
     pub fn hidden(&self) -> bool
         ensures { result ≡ self.now.hidden }
@@ -156,7 +156,7 @@ impl<'a> View<'a> {
         self.hidden
     }
 
-    /// A row of the picture.
+    /// Returns a row of the picture.
     pub fn row(&self, row: u16) -> PictureRow<'_>
         requires { row < length self.now.rows }
         ensures value { result ≡ row_or self.now.width self.now.rows row }
@@ -171,8 +171,8 @@ impl<'a> View<'a> {
     }
 }
 
-/// A row of those in view, cut to a picture's columns; past the last one a blank
-/// row. As the last one of a picture it does not go on below.
+/// Returns a displayed row, cut to a picture's columns, or a blank row past the
+/// last one. As the last row of a picture it is not wrapped.
 fn row_seen<'a>(
     above: &'a Scrollback,
     rows: &'a PageRows,
@@ -190,14 +190,15 @@ fn row_seen<'a>(
     }
 }
 
-/// Whether this is the last row of a page.
+/// Returns whether `row` is the last row of a page.
 fn ends(rows: &PageRows, row: u16) -> bool
     ensures { result ≡ (row + 1 == length rows.now.rows) }
 {
     usize::from(row) + 1 == rows.len()
 }
 
-/// A row of a picture of which a band has moved, read where it was.
+/// Returns a row of a picture after a band has moved, borrowed from where it
+/// was before.
 fn row_moved<'a>(
     above: &'a Scrollback,
     rows: &'a PageRows,

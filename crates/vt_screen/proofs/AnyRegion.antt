@@ -1,5 +1,5 @@
--- The redraw for terminals in any region, read by such a terminal:
--- it gives them the whole page as region first, and is a redraw then.
+-- The redraw for terminals in any region, read by such a terminal: it makes the whole page the region, and then is a
+-- plain redraw.
 use Rattle.std.proofs.Common.{◌≡◌, ℕ, ◌+◌, Bool, true, false, List, [], ◌∷◌, ◌++◌, length}
 use Rattle.std.proofs.Common.{min, Option, Some, None, refl, sym, ap, subst, ◌∙◌, arith}
 use Rattle.std.specs.Prelude.{IfSome, drop, if◌then◌else◌, nat_lt}
@@ -28,7 +28,7 @@ use Rattle.vt_screen.proofs.EqualTexts.{redraws_tell}
 
 -- ---- the two sequences
 
--- a page with origin mode off, all of it as region, and the cursor in the corner
+-- A page with origin mode off, the whole page as scroll region, and the cursor in the top left corner.
 abbrev pub whole_page : Page → Page
 whole_page page = record page { top = 0; bottom = last_row page; origin = false; row = 0; column = 0 }
 
@@ -47,7 +47,7 @@ region_read screen =
     csi_read [] 0x72 ((0 ∷ []) ∷ []) screen (display_after (OnPage (SetRegion 0 (last_row screen.page))) screen)
     tt (omega arith, omega arith) empty_groups refl
 
--- a region of one row or of more
+-- Setting the region to the whole page, whether it has one row or more.
 whole_when : (b : Bool) (page : Page) (end last : ℕ) → end ≡ last
     → (if b then record page { top = 0; bottom = end; row = 0; column = 0 }
     else record page { top = 0; bottom = last; row = 0; column = 0 })
@@ -69,7 +69,7 @@ whole_read screen =
     (csi (0x3F ∷ 0x36 ∷ []) 0x6C) (csi [] 0x72) (origin_read screen)
     (region_read middle ∙ ap (λ (page : Page). Some (terminal start (with_page page screen))) (whole_is screen.page))
 
--- ---- the terminal then
+-- ---- the terminal after the two sequences
 
 whole_sound : (page : Page) → IsPage page → IsPage (whole_page page)
 whole_sound page is =
@@ -102,15 +102,15 @@ plain_reader picture reader r = record {
   size = record { width = r.size.width; height = r.size.height };
 }
 
--- ---- the whole text
+-- ---- the whole output
 
--- what is read behind a text that is read
+-- The rest of the output is read from the terminal that the first part leaves.
 behind : (first rest : List ℕ) (reader middle after : ScreenValue) →
     ReadsTo first reader middle → ReadsTo (first ++ rest) reader after → ReadsTo rest middle after
 behind first rest reader middle after p q =
     sym (reads_append (terminal start reader) first rest ∙ ap (and_then (λ (u : Terminal). read u rest)) p) ∙ q
 
--- a text that redraws a picture on plain terminals does so on the others behind the two sequences
+-- Output that redraws a picture on plain terminals redraws it on terminals in any region after the two sequences.
 resets : (picture : Picture) (text : List ℕ) → Redraws picture (IsReader picture) KeepsRest text →
     Redraws picture (IsReaderInAnyRegion picture) KeepsRestButRegion (whole_region_text ++ text)
 resets picture text d = record {
@@ -152,7 +152,7 @@ reset_redraws self text told is colored =
     (resets picture (bytes_of_all (redraw picture))
     (redraw_redraws self (bytes_of_all (redraw picture)) refl is colored))
 
--- equal texts come from screens that show the same
+-- Two redraws for terminals in any region are equal only if their screens display the same.
 pub resets_tell : (a b : ScreenValue) → IsScreen a → IsColored a → IsSteady (shown a) →
     IsScreen b → IsColored b → IsSteady (shown b) → SamePictureSize (shown a) (shown b) →
     reset_text (shown a) ≡ reset_text (shown b) → shown a ≡ shown b

@@ -1,5 +1,5 @@
--- What a screen has beside its active page stays whole where that page changes,
--- rows are pushed into scrollback, or the pages change places.
+-- What a screen has besides its active page keeps its invariant when that page changes, when rows are pushed into
+-- scrollback, and when the pages are exchanged.
 use Rattle.std.proofs.Common.{◌≡◌, ℕ, zero, suc, ◌+◌, ◌-◌, ◌<◌, ◌≤◌, ◌==◌, min, take, Bool, true, false}
 use Rattle.std.proofs.Common.{not, List, [], Option, Some, None, refl, sym, subst, ap, ◌∙◌, arith}
 use Rattle.std.specs.Prelude.{if◌then◌else◌, IfSome, All, length, map, option_map, ◌^◌}
@@ -84,7 +84,7 @@ nothing_viewed height width n above k =
       offset = rw k.rows (omega arith);
     }
 
--- scrollback above the active page becomes another
+-- The scrollback above the active page is replaced.
 pub kept_above : (page : Page) (last : Option ℕ) (aside : Aside) (above : Scrollback)
     → (IsNothing aside.active → IsNothing above) → (IsAbove aside.active → IsAbove above)
     → IsKept page last aside → IsKept page last (record aside { active = above })
@@ -107,7 +107,7 @@ kept_above page last aside above f g k = record {
   is_above true active above idle g c = c
   is_above false active above idle g c = g c
 
--- rows left the active page
+-- Rows scrolled off the active page.
 pub kept_sent : (height : ℕ) (gone : List RowValue) (page : Page) (last : Option ℕ) (aside : Aside) (width : ℕ)
     → All (IsRow width) gone → AreColored gone → IsKept page last aside
     → IsKept page last (record aside { active = pushed height width gone aside.active })
@@ -131,7 +131,7 @@ kept_cleared page last aside k =
     kept_above page last aside (cleared aside.active)
     (λ n. record { capacity = n.capacity; rows = refl; offset = refl }) (λ a. above_none aside.active.capacity) k
 
--- other rows come into view
+-- The display is scrolled back to different rows.
 pub kept_viewed : (height width n : ℕ) (page : Page) (last : Option ℕ) (aside : Aside) →
     IsKept page last aside → IsKept page last (record aside { active = with_view height width n aside.active })
 kept_viewed height width n page last aside k =
@@ -154,7 +154,7 @@ kept_out_of_view page last aside k =
     })
     k
 
--- ---- the rows that leave the active page are rows of it
+-- ---- the rows that scroll off the active page are rows of that page
 
 rows_where : (width : ℕ) (b : Bool) (rows : List RowValue) →
     All (IsRow width) rows → All (IsRow width) (if b then rows else [])
@@ -210,7 +210,7 @@ above_turned : (b : Bool) (active idle : Scrollback) →
 above_turned true active idle c = c
 above_turned false active idle c = c
 
--- the pages change places
+-- The pages are exchanged.
 pub kept_exchanged : (page other : Page) (last : Option ℕ) (aside : Aside)
     → aside.other ≡ Some other → IsKept page last aside
     → IsKept other last
@@ -227,7 +227,7 @@ kept_exchanged page other last aside e k =
       above = above_turned aside.is_alternate aside.active aside.idle k.above;
     }
 
--- a fresh page of the same size
+-- A fresh page has the size of the page it replaces.
 other_fresh : (page : Page) (height width : ℕ) → height ≡ length page.rows →
     width ≡ page.width → IsPage page → IsOther page (blank_page height width)
 other_fresh page height width h w p = record {
@@ -250,7 +250,7 @@ kept_other page last aside height width h w k = record {
   above = k.above;
 }
 
--- the size of the other page
+-- The inactive page has the height of the active one.
 pub other_height : (page other : Page) (last : Option ℕ) (aside : Aside) →
     aside.other ≡ Some other → IsKept page last aside → length other.rows ≡ length page.rows
 other_height page other last aside e k = (one_other page other aside.other e k.other).same.height
@@ -265,9 +265,9 @@ kept_fresh page last aside k =
     let o = other_fresh page (length page.rows) page.width refl refl k.sound in
     kept_page page (blank_page (length page.rows) page.width) last aside o.sound o.colored o.same k
 
--- ---- what the active page's scrollback is to the screen
+-- ---- the active page's scrollback as that of the screen
 
--- scrollback after rows left the active page: the main page's has them
+-- The screen's scrollback after rows scrolled off the active page: that of the main page has received them.
 pub sent_if : {X : Type 0} (b : Bool) (f : Scrollback → X) (height width : ℕ)
     (gone : List RowValue) (active idle above whole : Scrollback)
     → whole ≡ main_scrollback b active idle → above ≡ pushed height width gone active
@@ -294,7 +294,7 @@ pub visible_if : (b : Bool) (rows : List RowValue) (active idle whole : Scrollba
 visible_if true rows active idle whole w n = visible_nothing rows active n.rows n.offset
 visible_if false rows active idle whole w n = ap (λ (s : Scrollback). visible s rows) (sym w)
 
--- ---- another size
+-- ---- resizing
 
 pub height_resized : (height width : ℕ) (above : Scrollback) (page : Page) →
     length (page_resized height width above page).rows ≡ height

@@ -1,4 +1,4 @@
--- The text that sets attributes.
+-- The output that sets attributes.
 use Rattle.std.proofs.Common.{◌≡◌, ℕ, List, [], ◌++◌, Some, ap, ◌∙◌, append-nil}
 use Rattle.vt_cells.specs.Attrs.{default_attrs, Attrs}
 use Rattle.vt_cells.specs.Op.{FitsAttrs, change_text, csi}
@@ -10,7 +10,7 @@ use Rattle.vt_screen.specs.Shown.{SetsAttrs, attributes_text}
 use Rattle.vt_screen.proofs.Readback.{cleared_read, changed_read}
 use Rattle.vt_screen.proofs.ReadbackTexts.{reads_then}
 
--- every terminal in ground state takes these attributes, and stays as it is otherwise
+-- Every terminal in ground state takes these attributes and is otherwise unchanged.
 pub attributes_set : (attrs : Attrs) (text : List ℕ) →
     text ≡ attributes_text attrs → FitsAttrs attrs → SetsAttrs attrs text
 attributes_set attrs text told fits reader =

@@ -1,4 +1,4 @@
--- What a reader has become that shows a picture, part by part; and that texts tell pictures apart.
+-- The terminal that displays a picture after a redraw, part by part; and that equal output comes from equal pictures.
 use Rattle.std.proofs.Common.{◌≡◌, ℕ, List, Option, refl, sym, ap, subst, ◌∙◌, arith}
 use Rattle.std.proofs.lemmas.List.Elements.{recursion_from_All}
 use Rattle.vt_rows.specs.Row.{RowValue, IsRow}
@@ -12,7 +12,7 @@ use Rattle.vt_screen.specs.Shown.{HasCursor, KeepsRest, Redraws, RedrawsFrom, sh
 use Rattle.vt_screen.proofs.Redrawing.{Became, Becomes, became, redraw_read, difference_read}
 use Rattle.vt_screen.proofs.Shown.{none_above, shown_height, shown_is}
 
--- a plain screen with other rows shows them
+-- A plain screen whose rows are replaced displays the new rows.
 shown_showing : (picture : Picture) (saved : Saved) (last : Option ℕ) (reader : ScreenValue) →
     IsPicture picture → IsReader picture reader → shown (showing picture saved last reader) ≡ picture
 shown_showing picture saved last reader is r =
@@ -67,7 +67,7 @@ keeps_rest picture reader after b =
       modes = refl;
     })
 
--- all of them
+-- The redraw of a picture has all the parts of its contract.
 pub redraws : (Reader : ScreenValue → Type 0) (picture : Picture) (text : List ℕ)
     → IsPicture picture → ((reader : ScreenValue) → Reader reader → IsReader picture reader)
     → (IsSteady picture → (reader : ScreenValue) → Reader reader → Becomes picture text reader)

@@ -1,5 +1,5 @@
--- What callbacks hear in a run, if they leave the screen alone: the calls of the model, one by one,
--- while the screen is that of the model.
+-- The calls that callbacks receive in a run if they leave the screen alone: those of the model, one by one, while the
+-- screen is that of the model.
 use Rattle.std.proofs.Common.{◌≡◌, List, [], ◌∷◌, map, refl, sym, ap, subst}
 use Rattle.std.specs.List.{FoldsTo}
 use Rattle.vt_rows.specs.Row.{RowValue}
@@ -16,7 +16,7 @@ use Rattle.vt_screen.specs.Steps.{HideCursor, SetMode, CallBack, reports, screen
 use Rattle.vt_screen.specs.CallsOfRun.{CalledOnSomeScreen, LeavesScreen, calls_of, calls_of_all, screen_after_all, steps_of_all}
 use Rattle.vt_screen.proofs.Reporting.{called_rows}
 
--- a screen was reached, and these calls were heard on the way
+-- A screen was reached, and callbacks received these calls on the way.
 pub record Calling {S : Type 0} (does : CallRelation S)
     (a : act.State S) (calls : List CallValue) (screen : ScreenValue) (b : act.State S) : Type 0 where
   pub shown : b.screen ≡ screen
@@ -93,7 +93,7 @@ called_steps does leaves (x ∷ steps) a b t =
           a.callbacks t.0.callbacks b.callbacks one.called rest.called;
     }
 
--- the steps of all events are those that the model lists
+-- The steps that the events of a run perform are those that the model lists.
 steps_listed : {S : Type 0} (does : CallRelation S) → LeavesScreen does → (events : List Event) (a b : act.State S) →
     FoldsTo (Performs does) a events b → FoldsTo (Takes does) a (steps_of_all events a.screen) b
 steps_listed does leaves [] a b e = e

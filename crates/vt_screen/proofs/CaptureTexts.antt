@@ -1,4 +1,4 @@
--- Basic texts of rows have no controls but line ends and SGR changes.
+-- Captured rows contain no controls but line ends and SGR sequences.
 use Rattle.std.proofs.Common.{◌≡◌, inl, ℕ, zero, suc, Bool, true, false, List, [], ◌∷◌, ◌++◌}
 use Rattle.std.proofs.Common.{replicate, refl, ap, ◌∙◌, arith, if◌then◌else◌}
 use Rattle.std.specs.List.{AllByRecursion}

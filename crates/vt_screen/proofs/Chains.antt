@@ -1,4 +1,4 @@
--- A redraw and differences behind it, read by a plain terminal, show the last screen.
+-- A redraw and the differences after it, read by a plain terminal, display the last screen.
 use Rattle.std.proofs.Common.{◌≡◌, ℕ, List, [], ◌∷◌, ◌++◌, length, refl, ap, subst, ◌∙◌}
 use Rattle.std.specs.Prelude.{map}
 use Rattle.std.specs.List.{AllByRecursion}
@@ -82,7 +82,7 @@ chain_becomes self nexts reader is plain c cs =
     (subst (λ (t : List ℕ). Becomes (last_picture (shown self) (map shown nexts)) t reader) (chain_is self nexts)
     (drawing_read ops (last_picture (shown self) (map shown nexts)) reader fits draws))
 
--- the text of a chain is read, and leaves a plain terminal that shows the last screen; the rest of it as it was
+-- The output of a chain is read and leaves a plain terminal that displays the last screen; the rest of it is unchanged.
 pub record ChainRead (self : ScreenValue) (nexts : List ScreenValue) (reader : ScreenValue) : Type 0 where
   pub after : ScreenValue
   pub reads : ReadsTo (chain_text self nexts) reader after

@@ -1,4 +1,4 @@
--- Colours whose numbers are bytes: they stay so in every cell, where what is drawn has such colours.
+-- Palette colours of at most 255: every step preserves them in each cell, if what is drawn has such colours.
 use Rattle.std.specs.Prelude.{ℕ, Bool}
 use Rattle.vt_cells.specs.Cell.{CellValue, blank, glyph, right_half, widened, marked}
 use Rattle.vt_cells.specs.Op.{FitsAttrs}

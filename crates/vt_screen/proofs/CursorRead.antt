@@ -1,4 +1,4 @@
--- The text of the cursor, read by a plain terminal that shows the rows, sets the cursor.
+-- The output for the cursor, read by a plain terminal that displays the rows, sets the cursor.
 use Rattle.std.proofs.Common.{◌≡◌, ℕ, List, Option, Some, refl, sym, ap, subst, ◌∙◌}
 use Rattle.vt_cells.specs.Op.{bytes_of_all}
 use Rattle.vt_redraw.specs.Picture.{Picture, Saved, with_cursor_of, with_saved}
@@ -13,7 +13,7 @@ use Rattle.vt_screen.specs.Shown.{IsPlain, IsReaderOfRows, KeepsRest, ReadsTo, T
 use Rattle.vt_screen.proofs.Readback.{reads_all}
 use Rattle.vt_screen.proofs.Shown.{plain_shown, shown_colored, shown_is}
 
--- a reader with the picture's cursor
+-- A terminal with the cursor of a picture.
 abbrev placed : Picture → Saved → Option ℕ → ScreenValue → ScreenValue
 placed picture saved last reader =
     record (with_canvas (with_saved saved (with_cursor_of picture (canvas_of reader))) reader) { last = last }

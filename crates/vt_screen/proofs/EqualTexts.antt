@@ -1,4 +1,5 @@
--- Redraws tell what is shown: equal texts come from equal pictures, and only equal pictures have nothing between them.
+-- Redraws distinguish what is displayed: equal output comes from equal pictures, and the difference is empty only
+-- between equal pictures.
 use Rattle.std.proofs.Common.{◌≡◌, ℕ, List, [], Some, refl, sym, ap, ◌∙◌}
 use Rattle.vt_cells.specs.Op.{bytes_of_all}
 use Rattle.vt_redraw.specs.Picture.{Picture, SamePictureSize, picture_of}
@@ -16,7 +17,7 @@ use Rattle.vt_screen.specs.Shown.{shown, showing}
 use Rattle.vt_screen.proofs.Redrawing.{Becomes, drawing_read}
 use Rattle.vt_screen.proofs.Shown.{shown_colored, shown_is}
 
--- a terminal that shows a picture
+-- A fresh terminal that displays a picture.
 abbrev blank_reader : Picture → ScreenValue
 blank_reader picture = with_canvas (canvas.showing picture) (fresh_screen 1 1 0)
 
@@ -26,7 +27,7 @@ shows t = picture_of (canvas_of t.screen)
 same_some : {A : Type 0} (x y : A) → Some x ≡ Some y → x ≡ y
 same_some x y e = cc
 
--- one text read by one terminal shows one picture
+-- One output read by one terminal displays one picture.
 one_picture : (a b : Picture) (text more : List ℕ) (reader : ScreenValue) → Becomes a text reader →
     Becomes b more reader → text ≡ more → SamePictureSize a b → b.width ≡ reader.page.width → a ≡ b
 unfolding shows
@@ -38,7 +39,7 @@ one_picture a b text more reader one two e size width =
     ap (λ (w : ℕ). record a { width = w }) (size.width ∙ width)
     ∙ (ap shows same ∙ ap (λ (w : ℕ). record b { width = w }) (sym width))
 
--- texts that redraw two screens are equal only if both show the same
+-- The redraws of two screens are equal only if both display the same.
 pub redraws_tell : (a b : ScreenValue) → IsScreen a → IsColored a → IsSteady (shown a) →
     IsScreen b → IsColored b → IsSteady (shown b) → SamePictureSize (shown a) (shown b) →
     bytes_of_all (redraw (shown a)) ≡ bytes_of_all (redraw (shown b)) → shown a ≡ shown b
@@ -54,7 +55,7 @@ redraws_tell a b is colored steady other colored_other steady_other size e =
     (shown_is b other) plain (record { width = refl; height = refl })) in
     one_picture x y (bytes_of_all (redraw x)) (bytes_of_all (redraw y)) reader one two e size refl
 
--- a difference is empty only where both screens show the same
+-- A difference is empty only if both screens display the same.
 pub difference_tells : (a b : ScreenValue) → IsScreen a → IsColored a → IsSteady (shown a) → IsScreen b → IsColored b →
     SamePictureSize (shown a) (shown b) → bytes_of_all (difference (shown a) (shown b)) ≡ [] → shown a ≡ shown b
 difference_tells a b is colored steady other colored_other size e =
@@ -72,6 +73,6 @@ difference_tells a b is colored steady other colored_other size e =
     } in
     one_picture x y (bytes_of_all (difference x y)) [] reader one two e size refl
 
--- and between equal pictures nothing is written
+-- The difference between equal pictures is empty.
 pub difference_none : (a b : Picture) → a ≡ b → bytes_of_all (difference a b) ≡ []
 difference_none a b e = ap (λ (x : Picture). bytes_of_all (difference x b)) e ∙ ap bytes_of_all (difference_self b)

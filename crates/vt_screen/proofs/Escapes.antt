@@ -1,4 +1,4 @@
--- A text made of pieces has only the bytes that it may have, and ESC only before those that it may stand before.
+-- Output made of listed elements contains only their bytes, and ESC only before the bytes that may follow it.
 use Rattle.std.proofs.Common.{◌≡◌, ◌⊎◌, inl, inr, ℕ, zero, suc, ◌+◌, ◌/◌, ◌%◌, ◌<◌, ◌≤◌, ◌==◌, ◌&&◌, nat_le, nat_lt, Bool, true, false}
 use Rattle.std.proofs.Common.{List, [], ◌∷◌, ◌++◌, decimal, codes, refl, sym, ap, ap₂, subst, ◌∙◌, arith, true≢false}
 use Rattle.std.proofs.lemmas.Bool.Decides.{nat_tests}
@@ -52,7 +52,7 @@ joined_visible (n ∷ []) = decimal_visible n
 joined_visible (n ∷ m ∷ ns) =
     visible_append (decimal n) (0x3B ∷ joined (m ∷ ns)) (decimal_visible n) (refl, joined_visible (m ∷ ns))
 
--- ---- pieces
+-- ---- elements
 
 begins_append : (nexts xs ys : List ℕ) → BeginsWith nexts xs → BeginsWith nexts (xs ++ ys)
 begins_append nexts [] ys is = absurd is
@@ -108,7 +108,7 @@ escapes_append nexts xs ys p q = record {
   only = only_append nexts p.characters q.characters p.only q.only;
 }
 
--- what follows ESC in a control of the list
+-- What follows ESC in a listed control.
 abbrev IsTail : List ℕ → List ℕ → Type 0
 IsTail nexts tail = BeginsWith nexts tail × (list_all is_low tail ≡ true)
 
@@ -162,7 +162,7 @@ made_only nexts finals controls f c text made =
     subst (HasOnlyEscapes nexts) (sym made.spelled)
     (pieces_only nexts finals controls f c made.pieces made.are_pieces)
 
--- ---- the texts of screens
+-- ---- the output of screens
 
 one_visible : (finals : List ℕ) → AllLow finals → (nexts : List ℕ) →
     IsOneOf 0x5B nexts → (f : ℕ) → IsOneOf f finals → (is_low f ≡ true) × IsOneOf 0x5B nexts
@@ -224,7 +224,7 @@ state_nexts = codes "[78=>"
 scrolling_low : AllLow scrolling_finals
 scrolling_low = (refl, (refl, (refl, (refl, (refl, (refl, (refl, (refl, tt))))))))
 
--- texts that draw and move rows: ESC stands only before [, 7 and 8
+-- Output that draws and moves rows: only `[`, `7` and `8` follow ESC.
 pub scrolling_only : (text : List ℕ) → IsMadeOf scrolling_finals drawing_controls text → HasOnlyEscapes drawing_nexts text
 scrolling_only text made =
     made_only drawing_nexts scrolling_finals drawing_controls
@@ -247,7 +247,7 @@ reset_only text made =
         tails_only drawing_nexts reset_tails ((inl refl, refl), ((inl refl, refl), tt)) bytes is
     by_kind bytes (inr is) = drawing_only drawing_nexts ((inr (inl refl), refl), ((inr (inr (inl refl)), refl), ((inl refl, refl), ((inl refl, refl), tt)))) bytes is
 
--- texts of states: before = and > too
+-- Output that also sets input modes: `=` and `>` follow ESC, too.
 pub state_only : (text : List ℕ) → IsMadeOf drawing_finals state_controls text → HasOnlyEscapes state_nexts text
 state_only text made =
     made_only state_nexts drawing_finals state_controls
@@ -260,7 +260,7 @@ state_only text made =
         tails_only state_nexts input_tails ((inr (inr (inr (inl refl))), refl), ((inr (inr (inr (inr (inl refl)))), refl), ((inl refl, refl), ((inl refl, refl), ((inl refl, refl), ((inl refl, refl), ((inl refl, refl), ((inl refl, refl), ((inl refl, refl), ((inl refl, refl), ((inl refl, refl), ((inl refl, refl), ((inl refl, refl), ((inl refl, refl), ((inl refl, refl), ((inl refl, refl), ((inl refl, refl), ((inl refl, refl), ((inl refl, refl), ((inl refl, refl), ((inl refl, refl), ((inl refl, refl), ((inl refl, refl), ((inl refl, refl), ((inl refl, refl), tt))))))))))))))))))))))))) bytes is
     by_kind bytes (inr is) = drawing_only state_nexts ((inr (inl refl), refl), ((inr (inr (inl refl)), refl), ((inl refl, refl), ((inl refl, refl), tt)))) bytes is
 
--- captures: before [ alone; and none in texts without attributes
+-- Captures: only `[` follows ESC; plain text contains no ESC.
 line_only : (nexts bytes : List ℕ) → IsOneOf bytes plain_controls → HasOnlyEscapes nexts bytes
 unfolding encode_utf8
 line_only nexts bytes (inl e) =

@@ -1,4 +1,4 @@
--- The steps of each event: what they print, whether they start the screen anew, and that they tell of no row.
+-- The steps of each event: what they print, whether they reset the screen, and that they report no row themselves.
 use Rattle.std.proofs.Common.{◌≡◌, ◌≢◌, ℕ, zero, suc, ◌==◌, Bool, true, false, List, [], ◌∷◌}
 use Rattle.std.proofs.Common.{◌++◌, Option, Some, None, refl, ap, replicate, arith}
 use Rattle.std.specs.Prelude.{◌||◌, IfSome, if◌then◌else◌}
@@ -27,11 +27,11 @@ use Rattle.vt_screen.specs.declared.sgr.Reading.TheVariants.{Silent, Set, Unhand
 use Rattle.vt_screen.specs.declared.sgr.Wanted.{Wanted}
 use Rattle.vt_screen.proofs.Streaming.{Held, IsAmong, Streamed, steps_stream}
 
--- all of these steps are so
+-- All steps of a list are allowed: their characters satisfy Q, and they reset the screen only if R holds.
 pub record AllAmong (Q : ℕ → Type 0) (R : Type 0) (steps : List Step) : Type 0 where
   pub all : AllByRecursion (IsAmong Q R) steps
 
--- what an event prints is so, and it starts the screen anew only where that is allowed
+-- An event is allowed: the character that it prints satisfies Q, and it resets the screen only if R holds.
 pub record Allows (Q : ℕ → Type 0) (R : Type 0) (event : Event) : Type 0 where
   pub prints : (c : ℕ) → event ≡ Character c → IsPrintable c → Q c
   pub resets : event ≡ ris → R
@@ -220,7 +220,7 @@ stream_event (EscDispatch marks b) seen coded allows k = stream_escape marks b a
 stream_event (CsiDispatch groups marks b) seen coded allows k = stream_csi groups marks b seen k
 stream_event (OscDispatch parts) seen coded allows k = stream_osc parts
 
--- ---- events, one after the other
+-- ---- events in sequence
 
 pub stream_events : (events : List Event) (s : ScreenValue) → AreCoded events
     → AllByRecursion (λ event. event ≢ ris) events → Held s → AllAmong IsPrintable ⊥ (steps_of_all events s)
@@ -233,7 +233,7 @@ stream_events (event ∷ events) s coded others k =
     all_then steps (steps_of_all events (screen_after_all steps s)) now
     (stream_events events (screen_after_all steps s) coded.1 others.1 there.held)
 
--- a run over bytes
+-- What a run over bytes reports, keeps and scrolls off.
 pub run_streams : (scan : State) (s : ScreenValue) (bytes : List ℕ) → HasNoRis scan bytes → Held s
     → Streamed (calls_in scan s bytes) (sent_off_in scan s bytes) s (screen_in scan s bytes)
 run_streams scan s bytes others k =

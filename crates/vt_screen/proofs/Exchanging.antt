@@ -1,4 +1,4 @@
--- Entering a page, leaving it and starting anew, from the parts that the code takes them by.
+-- Switching pages and resetting, composed of the parts that the code performs.
 use Rattle.std.proofs.Common.{◌≡◌, ℕ, Bool, true, false, length, Option, Some, None, refl, sym, ap, ◌∙◌}
 use Rattle.std.specs.Prelude.{IfSome, IsSome, option_map, unwrap_or}
 use Rattle.std.proofs.lemmas.Bool.{false≢true}
@@ -14,7 +14,7 @@ use Rattle.vt_screen.specs.Internals.{main_scrollback, with_other, with_fresh_ot
 use Rattle.vt_screen.specs.Pages.{entered, entered_fresh, fresh_page, left_alternate, page_aside, reset, saved}
 use Rattle.vt_screen.specs.Screen.{ScreenValue, IsScreen, no_modes}
 
--- ---- the page that isn't active
+-- ---- the inactive page
 
 is_there : (o : Option Page) (d : Page) → IsSome o → Some (unwrap_or o d) ≡ o
 is_there (Some p) d h = refl
@@ -37,7 +37,7 @@ fresh_size : (page : Page) → SameSize (blank_page (length page.rows) page.widt
 fresh_size page =
     record { width = refl; height = length-replicate (length page.rows) (blank_row default_attrs page.width) }
 
--- ---- entering
+-- ---- switching to the alternate page
 
 entered_if : (b : Bool) (s : ScreenValue) → s.is_alternate ≡ b →
     (b ≡ true → IsSome s.other) → entered (with_other s) ≡ entered s
@@ -49,7 +49,7 @@ entered_if false s e h = rw e refl
 pub entered_with : (s : ScreenValue) → IsScreen s → entered (with_other s) ≡ entered s
 entered_with s i = entered_if s.is_alternate s refl i.entered
 
--- a screen whose alternate page is the active one, but for that page itself
+-- A screen whose alternate page is active, with that page itself left out.
 abbrev entered_as : ScreenValue → ScreenValue
 entered_as s =
     record (saved s) { other = Some (cursor_saved s.page); is_alternate = true; scrollback = out_of_view s.scrollback }
@@ -67,9 +67,9 @@ pub entered_fresh_with : (s : ScreenValue) → IsScreen s →
     with_fresh_page (entered (saved (with_other s))) ≡ entered_fresh s
 entered_fresh_with s i = fresh_if s.is_alternate s refl i.entered i
 
--- ---- starting anew
+-- ---- resetting
 
--- what is left when the main page was shown
+-- A screen after switching to the main page.
 record IsLeft (s l : ScreenValue) : Type 0 where
   main : l.is_alternate ≡ false
   size : fresh_page l ≡ fresh_page s
@@ -90,7 +90,7 @@ left_if true s e h i = record {
 }
 left_if false s e h i = record { main = rw e refl; size = rw e refl; above = rw e refl; other = λ page. rw e refl }
 
--- all made fresh
+-- A reset screen with these pages and this capacity.
 abbrev renewed : (s : ScreenValue) (page : Page) (other : Option Page) (capacity : ℕ) → ScreenValue
 renewed s page other capacity = record {
   page = page;

@@ -1,4 +1,4 @@
--- What draws on a page leaves its region and its origin mode, and what was saved of that.
+-- Drawing on a page keeps its scroll region, its origin mode and its saved origin mode.
 use Rattle.std.proofs.Common.{◌≡◌, ℕ, zero, suc, ◌+◌, ◌-◌, ◌==◌, ◌&&◌, nat_lt, min, not, Bool, true, false, length, refl}
 use Rattle.std.proofs.Common.{◌∙◌}
 use Rattle.std.specs.Prelude.{◌||◌, if◌then◌else◌, Option, Some, None, List}
@@ -16,7 +16,7 @@ use Rattle.vt_grid.specs.Printing.{carries, lifted_page, left_row, goes_down, fl
 use Rattle.vt_grid.specs.Printing.{wrapped_page, lacks_room, room_made, glyph_put, mark_column, takes_mark, mark_put}
 use Rattle.vt_grid.specs.Printing.{carried, made_wide, made_narrow, width_followed, mark_printed, printed, printed_by}
 
--- the region, origin mode and the saved origin mode of two pages are the same
+-- Two pages have the same scroll region, origin mode and saved origin mode.
 pub record IsFramed (new page : Page) : Type 0 where
   pub top : new.top ≡ page.top
   pub bottom : new.bottom ≡ page.bottom
@@ -38,7 +38,7 @@ framed_if : (b : Bool) (x y page : Page) → IsFramed x page → IsFramed y page
 framed_if true x y page f g = f
 framed_if false x y page f g = g
 
--- ---- line feeds, erasing, lines that move
+-- ---- line feeds, erasing, moving rows
 
 pub framed_line_feed : (page : Page) → IsFramed (line_feed page) page
 unfolding line_feed

@@ -1,4 +1,4 @@
--- The texts of input modes, read by any terminal in ground state, set these modes and nothing else.
+-- The output for input modes, read by any terminal in ground state, sets these modes and nothing else.
 use Rattle.std.proofs.Common.{◌≡◌, ℕ, Bool, true, false, List, [], ◌++◌, Some, refl, sym, ap, subst, ◌∙◌}
 use Rattle.vt_cells.specs.InputModes.{keypad_text, application_cursor_text, bracketed_paste_text}
 use Rattle.vt_cells.specs.InputModes.{mouse_mode_change, mouse_encoding_change, cursor_style_change}
@@ -19,7 +19,7 @@ use Rattle.vt_screen.specs.States.{HasDefaultMouseAndStyle, SetsModes}
 use Rattle.vt_screen.specs.Controls.{escape_steps, intermediate_steps, private_steps, mode_step, space_steps, style_of}
 use Rattle.vt_screen.proofs.ReadbackTexts.{reads_then}
 
--- a terminal with the one modes reads the text, and has the others then
+-- A terminal with the modes `was` that reads the output has the modes `new`.
 abbrev Sets : List ℕ → (was new : Modes) → Type 0
 Sets text was new =
     (reader : ScreenValue) → ReadsTo text (record reader { modes = was }) (record reader { modes = new })
@@ -71,7 +71,7 @@ cursor_style_sets style.BlinkVerticalBar style.BlinkVerticalBar m reader = refl
 cursor_style_sets style.SteadyVerticalBar style.SteadyVerticalBar m reader = refl
 cursor_style_sets _ _ m reader = refl
 
--- where it stays, nothing is written
+-- Nothing is written for a mode that is unchanged.
 
 keypad_changes : (was new : Bool) (m : Modes) →
     Sets (where_changed was new (keypad_text new))
@@ -104,7 +104,7 @@ one_then a b was middle new p q reader =
     reads_then (terminal start (record reader { modes = was })) (terminal start (record reader { modes = middle }))
     (terminal start (record reader { modes = new })) a b (p reader) (q reader)
 
--- the mouse and the look of the cursor of one, and the rest of the other
+-- The mouse modes and cursor style of one value, and all other modes of another.
 abbrev with_mouse_and_style : (mouse rest : Modes) → Modes
 with_mouse_and_style mouse rest = record rest
     { mouse_mode = mouse.mouse_mode; mouse_encoding = mouse.mouse_encoding; cursor_style = mouse.cursor_style }
@@ -124,7 +124,8 @@ mouse_and_style_set was new m =
     (mouse_encoding_sets was.mouse_encoding new.mouse_encoding second)
     (cursor_style_sets was.cursor_style new.cursor_style third))
 
--- any keypad, cursor keys and paste, and the mouse and look of a fresh screen
+-- The output for all modes sets them, whatever the keypad, cursor keys and bracketed paste were, if mouse modes and
+-- cursor style are the defaults.
 input_sets : (was new : Modes) → Sets (input_text new) (with_mouse_and_style no_modes was) new
 input_sets was new =
     let first : Modes = with_mouse_and_style no_modes was in
@@ -156,7 +157,7 @@ input_changes was new =
     (paste_changes was.bracketed_paste new.bracketed_paste third)
     (mouse_and_style_set was new new)))
 
--- every terminal with a fresh screen's mouse and look takes all modes
+-- Every terminal with the default mouse modes and cursor style takes all modes.
 pub modes_set : (new : Modes) (text : List ℕ) → text ≡ input_text new → SetsModes HasDefaultMouseAndStyle new text
 modes_set new text told reader had =
     let m = reader.modes in
@@ -171,7 +172,7 @@ modes_set new text told reader had =
     (subst (λ (x : Modes). ReadsTo (input_text new) (record reader { modes = x }) (record reader { modes = new }))
     same (input_sets m new reader))
 
--- every terminal with the modes before takes those that differ
+-- Every terminal with the previous modes takes those that differ.
 pub modes_changed : (was new : Modes) (text : List ℕ) →
     text ≡ input_change was new → SetsModes (λ had. had ≡ was) new text
 modes_changed was new text told reader had =
@@ -179,7 +180,7 @@ modes_changed was new text told reader had =
     (subst (λ (x : Modes). ReadsTo (input_change was new) (record reader { modes = x }) (record reader { modes = new }))
     (sym had) (input_changes was new reader))
 
--- ---- nothing is written only where all modes are the same
+-- ---- the output is empty only if all modes are equal
 
 same_some : {A : Type 0} (x y : A) → Some x ≡ Some y → x ≡ y
 same_some x y e = cc
@@ -193,7 +194,7 @@ change_tells was new none =
     (sym (input_changes was new reader) ∙ ap (read (terminal start reader)) none) in
     ap (λ (t : Terminal). t.screen.modes) same
 
--- and there nothing is written
+-- The output for equal modes is empty.
 
 unchanged : (b : Bool) (text : List ℕ) → where_changed b b text ≡ []
 unchanged true text = refl

@@ -1,4 +1,4 @@
--- Steps leave the size of a screen, and its cursors on the page.
+-- Steps keep the size of a screen, and its cursors on the page.
 use Rattle.std.proofs.Common.{◌≡◌, ℕ, zero, suc, ◌+◌, ◌-◌, ◌<◌, ◌==◌, ◌&&◌, nat_lt, min, max, not}
 use Rattle.std.proofs.Common.{Bool, true, false, List, length, refl, ◌∙◌, arith, drop, replicate}
 use Rattle.std.specs.Prelude.{◌||◌, if◌then◌else◌, Option, Some, None}
@@ -29,7 +29,7 @@ use Rattle.vt_screen.proofs.Sizes.{same_scrolled_down, same_lines_inserted, same
 use Rattle.vt_screen.proofs.Sizes.{same_chars_deleted, same_erased_chars, same_erased_rest, same_erased_below}
 use Rattle.vt_screen.proofs.Sizes.{same_erased_start, same_erased_row, same_erased_page, same_printed}
 
--- both cursors and the region's end are on the page
+-- Both cursors and the end of the scroll region are on the page.
 pub record IsInside (page : Page) : Type 0 where
   pub row : page.row < length page.rows
   pub saved_row : page.saved_row < length page.rows
@@ -38,7 +38,7 @@ pub record IsInside (page : Page) : Type 0 where
 pub inside_page : (page : Page) → IsPage page → IsInside page
 inside_page page p = record { row = p.cursor_row; saved_row = p.saved_row; bottom = p.region_end }
 
--- the rows of two pages are the same in these
+-- Two pages agree in their cursor's row, saved row and region's end.
 record SameRows (new page : Page) : Type 0 where
   pub row : new.row ≡ page.row
   pub saved_row : new.saved_row ≡ page.saved_row
@@ -74,7 +74,7 @@ inside_if : (b : Bool) (x y : Page) → IsInside x → IsInside y → IsInside (
 inside_if true x y i j = i
 inside_if false x y i j = j
 
--- ---- moves
+-- ---- cursor movement
 
 pub inside_carriage_return : (page : Page) → IsInside page → IsInside (carriage_return page)
 inside_carriage_return page i =
@@ -174,7 +174,7 @@ inside_line_feed page i =
       by_room true e = record { row = grind (arith, nat_tests); saved_row = i.saved_row; bottom = i.bottom }
       by_room false e = i
 
--- ---- rows and columns that move
+-- ---- moving rows and columns
 
 pub inside_scrolled_up : (n : ℕ) (page : Page) → IsInside page → IsInside (scrolled_up n page)
 inside_scrolled_up n page i =
@@ -300,7 +300,7 @@ inside_erased_page attrs page i =
 
 -- ---- printing
 
--- a page of one size whose cursors are on it
+-- A page whose saved row and region's end are unchanged, and whose cursor stays on it.
 record Stays (new page : Page) : Type 0 where
   pub saved_row : new.saved_row ≡ page.saved_row
   pub bottom : new.bottom ≡ page.bottom
@@ -360,7 +360,7 @@ stays_behind new mid page r s = record {
   row = λ i. omega (arith, r.row, s.row i);
 }
 
--- what comes behind a page of the same rows
+-- A page after two steps, the first of which kept all rows of the cursors.
 stays_over : (new mid page : Page) → Stays new mid → SameSize mid page → SameRows mid page → Stays new page
 stays_over new mid page s same r = record {
   saved_row = s.saved_row ∙ r.saved_row;

@@ -1,4 +1,4 @@
--- Each step leaves a screen whole.
+-- Each step preserves the invariant of a screen.
 use Rattle.std.proofs.Common.{◌≢◌, ℕ, ◌<◌, ◌^◌, Option, None, false, refl}
 use Rattle.std.specs.Char.{IsScalar}
 use Rattle.std.specs.Prelude.{IfSome}
@@ -21,7 +21,7 @@ use Rattle.vt_screen.proofs.Sizes.{same_printed}
 use Rattle.vt_screen.proofs.Stable.{stable_blank, stable_line_feed, stable_scrolled_up, stable_printed}
 use Rattle.vt_screen.proofs.Coloring.{coloring}
 
--- a fresh screen
+-- A fresh screen has the invariant.
 pub kept_blank : (height width capacity : ℕ) → 0 < height → height < 2 ^ 16 → 0 < width → width < 2 ^ 16
     → IsKept (blank_page height width) None
     (record { other = None; is_alternate = false; active = no_scrollback capacity; idle = no_scrollback 0 })
@@ -73,7 +73,7 @@ kept_restored page last aside k =
     kept_page page (cursor_restored page) last aside
     (page_cursor_restored page k.sound) k.colored (same_cursor_restored page) k
 
--- a page alone
+-- A screen of one page only has the invariant.
 pub kept_alone : (page : Page) (last : Option ℕ) (aside : Aside) → IsKept page last aside
     → IsKept page last
     (record { other = None; is_alternate = false; active = no_scrollback 0; idle = no_scrollback 0 })

@@ -1,4 +1,4 @@
--- Texts of operations that fit are made of what draws.
+-- The output of operations that fit consists of controls that draw.
 use Rattle.std.proofs.Common.{◌≡◌, inl, inr, ℕ, zero, suc, ◌+◌, ◌-◌, ◌<◌, ◌≤◌, ◌==◌, Bool, true, false, List, [], ◌∷◌, ◌++◌}
 use Rattle.std.proofs.Common.{refl, sym, ap, ap₂, subst, ◌∙◌, append_assoc, append-nil, arith, if◌then◌else◌, length}
 use Rattle.std.specs.List.{AllByRecursion, flat_map}
@@ -39,7 +39,7 @@ use Rattle.vt_screen.specs.Screen.{Modes, no_modes}
 use Rattle.vt_screen.specs.States.{state_change, state_text}
 use Rattle.vt_screen.proofs.Shown.{shown_height}
 
--- ---- texts one after the other
+-- ---- concatenated output
 
 module _ (finals : List ℕ) (controls : List (List ℕ)) where
   pub all_append : (ps qs : List Piece) → AllByRecursion (IsPiece finals controls) ps →
@@ -142,7 +142,7 @@ made_ops (op ∷ ops) fits =
     made_append drawing_finals drawing_controls (bytes_of op) (bytes_of_all ops)
     (made_op op fits.0) (made_ops ops fits.1)
 
--- ---- texts of screens
+-- ---- the output of screens
 
 pub redraw_made : (screen : ScreenValue) → IsScreen screen → IsColored screen →
     IsMadeOf drawing_finals drawing_controls (shown_text screen)
@@ -164,7 +164,7 @@ cursor_made screen is colored =
 pub attributes_made : (attrs : Attrs) → FitsAttrs attrs → IsMadeOf drawing_finals drawing_controls (attributes_text attrs)
 attributes_made attrs fits = made_ops (ClearAttrs ∷ ChangeAttrs default_attrs attrs ∷ []) (tt, (((tt, tt), fits), tt))
 
--- ---- more finals, and more controls
+-- ---- more final bytes, and more controls
 
 one_of_before : {A : Type 0} (x : A) (xs ys : List A) → IsOneOf x xs → IsOneOf x (xs ++ ys)
 one_of_before x [] ys is = absurd is
@@ -188,7 +188,7 @@ pub made_more : (fs gs : List ℕ) (cs ds : List (List ℕ)) → ((x : ℕ) → 
 made_more fs gs cs ds f c text made =
     record { pieces = made.pieces; are_pieces = more_pieces fs gs cs ds f c made.pieces made.are_pieces; spelled = made.spelled }
 
--- ---- with the region
+-- ---- resetting the region
 
 pub reset_made : (screen : ScreenValue) → IsScreen screen → IsColored screen →
     IsMadeOf drawing_finals reset_controls (reset_text (shown screen))
@@ -200,7 +200,7 @@ reset_made screen is colored =
     (made_more drawing_finals drawing_finals drawing_controls reset_controls (λ x one. one)
     (λ x one. inr (inr one)) (shown_text screen) (redraw_made screen is colored))
 
--- ---- with rows that move
+-- ---- moving rows
 
 abbrev IsScrollingText : List ℕ → Type 0
 IsScrollingText text = IsMadeOf scrolling_finals drawing_controls text
@@ -437,7 +437,7 @@ state_change_made screen prev is colored other =
     state_of_both (shown_change prev screen) (input_change prev.modes screen.modes)
     (difference_made screen prev is colored other) (input_change_made prev.modes screen.modes)
 
--- ---- rows, one by one
+-- ---- rows one by one
 
 pub row_made : (screen : ScreenValue) (r start_ stop : ℕ) → IsScreen screen → IsColored screen →
     r < length screen.page.rows → start_ ≤ stop → stop ≤ screen.page.width →

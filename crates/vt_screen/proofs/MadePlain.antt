@@ -1,4 +1,4 @@
--- Texts without attributes are made of characters and line ends.
+-- Plain text consists of characters and line ends.
 use Rattle.std.proofs.Common.{◌≡◌, inl, inr, ℕ, zero, suc, ◌+◌, ◌-◌, ◌/◌, ◌%◌, ◌≤◌, ◌==◌, ◌&&◌, not, nat_lt}
 use Rattle.std.proofs.Common.{Bool, true, false, List, [], ◌∷◌, ◌++◌, take, drop, length, min}
 use Rattle.std.proofs.Common.{refl, sym, ap, subst, ◌∙◌, append_assoc, arith, if◌then◌else◌}
@@ -160,7 +160,7 @@ trimmed_made : (text : List ℕ) → IsPlain text → IsPlain (without_line_ends
 trimmed_made text made =
     subst (λ (t : List ℕ). IsPlain (without_line_ends t)) (sym made.spelled) (pieces_trimmed made.pieces made.are_pieces)
 
--- ---- texts of screens
+-- ---- the plain text of screens
 
 pub contents_made : (screen : ScreenValue) → IsScreen screen → IsMadeOf [] plain_controls (contents_of screen)
 contents_made screen is =

@@ -1,4 +1,4 @@
--- A band of rows that moves, and the difference behind it, read by a plain terminal.
+-- A band of rows that moves, and the difference after it, read by a plain terminal.
 use Rattle.std.proofs.Common.{◌≡◌, inl, inr, ℕ, zero, suc, ◌+◌, ◌-◌, ◌<◌, ◌≤◌, ◌==◌, ◌^◌, Bool, true, false, List, []}
 use Rattle.std.proofs.Common.{◌∷◌, ◌++◌, length, Option, Some, None, refl, sym, ap, subst, ◌∙◌, arith}
 use Rattle.std.specs.Prelude.{IfSome, if◌then◌else◌}
@@ -38,7 +38,7 @@ use Rattle.vt_screen.proofs.Redrawing.{Becomes, difference_read, drawing_read}
 use Rattle.vt_screen.proofs.Shown.{plain_shown, shown_colored, shown_height, shown_is}
 use Rattle.vt_screen.proofs.EqualTexts.{difference_none, difference_tells}
 
--- ---- lines deleted and inserted
+-- ---- deleting and inserting rows
 
 pub deleted_read : (n : ℕ) (screen : ScreenValue) → suc n < 2 ^ 16 →
     ReadsTo (counted (suc n) 0x4D) screen (display_after (OnPage (DeleteLines (suc n))) screen)
@@ -50,7 +50,7 @@ pub inserted_read : (n : ℕ) (screen : ScreenValue) → suc n < 2 ^ 16 →
 unfolding counted_step
 inserted_read n screen h = counted_read n 0x4C InsertLines screen h (omega arith, omega arith) (λ groups. refl)
 
--- a page with other rows, and the cursor at a row's begin
+-- A page with its rows replaced, and the cursor at the beginning of a row.
 abbrev at_row : List RowValue → ℕ → ScreenValue → ScreenValue
 at_row rows row screen = with_page (page_at_row rows row screen.page) screen
 
@@ -89,7 +89,7 @@ plain_rows : (rows : List RowValue) (r : ℕ) (page : Page) → length rows ≡ 
 plain_rows rows r page size plain =
     record { whole = (plain.whole.0, plain.whole.1 ∙ sym size); origin = plain.origin }
 
--- lines deleted at one row, and as many inserted at another
+-- Rows deleted at one row, and as many inserted at another.
 both_read : (gone in_at n : ℕ) (screen : ScreenValue) → IsPlainPage screen.page
     → gone < length screen.page.rows → in_at < length screen.page.rows → length screen.page.rows < 2 ^ 16
     → 0 < n → n < 2 ^ 16
@@ -110,7 +110,7 @@ both_read gone in_at n screen plain first second tall some short =
     (omega (arith, size)) (omega arith) some short)
     ∙ ap (λ (k : ℕ). Some (terminal start (at_row (rows_down page.width in_at (k - 1) n up) in_at screen))) size
 
--- its text and its last row, case by case
+-- A band's output and its last row, case by case.
 text_when : (up at_end : Bool) (height : ℕ) (band : Band) → band.up ≡ up → (band.bottom == height) ≡ at_end
     → band_text height band
     ≡ (if up
@@ -125,7 +125,7 @@ last_when : (up at_end : Bool) (height : ℕ) (band : Band) → band.up ≡ up �
     last_moved height band ≡ (if at_end then band.top else if up then band.bottom - band.count else band.top)
 last_when up at_end height band u e = rw (u, e) refl
 
--- what is read of a text that is known
+-- Reading output that equals known output.
 told : (text known : List ℕ) (rows moved_to : List RowValue) (row last : ℕ) (screen : ScreenValue) →
     text ≡ known → last ≡ row → ReadsTo known screen (at_row rows row screen) → rows ≡ moved_to →
     ReadsTo text screen (at_row moved_to last screen)
@@ -195,9 +195,9 @@ band_when false false band screen u e plain tall is =
     (omega arith) (omega arith) tall a (omega arith))
     (down_between page.width page.rows band is u)
 
--- ---- the terminal then
+-- ---- the terminal after the move
 
--- one that shows another picture; the rest as it was
+-- A terminal that displays a picture; the rest of it is unchanged.
 abbrev with_shown : Picture → ScreenValue → ScreenValue
 with_shown picture reader = with_canvas (with_picture picture (canvas_of reader)) reader
 
@@ -220,7 +220,7 @@ moving_read band reader is plain inside =
     (bytes_of_all (attr_ops reader.attrs default_attrs)) (band_text (length reader.page.rows) band) (change_read reader)
     (band_when band.up (band.bottom == length reader.page.rows) band middle refl refl plain.page is.page.height inside)
 
--- the row of the last sequence is one of the picture
+-- The row of the last sequence that moves rows is one of the picture.
 last_inside : (height : ℕ) (band : Band) → IsBand height band → last_moved height band < height
 last_inside height band is =
     let a = is.some in
@@ -263,7 +263,7 @@ moved_screen band reader is inside = record {
   last = is.last;
 }
 
--- ---- the whole text
+-- ---- the whole output
 
 moved_becomes : (self reader : ScreenValue) (band : Band) → IsScreen self → IsColored self → IsSteady (shown self)
     → IsReader (shown self) reader → IsBand (length reader.page.rows) band
@@ -305,7 +305,7 @@ scrolling_read self prev reader band is colored steady r inside =
     (moved_becomes self reader band is colored steady r.is
     (subst (λ (p : Picture). IsBand (length p.rows) band) (sym e) inside))
 
--- what is asked of the two screens
+-- The premises about the two screens of a difference.
 pub record AreDiffed (self prev : ScreenValue) : Type 0 where
   pub sound : IsScreen self
   pub colored : IsColored self
@@ -325,7 +325,7 @@ scrolling_redraws self prev text d (inr (band, inside, told)) =
     (λ steady reader r. subst (λ (t : List ℕ). Becomes (shown self) t reader) (sym told)
     (scrolling_read self prev reader band d.sound d.colored steady r inside))
 
--- ---- when it is empty
+-- ---- empty output
 
 empty_left : (xs ys : List ℕ) → xs ++ ys ≡ [] → xs ≡ []
 empty_left [] ys e = refl
@@ -343,7 +343,7 @@ some_band true false height band u e = rw (u, e) (λ empty. cc)
 some_band false true height band u e = rw (u, e) (λ empty. cc)
 some_band false false height band u e = rw (u, e) (λ empty. cc)
 
--- only between screens that show the same
+-- A difference that scrolls is empty only between screens that display the same.
 pub scrolling_tells : (self prev : ScreenValue) (text : List ℕ) → AreDiffed self prev → IsSteady (shown self) →
     IsScrolling (shown self) (shown prev) text → text ≡ [] → shown self ≡ shown prev
 scrolling_tells self prev text d steady (inl told) empty =
@@ -359,7 +359,7 @@ no_length : (xs : List ℕ) → length xs ≤ 0 → xs ≡ []
 no_length [] h = refl
 no_length (x ∷ xs) h = absurd (omega arith)
 
--- and between those it always is, since it is never longer than the difference
+-- A difference that scrolls is empty between equal pictures, since it is never longer than the difference.
 pub shorter_none : (a b : Picture) (text : List ℕ) → length text ≤ length (bytes_of_all (difference a b)) → a ≡ b →
     text ≡ []
 shorter_none a b text shorter e =

@@ -1,4 +1,5 @@
--- A run without callbacks calls `on_scroll` alone, for the rows that leave and are not kept, whatever callbacks do.
+-- A run without callbacks calls only `on_scroll`, for the rows that scroll off and are not kept, whatever the callbacks
+-- do.
 use Rattle.std.proofs.Common.{◌≡◌, Bool, List, [], ◌∷◌, ◌++◌, map, sym, ap, subst}
 use Rattle.std.specs.List.{AllByRecursion, FoldsTo}
 use Rattle.vt_rows.specs.Row.{RowValue}
@@ -16,7 +17,7 @@ use Rattle.vt_screen.specs.Steps.{EnterFresh, LeaveAlternate, LeaveRestoring, Re
 use Rattle.vt_screen.specs.Steps.{HideCursor, SetMode, CallBack, reports, screen_after, display_after}
 use Rattle.vt_screen.proofs.Reporting.{called_rows}
 
--- a screen was reached, and callbacks took these calls
+-- A screen was reached, and callbacks received these calls on the way.
 pub record Reported {S : Type 0} (does : CallRelation S)
     (a : act.State S) (calls : List CallValue) (screen : ScreenValue) (b : act.State S) : Type 0 where
   pub shown : b.screen ≡ screen
@@ -84,7 +85,7 @@ none_after : (xs ys : List Step) → AllByRecursion IsNoCallback (xs ++ ys) → 
 none_after [] ys h = h
 none_after (x ∷ xs) ys h = none_after xs ys h.1
 
--- the steps of all events are those that the model lists
+-- The steps that the events of a run perform are those that the model lists.
 listed : {S : Type 0} (does : CallRelation S) (events : List Event) (a b : act.State S) →
     AllByRecursion IsNoCallback (steps_of_all events a.screen) → FoldsTo (Performs does) a events b →
     FoldsTo (Takes does) a (steps_of_all events a.screen) b

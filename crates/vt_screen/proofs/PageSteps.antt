@@ -1,4 +1,4 @@
--- What every step of a page keeps: its size, its cursors on it, that it is one, and what holds of each cell.
+-- What every step of a page preserves: its size, its cursors on it, its invariant, and the properties of each cell.
 use Rattle.std.proofs.Common.{ℕ}
 use Rattle.vt_cells.specs.Attrs.{Attrs}
 use Rattle.vt_cells.specs.Cell.{CellValue}

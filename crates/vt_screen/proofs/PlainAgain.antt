@@ -1,4 +1,4 @@
--- A plain terminal that reads a redraw or a difference, whatever that draws, is plain again.
+-- A plain terminal that reads a redraw or a difference is plain again, whatever the output draws.
 use Rattle.std.proofs.Common.{◌≡◌, ℕ, zero, suc, Bool, true, false}
 use Rattle.std.proofs.Common.{List, [], ◌∷◌, ◌++◌, Some, length, refl, sym, ap, subst, ◌∙◌, arith}
 use Rattle.std.specs.Prelude.{if◌then◌else◌, encode_utf8_all}
@@ -44,9 +44,9 @@ use Rattle.vt_screen.proofs.Shown.{shown_colored, shown_is}
 use Rattle.vt_screen.proofs.Sizes.{same_printed, same_through}
 use Rattle.vt_screen.proofs.StepLists.{screen_in_then, steps_in_then}
 
--- ---- what holds on the way
+-- ---- the invariant while reading
 
--- the terminal is plain; once the cursor was saved, it was saved with origin mode off
+-- The terminal is plain; and if the cursor was saved by the output, it was saved with origin mode off.
 pub record Holds (saved : Bool) (reader screen : ScreenValue) : Type 0 where
   pub whole : IsWhole screen.page
   pub origin : screen.page.origin ≡ false
@@ -54,7 +54,7 @@ pub record Holds (saved : Bool) (reader screen : ScreenValue) : Type 0 where
   pub offset : (above_page screen).offset ≡ 0
   pub aside : KeepsAside reader screen
 
--- the rest of a screen is as it was
+-- Everything but the active page of a screen is unchanged.
 pub record SameAside (new screen : ScreenValue) : Type 0 where
   pub other : new.other ≡ screen.other
   pub is_alternate : new.is_alternate ≡ screen.is_alternate
@@ -70,7 +70,7 @@ aside_then reader screen new s k = record {
   size = same_through new.page screen.page reader.page s.size k.size;
 }
 
--- another page in the frame of the one before
+-- The invariant holds for a page with the same region and modes.
 pub held : (saved : Bool) (reader screen new : ScreenValue) → IsFramed new.page screen.page → SameAside new screen →
     (above_page new).offset ≡ 0 → Holds saved reader screen → Holds saved reader new
 held saved reader screen new f s offset h = record {
@@ -81,7 +81,7 @@ held saved reader screen new f s offset h = record {
   aside = aside_then reader screen new s h.aside;
 }
 
--- ---- rows that leave the page
+-- ---- rows that scroll off the page
 
 pushed_offset : (height width : ℕ) (gone : List RowValue) (above : Scrollback) → above.offset ≡ 0 →
     (pushed height width gone above).offset ≡ 0
@@ -99,7 +99,7 @@ hidden_by : (alternate : Bool) (above : Scrollback) → (if alternate then no_sc
 hidden_by true above h e = absurd (cc)
 hidden_by false above h e = h
 
--- a step that may send rows off the page
+-- The invariant holds after a step that may scroll rows off the page.
 sent_held : (saved : Bool) (reader screen after : ScreenValue) (gone : List RowValue) →
     IsFramed after.page screen.page → SameAside after screen → after.scrollback ≡ screen.scrollback →
     Holds saved reader screen →
@@ -142,9 +142,9 @@ fed_held saved reader screen h =
     (framed_line_feed screen.page)
     (record { other = refl; is_alternate = refl; modes = refl; size = same_line_feed screen.page }) refl h
 
--- ---- texts
+-- ---- output
 
--- a text that a terminal has read, and what holds then
+-- Output that a terminal has read, and the invariant after it.
 pub record Goes (saved : Bool) (reader screen : ScreenValue) (text : List ℕ) : Type 0 where
   pub ground : (run start text).state ≡ start
   pub steps : AllByRecursion IsNoCallback (steps_in start screen text)
@@ -178,7 +178,7 @@ goes_read saved reader screen after text e h =
       holds = subst (Holds saved reader) (sym r.steps.becomes) h;
     }
 
--- a text of one event with one step
+-- Output of one event with one step.
 goes_event : (saved : Bool) (reader screen : ScreenValue) (text : List ℕ) (event : Event) (step : Step) →
     run start text ≡ back_with (event ∷ []) → steps_of event (seen_of screen) ≡ step ∷ [] → IsNoCallback step →
     Holds saved reader (screen_after step screen) → Goes saved reader screen text
@@ -192,7 +192,7 @@ goes_event saved reader screen text event step gives is none h =
 
 -- ---- operations
 
--- what draws within the frame
+-- An operation that draws within the same region and modes.
 drawn_goes : (op : Op) (saved : Bool) (reader screen : ScreenValue) (d : Canvas) → Fits op →
     drawn op (canvas_of screen) ≡ Some d → IsFramed d.page screen.page → SameSize d.page screen.page →
     Holds saved reader screen → Goes saved reader screen (bytes_of op)
@@ -364,7 +364,7 @@ leaves reader text g =
       aside = h.aside;
     }
 
--- operations that save the cursor before they restore it
+-- Operations that save the cursor before they restore it keep terminals plain.
 pub ops_keep : (ops : List Op) → AllByRecursion Fits ops → IsSafe ops → KeepsPlain (bytes_of_all ops)
 ops_keep ops fits safe reader plain =
     leaves reader (bytes_of_all ops) (ops_go ops false reader reader fits (safe false) (plain_holds reader plain))
@@ -388,7 +388,7 @@ cursor_keeps screen is colored =
     (cursor_state_fits (shown screen) (shown_is screen is) (shown_colored screen is colored))
     (cursor_state_safe (shown screen))
 
--- ---- for terminals in any region
+-- ---- terminals in any region
 
 whole_holds : (reader : ScreenValue) → IsScreen reader → (above_page reader).offset ≡ 0 →
     Holds false reader (in_whole reader)

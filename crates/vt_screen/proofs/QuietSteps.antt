@@ -1,4 +1,4 @@
--- What is read quietly is what a run does, and invokes no callback.
+-- What is read without callbacks or allocations is what a run does, and invokes no callbacks.
 use Rattle.std.proofs.Common.{◌≡◌, ℕ, ◌+◌, ◌==◌, Bool, true, false, List, [], ◌∷◌, ◌++◌, Option, Some, None, min}
 use Rattle.std.proofs.Common.{length, refl, sym, subst, ap, ◌∙◌, take}
 use Rattle.std.specs.Prelude.{if◌then◌else◌, is_some}
@@ -38,7 +38,7 @@ some_where (Some x) o y e = e
 
 -- ---- steps
 
--- no row left the page
+-- A step that scrolls no row off the page.
 unsent : (alternate : Bool) (gone : List RowValue) (screen after : ScreenValue) → gone ≡ [] →
     after.scrollback ≡ screen.scrollback →
     (if alternate then after
@@ -51,7 +51,7 @@ unsent false gone screen after none same =
     }) none
     ∙ ap (λ s. record after { scrollback = s }) (sym same)
 
--- what a quiet step makes of the screen, and that it is no callback
+-- The screen after a step that invokes no callbacks and allocates nothing.
 abbrev IsTaken : Step → ScreenValue → ScreenValue → Type 0
 IsTaken step screen after = (screen_after step screen ≡ after) × IsNoCallback step
 
@@ -91,7 +91,7 @@ taken Reset screen after e = (same_some _ after e, tt)
 taken EnterAlternate screen after e = (same_some _ after (some_where screen.other _ after e), tt)
 taken EnterFresh screen after e = (same_some _ after (some_where screen.other _ after e), tt)
 
--- what steps make of a screen, none of them a callback
+-- The screen after steps of which none is a callback.
 pub record AreTaken (steps : List Step) (screen after : ScreenValue) : Type 0 where
   pub becomes : screen_after_all steps screen ≡ after
   pub none : AllByRecursion IsNoCallback steps
@@ -130,7 +130,7 @@ taken_events (event ∷ events) screen after e =
 
 -- ---- bytes
 
--- a run over bytes from a terminal to another
+-- A run over bytes from one terminal to another.
 pub record Runs (t : Terminal) (bytes : List ℕ) (u : Terminal) : Type 0 where
   pub state : (run t.scan bytes).state ≡ u.scan
   pub steps : AreTaken (steps_in t.scan t.screen bytes) t.screen u.screen

@@ -37,13 +37,13 @@ use Rattle.vt_screen.specs.Reading.{quiet_step, quiet_steps, terminal, read_byte
 use Rattle.vt_screen.proofs.ReadbackSgr.{sgr_change, sgr_clear, few_changes, some_changes}
 use Rattle.vt_screen.proofs.ReadbackTexts.{IsFinal, reads_then, event_read, csi_read}
 
--- the text, read by the screen, leaves the canvas; only the last character is open
+-- Reading the output leaves this canvas on the screen; the last character may be any.
 abbrev pub Reads : List ℕ → ScreenValue → Canvas → Type 0
 Reads text screen canvas =
     (last : Option ℕ)
     × (read (terminal start screen) text ≡ Some (terminal start (record (with_canvas canvas screen) { last = last })))
 
--- ---- what is drawn is known
+-- ---- the result of drawing is known
 
 known : (text : List ℕ) (screen : ScreenValue) (e d : Canvas) → Some e ≡ Some d →
     read (terminal start screen) text ≡ Some (terminal start (with_canvas e screen)) → Reads text screen d
@@ -51,7 +51,7 @@ known text screen e d h r =
     let same : e ≡ d = cc in
     subst (λ (c : Canvas). Reads text screen c) same (screen.last, r)
 
--- what takes place unless a row would leave the page
+-- A step that takes place unless a row would scroll off the page.
 unless : (b : Bool) (e d : Canvas) (after : ScreenValue) (f : Canvas → ScreenValue) →
     (if b then None else Some e) ≡ Some d → after ≡ f e → (if b then None else Some after) ≡ Some (f d)
 unless true e d after f h same = absurd cc
@@ -61,7 +61,7 @@ pub kept : (b : Bool) (x : ScreenValue) → b ≡ false → (if b then None else
 kept true x h = absurd cc
 kept false x h = refl
 
--- ---- the cursor hidden or shown
+-- ---- hiding and showing the cursor
 
 hidden_read : (hidden : Bool) (screen : ScreenValue) →
     read (terminal start screen) (bytes_of (Hide hidden)) ≡ Some (terminal start (record screen { hidden = hidden }))
@@ -71,7 +71,7 @@ hidden_read false screen = refl
 
 -- ---- control sequences
 
--- without a number
+-- A control sequence without a number.
 final_alone : (final : ℕ) (screen after : ScreenValue) → IsFinal final
     → quiet_steps (unmarked_steps ((0 ∷ []) ∷ []) final (seen_of screen)) screen ≡ Some after
     → read (terminal start screen) (csi [] final) ≡ Some (terminal start after)
@@ -95,11 +95,11 @@ unfolding counted_step scrolling_steps other_steps row_erasing
 erased_rest_read screen =
     final_alone 0x4B screen (display_after (OnPage page.EraseRest) screen) (omega arith, omega arith) refl
 
--- a count that isn't 0 is itself
+-- A count other than 0 is read as itself.
 count_read : (n : ℕ) (rest : List (List ℕ)) → 0 < n → number_or 1 0 ((n ∷ []) ∷ rest) ≡ n
 count_read n rest h = let t : (n == 0) ≡ false = grind (arith, nat_tests) in rw t refl
 
--- with a count: the step that the sequence is, with this count
+-- A control sequence with a count: the step of the sequence with this count.
 pub counted_read : (n final : ℕ) (step : ℕ → page.PageStep) (screen : ScreenValue) → suc n < 2 ^ 16 → IsFinal final
     → ((groups : List (List ℕ))
     → quiet_steps (unmarked_steps groups final (seen_of screen)) screen
@@ -127,7 +127,7 @@ erased_chars_read : (n : ℕ) (screen : ScreenValue) → suc n < 2 ^ 16 →
 unfolding counted_step
 erased_chars_read n screen h = counted_read n 0x58 page.EraseChars screen h (omega arith, omega arith) (λ groups. refl)
 
--- a row or column counted from 1
+-- A row or column that is written counting from 1.
 ordinal_read : (n : ℕ) → (if (n + 1) == 0 then 1 else n + 1) - 1 ≡ n
 ordinal_read n = let t : ((n + 1) == 0) ≡ false = grind (arith, nat_tests) in rw t (omega arith)
 
@@ -239,7 +239,7 @@ left_read : (screen : ScreenValue) →
 unfolding read_byte fresh_step class_of control_steps
 left_read screen = refl
 
--- ---- the cursor saved and restored
+-- ---- saving and restoring the cursor
 
 saved_read : (screen : ScreenValue) →
     read (terminal start screen) (bytes_of SaveCursor) ≡ Some (terminal start (display_after steps.SaveCursor screen))
@@ -274,7 +274,7 @@ pub prints : (c : ℕ) → IsDrawn c → character_steps c ≡ steps.Print c ∷
 unfolding character_steps
 prints c p = let range = shown_range c p.shown in let other = p.reported in grind (arith, nat_tests)
 
--- a character's bytes print it
+-- Reading the bytes of a character prints it.
 pub character_read : (c : ℕ) (screen after : ScreenValue) →
     IsDrawn c → quiet_step (steps.Print c) screen ≡ Some after →
     read (terminal start screen) (encode_utf8 c) ≡ Some (terminal start after)
@@ -283,7 +283,7 @@ character_read c screen after p e =
     event_read (encode_utf8 c) (Character c) screen after (read_written c p.scalar (grind (arith, range))) refl
     (ap (λ (list : List steps.Step). quiet_steps list screen) (prints c p) ∙ ap (and_then (quiet_steps [])) e)
 
--- ---- texts
+-- ---- strings
 
 pub unpushed : (b : Bool) (cs : List ℕ) (e d : Canvas) →
     and_then (drawn_text cs) (if b then None else Some e) ≡ Some d → (b ≡ false) × (drawn_text cs e ≡ Some d)

@@ -1,4 +1,4 @@
--- SGR read back: the numbers of a change of attributes, each in a group of its own, make that change.
+-- SGR read back: the numbers of a change of attributes, each in its own group, make that change.
 use Rattle.std.proofs.Common.{◌≡◌, ℕ, zero, suc, ◌+◌, ◌-◌, ◌<◌, ◌≤◌, Bool, true, false, nat_lt}
 use Rattle.std.proofs.Common.{if◌then◌else◌, List, [], ◌∷◌, ◌++◌, Some, refl, sym, ap, ◌∙◌, arith}
 use Rattle.std.proofs.lemmas.Bool.{cond_both}
@@ -43,7 +43,7 @@ number_group n r e = e
 part_fits : (n : ℕ) (next : ℕ → GroupRead) → n < 256 → part_read (n ∷ []) next ≡ next n
 part_fits n next h = let t : nat_lt n 256 ≡ true = grind (arith, nat_tests) in rw t refl
 
--- ---- what numbers up to 7 give, one by one
+-- ---- the readings of the numbers 0 to 7, one by one
 
 below_8 : (P : ℕ → Type 0) → P 0 → P 1 → P 2 → P 3 → P 4 → P 5 → P 6 → P 7 → (i : ℕ) → i < 8 → P i
 below_8 P a b c d e f g h zero l = a
@@ -74,7 +74,7 @@ unfolding number_read
 background_bright =
     below_8 (λ j. number_read (100 + j) ≡ set (Background (Idx (8 + j)))) refl refl refl refl refl refl refl refl
 
--- from 8 to 15
+-- The colours from 8 to 15.
 foreground_high : (i : ℕ) → 8 ≤ i → i < 16 → number_read (82 + i) ≡ set (Foreground (Idx i))
 foreground_high i low high =
     let e : 82 + i ≡ 90 + (i - 8) = omega arith in
@@ -87,7 +87,7 @@ background_high i low high =
     let f : 8 + (i - 8) ≡ i = omega arith in
     ap number_read e ∙ (background_bright (i - 8) (omega arith) ∙ ap (λ k. set (Background (Idx k))) f)
 
--- ---- what numbers make of attributes, whatever stands behind them
+-- ---- the effect of numbers on attributes, whatever follows them
 
 abbrev pub Renders : List ℕ → (Attrs → Attrs) → Type 0
 Renders ns f =
@@ -109,7 +109,7 @@ renders_then ms ns f g p q groups rest screen =
     (ap (λ (gs : List (List ℕ)). gs ++ rest) (map-append (λ n. n ∷ []) ms ns) ∙ append_assoc (alone ms) (alone ns) rest)
     ∙ (p groups (alone ns ++ rest) screen ∙ q groups rest (record screen { attrs = f (screen.attrs) }))
 
--- ---- long colours
+-- ---- extended colours
 
 form_rgb : (layer : Layer) → group_read (Form layer) (2 ∷ []) ≡ silent (Red layer)
 unfolding group_read form_read
@@ -159,7 +159,7 @@ renders_rgb n layer r g b e red green blue groups rest screen =
     (silent (Blue layer r g)) (green_fits layer r g green)
     ∙ one_group groups (Blue layer r g) (b ∷ []) rest (set (colored layer (Rgb r g b))) (blue_fits layer r g b blue)))))
 
--- ---- the six parts
+-- ---- the six attributes
 
 renders_foreground : (color : Color) → FitsColor color →
     Renders (foreground_numbers color) (λ a. record a { fgcolor = color })
@@ -213,7 +213,7 @@ unfolding number_read
 renders_inverse true = renders_one 7 (Inverse true) refl
 renders_inverse false = renders_one 27 (Inverse false) refl
 
--- each part: as it was where it stays
+-- Each attribute; one that is equal in both keeps its value.
 
 part_foreground : (same : Bool) (color : Color) → FitsColor color
     → Renders (part same (foreground_numbers color)) (λ a. record a { fgcolor = if same then a.fgcolor else color })
@@ -248,7 +248,7 @@ part_inverse false on = renders_inverse on
 
 -- ---- the whole change
 
--- its numbers, one part after the other
+-- The numbers of a change, one attribute after the other.
 renders_changes : (was new : Attrs) → FitsAttrs new → Renders (change_numbers was new) (λ a. record {
   fgcolor = if same_color was.fgcolor new.fgcolor then a.fgcolor else new.fgcolor;
   bgcolor = if same_color was.bgcolor new.bgcolor then a.bgcolor else new.bgcolor;
@@ -289,7 +289,7 @@ renders_changes was new fits =
     (part_underline (same_bool was.underline new.underline) new.underline)
     (part_inverse (same_bool was.inverse new.inverse) new.inverse)))))
 
--- read alone, the numbers of a change make that change
+-- The numbers of a change, read as a sequence, make that change.
 pub sgr_change : (was new : Attrs) → FitsAttrs new → same_attrs was new ≡ false → same_attrs new default_attrs ≡ false
     → (screen : ScreenValue)
     → quiet_steps (sgr_steps (alone (change_numbers was new))) screen
@@ -301,13 +301,13 @@ sgr_change was new fits differs plain screen =
     (sym (append-nil (alone (change_numbers was new))))
     ∙ renders_changes was new fits (alone (change_numbers was new)) [] screen)
 
--- no number means default attributes
+-- A sequence without a number sets the default attributes.
 pub sgr_clear : (screen : ScreenValue) →
     quiet_steps (sgr_steps ((0 ∷ []) ∷ [])) screen ≡ Some (record screen { attrs = default_attrs })
 unfolding group_read setting_read number_read
 sgr_clear screen = refl
 
--- ---- how many numbers there are, and how large
+-- ---- the number of numbers, and their sizes
 
 pub record FewNumbers (most : ℕ) (ns : List ℕ) : Type 0 where
   pub few : length ns ≤ most
@@ -376,7 +376,7 @@ few_changes was new fits =
     (few_part 1 (same_bool was.underline new.underline) _ (few_either new.underline 4 24 (omega arith) (omega arith)))
     (few_part 1 (same_bool was.inverse new.inverse) _ (few_either new.inverse 7 27 (omega arith) (omega arith)))))))
 
--- ---- a change has a number
+-- ---- a change has at least one number
 
 some_part : (same others : Bool) (ns ms : List ℕ) → (same && others) ≡ false →
     0 < length ns → (others ≡ false → 0 < length ms) → 0 < length (part same ns ++ ms)

@@ -1,4 +1,4 @@
--- Texts read one after the other, and a text read by the events that it gives.
+-- Output read in sequence, and output read by its events.
 use Rattle.std.proofs.Common.{◌≡◌, ◌≢◌, ℕ, ◌≤◌, Bool, true, false, List, [], ◌∷◌}
 use Rattle.std.proofs.Common.{◌++◌, Option, Some, refl, sym, ap, subst, ◌∙◌}
 use Rattle.std.specs.List.{AllByRecursion}
@@ -20,7 +20,7 @@ use Rattle.vt_screen.specs.Screen.{ScreenValue}
 use Rattle.vt_screen.specs.Controls.{unmarked_steps, seen_of, steps_of}
 use Rattle.vt_screen.specs.Reading.{quiet_steps, quiet_events, grows, Terminal, terminal, read_byte, read}
 
--- ---- texts one after the other
+-- ---- output in sequence
 
 pub reads_append : (t : Terminal) (a b : List ℕ) → read t (a ++ b) ≡ and_then (λ u. read u b) (read t a)
 reads_append t [] b = refl
@@ -29,11 +29,11 @@ reads_append t (x ∷ a) b =
     (λ (u : Terminal). reads_append u a b) (read_byte t x)
     ∙ and_then-assoc (λ (u : Terminal). read u a) (λ (v : Terminal). read v b) (read_byte t x)
 
--- one text and then another
+-- Reading one output and then another is reading both concatenated.
 pub reads_then : (t u v : Terminal) (a b : List ℕ) → read t a ≡ Some u → read u b ≡ Some v → read t (a ++ b) ≡ Some v
 reads_then t u v a b p q = reads_append t a b ∙ (ap (λ (r : Option Terminal). and_then (λ w. read w b) r) p ∙ q)
 
--- ---- a text and its events
+-- ---- output and its events
 
 quiet_append : (a b : List Event) (screen : ScreenValue) →
     quiet_events (a ++ b) screen ≡ and_then (quiet_events b) (quiet_events a screen)
@@ -44,7 +44,7 @@ quiet_append (event ∷ a) b screen =
     (λ (x : ScreenValue). and_then (quiet_events b) (quiet_events a x)) (quiet_append a b) first
     ∙ and_then-assoc (quiet_events a) (quiet_events b) first
 
--- an operating system command, the one sequence whose text takes memory
+-- Whether an event is an operating system command, the only sequence whose text allocates.
 abbrev pub is_command : Event → Bool
 is_command (OscDispatch parts) = true
 is_command _ = false
@@ -56,7 +56,7 @@ later : (a b : List Event) → NoCommands (a ++ b) → NoCommands b
 later [] b none = none
 later (event ∷ a) b none = later a b none.1
 
--- plain text again, and no such command was read
+-- A run that ended in ground state and read no operating system command.
 pub record IsCalm (step : Step) : Type 0 where
   pub plain : step.state.kind ≡ Ground
   pub events : NoCommands step.events
@@ -67,7 +67,7 @@ in_command text = record { kind = OscString; collected = text }
 abbrev run_after : Step → List ℕ → Step
 run_after step bytes = events_then step.events (run step.state bytes)
 
--- a command that is begun is read, or goes on
+-- An operating system command that has begun is read as one, or doesn't end.
 unended_by : (c : Class) (text : List ℕ) (b : ℕ) (bytes : List ℕ)
     → ((more : List ℕ) → IsCalm (run (in_command more) bytes) → ⊥)
     → IsCalm (run_after (step_after OscString text b (turn_of OscString c)) bytes) → ⊥
@@ -81,13 +81,13 @@ unended : (text bytes : List ℕ) → IsCalm (run (in_command text) bytes) → �
 unended text [] calm = let same : OscString ≡ Ground = calm.plain in cc
 unended text (b ∷ bytes) calm = unended_by (class_of b) text b bytes (λ more. unended more bytes) calm
 
--- a byte takes memory in such a command alone
+-- Only a byte of an operating system command allocates.
 grows_not : (kind : Kind) (c : Class) → kind ≢ OscString → grows (turn_of kind c) ≡ false
 grows_not OscString _ n = absurd (n refl)
 grows_not _ Control n = refl
 grows_not _ _ n = refl
 
--- the first byte of a calm run takes no memory, and what is behind it is calm
+-- The first byte of a run without commands allocates nothing, and the rest of the run has no commands.
 pub calm_grows : (s : State) (b : ℕ) (bytes : List ℕ) → IsCalm (run s (b ∷ bytes)) →
     (grows (turn_of s.kind (class_of b)) ≡ false) × IsCalm (run (step_in s.kind s.collected b).state bytes)
 calm_grows s b bytes calm =
@@ -98,7 +98,7 @@ calm_grows s b bytes calm =
       record { plain = calm.plain; events = later step.events rest.events calm.events },
     )
 
--- a calm run is read: its events are performed, one after the other
+-- Bytes without commands are read: their events are performed in order.
 pub run_read : (s : State) (bytes : List ℕ) (screen : ScreenValue) → IsCalm (run s bytes)
     → read (terminal s screen) bytes
     ≡ and_then (λ after. Some (terminal (run s bytes).state after)) (quiet_events (run s bytes).events screen)
@@ -117,7 +117,7 @@ run_read s (b ∷ bytes) screen calm =
     ∙ and_then-assoc (quiet_events rest.events) finish here
     ∙ ap (and_then finish) (sym (quiet_append step.events rest.events screen)))
 
--- a text that gives one event
+-- Reading output of one event.
 pub event_read : (text : List ℕ) (event : Event) (screen after : ScreenValue)
     → run start text ≡ back_with (event ∷ []) → is_command event ≡ false
     → quiet_steps (steps_of event (seen_of screen)) screen ≡ Some after
@@ -131,11 +131,11 @@ event_read text event screen after gives other quiet =
     (λ (r : Option ScreenValue). and_then (λ (x : ScreenValue). Some (terminal start x)) (and_then (quiet_events []) r))
     quiet
 
--- a final byte
+-- The final byte of a control sequence.
 abbrev pub IsFinal : ℕ → Type 0
 IsFinal b = (0x40 ≤ b) × (b ≤ 0x7E)
 
--- a control sequence of parameters alone
+-- Reading a control sequence that has only parameters.
 pub csi_read : (text : List ℕ) (final : ℕ) (groups : List (List ℕ)) (screen after : ScreenValue)
     → IsParameterText text → IsFinal final → (table_of text).groups ≡ groups
     → quiet_steps (unmarked_steps groups final (seen_of screen)) screen ≡ Some after

@@ -1,4 +1,4 @@
--- Redraws and differences, read by plain terminals, show the screen.
+-- Redraws and differences, read by plain terminals, display the screen.
 use Rattle.std.proofs.Common.{◌≡◌, ℕ, List, Option, Some, sym, ap, subst, ◌∙◌}
 use Rattle.std.specs.List.{AllByRecursion}
 use Rattle.vt_cells.specs.Op.{Op, bytes_of_all}
@@ -17,19 +17,19 @@ use Rattle.vt_screen.specs.Shown.{IsReader, IsReaderOf, ReadsTo, shown, showing}
 use Rattle.vt_screen.proofs.Readback.{reads_all}
 use Rattle.vt_screen.proofs.Shown.{plain_shown, shown_colored, shown_is}
 
--- what a reader has become: it shows the picture, and only what was saved and the last character are open
+-- A terminal after reading: it displays the picture, and only what is saved and the last character may be any.
 pub record Became (picture : Picture) (reader after : ScreenValue) : Type 0 where
   pub saved : Saved
   pub last : Option ℕ
   pub is : after ≡ showing picture saved last reader
 
--- a text by which each reader of the picture becomes so
+-- Output after which a terminal displays the picture.
 pub record Becomes (picture : Picture) (text : List ℕ) (reader : ScreenValue) : Type 0 where
   pub saved : Saved
   pub last : Option ℕ
   pub reads : ReadsTo text reader (showing picture saved last reader)
 
--- operations that draw a picture on the canvas of a terminal, read
+-- Reading operations that draw a picture on the canvas of a terminal.
 pub drawing_read : (ops : List Op) (picture : Picture) (reader : ScreenValue) → AllByRecursion Fits ops
     → (saved : Saved)
     × (drawn_all ops (canvas_of reader) ≡ Some (with_saved saved (with_picture picture (canvas_of reader))))
@@ -61,7 +61,7 @@ difference_read self prev reader is colored steady other colored_other size r =
     (difference_draws picture (shown prev) (canvas_of reader) (shown_is self is)
     steady (shown_is prev other) size r.is.plain.page (sym page ∙ r.shows))
 
--- ---- what that says of each reader
+-- ---- the consequences for each terminal
 
 same_some : {A : Type 0} (x y : A) → Some x ≡ Some y → x ≡ y
 same_some x y e = cc

@@ -1,4 +1,4 @@
--- What a run of reports is to the callbacks that hear them.
+-- The calls that a run of reports makes.
 use Rattle.std.specs.Prelude.{if◌then◌else◌}
 use Rattle.std.proofs.Common.{◌≡◌, ℕ, Bool, true, false, List, [], ◌∷◌, map, length, Option, sym, subst, ap, ◌∙◌}
 use Rattle.std.specs.List.{FoldsTo}
@@ -34,12 +34,12 @@ reported_to does alternate (row ∷ rows) s t a f = (
 
 -- ---- steps that scroll
 
--- scrollback of the screen is that of the main page; the alternate page's never keeps a row
+-- The screen's scrollback is that of the main page; that of the alternate page never keeps a row.
 record IsAbove (s : ScreenValue) (active idle : Scrollback) : Type 0 where
   whole : s.scrollback ≡ main_scrollback s.is_alternate active idle
   nothing : IsNothing (alternate_scrollback s.is_alternate active idle)
 
--- what is told of rows that left the active page
+-- The calls that report the rows that scrolled off the active page.
 called_above : {S : Type 0} (does : CallRelation S)
     (s : ScreenValue) (gone : List RowValue) (active idle : Scrollback) (old new : S)
     → IsAbove s active idle
@@ -116,7 +116,7 @@ character_printed does c s now page active idle above last old new same w n p l 
           called_above does s (printed_out c s.attrs s.page) active idle old new (record { whole = w; nothing = n }) h;
     })
 
--- ---- scrollback given up
+-- ---- erasing scrollback
 
 erased_if : (b : Bool) (s : ScreenValue) (active idle : Scrollback) → s.scrollback ≡ main_scrollback b active idle
     → record s { scrollback = main_scrollback b (cleared active) idle }
@@ -155,7 +155,7 @@ scrollback_erased does s now active idle above old new same w n a h =
           (rows_if s.is_alternate active idle s.scrollback w n) h;
     })
 
--- ---- rows told as calls
+-- ---- reported rows as calls
 
 pub called_rows : {S : Type 0} (does : CallRelation S) (alternate : Bool) (rows : List RowValue) (old new : S)
     → FoldsTo (CalledOnScroll does alternate) old rows new

@@ -1,4 +1,4 @@
--- Both pages in another size, from the parts that the code makes them of.
+-- Both pages resized, composed of the parts that the code performs.
 use Rattle.std.proofs.Common.{◌≡◌, ℕ, ◌-◌, ◌<◌, ◌^◌, Bool, true, false, List}
 use Rattle.std.proofs.Common.{length, take, Option, Some, refl, sym, subst, ap, ◌∙◌}
 use Rattle.std.specs.Prelude.{Result, Ok, Err, OnOk, is_ok, option_map}
@@ -45,7 +45,7 @@ fresh_is o p f s b e h k =
     let all : Some s ≡ Some b = sym k ∙ (e ∙ ap (option_map (λ _. b)) h) in
     cc
 
--- the alternate page
+-- The alternate page has been resized.
 pub record AlternateDone {S : Type 0} (does : CallRelation S)
     (rows cols : ℕ) (o : Option Page) (new : Page) (after : Scrollback) (s t : S) : Type 0 where
   pub page : Some new ≡ option_map (page_resized rows cols (no_scrollback 0)) o
@@ -79,7 +79,7 @@ alternate_done {S} does rows cols o p new page_rows f above after s t e h k n pa
       nothing = subst IsNothing (sym beyond) (nothing_resized rows p);
     }
 
--- the main page
+-- The main page has been resized.
 pub main_done : {S : Type 0} (does : CallRelation S)
     (rows cols : ℕ) (p : Page) (page_rows : Page) (above : Scrollback) (s t : S)
     → page_rows ≡ blank_page rows cols
@@ -90,7 +90,7 @@ main_done {S} does rows cols p page_rows above s t fresh called =
     (subst (λ (all : List RowValue). FoldsTo (CalledOnScroll does false) s all t)
     (ap (λ (m : ℕ). resize_reports m p above) (fresh_height rows cols page_rows fresh)) called)
 
--- ---- both
+-- ---- both pages
 
 pub kept_by_steps : (rows cols : ℕ) (page new : Page) (last : Option ℕ)
     (aside : Aside) (page_rows : Page) (o : Option Page) (above idle : Scrollback)

@@ -1,4 +1,4 @@
--- A row's text, read by a terminal that awaits it, gives that terminal the cells of the row's range.
+-- A row's output, read by a terminal that is ready for it, gives that terminal the cells of the row's range.
 use Rattle.std.proofs.Common.{◌≡◌, ◌≢◌, ℕ, suc, ◌+◌, ◌<◌, ◌≤◌, Bool, true, false, List}
 use Rattle.std.proofs.Common.{length, Option, Some, refl, sym, ap, subst, ◌∙◌, arith}
 use Rattle.std.specs.Prelude.{slice_index_or, slice_set}
@@ -31,16 +31,16 @@ use Rattle.vt_screen.specs.Shown.{IsPlain, IsReader, KeepsRest, Makes, ReadsTo, 
 use Rattle.vt_screen.proofs.Readback.{Reads, reads_all}
 use Rattle.vt_screen.proofs.Shown.{plain_shown, shown_height}
 
--- ---- what a reader has become
+-- ---- the terminal after reading
 
 same_some : {A : Type 0} (x y : A) → Some x ≡ Some y → x ≡ y
 same_some x y e = cc
 
--- a reader that has read a text which leaves a canvas
+-- A terminal after reading output that leaves a canvas.
 abbrev left_with : Canvas → Option ℕ → ScreenValue → ScreenValue
 left_with canvas last reader = record (with_canvas canvas reader) { last = last }
 
--- what holds whatever the last character is, holds of what it has become
+-- What holds whatever the last character is, holds for the terminal after reading.
 makes : (text : List ℕ) (reader after : ScreenValue) (canvas : Canvas) (M : ScreenValue → Type 0) →
     Reads text reader canvas → ReadsTo text reader after →
     ((last : Option ℕ) → M (left_with canvas last reader)) → M after
@@ -49,7 +49,7 @@ makes text reader after canvas M reads e m =
     (same_some (terminal start (left_with canvas reads.0 reader)) (terminal start after) (sym reads.1 ∙ e)))
     (m reads.0)
 
--- it is plain again, and keeps what is no part of its page
+-- The terminal is plain again, and everything outside of its page is unchanged.
 kept_rest : (reader : ScreenValue) (r : ℕ) (row : RowValue) (pen : Pen) (last : Option ℕ) →
     KeepsRest reader (left_with (row_drawn r row pen (canvas_of reader)) last reader)
 kept_rest reader r row pen last = record {
@@ -75,7 +75,7 @@ row_kept : (page : Page) (r k : ℕ) (row d : RowValue) → k ≢ r →
     slice_index_or (slice_set page.rows r row) k d ≡ slice_index_or page.rows k d
 row_kept page r k row d ne = get_or-set_other page.rows r k row d ne
 
--- ---- readers and canvases
+-- ---- terminals and canvases
 
 item_awaited : (picture : Picture) (r c : ℕ) (stood : RowValue) (reader : ScreenValue) →
     IsRowReader picture r c stood reader → AwaitsItem picture r c stood (canvas_of reader)
@@ -96,7 +96,7 @@ row_there picture r c stood reader at =
     let e = at.row in
     omega arith
 
--- ---- texts of a difference
+-- ---- the output of a difference
 
 changed_read : (picture prev : Picture) (r start_ stop : ℕ) (reader : ScreenValue) → IsPicture picture →
     IsColoredPicture picture → IsSteady picture → r < length picture.rows → start_ ≤ stop → stop ≤ picture.width →
@@ -111,7 +111,7 @@ changed_read picture prev r start_ stop reader is colors steady low le inside cx
     (difference_item_draws picture r start_ stop (row_of_picture prev r) (canvas_of reader) is
     steady (item_awaited picture r start_ (row_of_picture prev r) reader at) le inside cx cy)
 
--- a reader whose row r was drawn
+-- A terminal whose row r was drawn is plain.
 plain_drawn : (picture : Picture) (r : ℕ) (row : RowValue) (pen : Pen) (reader : ScreenValue) (last : Option ℕ) →
     IsReader picture reader → IsPlain (left_with (row_drawn r row pen (canvas_of reader)) last reader)
 plain_drawn picture r row pen reader last is =
@@ -130,7 +130,7 @@ range_drawn start_ stop r shows row pen reader last h e = record {
   height = length-set reader.page.rows r row;
 }
 
--- a text that draws a row on every canvas of its readers
+-- Output that draws a row on the canvas of every terminal ready for it.
 shows_row : (picture : Picture) (r c start_ stop : ℕ) (stood shows row : RowValue) (pen : Pen) (text : List ℕ) →
     ((reader : ScreenValue) → IsRowReader picture r c stood reader →
     Reads text reader (row_drawn r row pen (canvas_of reader))) →
@@ -151,7 +151,7 @@ shows_row picture r c start_ stop stood shows row pen text reads e = record {
       IsPlain (reads reader at) h (λ last. plain_drawn picture r row pen reader last at.is);
 }
 
--- it leaves the row's flag off
+-- Output that draws a row leaves the row not wrapped.
 off_row : (picture : Picture) (r c : ℕ) (stood row : RowValue) (pen : Pen) (text : List ℕ) →
     ((reader : ScreenValue) → IsRowReader picture r c stood reader →
     Reads text reader (row_drawn r row pen (canvas_of reader))) →
@@ -174,7 +174,7 @@ changed_shows picture prev r start_ stop is colors steady low le inside cx cy =
     (item_of_difference r start_ stop x y).pen (changed_text start_ stop picture prev r)
     (λ reader at. changed_read picture prev r start_ stop reader is colors steady low le inside cx cy at) refl
 
--- ---- texts of a redraw
+-- ---- the output of a redraw
 
 formatted_read : (picture : Picture) (r start_ stop : ℕ) (reader : ScreenValue) → IsPicture picture →
     IsColoredPicture picture → IsSteady picture → r < length picture.rows → start_ ≤ stop → stop ≤ picture.width →
@@ -190,7 +190,7 @@ formatted_read picture r start_ stop reader is colors steady low le inside cx at
     (redraw_item_draws picture r start_ stop on (canvas_of reader) is steady
     (item_awaited picture r start_ (blank_row default_attrs picture.width) reader at) le inside cx)
 
--- all that such a text makes of its readers
+-- Everything that a redraw of a row makes of the terminals that read it.
 pub record ShowsBlankRow (picture : Picture) (start_ stop r : ℕ) (text : List ℕ) : Type 0 where
   pub row : Turns (IsBlankReader picture r start_) text (HasRange start_ stop r (row_of_picture picture r))
   pub off : Makes (IsBlankReader picture r start_) text (IsOff r)
@@ -213,9 +213,9 @@ formatted_shows picture r start_ stop is colors steady low le inside cx =
       off = off_row picture r start_ stood row pen text reads refl;
     }
 
--- ---- read with a wrap pending above
+-- ---- output read with a wrap pending in the row above
 
--- a reader whose row r goes on below, and whose row below was drawn
+-- A terminal whose row r is wrapped, and whose next row was drawn.
 abbrev wrap_canvas : (r : ℕ) → RowValue → Pen → ScreenValue → Canvas
 wrap_canvas r row pen reader = row_drawn (r + 1) row pen (going_on r (canvas_of reader))
 
@@ -322,7 +322,7 @@ linked_shows picture r is colors steady low on =
           (reads reader at) h (λ last. plain_wrapped picture r row pen reader last at.is);
     }
 
--- ---- a whole row of a difference leaves the flag off where the row does not go on
+-- ---- the difference of a whole row leaves it not wrapped if the row isn't wrapped
 
 pub changed_off : (picture prev : Picture) (r : ℕ) → IsPicture picture →
     IsColoredPicture picture → IsSteady picture → IsPicture prev → SamePictureSize picture prev →

@@ -1,4 +1,4 @@
--- What the texts of rows that a screen gives make of the terminals that read them.
+-- What the output for a screen's rows makes of the terminals that read it.
 use Rattle.std.proofs.Common.{◌≡◌, ℕ, ◌+◌, ◌<◌, ◌↔◌, List}
 use Rattle.std.proofs.Common.{[], length, sym, ap, subst, ◌∙◌, arith}
 use Rattle.vt_cells.specs.Attrs.{default_attrs}
@@ -17,14 +17,14 @@ use Rattle.vt_screen.proofs.RowTexts.{texts_at}
 use Rattle.vt_screen.proofs.Shown.{shown_colored, shown_height, shown_is}
 use Rattle.vt_screen.proofs.Viewing.{same_shown}
 
--- the texts of a list of all rows
+-- The output at an index in the list of all rows.
 told_at : (texts : List (List ℕ)) (text : ℕ → List ℕ) (s : ScreenValue) (r : ℕ) →
     texts ≡ texts_from text 0 (length s.page.rows) → r < length (shown s).rows → text_at texts r ≡ text r
 told_at texts text s r told low =
     let height = shown_height s in
     ap (λ (t : List (List ℕ)). text_at t r) told ∙ texts_at text r (length s.page.rows) (omega arith)
 
--- those for blank rows
+-- The outputs for blank rows.
 pub formatted_turns : (s : ScreenValue) (start width : ℕ) (texts : List (List ℕ)) →
     texts ≡ formatted_rows start width s → IsScreen s → IsColored s → start < s.page.width → IsSteady (shown s) →
     EachUncut start width s
@@ -46,7 +46,7 @@ formatted_off s start width texts told is colored some steady r low cuts =
     subst (λ (t : List ℕ). Makes (IsBlankReader (shown s) r start) t (IsOff r))
     (sym (told_at texts (formatted_text start stop (shown s)) s r told low)) shows.off
 
--- a range over all columns
+-- The end of a range over all columns.
 whole_end : (start width columns : ℕ) → IsWholeRow start width columns → range_end start width columns ≡ columns
 whole_end start width columns whole = let a = whole.0 in let b = whole.1 in omega arith
 
@@ -69,7 +69,7 @@ formatted_linked s start width texts told is colored whole steady r low on =
     (r + 1) (whole_formatted s start width texts told whole) low))
     (linked_shows (shown s) r (shown_is s is) (shown_colored s is colored) steady low on)
 
--- those for rows of another screen
+-- The outputs for rows of another screen.
 pub changed_turns : (s prev : ScreenValue) (start width : ℕ) (texts : List (List ℕ)) →
     texts ≡ changed_rows start width s prev → IsScreen s → IsColored s → start < s.page.width → IsSteady (shown s) →
     EachUncut start width s (λ r. CutsNone start (range_end start width s.page.width) (shown_row prev r).cells →

@@ -1,4 +1,4 @@
--- The texts of rows, from one row on.
+-- The outputs for rows, from one row on.
 use Rattle.std.proofs.Common.{◌≡◌, ℕ, suc, ◌+◌, ◌-◌, ◌<◌, ◌≤◌, List, [], ◌∷◌, length, map, ap, ◌∙◌, arith}
 use Rattle.std.specs.List.{range_with_len}
 use Rattle.std.proofs.lemmas.List.FromFn.{length-map-range_with_len, get_or-map-range_with_len}
@@ -15,7 +15,7 @@ texts_done text r height h =
     let n : height - r ≡ 0 = omega arith in
     ap (λ (m : ℕ). map text (range_with_len r m)) n
 
--- there are as many as rows
+-- There are as many outputs as rows.
 pub texts_count : (text : ℕ → List ℕ) (height : ℕ) → length (texts_from text 0 height) ≡ height
 texts_count text height = let n : height - 0 ≡ height = omega arith in length-map-range_with_len text 0 (height - 0) ∙ n
 

@@ -1,4 +1,5 @@
--- What is shown, cell by cell: without U+FE0F it is steady; of two screens that show the same, getters answer the same.
+-- What is displayed, cell by cell: without U+FE0F it is steady, and getters return the same values for two screens that
+-- display the same.
 use Rattle.std.proofs.Common.{◌≡◌, ℕ, zero, suc, ◌+◌, ◌-◌, ◌<◌, ◌==◌, ◌&&◌, nat_lt, not, false, min}
 use Rattle.std.proofs.Common.{List, [], ◌∷◌, ◌++◌, length, inl, inr, refl, sym, ap, ◌∙◌, arith}
 use Rattle.std.specs.Prelude.{if◌then◌else◌, All, chars}
@@ -24,7 +25,7 @@ use Rattle.vt_screen.specs.Screen.{IsScreen, ScreenValue, above_page, visible_ro
 use Rattle.vt_screen.specs.Shown.{ShowSamePage, ShowsNoSelector, ShowsOwnPage, shown}
 use Rattle.vt_screen.proofs.Shown.{any_visible, length_visible, none_above, own_shown, shown_height, shown_is}
 
--- ---- the cells of a row that is cut
+-- ---- the cells of a cut row
 
 abbrev HasNone : CellValue → Type 0
 HasNone cell = has_selector cell ≡ false
@@ -54,7 +55,7 @@ cut_row width cells none =
     let inside : col < width = omega (arith, length-resized width cells) in
     cut_cell width cells col inside (none col inside))
 
--- all columns but the last are as before: there a glyph may begin that is cut in two
+-- Cutting a row keeps all columns but the last, where a wide character may be cut in two.
 inner : (n : ℕ) (cells : List CellValue) (k : ℕ) → IsPaired cells → k + 1 < n → at (resized n cells) k ≡ at cells k
 unfolding resized
 inner n cells k paired lt =
@@ -67,7 +68,7 @@ inner n cells k paired lt =
     ] in
     at-moved n (λ j. j) cells k (omega arith) ∙ same
 
--- ---- the rows that are cut
+-- ---- cut rows
 
 cut_rows_none : (width : ℕ) (rows : List RowValue)
     → ((r col : ℕ) → r < length rows → col < width → HasNone (at (row_or width rows r).cells col))
@@ -87,23 +88,23 @@ cut_rows_inner width (x ∷ []) (suc r) col are lt = refl
 cut_rows_inner width (x ∷ y ∷ rows) zero col are lt = inner width x.cells col are.0.paired lt
 cut_rows_inner width (x ∷ y ∷ rows) (suc r) col are lt = cut_rows_inner width (y ∷ rows) r col are.1 lt
 
--- ---- what is shown
+-- ---- what is displayed
 
--- without U+FE0F it is steady
+-- A screen that displays no U+FE0F is steady.
 pub steady_without : (s : ScreenValue) → IsScreen s → ShowsNoSelector s → IsSteady (shown s)
 steady_without s is none =
     let tall = length_visible (above_page s) s.page.rows in
     picture_steady (shown s) (shown_is s is) (cut_rows_none s.page.width (visible_rows s) (λ r col inside lt.
     none_in_cell (at (visible_row s r).cells col) (none r col (omega (arith, inside, tall)) lt)))
 
--- the cells of the screen, but for the last column
+-- The displayed cells are those of the screen, except in the last column.
 pub shown_cell : (s : ScreenValue) (r col : ℕ) → IsScreen s → col + 1 < s.page.width
     → at (row_of_picture (shown s) r).cells col ≡ at (visible_row s r).cells col
 shown_cell s r col is lt =
     cut_rows_inner s.page.width (visible_rows s) r col
     (recursion_from_All IsAnyRow (visible_rows s) (any_visible s is)) lt
 
--- the rows of the page, where no scrollback is in view
+-- The displayed rows are those of the page if no scrollback is displayed.
 pub shown_rows : (s : ScreenValue) → IsScreen s → ShowsOwnPage s → (shown s).rows ≡ visible_rows s
 shown_rows s is own =
     ap (λ (p : Picture). p.rows) (own_shown s is own) ∙ sym (none_above (above_page s) s.page.rows own)
@@ -133,7 +134,7 @@ same_rows a b s =
     sym (shown_rows a s.sound s.own)
     ∙ (ap (λ (p : Picture). p.rows) s.same ∙ shown_rows b s.other_sound s.other_own)
 
--- what is read of the width and the rows that are shown is the same
+-- A function of the width and the displayed rows has equal values on two screens that display the same.
 read_alike : {A : Type 0} (f : ℕ → List RowValue → A) (a b : ScreenValue) → ShowSamePage a b
     → f a.page.width (visible_rows a) ≡ f b.page.width (visible_rows b)
 read_alike f a b s =

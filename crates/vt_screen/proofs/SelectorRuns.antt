@@ -1,4 +1,4 @@
--- Bytes that read no U+FE0F put it into no cell, and neither does another size or another offset.
+-- Bytes that read no U+FE0F put it into no cell, and neither does resizing or scrolling back.
 use Rattle.std.proofs.Common.{◌≡◌, ◌≢◌, ℕ, Bool, true, false, List, [], ◌∷◌, length, Option}
 use Rattle.std.proofs.Common.{Some, None, sym, ap, subst, ◌∙◌, inl, inr, arith}
 use Rattle.std.specs.Prelude.{if◌then◌else◌, All, IfSome, option_map, slice_index_or}
@@ -34,7 +34,7 @@ use Rattle.vt_screen.proofs.Shown.{above_by, length_visible, rows_visible}
 use Rattle.vt_screen.proofs.Stable.{EachCell, stable_blank}
 use Rattle.vt_screen.proofs.StableScrollback.{stable_page_resized, stable_scrollback_resized, stable_viewed}
 
--- ---- with and without what every cell is
+-- ---- with and without the invariant of cells
 
 into_cell : (cell : CellValue) → IsCell cell → CellHasNoSelector cell → IsFreeCell cell
 into_cell (blank attrs) is without = tt
@@ -122,7 +122,7 @@ run_keeps scan s bytes is without others =
     none_from (screen_in scan s bytes) (steps_free (steps_in scan s bytes) s
     (events_free (run scan bytes).events s (coded_run scan bytes) others k).all k)
 
--- ---- fresh screens, other sizes, and scrollback in view
+-- ---- fresh screens, resized ones, and scrolling back
 
 pub fresh_has_none : (rows cols capacity : ℕ) → HasNoSelectors (fresh_screen rows cols capacity)
 fresh_has_none rows cols capacity = none_from (fresh_screen rows cols capacity) (record {
@@ -165,7 +165,7 @@ viewed_has_none n s is without = by s.is_alternate where
     last = without.last;
   }
 
--- ---- another size
+-- ---- resizing
 
 above_aside_none : (b : Bool) (above : Scrollback) → AreFree above.rows
     → AreFree (if b then above else no_scrollback 0).rows

@@ -1,4 +1,4 @@
--- Where no character that is read is U+FE0F, no step puts it into a cell.
+-- If no character that is read is U+FE0F, no step puts it into a cell.
 use Rattle.std.proofs.Common.{◌≡◌, ◌≢◌, ℕ, Bool, true, false, List, [], ◌∷◌, ◌++◌, length, Option, Some, None}
 use Rattle.std.proofs.Common.{append-nil, IsUtf8, refl, sym, ap, subst, ◌∙◌, lit<, arith}
 use Rattle.std.specs.Prelude.{if◌then◌else◌, IfSome, chars, option_map}
@@ -29,7 +29,7 @@ use Rattle.vt_screen.proofs.PageSteps.{stable_page_after}
 use Rattle.vt_screen.proofs.StableScrollback.{stable_fed_out, stable_printed_out, stable_pushed, stable_scrolled_out}
 use Rattle.vt_screen.proofs.Streaming.{IsAmong}
 
--- ---- texts and cells
+-- ---- characters and cells
 
 abbrev pub IsFreeCharacter : ℕ → Type 0
 IsFreeCharacter c = IsScalar c × (c ≢ 0xFE0F)
@@ -116,11 +116,11 @@ pub record IsFreeScreen (page : Page) (aside : Option Page) (back : List RowValu
 abbrev pub StaysFree : ScreenValue → Type 0
 StaysFree s = IsFreeScreen s.page s.other s.scrollback.rows s.last
 
--- the active page changes
+-- The active page is replaced.
 on_page : (page : Page) (s : ScreenValue) → AreFree page.rows → StaysFree s → StaysFree (with_page page s)
 on_page page s rows k = record { rows = rows; other = k.other; above = k.above; last = k.last }
 
--- rows leave it
+-- Rows scroll off the active page.
 sends : (b : Bool) (s after : ScreenValue) (gone : List RowValue) → AreFree gone
     → IsFreeScreen after.page after.other s.scrollback.rows after.last
     → after.scrollback ≡ s.scrollback
@@ -147,7 +147,7 @@ printed_last : (b : Bool) (c : ℕ) (last : Option ℕ) → IsFreeCharacter c �
 printed_last true c last i k = i
 printed_last false c last i k = k
 
--- ---- the pages change places
+-- ---- exchanging the pages
 
 free_fresh : (s : ScreenValue) → AreFree (fresh_page s).rows
 free_fresh s = stable_blank selecting (length s.page.rows) s.page.width

@@ -1,4 +1,4 @@
--- What a screen shows is a picture, and a plain screen shows its own page.
+-- What a screen displays is a picture, and a plain screen displays its own page.
 use Rattle.std.proofs.Common.{◌≡◌, ℕ, ◌-◌, ◌≤◌, Bool, true, false, List, [], ◌∷◌, ◌++◌}
 use Rattle.std.proofs.Common.{length, take, refl, sym, ap, ◌∙◌, subst, arith}
 use Rattle.std.specs.Prelude.{if◌then◌else◌, All}
@@ -17,7 +17,7 @@ use Rattle.vt_screen.specs.Shown.{IsPlain, ShowsOwnPage, shown}
 use Rattle.vt_screen.proofs.StableMoves.{stable_moved}
 use Rattle.vt_screen.proofs.Coloring.{coloring}
 
--- ---- the rows in view
+-- ---- the displayed rows
 
 pub length_visible : (above : Scrollback) (rows : List RowValue) → length (visible above rows) ≡ length rows
 length_visible above rows =
@@ -52,7 +52,7 @@ any_visible s is =
     rows_visible IsAnyRow (above_page s) s.page.rows (above_by IsAnyRow s.is_alternate s.scrollback is.scrollback.sound)
     (All-weaker (IsRow s.page.width) IsAnyRow (any_row s.page.width) s.page.rows is.page.rows)
 
--- what a screen shows is a picture
+-- What a screen displays is a picture.
 pub shown_is : (s : ScreenValue) → IsScreen s → IsPicture (shown s)
 shown_is s is =
     picture_over_is (visible_rows s) (canvas_of s) is.page
@@ -91,7 +91,7 @@ shown_colored s is colored =
       cells = cut_colored s.page.width (visible_rows s) (recursion_from_All IsColoredRow (visible_rows s) rows);
     }
 
--- ---- a screen with no scrollback in view
+-- ---- a screen that displays no scrollback
 
 pub own_shown : (s : ScreenValue) → IsScreen s → ShowsOwnPage s → shown s ≡ picture_of (canvas_of s)
 own_shown s is none =

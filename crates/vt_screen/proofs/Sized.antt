@@ -1,4 +1,4 @@
--- Steps leave the size of a screen.
+-- Steps keep the size of a screen.
 use Rattle.std.proofs.Common.{◌≡◌, ℕ, ◌<◌, Bool, true, false, length, refl, sym, subst, ◌∙◌, arith}
 use Rattle.std.specs.Prelude.{IfSome, Option, Some, None, option_map, unwrap_or, if◌then◌else◌}
 use Rattle.std.proofs.lemmas.List.{length-replicate}
@@ -18,18 +18,18 @@ use Rattle.vt_screen.proofs.Inside.{inside_line_feed, inside_scrolled_up, inside
 use Rattle.vt_screen.proofs.Sizes.{same_cursor_saved, same_cursor_restored, same_line_feed, same_scrolled_up}
 use Rattle.vt_screen.proofs.Sizes.{same_printed}
 
--- a page of this size, with its cursors on it
+-- A page of this size, with its cursors on it.
 pub record IsSizedPage (height width : ℕ) (page : Page) : Type 0 where
   pub inside : IsInside page
   pub width_is : page.width ≡ width
   pub height_is : length page.rows ≡ height
 
--- both pages
+-- A screen whose pages both have this size.
 pub record IsSized (height width : ℕ) (screen : ScreenValue) : Type 0 where
   pub page : IsSizedPage height width screen.page
   pub other : IfSome screen.other (IsSizedPage height width)
 
--- a step on the active page
+-- A step on the active page keeps the size of both pages.
 paged : (height width : ℕ) (screen after : ScreenValue) → after.other ≡ screen.other →
     SameSize after.page screen.page → IsInside after.page → IsSized height width screen → IsSized height width after
 paged height width screen after o s i z = record {
@@ -157,7 +157,7 @@ sized_sent height width step screen z = by_page screen.is_alternate where
   by_page true = sized_stepped height width step screen z
   by_page false = let s = sized_stepped height width step screen z in record { page = s.page; other = s.other }
 
--- what every screen has
+-- Every screen has its size.
 pub sized_screen : (screen : ScreenValue) → IsScreen screen → IsSized (length screen.page.rows) screen.page.width screen
 sized_screen screen is = record {
   page = of_page screen.page (is.page) refl refl;

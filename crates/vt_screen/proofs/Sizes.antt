@@ -1,4 +1,4 @@
--- What a step does to a page leaves its size.
+-- The effect of a step on a page keeps its size.
 use Rattle.std.proofs.Common.{ℕ, zero, suc, ◌+◌, ◌-◌, ◌==◌, ◌&&◌, nat_lt, min, not, Bool, true}
 use Rattle.std.proofs.Common.{false, List, length, take, replicate, refl, sym, ◌∙◌, arith}
 use Rattle.std.specs.Prelude.{◌||◌, if◌then◌else◌, Option, Some, None}
@@ -47,7 +47,7 @@ same_with_row r row page = record { width = refl; height = length-set page.rows 
 pub same_cursor_cells : (cells : List CellValue) (page : Page) → SameSize (with_cursor_cells cells page) page
 same_cursor_cells cells page = same_with_row page.row (with_cells (cursor_row page) cells) page
 
--- ---- moves
+-- ---- cursor movement
 
 pub same_carriage_return : (page : Page) → SameSize (carriage_return page) page
 same_carriage_return page = record { width = refl; height = refl }
@@ -106,7 +106,7 @@ same_cursor_restored page = record { width = refl; height = refl }
 pub same_line_feed : (page : Page) → SameSize (line_feed page) page
 same_line_feed page = record { width = width_line_feed page; height = height_line_feed page }
 
--- ---- rows and columns that move
+-- ---- moving rows and columns
 
 pub same_scrolled_up : (n : ℕ) (page : Page) → SameSize (scrolled_up n page) page
 same_scrolled_up n page = record {

@@ -1,4 +1,4 @@
--- A screen of another size is a screen of that size, and one that is plain stays so.
+-- A resized screen has the new size, and is plain if it was plain.
 use Rattle.std.proofs.Common.{◌≡◌, ℕ, ◌^◌, ◌<◌, Bool, true, false, length, take}
 use Rattle.std.proofs.Common.{Option, Some, None, refl, sym, subst, ap, ◌∙◌, arith}
 use Rattle.std.specs.Prelude.{if◌then◌else◌, option_map, unwrap_or, IfSome, IsSome}
@@ -32,7 +32,7 @@ above_resized : (b : Bool) (above : Scrollback) → above.offset ≡ 0 → (if b
 above_resized true above e = refl
 above_resized false above e = e
 
--- the screen in a size that it hasn't
+-- The screen in a size other than its own.
 abbrev other_size : (rows cols : ℕ) → ScreenValue → ScreenValue
 other_size rows cols screen = record screen {
   page = page_resized rows cols (above_page screen) screen.page;
@@ -40,7 +40,7 @@ other_size rows cols screen = record screen {
   scrollback = scrollback_resized rows (main_page screen) screen.scrollback;
 }
 
--- the screen in another size, or as it is
+-- The screen in a different size, or unchanged.
 by_size : (P : ScreenValue → Type 0) (rows cols : ℕ) (screen : ScreenValue)
     → (length screen.page.rows ≡ rows → screen.page.width ≡ cols → P screen)
     → ((new : ScreenValue) → new.page ≡ page_resized rows cols (above_page screen) screen.page
@@ -73,7 +73,7 @@ resized_size rows cols screen =
       ap (λ (p : Page). length p.rows) page ∙ height_resized rows cols (above_page screen) screen.page,
     ))
 
--- ---- a screen of another size is a screen
+-- ---- a resized screen has the invariant of a screen
 
 above_is : (screen : ScreenValue) → IsScreen screen → IsScrollback (above_page screen)
 above_is screen is = by_test screen.is_alternate where

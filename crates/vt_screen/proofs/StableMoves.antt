@@ -1,4 +1,4 @@
--- Rows and columns that move, and erasures, keep what holds of each cell.
+-- Moving rows and columns, and erasing, preserve a property of each cell.
 use Rattle.std.proofs.Common.{ℕ, ◌+◌, ◌-◌, ◌<◌, ◌==◌, ◌&&◌, ◌||◌, nat_lt, min, not, Bool}
 use Rattle.std.proofs.Common.{true, false, List, length, drop, sym, subst, arith}
 use Rattle.std.specs.Prelude.{if◌then◌else◌, All, replicate}

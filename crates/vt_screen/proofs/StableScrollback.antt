@@ -1,4 +1,4 @@
--- What holds of each cell stays so of rows that leave a page.
+-- Scrollback preserves a property of each cell of the rows that scroll off a page.
 use Rattle.std.proofs.Common.{◌≡◌, ℕ, zero, suc, ◌+◌, ◌-◌, ◌==◌, nat_lt, min, Bool, true, false}
 use Rattle.std.proofs.Common.{List, [], ◌∷◌, ◌++◌, length, take, drop, map, refl, arith}
 use Rattle.std.specs.Prelude.{if◌then◌else◌, All, Option, Some, None}
@@ -22,7 +22,7 @@ use Rattle.vt_grid.specs.Resize.{page_resized, out_of_view, scrollback_resized}
 use Rattle.vt_screen.proofs.Stable.{IsStable, EachCell, EachRow, stable_blank_row, stable_row_or, stable_erased_columns}
 use Rattle.vt_screen.proofs.StableMoves.{stable_moved}
 
--- ---- rows cut or grown
+-- ---- rows that are cut or extended
 
 unless : {P : CellValue → Type 0} {F : Attrs → Type 0} {Q : ℕ → Type 0} → IsStable P F Q
     → (b : Bool) (cells : List CellValue) → All P cells → All P (if b then [] else cells)
@@ -104,7 +104,7 @@ unfolding with_view
 stable_viewed {P} {F} {Q} rule height width n above all =
     stable_grown rule height width (record above { offset = min n (length above.rows) }) all
 
--- ---- the rows that leave
+-- ---- the rows that scroll off
 
 pub stable_fed_out : {P : CellValue → Type 0} {F : Attrs → Type 0} {Q : ℕ → Type 0} → IsStable P F Q → (page : Page)
     → EachRow P page.rows → EachRow P (fed_out page)
@@ -132,7 +132,7 @@ stable_printed_out {P} {F} {Q} rule c attrs page h all =
     rows_where rule (pushes c page) (take 1 left)
     (All-take (EachCell P) 1 left (stable_left_by rule (columns_of c) attrs page h all))
 
--- ---- another size
+-- ---- resizing
 
 stable_window : {P : CellValue → Type 0} {F : Attrs → Type 0} {Q : ℕ → Type 0} → IsStable P F Q
     → (width height down up : ℕ) (above rows : List RowValue) → EachRow P above → EachRow P rows
@@ -177,7 +177,7 @@ stable_scrollback_resized {P} {F} {Q} rule height page above all a =
     (stable_pushed rule (length page.rows) page.width gone (out_of_view above)
     (All-take (EachCell P) (leaving height page) page.rows all) a)
 
--- ---- scrollback that keeps no row
+-- ---- scrollback of capacity 0
 
 pub pushed_capacity : (height width : ℕ) (gone : List RowValue) (above : Scrollback)
     → (pushed height width gone above).capacity ≡ above.capacity

@@ -1,4 +1,4 @@
--- The text of a state, read by a terminal, makes it show the screen and have its input modes.
+-- The output for a whole state, read by a terminal, makes it display the screen and have its input modes.
 use Rattle.std.proofs.Common.{◌≡◌, ℕ, List, [], ◌∷◌, ◌++◌, Option, Some, sym, refl, ap, subst, ◌∙◌}
 use Rattle.vt_redraw.specs.Picture.{SamePictureSize, Saved}
 use Rattle.vt_redraw.specs.Steady.{IsSteady}
@@ -17,7 +17,7 @@ use Rattle.vt_screen.proofs.Redrawing.{Becomes, difference_read, redraw_read}
 use Rattle.vt_screen.proofs.Shown.{shown_is}
 use Rattle.vt_screen.proofs.EqualTexts.{difference_none, difference_tells}
 
--- a reader that shows what a screen shows, and has its modes
+-- A terminal that displays a screen and has its modes.
 abbrev restored : (screen : ScreenValue) → Saved → Option ℕ → ScreenValue → ScreenValue
 restored screen saved last reader = record (showing (shown screen) saved last reader) { modes = screen.modes }
 
@@ -26,7 +26,7 @@ record Restores (screen : ScreenValue) (text : List ℕ) (reader : ScreenValue) 
   last : Option ℕ
   reads : ReadsTo text reader (restored screen saved last reader)
 
--- a text by which a reader shows the screen, and behind it one that sets its modes
+-- Output that displays a screen, followed by output that sets its modes.
 restores : (Had : Modes → Type 0) (screen reader : ScreenValue) (picture modes : List ℕ) →
     Becomes (shown screen) picture reader → SetsModes Had screen.modes modes →
     Had reader.modes → Restores screen (picture ++ modes) reader
@@ -54,7 +54,7 @@ change_read screen prev reader is colored steady other colored_other size r =
     (difference_read screen prev reader is colored steady other colored_other size r.is)
     (modes_changed prev.modes screen.modes (input_change prev.modes screen.modes) refl) r.modes
 
--- ---- what that says of each reader
+-- ---- the consequences for each terminal
 
 same_some : {A : Type 0} (x y : A) → Some x ≡ Some y → x ≡ y
 same_some x y e = cc
@@ -65,7 +65,7 @@ after_is screen text reader after b e =
     ap (λ (t : Terminal). t.screen)
     (same_some (terminal start (restored screen b.saved b.last reader)) (terminal start after) (sym b.reads ∙ e))
 
--- modes don't tell in what is shown
+-- Input modes don't change what is displayed.
 plain_again : (screen : ScreenValue) (saved : Saved) (last : Option ℕ) (reader : ScreenValue) → IsScreen screen →
     IsReader (shown screen) reader → ShowsPlainly (shown screen) reader (restored screen saved last reader)
 plain_again screen saved last reader is r =
@@ -131,13 +131,13 @@ change_gives screen prev text told is colored other colored_other size =
     (λ steady reader r. subst (λ (t : List ℕ). Restores screen t reader) (sym told)
     (change_read screen prev reader is colored steady other colored_other size r))
 
--- ---- where nothing is written
+-- ---- empty output
 
 both_empty : (a b : List ℕ) → (a ++ b) ≡ [] → (a ≡ []) × (b ≡ [])
 both_empty [] b e = (refl, e)
 both_empty (x ∷ a) b e = absurd cc
 
--- only where both screens show the same and have the same modes
+-- The output is empty only if both screens display the same and have the same modes.
 pub state_tells : (screen prev : ScreenValue) → IsScreen screen → IsColored screen → IsSteady (shown screen)
     → IsScreen prev → IsColored prev → SamePictureSize (shown screen) (shown prev) → state_change prev screen ≡ []
     → (shown screen ≡ shown prev) × (screen.modes ≡ prev.modes)
@@ -148,7 +148,7 @@ state_tells screen prev is colored steady other colored_other size empty =
       change_tells prev.modes screen.modes modes,
     )
 
--- and always there
+-- The output is empty if both screens display the same and have the same modes.
 pub state_none : (screen prev : ScreenValue) → shown screen ≡ shown prev →
     screen.modes ≡ prev.modes → state_change prev screen ≡ []
 state_none screen prev picture modes =

@@ -1,4 +1,4 @@
--- Steps, events and bytes, one list behind the other.
+-- Steps, events and bytes in concatenated lists.
 use Rattle.std.proofs.Common.{◌≡◌, ℕ, List, [], ◌∷◌, ◌++◌, refl, sym, ap, ◌∙◌, append_assoc}
 use Rattle.vt_rows.specs.Row.{RowValue}
 use Rattle.vt_scan.specs.Automaton.{State, Event, Step as Outcome}

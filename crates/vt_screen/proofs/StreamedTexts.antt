@@ -1,4 +1,4 @@
--- The text of what was told and of a full capture behind it is the text of all rows that left, and of the page.
+-- The text of what was reported, followed by a full capture, is the text of all rows that scrolled off and of the page.
 use Rattle.std.proofs.Common.{◌≡◌, ℕ, Bool, false, List, [], ◌∷◌, ◌++◌, map, refl, sym, ap, ap₂, ◌∙◌, append_assoc}
 use Rattle.std.specs.Prelude.{if◌then◌else◌}
 use Rattle.vt_grid.specs.Scrollback.{Scrollback, no_scrollback}
@@ -12,7 +12,7 @@ use Rattle.vt_screen.proofs.TrailingBlanks.{trimmed_twice}
 use Rattle.vt_screen.proofs.TrailingBlanksScrollback.{alike_then}
 use Rattle.vt_screen.proofs.Streaming.{Streamed}
 
--- ---- rows that are alike have one text
+-- ---- rows that differ only in blanks at their ends have one text
 
 cells_twice : (row : RowValue) → trimmed (trimmed row.cells) ≡ trimmed row.cells
 cells_twice row = ap (λ (r : RowValue). r.cells) (trimmed_twice row)
@@ -34,7 +34,7 @@ pub same_texts : (w : Written) (rows others : List RowValue) →
     AreSameTrimmed rows others → basic_texts w rows ≡ basic_texts w others
 same_texts w rows others e = sym (texts_trimmed w rows) ∙ (ap (basic_texts w) e ∙ texts_trimmed w others)
 
--- ---- one list behind the other
+-- ---- concatenated lists
 
 pub texts_then : (w : Written) (xs ys : List RowValue) →
     basic_texts w (xs ++ ys) ≡ basic_texts w xs ++ basic_texts (written_after_all w xs) ys
@@ -52,7 +52,7 @@ after_then w (x ∷ xs) ys = after_then (written_after w x) xs ys
 above_main : (b : Bool) (z : Scrollback) → b ≡ false → (if b then no_scrollback 0 else z) ≡ z
 above_main b z e = rw e refl
 
--- from a screen without scrollback to one on the main page
+-- The streamed text from a screen without scrollback to one on its main page.
 pub streamed_is : (calls : List CallValue) (gone : List RowValue) (s t : ScreenValue)
     → Streamed calls gone s t → s.scrollback.rows ≡ [] → t.is_alternate ≡ false
     → streamed_text calls t ≡ basic_texts unwritten (gone ++ t.page.rows)

@@ -1,5 +1,5 @@
--- Each step of a run but RIS: what it tells and keeps of the main page's rows is alike to what was kept before and what
--- it sends off.
+-- Each step of a run except RIS: the main page's rows that it reports and keeps are those kept before and those it
+-- scrolls off, up to default blanks at their ends.
 use Rattle.std.proofs.Common.{◌≡◌, ℕ, Bool, true, false, List, [], ◌∷◌, ◌++◌, length, map, Option, Some, None, refl}
 use Rattle.std.proofs.Common.{sym, ap, subst, ◌∙◌, append_assoc, arith}
 use Rattle.std.specs.Prelude.{All, IfSome, if◌then◌else◌}
@@ -34,18 +34,18 @@ use Rattle.vt_screen.proofs.Asides.{rows_fed_out, rows_printed_out, rows_scrolle
 use Rattle.vt_screen.proofs.Sizes.{same_back, same_itself, same_through, same_cursor_saved, same_cursor_restored}
 use Rattle.vt_screen.proofs.Sizes.{same_line_feed, same_printed, same_scrolled_up}
 
--- what the steps of events are, by what they print and whether they may start the screen anew
+-- A step's characters satisfy Q, and it resets the screen only if R holds.
 abbrev pub IsAmong : (ℕ → Type 0) → Type 0 → Step → Type 0
 IsAmong Q R (Print c) = Q c
 IsAmong Q R Reset = R
 IsAmong Q R (CallBack call) = row_of_call call ≡ []
 IsAmong Q R _ = Unit {0}
 
--- all but RIS
+-- Any step but a reset, with printable characters.
 abbrev pub IsStreamed : Step → Type 0
 IsStreamed step = IsAmong IsPrintable ⊥ step
 
--- ---- what stands at each step
+-- ---- the invariant at each step
 
 pub record IsLike (page other : Page) : Type 0 where
   pub sound : IsPage other
@@ -61,12 +61,12 @@ pub record IsHeld (page : Page) (aside : Option Page) (above : Scrollback) (newe
 abbrev pub Held : ScreenValue → Type 0
 Held s = IsHeld s.page s.other s.scrollback s.last
 
--- from one screen to another, what was told and what left
+-- What was reported and what scrolled off between one screen and a later one.
 pub record Streamed (calls : List CallValue) (gone : List RowValue) (s t : ScreenValue) : Type 0 where
   pub held : Held t
   pub alike : AreSameTrimmed (rows_of_calls calls ++ t.scrollback.rows) (s.scrollback.rows ++ gone)
 
--- nothing was told, and nothing left
+-- Nothing was reported, and nothing scrolled off.
 quietly : (s t : ScreenValue) → Held t → t.scrollback.rows ≡ s.scrollback.rows →
     Streamed [] (if s.is_alternate then [] else []) s t
 quietly s t k e = record { held = k; alike = ap (map trimmed_row) (e ∙ by s.is_alternate) } where
@@ -80,7 +80,7 @@ other_like page new (Some p) s k =
     record { sound = k.sound; same = same_through p page new k.same (same_back new page s) }
 other_like page new None s k = k
 
--- the active page changes
+-- The active page is replaced.
 held_page : (page new : Page) (other : Option Page) (above : Scrollback) (last : Option ℕ) →
     IsPage new → SameSize new page → IsHeld page other above last → IsHeld new other above last
 held_page page new other above last sound same k = record {
@@ -96,7 +96,7 @@ on_page : (page : Page) (s : ScreenValue) → IsPage page → SameSize page s.pa
 on_page page s sound same k =
     quietly s (with_page page s) (held_page s.page page s.other s.scrollback s.last sound same k) refl
 
--- ---- rows that leave
+-- ---- rows that scroll off
 
 told_none : (rows : List RowValue) → rows_of_calls (map (λ row. OnScroll row true) rows) ≡ []
 told_none [] = refl
@@ -157,15 +157,15 @@ gives_up false s k = record {
   alike = ap (λ (xs : List RowValue). map trimmed_row (xs ++ [])) (told_all s.scrollback.rows);
 }
 
--- the last character that was printed
+-- The last printed character is printable.
 printed_last : (b : Bool) (c : ℕ) (last : Option ℕ) → IsPrintable c →
     IfSome last IsPrintable → IfSome (if b then Some c else last) IsPrintable
 printed_last true c last i k = i
 printed_last false c last i k = k
 
--- ---- the pages change places
+-- ---- exchanging the pages
 
--- the same size, and the same rows in scrollback
+-- The later screen has the same size, and the same rows in scrollback.
 record Turned (s t : ScreenValue) : Type 0 where
   held : Held t
   same : SameSize t.page s.page
@@ -183,7 +183,7 @@ like_aside s k = by s.other k.other where
   by (Some p) l = l
   by None l = like_fresh s.page k.sound
 
--- the other page is the active one now, below the same rows
+-- The other page is active, below the same rows of scrollback.
 exchanged : (page new : Page) (above now : Scrollback) (other : Option Page) (last : Option ℕ) →
     IsLike page new → now.rows ≡ above.rows → IsHeld page other above last → IsHeld new (Some page) now last
 exchanged page new above now other last l e k = record {
@@ -247,7 +247,7 @@ turned_then : (s t u : ScreenValue) → Turned s t → Turned t u → Turned s u
 turned_then s t u a b =
     record { held = b.held; same = same_through u.page t.page s.page b.same a.same; rows = b.rows ∙ a.rows }
 
--- a fresh page in the place of the active one
+-- A fresh page replaces the active one.
 turned_fresh : (s t : ScreenValue) → Held s → Turned s t → Turned s (record t { page = fresh_page s })
 turned_fresh s t k m =
     let l = like_fresh s.page k.sound in
@@ -317,7 +317,7 @@ step_streams (Render setting) s i k = quietly s (display_after (Render setting) 
 step_streams (HideCursor hidden) s i k = quietly s (display_after (HideCursor hidden) s) k refl
 step_streams (SetMode x) s i k = quietly s (display_after (SetMode x) s) k refl
 
--- ---- steps, one after the other
+-- ---- steps in sequence
 
 pub streamed_then : (calls more : List CallValue) (gone later : List RowValue) (s t u : ScreenValue) →
     Streamed calls gone s t → Streamed more later t u → Streamed (calls ++ more) (gone ++ later) s u
@@ -342,7 +342,7 @@ steps_stream (x ∷ steps) s i k =
     (sent_off_all steps (screen_after x s)) s (screen_after x s) (screen_after_all steps (screen_after x s)) one
     (steps_stream steps (screen_after x s) i.1 one.held)
 
--- ---- other rows come into view
+-- ---- scrolling back
 
 pub view_streams : (n : ℕ) (s : ScreenValue) → Held s → Streamed [] [] s (scrolled_back n s)
 view_streams n s k = by s.is_alternate where
@@ -366,7 +366,7 @@ view_streams n s k = by s.is_alternate where
 
 -- ---- a fresh screen
 
--- every screen, if no row of its scrollback that goes on below is short
+-- Every screen has the invariant if no wrapped row of its scrollback is shorter than the screen.
 pub held_screen : (s : ScreenValue) → IsScreen s → HasWideFlags s → Held s
 held_screen s is wide = record {
   sound = is.page;

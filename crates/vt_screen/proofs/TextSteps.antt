@@ -1,4 +1,4 @@
--- A text of printable ASCII that its row has room for: the steps of its characters, one after the other.
+-- A run of printable ASCII that fits on its row: the steps of its characters in order.
 use Rattle.std.proofs.Common.{◌≡◌, ℕ, suc, ◌-◌, ◌<◌, ◌≤◌, Bool, true, false, List, [], ◌∷◌}
 use Rattle.std.proofs.Common.{length, get_or, refl, sym, ap, subst, ◌∙◌, Option, arith}
 use Rattle.std.specs.Prelude.{Some, if◌then◌else◌}
@@ -30,13 +30,13 @@ use Rattle.vt_screen.proofs.Sizes.{same_printed}
 pub IsPrintable-ascii : (c : ℕ) → c < 0x7F → IsPrintable c
 IsPrintable-ascii c h = (low_scalar c (omega arith), λ e. absurd (omega (arith, e)))
 
--- ---- the screen after them
+-- ---- the screen after the run
 
 last_printed : (c : ℕ) (screen : ScreenValue) → 0x20 ≤ c →
     c < 0x7F → 0 < screen.page.width → last_after c screen ≡ Some c
 last_printed c screen low high some = rw (columns_of-ascii c low high) (grind (arith, nat_tests))
 
--- the screen on which this text was printed
+-- The screen after a run was printed.
 abbrev with_text : List ℕ → ScreenValue → ScreenValue
 with_text text screen =
     record screen { page = printed_text text screen.attrs screen.page; last = Some (get_or text (length text - 1) 0) }
@@ -74,7 +74,7 @@ kept_text text attrs page last c aside h low fits k =
     kept_last (printed_text text attrs page) last (Some c) aside
     (IsPrintable-ascii c low) (kept_each text attrs page last aside h fits k)
 
--- ---- what is reported: nothing
+-- ---- nothing is reported
 
 nothing_out : (c : ℕ) (attrs : Attrs) (page : Page) → 0x20 ≤ c →
     c < 0x7F → page.column < page.width → printed_out c attrs page ≡ []

@@ -1,4 +1,4 @@
--- What is printed leaves the region's top where it is.
+-- Printing leaves the top of the scroll region where it is.
 use Rattle.std.proofs.Common.{◌≡◌, ℕ, zero, suc, ◌+◌, ◌-◌, min, ◌||◌, ◌==◌, ◌&&◌, nat_lt, not}
 use Rattle.std.proofs.Common.{Bool, true, false, List, Option, Some, None, refl, ◌∙◌}
 use Rattle.std.specs.Prelude.{if◌then◌else◌, length, encode_utf8}
@@ -13,7 +13,7 @@ use Rattle.vt_grid.specs.Printing.{carries, lifted_page, left_row, goes_down, fl
 use Rattle.vt_grid.specs.Printing.{room_made, glyph_put, mark_column, takes_mark, mark_put, carried, made_wide}
 use Rattle.vt_grid.specs.Printing.{made_narrow, width_followed, mark_printed, printed_by, printed}
 
--- the region's top is the same
+-- Two pages have the same top of the scroll region.
 abbrev SameTop : Page → Page → Type 0
 SameTop page other = page.top ≡ other.top
 
@@ -97,7 +97,7 @@ top_printed c attrs page = top_printed_by (columns_of c) c attrs page
 pub top_fed : (page : Page) → (line_feed page).top ≡ page.top
 top_fed page = top_line_feed page
 
--- ---- erasures
+-- ---- erasing
 
 pub top_rest : (attrs : Attrs) (page : Page) → (erased_rest attrs page).top ≡ page.top
 unfolding erased_rest

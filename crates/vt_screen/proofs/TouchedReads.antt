@@ -49,7 +49,7 @@ use Rattle.vt_screen.proofs.ReadbackSgr.{few_changes, some_changes}
 use Rattle.vt_screen.proofs.ReadbackTexts.{IsCalm, IsFinal, is_command, calm_grows}
 use Rattle.vt_screen.proofs.Tops.{top_printed, top_fed, top_rest, top_chars, top_below}
 
--- ---- texts one after the other
+-- ---- output in sequence
 
 pub touches_then : (M : ℕ → ℕ → Type 0) (t u : Terminal) (a b : List ℕ) →
     ReadTouches M t a → read t a ≡ Some u → ReadTouches M u b → ReadTouches M t (a ++ b)
@@ -60,7 +60,7 @@ touches_then M t u (x ∷ a) b p e q = (
       (sym (ap (λ (r : Option Terminal). and_then (λ w. read w a) r) step) ∙ e) q,
 )
 
--- ---- a text and its events
+-- ---- output and its events
 
 events_first : (M : ℕ → ℕ → Type 0) (a b : List Event) (screen : ScreenValue) →
     EventsTouch M (a ++ b) screen → EventsTouch M a screen
@@ -75,7 +75,7 @@ events_later M (event ∷ a) b screen next p e =
     and_then-some (quiet_events a) (quiet_steps (steps_of event (seen_of screen)) screen) next e in
     events_later M a b middle next (p.1 middle first) rest
 
--- a calm run touches what its events touch
+-- Bytes without commands touch what their events touch.
 pub run_touches : (M : ℕ → ℕ → Type 0) (s : State) (bytes : List ℕ) (screen : ScreenValue) →
     IsCalm (run s bytes) → EventsTouch M (run s bytes).events screen → ReadTouches M (terminal s screen) bytes
 unfolding read_byte
@@ -99,7 +99,7 @@ run_touches M s (b ∷ bytes) screen calm p =
           (run_touches M step.state bytes next ends (events_later M step.events rest.events screen next p first)),
     )
 
--- a text that gives one event
+-- Output of one event touches what the event's steps touch.
 event_touches : (M : ℕ → ℕ → Type 0) (text : List ℕ) (event : Event) (screen : ScreenValue) →
     run start text ≡ back_with (event ∷ []) → is_command event ≡ false →
     StepsTouch M (steps_of event (seen_of screen)) screen → ReadTouches M (terminal start screen) text
@@ -145,7 +145,7 @@ sgr_touches M all wanted (group ∷ rest) screen =
     reading_touches M all read.reading (sgr_from all read.wanted rest)
     (λ next. sgr_touches M all read.wanted rest next) screen
 
--- SGR, CUP, CUF
+-- SGR, CUP and CUF touch nothing.
 rendition_touches : (M : ℕ → ℕ → Type 0) (groups : List (List ℕ)) (screen : ScreenValue) →
     StepsTouch M (unmarked_steps groups 0x6D (seen_of screen)) screen
 unfolding counted_step scrolling_steps other_steps
@@ -161,7 +161,7 @@ right_touches : (M : ℕ → ℕ → Type 0) (groups : List (List ℕ)) (screen 
 unfolding counted_step
 right_touches M groups screen = (tt, λ next e. tt)
 
--- a text with a count, whose steps touch no more than may be for each count
+-- A control sequence with a count touches what its steps touch.
 counted_touches : (M : ℕ → ℕ → Type 0) (n final : ℕ) (screen : ScreenValue) → suc n < 2 ^ 16 → IsFinal final →
     ((groups : List (List ℕ)) → number_or 1 0 groups ≡ suc n →
     StepsTouch M (unmarked_steps groups final (seen_of screen)) screen) →
@@ -194,7 +194,7 @@ change_touches M was new screen fits = by_case (same_attrs was new) (same_attrs 
       (csi_touches M (joined ns) 0x6D (alone ns) screen (joined_is_parameter ns small) (omega arith, omega arith)
       (joined_groups ns (some_changes was new e) (omega arith) small) (rendition_touches M (alone ns) screen))
 
--- ---- erasures
+-- ---- erasing
 
 rest_touches : (M : ℕ → ℕ → Type 0) (screen : ScreenValue) → OpTouches M EraseRest (canvas_of screen) →
     ReadTouches M (terminal start screen) (bytes_of EraseRest)
@@ -242,7 +242,7 @@ line_touches M screen d top h =
     event_touches M (0x0A ∷ []) (Executed 0x0A) screen refl refl
     (feed_touches M screen.page top (unfed (canvas_of screen) d h), λ next e. tt)
 
--- ---- texts
+-- ---- strings
 
 unpushed_char : (c : ℕ) (cs : List ℕ) (screen : ScreenValue) (d : Canvas) →
     drawn_text (c ∷ cs) (canvas_of screen) ≡ Some d →
@@ -351,7 +351,7 @@ op_touches M (Print text) screen d f top h p =
     (text_touches M cs screen d f.printable top drawn
     (subst (λ (ds : List ℕ). TextTouches M ds (canvas_of screen)) e p))
 
--- ---- lists of operations, which leave the region's top
+-- ---- lists of operations, which keep the region's top
 
 text_top : (cs : List ℕ) (canvas d : Canvas) → drawn_text cs canvas ≡ Some d → d.page.top ≡ canvas.page.top
 text_top [] canvas d h = let same : canvas ≡ d = cc in ap (λ (z : Canvas). z.page.top) (sym same)

@@ -1,4 +1,4 @@
--- What reading a difference, and the text of the cursor, touches.
+-- What reading a difference, and the output for the cursor, touches.
 use Rattle.std.proofs.Common.{◌≡◌, ℕ, List, sym, ap, subst, ◌∙◌}
 use Rattle.vt_cells.specs.Op.{bytes_of_all}
 use Rattle.vt_redraw.specs.Locality.{IsLocal, MayPlace}

@@ -1,4 +1,5 @@
--- Rows that are pushed, or come into view, in scrollback: told and kept together they are alike to those before.
+-- Rows that are pushed into scrollback, or displayed again: those reported and kept are those from before, up to
+-- default blanks at their ends.
 use Rattle.std.proofs.Common.{◌≡◌, ℕ, ◌+◌, ◌-◌, ◌≤◌, nat_lt, List, [], ◌∷◌, ◌++◌, length, take}
 use Rattle.std.proofs.Common.{drop, map, refl, sym, ap, ap₂, subst, ◌∙◌, arith, min}
 use Rattle.std.specs.Prelude.{All}
@@ -19,7 +20,7 @@ pub map-append : {X Y : Type 0} (f : X → Y) (xs ys : List X) → map f (xs ++ 
 map-append f [] ys = refl
 map-append f (x ∷ xs) ys = ap (λ (zs : List _). f x ∷ zs) (map-append f xs ys)
 
--- ---- rows that are alike, one list behind the other
+-- ---- concatenated lists of rows
 
 pub alike_then : (a b c d : List RowValue) → AreSameTrimmed a b → AreSameTrimmed c d → AreSameTrimmed (a ++ c) (b ++ d)
 alike_then a b c d e f =
@@ -30,13 +31,13 @@ alike_trimmed [] = refl
 alike_trimmed (row ∷ rows) =
     ap₂ (λ (x : RowValue) (xs : List RowValue). x ∷ xs) (trimmed_twice row) (alike_trimmed rows)
 
--- rows of scrollback, each sound in its own width
+-- Rows of scrollback, each valid in its own width.
 abbrev pub AreSound : List RowValue → Type 0
 AreSound rows = All (λ row. IsRow (length row.cells) row) rows
 
--- ---- rows in view grow
+-- ---- displayed rows that are extended
 
--- a row whose halves stand together, and which is wide if it goes on below
+-- A row with no wide character cut in two, which is as wide as the screen if it is wrapped.
 abbrev IsFit : ℕ → RowValue → Type 0
 IsFit width row = IsRow (length row.cells) row × IsWide width row
 
@@ -69,7 +70,7 @@ alike_grown_in_view height width above all wide =
     (drop (first + height) above.rows) (alike_grown width seen fit) refl)
     ∙ ap (map trimmed_row) whole
 
--- what is grown is as wide as the screen
+-- An extended row is as wide as the screen.
 wide_grown : (width : ℕ) (row : RowValue) → IsWide width row → IsWide width (grown_row width row)
 unfolding resized
 wide_grown width row w =
@@ -120,7 +121,7 @@ sound_viewed height width n above sound =
 
 -- ---- rows are pushed
 
--- a row of a page that goes on below loses no column
+-- Trimming a wrapped row of a page removes no column.
 wide_trimmed : (width : ℕ) (row : RowValue) → IsRow width row → IsWide width (trimmed_row row)
 wide_trimmed width row r h =
     subst (λ (cells : List _). width ≤ length cells)
@@ -156,7 +157,7 @@ told_and_kept : (gone : List RowValue) (above : Scrollback) →
 unfolding kept_after
 told_and_kept gone above = take-append-drop (length (stacked gone above) - above.capacity) (stacked gone above)
 
--- what was reported, and what is kept now, is what was kept before and what left
+-- What was reported and what is kept is what was kept before and what scrolled off.
 pub alike_pushed : (height width : ℕ) (gone : List RowValue) (above : Scrollback)
     → All (IsRow width) gone → AreSound above.rows → All (IsWide width) above.rows
     → AreSameTrimmed (reported gone above ++ (pushed height width gone above).rows) (above.rows ++ gone)
@@ -177,7 +178,7 @@ wide_pushed height width (row ∷ gone) above rows sound wide =
     wide_grown_in_view height width (kept_after (row ∷ gone) above)
     (kept_rows width (row ∷ gone) above rows sound wide).1
 
--- ---- other rows come into view
+-- ---- scrolling back
 
 pub alike_viewed : (height width n : ℕ) (above : Scrollback) → AreSound above.rows →
     All (IsWide width) above.rows → AreSameTrimmed (with_view height width n above).rows above.rows

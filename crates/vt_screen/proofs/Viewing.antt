@@ -1,4 +1,4 @@
--- The view of a screen's fields is what the screen shows; and the text that sets attributes.
+-- The view of a screen's fields is the picture that it displays; and the output that sets attributes.
 use Rattle.std.proofs.Common.{◌≡◌, Bool, true, false, List, length, sym, ap, subst, ◌∙◌, arith}
 use Rattle.std.specs.Prelude.{All}
 use Rattle.std.proofs.lemmas.List.Elements.{All-nil}
@@ -24,13 +24,13 @@ nothing_is above n =
           (sym n.rows) (All-nil (λ (row : RowValue). IsRow (length row.cells) row));
     }
 
--- scrollback above the active page
+-- The scrollback above the active page is valid.
 pub active_is : (b : Bool) (active idle : Scrollback) → IsNothing (alternate_scrollback b active idle) →
     IsAbove (main_scrollback b active idle) → IsScrollback active
 active_is true active idle n a = nothing_is active n
 active_is false active idle n a = a.sound
 
--- the picture over scrollback above the active page
+-- The picture with the scrollback above the active page.
 pub with_view_is : (s : ScreenValue) (active idle : Scrollback) → s.scrollback ≡ main_scrollback s.is_alternate active idle
     → IsNothing (alternate_scrollback s.is_alternate active idle)
     → picture_over (visible active s.page.rows)
@@ -40,6 +40,6 @@ with_view_is s active idle w n =
     ap (λ (rows : List RowValue). picture_over rows (canvas_of s))
     (visible_if s.is_alternate s.page.rows active idle s.scrollback w n)
 
--- screens whose pages are of one size show pictures of one size
+-- Screens whose pages have one size display pictures of one size.
 pub same_shown : (a b : ScreenValue) → SameSize a.page b.page → SamePictureSize (shown a) (shown b)
 same_shown a b size = record { width = size.width; height = shown_height a ∙ (size.height ∙ sym (shown_height b)) }

@@ -1,5 +1,5 @@
--- Rows of scrollback whose text goes on below stay as wide as the screen: over any run, wherever it is scrolled back,
--- and in a size of no more columns.
+-- Wrapped rows of scrollback stay as wide as the screen: over any run, wherever it is scrolled back, and in a size of
+-- no more columns.
 use Rattle.std.proofs.Common.{◌≡◌, ◌≢◌, ℕ, ◌-◌, ◌≤◌, ◌==◌, Bool, true, false, List, [], ◌∷◌, length, take}
 use Rattle.std.proofs.Common.{Option, Some, None, sym, ap, subst, refl, ◌∙◌, arith}
 use Rattle.std.specs.Prelude.{All, IfSome, if◌then◌else◌, option_map}
@@ -92,7 +92,7 @@ pub wide_run : (scan : State) (s : ScreenValue) (bytes : List ℕ) → IsScreen 
 wide_run scan s bytes is wide =
     (held_events (run scan bytes).events s (coded_run scan bytes) (held_screen s is wide)).wide
 
--- ---- scrollback by itself
+-- ---- scrollback on its own
 
 pub wide_view : (n : ℕ) (s : ScreenValue) → HasWideFlags s → HasWideFlags (scrolled_back n s)
 wide_view n s wide = by s.is_alternate where
@@ -107,7 +107,7 @@ wide_cleared s wide = by s.is_alternate where
   by true = wide
   by false = λ i d h. absurd (omega (arith, h))
 
--- ---- another size
+-- ---- resizing
 
 wide_above : (rows : ℕ) (page : Page) (above : Scrollback) → IsPage page → AreSound above.rows
     → All (IsWide page.width) above.rows → All (IsWide page.width) (scrollback_resized rows page above).rows

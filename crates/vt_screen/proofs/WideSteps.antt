@@ -1,4 +1,4 @@
--- A text of wide characters that its row has room for: the steps of its characters, one after the other.
+-- A run of wide characters that fits on its row: the steps of its characters in order.
 use Rattle.std.proofs.Common.{◌≡◌, ℕ, suc, ◌+◌, ◌-◌, ◌<◌, ◌≤◌, nat_lt, Bool, true, false, List, [], ◌∷◌}
 use Rattle.std.proofs.Common.{length, get_or, refl, sym, ap, subst, ◌∙◌, Option, arith}
 use Rattle.std.specs.Prelude.{Some, if◌then◌else◌}
@@ -32,7 +32,7 @@ last_wide : (c : ℕ) (screen : ScreenValue) → columns_of c ≡ Some 2 → 2 �
     last_after c screen ≡ Some c
 last_wide c screen two some = rw two (grind (arith, nat_tests))
 
--- the screen on which this text was printed
+-- The screen after a run of wide characters was printed.
 abbrev with_wide_text : List ℕ → ScreenValue → ScreenValue
 with_wide_text text screen =
     record screen { page = printed_text text screen.attrs screen.page; last = Some (get_or text (length text - 1) 0) }
@@ -69,7 +69,7 @@ kept_wide_text text attrs page last c aside h shown fits k =
     kept_last (printed_text text attrs page) last (Some c) aside shown
     (kept_each_wide text attrs page last aside h fits k)
 
--- ---- what is reported: nothing
+-- ---- nothing is reported
 
 has_room_for_two : (page : Page) → page.column + 2 ≤ page.width → lacks_room 2 page ≡ false
 has_room_for_two page h = grind (arith, nat_tests)
@@ -107,7 +107,7 @@ print_scrolls_wide does c s screen two room =
           (sym none) refl;
     }
 
--- a wide character moves the cursor on by two columns
+-- A wide character moves the cursor right by two columns.
 pub column_printed_wide : (c : ℕ) (screen : ScreenValue) → columns_of c ≡ Some 2 →
     screen.page.column + 2 ≤ screen.page.width →
     (display_after (Print c) screen).page.column ≡ screen.page.column + 2

@@ -1,4 +1,4 @@
--- What a text leaves of a plain terminal, whatever it draws: the terminal is plain again.
+-- What output leaves of a plain terminal, whatever it draws: the terminal is plain again.
 use Rattle.std.specs.Prelude.{◌≡◌, ℕ, List}
 use Rattle.std.specs.List.{AllByRecursion}
 use Rattle.vt_grid.specs.Page.{SameSize}
@@ -10,35 +10,35 @@ use Rattle.vt_screen.specs.Screen.{ScreenValue, IsScreen, above_page}
 use Rattle.vt_screen.specs.Shown.{IsPlain}
 use Rattle.vt_screen.specs.Steps.{Step, CallBack}
 
--- a step that invokes no callback, but for `on_scroll` where rows scroll off the top and aren't kept
+-- A step that invokes no callback, except for `on_scroll` when rows scroll off the top and aren't kept.
 abbrev pub IsNoCallback : Step → Type 0
 IsNoCallback (CallBack call) = ⊥
 IsNoCallback _ = Unit {0}
 
--- a call of `on_scroll`
+-- A call of `on_scroll`.
 abbrev pub IsReport : CallValue → Type 0
 IsReport (OnScroll row alternate) = Unit {0}
 IsReport _ = ⊥
 
--- the other page, which page is active, the input modes with the cursor style, and the size are as before
+-- The other page, which page is active, the input modes with the cursor style, and the size are unchanged.
 pub record KeepsAside (reader after : ScreenValue) : Type 0 where
   pub other : after.other ≡ reader.other
   pub is_alternate : after.is_alternate ≡ reader.is_alternate
   pub modes : after.modes ≡ reader.modes
   pub size : SameSize after.page reader.page
 
--- a terminal in ground state that has read the text to its end: it is in ground state again and plain, no callback but
--- `on_scroll` was invoked, and it keeps what is aside of its active page
+-- A terminal in ground state that has read the output to its end: it is in ground state again and plain, no callback
+-- but `on_scroll` was invoked, and everything outside of its active page is unchanged.
 pub record LeavesPlain (text : List ℕ) (reader : ScreenValue) : Type 0 where
   pub ground : (run start text).state ≡ start
   pub steps : AllByRecursion IsNoCallback (steps_in start reader text)
   pub plain : IsPlain (screen_in start reader text)
   pub aside : KeepsAside reader (screen_in start reader text)
 
--- a text that leaves every plain terminal plain
+-- Output that leaves every plain terminal plain.
 abbrev pub KeepsPlain : List ℕ → Type 0
 KeepsPlain text = (reader : ScreenValue) → IsPlain reader → LeavesPlain text reader
 
--- one that leaves every terminal plain that shows no scrollback
+-- Output that leaves every terminal plain that displays no scrollback.
 abbrev pub MakesPlain : List ℕ → Type 0
 MakesPlain text = (reader : ScreenValue) → IsScreen reader → (above_page reader).offset ≡ 0 → LeavesPlain text reader

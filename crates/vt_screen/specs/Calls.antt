@@ -1,11 +1,11 @@
--- What a terminal calls the program around it for.
+-- The calls by which a terminal reports to the program around it.
 use Rattle.std.specs.Prelude.{ℕ, Bool, List, Option}
 use Rattle.vt_rows.specs.Row.{RowValue}
 
 pub data CallValue : Type 0 where
   AudibleBell : CallValue
   VisualBell : CallValue
-  -- a size that a program asked for: rows and columns
+  -- A request for a size in rows and columns.
   Resize : (rows cols : ℕ) → CallValue
   SetWindowIconName : (name : List ℕ) → CallValue
   SetWindowTitle : (title : List ℕ) → CallValue
@@ -16,5 +16,5 @@ pub data CallValue : Type 0 where
   UnhandledEscape : (first second : Option ℕ) (byte : ℕ) → CallValue
   UnhandledCsi : (first second : Option ℕ) (groups : List (List ℕ)) (byte : ℕ) → CallValue
   UnhandledOsc : (parts : List (List ℕ)) → CallValue
-  -- a row left the page at its top and isn't kept, or scrollback gave it up
+  -- A row that scrolled off the top of a page and isn't kept, or that scrollback dropped.
   OnScroll : (row : RowValue) (alternate : Bool) → CallValue

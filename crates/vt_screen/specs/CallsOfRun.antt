@@ -1,4 +1,4 @@
--- What a run calls callbacks for that leave the screen alone: a function of where the scanner stands, the screen and the
+-- The calls that a run makes if callbacks leave the screen alone: a function of the scanner's state, the screen and the
 -- bytes.
 use Rattle.std.specs.Prelude.{◌≡◌, ℕ, List, [], ◌∷◌, ◌++◌, map}
 use Rattle.std.specs.List.{FoldsTo}
@@ -10,48 +10,48 @@ use Rattle.vt_screen.specs.Controls.{seen_of, steps_of}
 use Rattle.vt_screen.specs.Steps.{Step, CallBack, reports, screen_after}
 use Rattle.vt_screen.specs.Run.{CallRelation, CalledOnAnyScreen}
 
--- callbacks take calls that are lent no screen, one after the other
+-- Callbacks receive calls in order, each whatever the screen is.
 abbrev pub TakesCalls : {S : Type 0} → CallRelation S → S → List CallValue → S → Type 0
 TakesCalls does old calls new = FoldsTo (CalledOnAnyScreen does) old calls new
 
--- callbacks that leave the screen alone
+-- A relation of callbacks that leave the screen alone.
 abbrev pub LeavesScreen : {S : Type 0} → CallRelation S → Type 0
 LeavesScreen {S} does =
     (call : CallValue) → (old new : S) → (before after : ScreenValue) → does call old before new after → after ≡ before
 
--- such callbacks take a call, while there is some screen
+-- Callbacks that leave the screen alone receive a call, with some screen.
 abbrev pub CalledOnSomeScreen : {S : Type 0} → CallRelation S → S → CallValue → S → Type 0
 CalledOnSomeScreen does old call new = (screen : ScreenValue) × does call old screen new screen
 
--- the calls that a step makes, in order: its own, or a report of each row that leaves and isn't kept
+-- The calls that a step makes, in order: its own, or a report of each row that scrolls off and isn't kept.
 abbrev pub calls_of : Step → ScreenValue → List CallValue
 calls_of (CallBack call) screen = call ∷ []
 calls_of step screen = map (λ row. OnScroll row screen.is_alternate) (reports step screen)
 
--- the calls that steps make, one after the other
+-- The calls that a list of steps makes, in order.
 abbrev pub calls_of_all : List Step → ScreenValue → List CallValue
 calls_of_all [] screen = []
 calls_of_all (step ∷ steps) screen = calls_of step screen ++ calls_of_all steps (screen_after step screen)
 
--- the screen after steps
+-- The screen after a list of steps.
 abbrev pub screen_after_all : List Step → ScreenValue → ScreenValue
 screen_after_all [] screen = screen
 screen_after_all (step ∷ steps) screen = screen_after_all steps (screen_after step screen)
 
--- the steps of events, each event as it meets the screen
+-- The steps of a list of events, each event on the screen as it is then.
 abbrev pub steps_of_all : List Event → ScreenValue → List Step
 steps_of_all [] screen = []
 steps_of_all (event ∷ events) screen =
     let steps = steps_of event (seen_of screen) in steps ++ steps_of_all events (screen_after_all steps screen)
 
--- the steps of a run over bytes
+-- The steps of a run over bytes.
 abbrev pub steps_in : State → ScreenValue → List ℕ → List Step
 steps_in scan screen bytes = steps_of_all (run scan bytes).events screen
 
--- its calls
+-- The calls that a run over bytes makes.
 abbrev pub calls_in : State → ScreenValue → List ℕ → List CallValue
 calls_in scan screen bytes = calls_of_all (steps_in scan screen bytes) screen
 
--- the screen after it
+-- The screen after a run over bytes.
 abbrev pub screen_in : State → ScreenValue → List ℕ → ScreenValue
 screen_in scan screen bytes = screen_after_all (steps_in scan screen bytes) screen

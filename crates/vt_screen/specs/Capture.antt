@@ -1,4 +1,4 @@
--- Captures: the basic texts of rows, one behind the other.
+-- Captures: the basic texts of rows in sequence.
 use Rattle.std.specs.Prelude.{◌≡◌, ℕ, ◌<◌, List, [], ◌∷◌, ◌++◌, length, ◌⊎◌, ⊤}
 use Rattle.std.proofs.Common.{inl, inr}
 use Rattle.std.specs.Borrow.{MutBor}
@@ -10,7 +10,7 @@ use Rattle.vt_rows.specs.declared.capture.range.BasicFormattedCaptureRange.{Basi
 use Rattle.vt_rows.specs.declared.capture.range.BasicFormattedCaptureRange.TheVariants.{Full, Visible}
 use Rattle.vt_screen.specs.Screen.{ScreenValue, above_page, visible_rows}
 
--- the basic texts of rows behind what was written before
+-- The basic texts of rows, continuing from a capture state.
 abbrev pub basic_texts : Written → List RowValue → List ℕ
 basic_texts written [] = []
 basic_texts written (row ∷ rows) = basic_text written row ++ basic_texts (written_after written row) rows
@@ -18,35 +18,35 @@ basic_texts written (row ∷ rows) = basic_text written row ++ basic_texts (writ
 abbrev pub written_after_all : Written → List RowValue → Written
 written_after_all written rows = fold written_after written rows
 
--- the rows of the active page below all of scrollback above it
+-- All rows of scrollback above the active page, followed by the rows of that page.
 abbrev pub all_rows : ScreenValue → List RowValue
 all_rows screen = (above_page screen).rows ++ screen.page.rows
 
--- the rows that a capture has
+-- The rows that a capture range includes.
 abbrev pub captured_rows : BasicFormattedCaptureRange → ScreenValue → List RowValue
 captured_rows (Full state) screen = all_rows screen
 captured_rows Visible screen = visible_rows screen
 
--- what a capture goes on behind
+-- The capture state that a capture continues from.
 abbrev pub given_state : BasicFormattedCaptureRange → Written
 given_state (Full state) = state.now
 given_state Visible = unwritten
 
--- its text behind that
+-- The text of a capture.
 abbrev pub captured_text : BasicFormattedCaptureRange → ScreenValue → List ℕ
 captured_text range screen = basic_texts (given_state range) (captured_rows range screen)
 
--- a range when the call has returned: the state that it lent, or nothing
+-- A capture range after the call has returned: the borrowed state, or nothing.
 abbrev pub RangeLeft : Type 0
 RangeLeft = (MutBor Written × ⊤) ⊎ (⊤ ⊎ ⊥)
 
--- what holds of the caller's state, if there is one
+-- A predicate holds for the caller's capture state, if there is one.
 abbrev pub IfGiven : RangeLeft → (Written → Type 0) → Type 0
 IfGiven (inl full) P = P full.0.now
 IfGiven (inr visible) P = ⊤
 
--- the sink took some first rows whole, and stopped in the text of the row behind them, which isn't empty; the state is
--- that behind the whole rows
+-- The sink accepted some first rows in full and stopped in the text of the next row, which isn't empty; the state is
+-- the one after the complete rows.
 pub record StopsBehind (refuses : List ℕ → List ℕ → List ℕ → Type 0) (start : List ℕ) (before : Written)
     (rows : List RowValue) (text : List ℕ) (state : Written) : Type 0 where
   pub whole : List RowValue

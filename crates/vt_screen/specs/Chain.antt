@@ -1,18 +1,18 @@
--- A redraw, and behind it differences, each against the screen before it.
+-- A redraw followed by differences, each against the screen before it.
 use Rattle.std.specs.Prelude.{ℕ, List, [], ◌∷◌, ◌++◌}
 use Rattle.vt_redraw.specs.Picture.{SamePictureSize}
 use Rattle.vt_redraw.specs.Steady.{IsSteady}
 use Rattle.vt_screen.specs.Screen.{ScreenValue, IsScreen, IsColored}
 use Rattle.vt_screen.specs.Shown.{shown, shown_change, shown_text}
 
--- a screen that can be redrawn on a terminal: what it shows is steady and of that terminal's size
+-- A screen that can be redrawn on a terminal: its picture is steady and of that terminal's size.
 pub record CanShowOn (reader self : ScreenValue) : Type 0 where
   pub sound : IsScreen self
   pub colored : IsColored self
   pub steady : IsSteady (shown self)
   pub size : SamePictureSize (shown self) (shown reader)
 
--- the differences, one after the other
+-- The differences from each screen to the next, concatenated.
 abbrev pub texts_behind : ScreenValue → List ScreenValue → List ℕ
 texts_behind prev [] = []
 texts_behind prev (x ∷ xs) = shown_change prev x ++ texts_behind x xs

@@ -1,4 +1,4 @@
--- The text of a screen without attributes, over the rows that are shown.
+-- The text of a screen's displayed rows, without attributes.
 use Rattle.std.specs.Prelude.{ℕ, ◌+◌, ◌-◌, ◌==◌, ◌&&◌, not, min, Bool, false, List}
 use Rattle.std.specs.Prelude.{[], ◌∷◌, ◌++◌, length, map, drop, if◌then◌else◌}
 use Rattle.std.specs.List.{flat_map, range_with_len}
@@ -7,56 +7,57 @@ use Rattle.vt_rows.specs.Row.{RowValue}
 use Rattle.vt_screen.specs.Screen.{ScreenValue, visible_row, visible_rows}
 use Rattle.vt_screen.specs.declared.rows.Rows.{Rows}
 
--- behind a row, unless its text goes on in the row below
+-- The line end after a row, which a wrapped row lacks.
 abbrev pub line_end : RowValue → List ℕ
 line_end row = if row.wrapped then [] else 0x0A ∷ []
 
--- before a row in which no glyph begins, although the row above goes on in it
+-- The line end before a row in which no glyph begins, if the row before it is wrapped.
 abbrev pub gap_line : ℕ → Bool → RowValue → List ℕ
 gap_line width goes_on row = if goes_on && not (has_glyph 0 width row.cells) then 0x0A ∷ [] else []
 
--- rows one below the other, each over this many columns; `goes_on` says whether the row above goes on in the first of
--- them
+-- The text of consecutive rows, each in `width` columns; `goes_on` says whether the row before the first one is
+-- wrapped.
 abbrev pub lines_of : ℕ → Bool → List RowValue → List ℕ
 lines_of width goes_on [] = []
 lines_of width goes_on (row ∷ rows) =
     gap_line width goes_on row ++ (plain_text 0 width row.cells ++ (line_end row ++ lines_of width row.wrapped rows))
 
--- a byte before a text; a line end before nothing is dropped
+-- A byte followed by text; a line end followed by nothing is dropped.
 abbrev pub before : ℕ → List ℕ → List ℕ
 before byte [] = if byte == 0x0A then [] else byte ∷ []
 before byte (next ∷ text) = byte ∷ (next ∷ text)
 
--- a text without the line ends at its end
+-- Text without the line ends at its end.
 abbrev pub without_line_ends : List ℕ → List ℕ
 without_line_ends [] = []
 without_line_ends (byte ∷ text) = before byte (without_line_ends text)
 
--- the text of the whole screen
+-- The text of all displayed rows of a screen.
 abbrev pub contents_of : ScreenValue → List ℕ
 contents_of screen = without_line_ends (lines_of screen.page.width false (visible_rows screen))
 
--- ---- from one position to another
+-- ---- text between two positions
 
--- a row of the range: the first one from its column on, the last one up to its column, any other from end to end
+-- A row's part of the text between two positions: the first row from its column on, the last one up to its column, any
+-- other in full.
 abbrev pub part_of : (start_row start_col end_row end_col : ℕ) → ScreenValue → ℕ → List ℕ
 part_of start_row start_col end_row end_col screen r =
     plain_text (if r == start_row then start_col else 0)
     (if r == end_row then end_col else screen.page.width) (visible_row screen r).cells
     ++ (if r == end_row then [] else line_end (visible_row screen r))
 
--- the rows from the first to the last one, as far as they are shown
+-- The text between two positions, as far as its rows are displayed.
 abbrev pub between_of : (start_row start_col end_row end_col : ℕ) → ScreenValue → List ℕ
 between_of start_row start_col end_row end_col screen =
     flat_map (part_of start_row start_col end_row end_col screen)
     (range_with_len start_row (min (end_row + 1) (length screen.page.rows) - start_row))
 
--- ---- row by row
+-- ---- text row by row
 
--- the text of each row in the columns from `start` up to `stop`
+-- The text of each row in the columns from `start` up to but not including `stop`.
 abbrev pub row_texts : (start stop : ℕ) → List RowValue → List (List ℕ)
 row_texts start stop rows = map (λ row. plain_text start stop row.cells) rows
 
--- the texts that are still to come
+-- The texts that the iterator has still to return.
 abbrev pub rows_left : Rows → List (List ℕ)
 rows_left rows = row_texts rows.start rows.stop (drop rows.row (visible_rows rows.screen.now))

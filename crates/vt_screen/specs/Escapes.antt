@@ -1,8 +1,8 @@
--- Texts whose only controls are BS, LF, CR and ESC, and what follows ESC in them.
+-- Output whose only controls are BS, LF, CR and ESC, and what follows each ESC.
 use Rattle.std.specs.Prelude.{◌≡◌, ◌⊎◌, ◌&&◌, ◌||◌, nat_le, nat_lt, ℕ, Bool, true, List, [], ◌∷◌, encode_utf8_all, ⊤}
 use Rattle.vt_screen.specs.MadeOf.{IsOneOf}
 
--- no control of C0 or C1, and not DEL
+-- Whether a character is no control of C0 or C1 and not DEL.
 abbrev pub is_graphic : ℕ → Bool
 is_graphic c = (nat_le 0x20 c && nat_lt c 0x7F) || nat_le 0xA0 c
 
@@ -10,14 +10,14 @@ abbrev pub BeginsWith : List ℕ → List ℕ → Type 0
 BeginsWith nexts [] = ⊥
 BeginsWith nexts (c ∷ rest) = IsOneOf c nexts
 
--- each character is graphic, or BS, LF, CR or ESC; and each ESC is followed by one of these
+-- Each character is graphic or one of BS, LF, CR and ESC, and each ESC is followed by one of `nexts`.
 abbrev pub EscapesOnly : (nexts : List ℕ) → List ℕ → Type 0
 EscapesOnly nexts [] = ⊤
 EscapesOnly nexts (c ∷ rest) =
     ((is_graphic c ≡ true) ⊎ IsOneOf c (0x08 ∷ 0x0A ∷ 0x0D ∷ 0x1B ∷ []))
     × ((c ≡ 0x1B → BeginsWith nexts rest) × EscapesOnly nexts rest)
 
--- the UTF-8 of such characters
+-- The UTF-8 encoding of characters whose only controls are BS, LF, CR and ESC followed by one of `nexts`.
 pub record HasOnlyEscapes (nexts : List ℕ) (text : List ℕ) : Type 0 where
   pub characters : List ℕ
   pub spelled : text ≡ encode_utf8_all characters

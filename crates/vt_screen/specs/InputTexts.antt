@@ -1,18 +1,19 @@
--- The texts that set the input modes of a terminal as a screen has them.
+-- The output that sets the input modes of a terminal to those of a screen.
 use Rattle.std.specs.Prelude.{ℕ, Bool, List, [], ◌++◌, if◌then◌else◌}
 use Rattle.vt_cells.specs.Attrs.{same_bool}
 use Rattle.vt_cells.specs.InputModes.{keypad_text, application_cursor_text, bracketed_paste_text}
 use Rattle.vt_cells.specs.InputModes.{mouse_mode_change, mouse_encoding_change, cursor_style_change}
 use Rattle.vt_screen.specs.Screen.{Modes, no_modes}
 
--- mouse mode, mouse encoding and look of the cursor, from one to another
+-- The output that changes the mouse mode, the mouse encoding and the cursor style.
 abbrev pub mouse_and_style_text : (was new : Modes) → List ℕ
 mouse_and_style_text was new =
     mouse_mode_change was.mouse_mode new.mouse_mode
     ++ (mouse_encoding_change was.mouse_encoding new.mouse_encoding
     ++ cursor_style_change was.cursor_style new.cursor_style)
 
--- all input modes: keypad, cursor keys and bracketed paste in any case, and what is not as on a fresh screen
+-- The output that sets all input modes: keypad, cursor keys and bracketed paste always, the others if they aren't the
+-- defaults.
 abbrev pub input_text : Modes → List ℕ
 input_text new =
     keypad_text new.application_keypad
@@ -20,11 +21,11 @@ input_text new =
     ++ (bracketed_paste_text new.bracketed_paste
     ++ mouse_and_style_text no_modes new))
 
--- a text where something was turned on or off
+-- Output that is left out unless a switch was turned on or off.
 abbrev pub where_changed : (was new : Bool) → List ℕ → List ℕ
 where_changed was new text = if same_bool was new then [] else text
 
--- only what differs
+-- The output that changes the input modes that differ.
 abbrev pub input_change : (was new : Modes) → List ℕ
 input_change was new =
     where_changed was.application_keypad new.application_keypad (keypad_text new.application_keypad)

@@ -1,4 +1,5 @@
--- What the fields of a screen are together, and what its private functions do; for its model and their contracts only.
+-- How the fields of a screen make up its value, and what private functions do; only for the model and the contracts of
+-- private functions.
 use Rattle.std.specs.Prelude.{◌≡◌, ℕ, ◌<◌, ◌≤◌, Bool, true, false, List, [], ◌++◌, Option, Some, None}
 use Rattle.std.specs.Prelude.{IfSome, IsSome, OnErr, OnOk, Result, option_map, not, if◌then◌else◌}
 use Rattle.vt_rows.specs.Basic.{Written}
@@ -13,28 +14,27 @@ use Rattle.vt_screen.specs.Pages.{fresh_page, page_aside, reports_of}
 use Rattle.vt_screen.specs.Screen.{ScreenValue, IsPrintable}
 pub use Rattle.vt_screen.specs.Screen.{IsColoredCell, IsColoredRow, AreColored}
 
--- what a screen has beside its active page: the other page, which of them is active, scrollback above the active one,
--- and above the other one
+-- What a screen has besides its active page: the other page, which of them is active, and scrollback above each.
 pub record Aside : Type 0 where
   pub other : Option Page
   pub is_alternate : Bool
   pub active : Scrollback
   pub idle : Scrollback
 
--- scrollback above the main page, and above the alternate one
+-- The scrollback of the main page, and of the alternate page.
 abbrev pub main_scrollback : Bool → Scrollback → Scrollback → Scrollback
 main_scrollback is_alternate active idle = if is_alternate then idle else active
 
 abbrev pub alternate_scrollback : Bool → Scrollback → Scrollback → Scrollback
 alternate_scrollback is_alternate active idle = if is_alternate then active else idle
 
--- scrollback that never keeps a row
+-- Scrollback that never keeps a row.
 pub record IsNothing (above : Scrollback) : Type 0 where
   pub capacity : above.capacity ≡ 0
   pub rows : above.rows ≡ []
   pub offset : above.offset ≡ 0
 
--- scrollback of rows that may come back to a page
+-- Scrollback whose rows may come back to a page.
 pub record IsAbove (above : Scrollback) : Type 0 where
   pub sound : IsScrollback above
   pub colored : AreColored above.rows
@@ -53,13 +53,13 @@ pub record IsKept (page : Page) (last : Option ℕ) (aside : Aside) : Type 0 whe
   pub nothing : IsNothing (alternate_scrollback aside.is_alternate aside.active aside.idle)
   pub above : IsAbove (main_scrollback aside.is_alternate aside.active aside.idle)
 
--- ---- parts of entering, leaving and starting anew
+-- ---- parts of switching pages and resetting
 
--- with the page that isn't active made, if there was none
+-- A screen whose inactive page exists, created if there was none.
 abbrev pub with_other : ScreenValue → ScreenValue
 with_other screen = record screen { other = Some (page_aside screen) }
 
--- the two pages exchanged, if there are two
+-- A screen with its two pages exchanged, if there are two.
 abbrev pub exchanged_with : Option Page → ScreenValue → ScreenValue
 exchanged_with (Some page) screen =
     record screen { page = page; other = Some screen.page; is_alternate = not screen.is_alternate }
@@ -68,14 +68,14 @@ exchanged_with None screen = screen
 abbrev pub exchanged : ScreenValue → ScreenValue
 exchanged screen = exchanged_with screen.other screen
 
--- the active page made fresh, and the other one
+-- A screen with its active page reset, and one with its inactive page reset.
 abbrev pub with_fresh_page : ScreenValue → ScreenValue
 with_fresh_page screen = record screen { page = fresh_page screen }
 
 abbrev pub with_fresh_other : ScreenValue → ScreenValue
 with_fresh_other screen = record screen { other = option_map (λ _. fresh_page screen) screen.other }
 
--- both pages in another size, while the main page is the active one
+-- A screen with both pages resized, while the main page is active.
 abbrev pub pages_resized : (rows cols : ℕ) → ScreenValue → ScreenValue
 pages_resized rows cols screen = record screen {
   page = page_resized rows cols screen.scrollback screen.page;
@@ -83,24 +83,25 @@ pages_resized rows cols screen = record screen {
   scrollback = scrollback_resized rows screen.page screen.scrollback;
 }
 
--- the calls on the way
+-- The calls that report the rows that a resize of both pages drops.
 abbrev pub reports_of_pages : (rows : ℕ) → ScreenValue → List CallValue
 reports_of_pages rows screen =
     reports_of false rows (Some screen.page) screen.scrollback ++ reports_of true rows screen.other (no_scrollback 0)
 
--- a size that a page may have: a row and a column, at least
+-- A valid size of a page: at least one row and one column.
 pub record IsPageSize (height width : ℕ) : Type 0 where
   pub rows : 0 < height
   pub cols : 0 < width
 
--- ---- parts of texts
+-- ---- parts of output
 
--- columns of a screen from `start` up to `stop`
+-- A range of columns of a screen, from `start` up to but not including `stop`.
 pub record IsColumns (start stop : ℕ) (screen : ScreenValue) : Type 0 where
   pub order : start ≤ stop
   pub inside : stop ≤ screen.page.width
 
--- rows were written behind a state, which is now that behind them; or the sink stopped in one
+-- Rows were written after those of a capture state, which is now the one after them; or the sink stopped in one of
+-- them.
 pub record WritesRows {A E : Type 0} (refuses : List ℕ → List ℕ → List ℕ → Type 0) (start : List ℕ) (before : Written)
     (rows : List RowValue) (result : Result A E) (bytes : List ℕ) (after : Written) : Type 0 where
   pub text : OnOk result (bytes ≡ start ++ basic_texts before rows)

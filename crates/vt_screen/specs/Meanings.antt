@@ -1,11 +1,11 @@
--- What the code's calls mean.
+-- The values of calls.
 use Rattle.std.specs.Prelude.{map}
 use Rattle.vt_screen.specs.Calls as value
 use Rattle.vt_screen.specs.Calls.{CallValue}
 use Rattle.vt_screen.specs.declared.callbacks.Call.{Call}
 use Rattle.vt_screen.specs.declared.callbacks.Call.TheVariants as call
 
--- a call with what it lends
+-- The value of a call with its arguments.
 abbrev pub call_of : Call → CallValue
 call_of call.AudibleBell = value.AudibleBell
 call_of call.VisualBell = value.VisualBell

@@ -1,4 +1,4 @@
--- The steps that change modes alone, and what each makes of them.
+-- The steps that only change modes, and the modes after each.
 use Rattle.std.specs.Prelude.{Bool, true, false, if◌then◌else◌}
 use Rattle.vt_cells.specs.declared.modes.MouseProtocolMode.{MouseProtocolMode}
 use Rattle.vt_cells.specs.declared.modes.MouseProtocolMode.TheVariants as mouse
@@ -12,10 +12,10 @@ pub data ModeStep : Type 0 where
   UseApplicationCursor : (on : Bool) → ModeStep
   UseBracketedPaste : (on : Bool) → ModeStep
   SetMouseMode : MouseProtocolMode → ModeStep
-  -- back to none, if this mode is set
+  -- Resets the mouse mode to none, if this mode is active.
   ClearMouseMode : MouseProtocolMode → ModeStep
   SetMouseEncoding : MouseProtocolEncoding → ModeStep
-  -- back to the default, if this encoding is set
+  -- Resets the mouse encoding to the default, if this encoding is active.
   ClearMouseEncoding : MouseProtocolEncoding → ModeStep
   SetCursorStyle : CursorStyle → ModeStep
 
@@ -33,14 +33,14 @@ same_mouse_encoding encoding.Utf8 encoding.Utf8 = true
 same_mouse_encoding encoding.Sgr encoding.Sgr = true
 same_mouse_encoding _ _ = false
 
--- the mode that is left where one is cleared: none, if it was that one
+-- The mouse mode, and the mouse encoding, after one is reset: the default if that one was active.
 abbrev pub mouse_mode_without : MouseProtocolMode → MouseProtocolMode → MouseProtocolMode
 mouse_mode_without was mode = if same_mouse_mode was mode then mouse.None else was
 
 abbrev pub mouse_encoding_without : MouseProtocolEncoding → MouseProtocolEncoding → MouseProtocolEncoding
 mouse_encoding_without was form = if same_mouse_encoding was form then encoding.Default else was
 
--- the modes after a step
+-- The modes after a step.
 abbrev pub modes_after : ModeStep → Modes → Modes
 modes_after (UseApplicationKeypad on) modes = record modes { application_keypad = on }
 modes_after (UseApplicationCursor on) modes = record modes { application_cursor = on }

@@ -1,4 +1,4 @@
--- The two pages of a screen (xterm's private modes 47 and 1049; DECSC, DECRC and RIS in the VT510 manual).
+-- The two pages of a screen (xterm, DEC private modes 47 and 1049; VT510 manual, DECSC, DECRC and RIS).
 use Rattle.std.specs.Prelude.{ℕ, ◌==◌, ◌&&◌, Bool, true, false, List, [], ◌++◌, length, map}
 use Rattle.std.specs.Prelude.{Option, Some, None, option_map, unwrap_or, if◌then◌else◌}
 use Rattle.vt_grid.specs.Page.{Page, blank_page}
@@ -8,22 +8,22 @@ use Rattle.vt_grid.specs.Scrollback.{Scrollback, no_scrollback}
 use Rattle.vt_screen.specs.Calls.{CallValue, OnScroll}
 use Rattle.vt_screen.specs.Screen.{ScreenValue, above_page, fresh_screen}
 
--- a fresh page of the screen's size
+-- A fresh page of the screen's size.
 abbrev pub fresh_page : ScreenValue → Page
 fresh_page screen = blank_page (length screen.page.rows) screen.page.width
 
--- the page that isn't active; a fresh one, as long as it was never entered
+-- The inactive page, or a fresh one if it was never created.
 abbrev pub page_aside : ScreenValue → Page
 page_aside screen = unwrap_or screen.other (fresh_page screen)
 
--- cursor, origin mode and attributes are saved, and restored as they were saved (DECSC, DECRC)
+-- A screen with cursor, origin mode and attributes saved, and one with them restored (DECSC, DECRC).
 abbrev pub saved : ScreenValue → ScreenValue
 saved screen = record screen { page = cursor_saved screen.page; saved_attrs = screen.attrs }
 
 abbrev pub restored : ScreenValue → ScreenValue
 restored screen = record screen { page = cursor_restored screen.page; attrs = screen.saved_attrs }
 
--- the alternate page becomes the active one; no row of scrollback stays in view
+-- A screen switched to its alternate page, with no scrollback displayed.
 abbrev pub entered : ScreenValue → ScreenValue
 entered screen =
     if screen.is_alternate then screen
@@ -34,44 +34,44 @@ entered screen =
       scrollback = out_of_view screen.scrollback;
     }
 
--- all is saved on the active page, and a fresh alternate page is entered;
--- where that was the active one, what was saved on it goes too
+-- A screen with everything saved on the active page, then switched to a fresh alternate page; if that page was already
+-- active, what was saved on it is lost.
 abbrev pub entered_fresh : ScreenValue → ScreenValue
 entered_fresh screen = record (entered (saved screen)) { page = fresh_page screen }
 
--- the main page becomes the active one
+-- A screen switched to its main page.
 abbrev pub left_alternate : ScreenValue → ScreenValue
 left_alternate screen =
     if screen.is_alternate
     then record screen { page = page_aside screen; other = Some screen.page; is_alternate = false } else screen
 
--- the main page becomes the active one, and its saved cursor and origin mode and the saved attributes are restored
+-- A screen switched to its main page, with that page's saved cursor and origin mode and the saved attributes restored.
 abbrev pub left_restored : ScreenValue → ScreenValue
 left_restored screen = restored (left_alternate screen)
 
--- all is as on a fresh screen of the same size and capacity; an alternate page that was entered stays, made fresh (RIS)
+-- A fresh screen of the same size and capacity; an alternate page that was created before stays, reset (RIS).
 abbrev pub reset : ScreenValue → ScreenValue
 reset screen = record (fresh_screen (length screen.page.rows) screen.page.width screen.scrollback.capacity) {
   other = option_map (λ _. fresh_page screen) screen.other;
 }
 
--- ---- another size
+-- ---- resizing
 
--- the page below scrollback, and the other one
+-- The main page, and the alternate page.
 abbrev pub main_page : ScreenValue → Page
 main_page screen = if screen.is_alternate then page_aside screen else screen.page
 
 abbrev pub alternate_page : ScreenValue → Option Page
 alternate_page screen = if screen.is_alternate then Some screen.page else screen.other
 
--- scrollback above the page that isn't active
+-- The scrollback of the inactive page.
 abbrev pub above_aside : ScreenValue → Scrollback
 above_aside screen = if screen.is_alternate then screen.scrollback else no_scrollback 0
 
 abbrev pub has_size : (rows cols : ℕ) → ScreenValue → Bool
 has_size rows cols screen = (rows == length screen.page.rows) && (cols == screen.page.width)
 
--- both pages in another size, and scrollback above the main one; an equal size changes nothing
+-- A resized screen: both pages and the scrollback of the main page; an equal size changes nothing.
 abbrev pub resized : (rows cols : ℕ) → ScreenValue → ScreenValue
 resized rows cols screen =
     if has_size rows cols screen then screen
@@ -85,8 +85,7 @@ abbrev pub reports_of : (alternate : Bool) (rows : ℕ) → Option Page → Scro
 reports_of alternate rows (Some page) above = map (λ row. OnScroll row alternate) (resize_reports rows page above)
 reports_of alternate rows None above = []
 
--- the calls on the way: for the rows that leave the main page and aren't kept,
--- and then for those that leave the alternate one
+-- The calls that report the rows that a resize drops: first those of the main page, then those of the alternate page.
 abbrev pub calls_resized : (rows cols : ℕ) → ScreenValue → List CallValue
 calls_resized rows cols screen =
     if has_size rows cols screen then []

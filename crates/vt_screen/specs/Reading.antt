@@ -1,4 +1,4 @@
--- Reading a text that calls nobody, takes no memory and pushes no row off the page: what it makes of a screen.
+-- Reading without callbacks, allocations or rows that scroll off the page: what it makes of a screen.
 use Rattle.std.specs.Prelude.{◌==◌, ℕ, Bool, true, false, List, [], ◌∷◌, Option, Some, None, is_some, if◌then◌else◌}
 use Rattle.vt_grid.specs.Canvas.{and_then}
 use Rattle.vt_grid.specs.Moves.{feeds_out}
@@ -13,7 +13,8 @@ use Rattle.vt_scan.specs.declared.table.Kind.TheVariants.{OscString}
 use Rattle.vt_scan.specs.declared.table.Turn.{Turn}
 use Rattle.vt_scan.specs.declared.table.Turn.TheVariants.{Collect}
 
--- a step that calls nobody, takes no memory and gives up no scrollback to be reported
+-- The screen after a step, or none if the step would invoke a callback, allocate, scroll a row off the page or erase
+-- scrollback.
 abbrev pub quiet_step : Step → ScreenValue → Option ScreenValue
 quiet_step (Print c) screen = if pushes c screen.page then None else Some (display_after (Print c) screen)
 quiet_step LineFeed screen = if feeds_out screen.page then None else Some (display_after LineFeed screen)
@@ -33,12 +34,12 @@ quiet_events [] screen = Some screen
 quiet_events (event ∷ events) screen =
     and_then (quiet_events events) (quiet_steps (steps_of event (seen_of screen)) screen)
 
--- a byte collected into the text of an operating system command takes memory
+-- Whether collecting a byte may allocate, as for the text of an operating system command.
 abbrev pub grows : Turn → Bool
 grows (Collect OscString) = true
 grows _ = false
 
--- a terminal: where its scanner stands, and its screen
+-- A terminal: the state of its scanner, and its screen.
 pub record Terminal : Type 0 where
   pub scan : State
   pub screen : ScreenValue
@@ -46,7 +47,7 @@ pub record Terminal : Type 0 where
 abbrev pub terminal : State → ScreenValue → Terminal
 terminal scan screen = record { scan = scan; screen = screen }
 
--- a byte read; none where it would call a callback, take memory or push a row off the page
+-- The terminal after a byte, or none if the byte would invoke a callback, allocate, or scroll a row off the page.
 unfoldable pub read_byte : Terminal → ℕ → Option Terminal
 read_byte t b =
     if grows (turn_of t.scan.kind (class_of b)) then None

@@ -1,11 +1,11 @@
--- What an iterator over the rows of a screen gives.
+-- The items of an iterator over the rows of a screen.
 use Rattle.std.specs.Prelude.{◌≡◌, ℕ, List, [], ◌∷◌, Option, None, Some, Result, String, IfErr, IfOk, string_bytes}
 use Rattle.vt_cells.specs.declared.error.Error.{Error}
 use Rattle.vt_cells.specs.declared.error.Error.TheVariants.{OutOfMemory}
 use Rattle.vt_redraw.specs.Refusals.{RefusedOnlyIfSome}
 
--- the next text is given, or refused for want of memory, if it isn't empty, and the others are left; or none is left,
--- now and later
+-- One call of `next`: it returns the next text, or an error if that isn't empty and cannot be allocated, and the others
+-- are left; or none is left, now and later.
 module _ {S A : Type 0} (left : S → List (List ℕ)) where
   abbrev pub GivesText : S → Option (Result (String A) Error) → S → Type 0
   GivesText old None new = (left old ≡ []) × (left new ≡ [])

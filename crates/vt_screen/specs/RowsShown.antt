@@ -1,5 +1,4 @@
--- The rows of a screen, each as a text that shows it on another terminal,
--- and what such a text makes of the terminals that read it.
+-- The output that draws each row of a screen on another terminal, and what it makes of the terminals that read it.
 use Rattle.std.specs.Prelude.{◌≡◌, ◌≢◌, ℕ, ◌+◌, ◌-◌, ◌<◌, ◌≤◌, min, false, true, List, [], length, map, slice_index_or}
 use Rattle.std.specs.List.{range_with_len}
 use Rattle.vt_cells.specs.Attrs.{default_attrs}
@@ -13,50 +12,51 @@ use Rattle.vt_redraw.specs.Picture.{Picture}
 use Rattle.vt_screen.specs.Screen.{ScreenValue}
 use Rattle.vt_screen.specs.Shown.{IsReader, Turns, shown}
 
--- row r of what a screen shows
+-- Row r of a screen's picture.
 abbrev pub shown_row : ScreenValue → ℕ → RowValue
 shown_row screen r = row_of_picture (shown screen) r
 
--- ---- the texts
+-- ---- the output
 
--- the column behind `width` columns from `start` on, as far as there are so many
+-- The end of a range of `width` columns from `start` on, at most the number of columns.
 abbrev pub range_end : (start width columns : ℕ) → ℕ
 range_end start width columns = min (start + width) columns
 
--- row r of a picture in a range of columns, for a terminal whose row is blank
+-- The output for row r of a picture in a range of columns, for a terminal whose row is blank.
 abbrev pub formatted_text : (start stop : ℕ) → Picture → ℕ → List ℕ
 formatted_text start stop picture r =
     bytes_of_all (item_of_redraw r start stop (is_linked picture.width picture.rows r) (row_of_picture picture r)).ops
 
--- the same, for a terminal whose row is that of another picture
+-- The output for row r of a picture in a range of columns, for a terminal that displays the row of another picture.
 abbrev pub changed_text : (start stop : ℕ) → (picture prev : Picture) → ℕ → List ℕ
 changed_text start stop picture prev r =
     bytes_of_all (item_of_difference r start stop (row_of_picture picture r) (row_of_picture prev r)).ops
 
--- the texts of the rows from row r on
+-- The outputs for the rows from row r on.
 abbrev pub texts_from : (ℕ → List ℕ) → (r height : ℕ) → List (List ℕ)
 texts_from text r height = map text (range_with_len r (height - r))
 
--- the texts of all rows of a screen, in `width` columns from `start` on, where its rows are blank
+-- The outputs for all rows of a screen in `width` columns from `start` on, for terminals whose rows are blank.
 abbrev pub formatted_rows : (start width : ℕ) → ScreenValue → List (List ℕ)
 formatted_rows start width screen =
     texts_from (formatted_text start (range_end start width screen.page.width) (shown screen)) 0
     (length screen.page.rows)
 
--- the same, where the rows of another screen stand
+-- The outputs for all rows of a screen in `width` columns from `start` on, for terminals that display the rows of
+-- another screen.
 abbrev pub changed_rows : (start width : ℕ) → (screen prev : ScreenValue) → List (List ℕ)
 changed_rows start width screen prev =
     texts_from (changed_text start (range_end start width screen.page.width) (shown screen) (shown prev)) 0
     (length screen.page.rows)
 
--- the text of row r
+-- The output for row r in a list of outputs.
 abbrev pub text_at : List (List ℕ) → ℕ → List ℕ
 text_at texts r = slice_index_or texts r []
 
--- ---- the terminals that read a row's text
+-- ---- the terminals that read a row's output
 
--- a plain terminal of a picture's size that has this row as its row r,
--- and the cursor in a column of it, with default attributes
+-- A plain terminal of a picture's size with the row `stood` as its row r, the cursor at column c of it, and default
+-- attributes.
 pub record IsRowReader (picture : Picture) (r c : ℕ) (stood : RowValue) (reader : ScreenValue) : Type 0 where
   pub is : IsReader picture reader
   pub row : reader.page.row ≡ r
@@ -64,11 +64,11 @@ pub record IsRowReader (picture : Picture) (r c : ℕ) (stood : RowValue) (reade
   pub attrs : reader.attrs ≡ default_attrs
   pub stands : row_at reader.page r ≡ stood
 
--- one whose row r is blank
+-- A plain terminal whose row r is blank, with the cursor at column c of it and default attributes.
 abbrev pub IsBlankReader : Picture → (r c : ℕ) → ScreenValue → Type 0
 IsBlankReader picture r c reader = IsRowReader picture r c (blank_row default_attrs picture.width) reader
 
--- one that waits to wrap behind a glyph at the end of row r, above a blank row
+-- A plain terminal with a wrap pending after a glyph at the end of row r, above a blank row.
 pub record IsWrapReader (picture : Picture) (r : ℕ) (reader : ScreenValue) : Type 0 where
   pub is : IsReader picture reader
   pub row : reader.page.row ≡ r
@@ -77,47 +77,48 @@ pub record IsWrapReader (picture : Picture) (r : ℕ) (reader : ScreenValue) : T
   pub full : ends_blank (row_at reader.page r).cells ≡ false
   pub below : row_at reader.page (r + 1) ≡ blank_row default_attrs picture.width
 
--- ---- what the text makes of them
+-- ---- what a row's output makes of them
 
--- row r has the cells of this row in the range; no other cell changes, and the flag of no other row
+-- Row r has the cells of the row `shows` in the range; no other cell has changed, and no other row has become wrapped
+-- or ceased to be.
 pub record HasRange (start stop r : ℕ) (shows : RowValue) (reader after : ScreenValue) : Type 0 where
   pub cells : (row_at after.page r).cells ≡ with_range start stop shows.cells (row_at reader.page r).cells
   pub others : (k : ℕ) → k ≢ r → row_at after.page k ≡ row_at reader.page k
   pub height : length after.page.rows ≡ length reader.page.rows
 
--- row r does not go on below
+-- Row r is not wrapped.
 abbrev pub IsOff : ℕ → (reader after : ScreenValue) → Type 0
 IsOff r reader after = (row_at after.page r).wrapped ≡ false
 
--- the row below row r has the cells of this row and no flag, and row r goes on in it; no other row changes
+-- Row r + 1 has the cells of the row `shows` and is not wrapped, and row r is wrapped; no other row has changed.
 pub record HasLinked (r : ℕ) (shows : RowValue) (reader after : ScreenValue) : Type 0 where
   pub below : row_at after.page (r + 1) ≡ record { cells = shows.cells; wrapped = false }
   pub above : row_at after.page r ≡ record (row_at reader.page r) { wrapped = true }
   pub others : (k : ℕ) → k ≢ r → k ≢ r + 1 → row_at after.page k ≡ row_at reader.page k
   pub height : length after.page.rows ≡ length reader.page.rows
 
--- a text that turns this row, as row r of a terminal, into that of a screen, in `width` columns from `start` on
+-- Output that turns row r of a terminal from `stood` into that of a screen, in `width` columns from `start` on.
 abbrev pub DrawsRow : (start width : ℕ) → ScreenValue → (r : ℕ) → (stood : RowValue) → List ℕ → Type 0
 DrawsRow start width screen r stood text =
     Turns (IsRowReader (shown screen) r start stood) text
     (HasRange start (range_end start width screen.page.width) r (shown_row screen r))
 
--- ---- of which rows this holds
+-- ---- the rows for which this holds
 
--- the range is the whole row
+-- The range is the whole row.
 abbrev pub IsWholeRow : (start width columns : ℕ) → Type 0
 IsWholeRow start width columns = (start ≡ 0) × (columns ≤ width)
 
--- of each row that a screen shows of which the range cuts no wide glyph in two
+-- A predicate holds for each row of a screen's picture in which the range cuts no wide character in two.
 abbrev pub EachUncut : (start width : ℕ) → ScreenValue → (ℕ → Type 0) → Type 0
 EachUncut start width screen P =
     (r : ℕ) → r < length (shown screen).rows
     → CutsNone start (range_end start width screen.page.width) (shown_row screen r).cells → P r
 
--- of each row that goes on below
+-- A predicate holds for each wrapped row of a screen's picture.
 abbrev pub EachLinked : ScreenValue → (ℕ → Type 0) → Type 0
 EachLinked screen P = (r : ℕ) → r + 1 < length (shown screen).rows → (shown_row screen r).wrapped ≡ true → P r
 
--- of each row that does not go on below
+-- A predicate holds for each row of a screen's picture that isn't wrapped.
 abbrev pub EachOff : ScreenValue → (ℕ → Type 0) → Type 0
 EachOff screen P = (r : ℕ) → r < length screen.page.rows → (shown_row screen r).wrapped ≡ false → P r

@@ -1,4 +1,4 @@
--- A screen: the active page and the other one, scrollback, attributes and modes.
+-- A screen: its active page and the other one, scrollback, attributes and modes.
 use Rattle.std.specs.Prelude.{◌≡◌, ◌≢◌, ℕ, Bool, true, false, List, length, All}
 use Rattle.std.specs.Prelude.{Option, None, IfSome, IsSome, if◌then◌else◌}
 use Rattle.std.specs.Char.{IsScalar}
@@ -16,7 +16,7 @@ use Rattle.vt_grid.specs.Scrollback.{Scrollback, IsScrollback, no_scrollback, wi
 pub use Rattle.vt_screen.specs.declared.modes.Modes.{Modes}
 
 pub record ScreenValue : Type 0 where
-  -- the active page, and the other one, once the alternate page was entered; scrollback is above the main one
+  -- The active page, and the other one once the alternate page was created; scrollback belongs to the main page.
   pub page : Page
   pub other : Option Page
   pub is_alternate : Bool
@@ -25,7 +25,7 @@ pub record ScreenValue : Type 0 where
   pub saved_attrs : Attrs
   pub hidden : Bool
   pub modes : Modes
-  -- the last character that was printed in columns of its own
+  -- The last printed character that took columns.
   pub last : Option ℕ
 
 abbrev pub no_modes : Modes
@@ -38,7 +38,7 @@ no_modes = record {
   cursor_style = style.Default;
 }
 
--- a fresh screen
+-- A fresh screen of this size and scrollback capacity.
 abbrev pub fresh_screen : (rows cols capacity : ℕ) → ScreenValue
 fresh_screen rows cols capacity = record {
   page = blank_page rows cols;
@@ -55,7 +55,7 @@ fresh_screen rows cols capacity = record {
 abbrev pub with_page : Page → ScreenValue → ScreenValue
 with_page page screen = record screen { page = page }
 
--- what a redraw works on
+-- The part of a screen that a redraw changes.
 abbrev pub canvas_of : ScreenValue → Canvas
 canvas_of screen =
     record { page = screen.page; attrs = screen.attrs; saved_attrs = screen.saved_attrs; hidden = screen.hidden }
@@ -64,29 +64,29 @@ abbrev pub with_canvas : Canvas → ScreenValue → ScreenValue
 with_canvas canvas screen =
     record screen { page = canvas.page; attrs = canvas.attrs; saved_attrs = canvas.saved_attrs; hidden = canvas.hidden }
 
--- scrollback above the active page; the alternate page has none
+-- The scrollback of the active page; the alternate page has none.
 abbrev pub above_page : ScreenValue → Scrollback
 above_page screen = if screen.is_alternate then no_scrollback 0 else screen.scrollback
 
--- the rows that are shown
+-- The displayed rows.
 abbrev pub visible_rows : ScreenValue → List RowValue
 visible_rows screen = visible (above_page screen) screen.page.rows
 
--- the row that is shown at a place; past the end a blank row
+-- The displayed row at an index; past the end a blank row.
 abbrev pub visible_row : ScreenValue → ℕ → RowValue
 visible_row screen r = row_or screen.page.width (visible_rows screen) r
 
--- the newest n rows of scrollback come into view, at most all; the alternate page has none
+-- A screen scrolled back by the newest n rows of scrollback, at most all; the alternate page has none.
 abbrev pub scrolled_back : ℕ → ScreenValue → ScreenValue
 scrolled_back n screen =
     if screen.is_alternate then screen
     else record screen { scrollback = with_view (length screen.page.rows) screen.page.width n screen.scrollback }
 
--- a character that is printed: a code point, and not U+FFFD, which is reported
+-- A character that can be printed: a Unicode scalar value other than U+FFFD, which is reported instead.
 abbrev pub IsPrintable : ℕ → Type 0
 IsPrintable c = IsScalar c × (c ≢ 0xFFFD)
 
--- what every screen is
+-- The invariant of every screen.
 pub record IsScreen (screen : ScreenValue) : Type 0 where
   pub page : IsPage screen.page
   pub other : IfSome screen.other (λ page. IsPage page × SameSize page screen.page)
@@ -94,7 +94,7 @@ pub record IsScreen (screen : ScreenValue) : Type 0 where
   pub scrollback : IsScrollback screen.scrollback
   pub last : IfSome screen.last IsPrintable
 
--- colours have bytes as their numbers
+-- A cell whose palette colours are at most 255.
 abbrev pub IsColoredCell : CellValue → Type 0
 IsColoredCell cell = FitsAttrs (attrs_of cell)
 
@@ -104,7 +104,7 @@ IsColoredRow row = All IsColoredCell row.cells
 abbrev pub AreColored : List RowValue → Type 0
 AreColored rows = All IsColoredRow rows
 
--- those of every screen
+-- A screen whose palette colours are at most 255, which every screen is.
 pub record IsColored (screen : ScreenValue) : Type 0 where
   pub rows : AreColored screen.page.rows
   pub above : AreColored screen.scrollback.rows

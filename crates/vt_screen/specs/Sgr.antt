@@ -1,5 +1,5 @@
--- SGR, group by group (ECMA-48 and xterm's control sequences): a group sets an attribute,
--- begins or goes on a long colour, or is not known.
+-- SGR, group by group (ECMA-48, and xterm for extended colours): a group sets an attribute, begins or continues an
+-- extended colour, or is unknown.
 use Rattle.std.specs.Prelude.{ℕ, ◌-◌, ◌==◌, ◌&&◌, nat_lt, true, false, List, [], ◌∷◌, if◌then◌else◌}
 use Rattle.vt_cells.specs.Attrs.{default_attrs, Attrs}
 use Rattle.vt_cells.specs.declared.attrs.Intensity.TheVariants.{Normal, Bold, Dim}
@@ -16,7 +16,7 @@ use Rattle.vt_screen.specs.declared.sgr.Wanted.TheVariants.{Any, Form, Index, Re
 pub use Rattle.vt_screen.specs.declared.sgr.GroupRead.{GroupRead}
 use Rattle.vt_screen.specs.declared.sgr.Reading.TheVariants.{Silent, Set, Unhandled}
 
--- what a setting makes of attributes
+-- Attributes with a setting applied.
 abbrev pub rendered : Setting → Attrs → Attrs
 rendered Reset attrs = default_attrs
 rendered (Foreground color) attrs = record attrs { fgcolor = color }
@@ -36,7 +36,7 @@ silent wanted = record { reading = Silent; wanted = wanted }
 abbrev pub set : Setting → GroupRead
 set setting = record { reading = Set setting; wanted = Any }
 
--- a group of one number where a setting is wanted
+-- The reading of a single number as a setting.
 unfoldable pub number_read : ℕ → GroupRead
 number_read n =
     if n == 0 then set Reset
@@ -59,7 +59,7 @@ number_read n =
     else if is_within 100 107 n then set (Background (Idx (n - 92)))
     else record { reading = Unhandled; wanted = Any }
 
--- a colour in one group: 2 and three parts, or 5 and an index
+-- The reading of a colour in one group: 2 and three components, or 5 and a palette index.
 unfoldable pub rgb_read : Layer → ℕ → ℕ → ℕ → GroupRead
 rgb_read layer r g b =
     if nat_lt r 256 && (nat_lt g 256 && nat_lt b 256) then set (colored layer (Rgb r g b)) else silent Stopped
@@ -76,7 +76,7 @@ three_read layer form i = if form == 5 then index_read layer i else unknown
 abbrev pub five_read : Layer → ℕ → ℕ → ℕ → ℕ → GroupRead
 five_read layer form r g b = if form == 2 then rgb_read layer r g b else unknown
 
--- a group where a setting is wanted
+-- The reading of a group as a setting.
 unfoldable pub setting_read : List ℕ → GroupRead
 setting_read (n ∷ []) = number_read n
 setting_read (n ∷ form ∷ i ∷ []) =
@@ -85,7 +85,8 @@ setting_read (n ∷ form ∷ r ∷ g ∷ b ∷ []) =
     if n == 38 then five_read Front form r g b else if n == 48 then five_read Back form r g b else unknown
 setting_read _ = unknown
 
--- the form of a long colour: 2 or 5 alone; any other group is reported and ends the reading
+-- The reading of a group as the form of an extended colour: 2 or 5 alone; any other group is reported and ends the
+-- reading.
 unfoldable pub form_read : Layer → List ℕ → GroupRead
 form_read layer (n ∷ []) =
     if n == 2 then silent (Red layer)
@@ -93,7 +94,7 @@ form_read layer (n ∷ []) =
     else record { reading = Unhandled; wanted = Stopped }
 form_read layer _ = record { reading = Unhandled; wanted = Stopped }
 
--- a part of a colour is one number up to 255; anything else ends the reading
+-- The reading of a group as a colour component: one number up to 255; anything else ends the reading.
 abbrev pub part_read : List ℕ → (ℕ → GroupRead) → GroupRead
 part_read (n ∷ []) next = if nat_lt n 256 then next n else silent Stopped
 part_read _ next = silent Stopped

@@ -1,4 +1,4 @@
--- What a screen shows, and what a text makes of the terminals that read it.
+-- What a screen displays, and what output makes of the terminals that read it.
 use Rattle.std.specs.Prelude.{◌≡◌, ℕ, ◌<◌, false, List, [], ◌∷◌, length, Option, Some, chars}
 use Rattle.std.specs.List.{list_any}
 use Rattle.vt_cells.specs.Attrs.{default_attrs, Attrs}
@@ -14,38 +14,39 @@ use Rattle.vt_scan.specs.Automaton.{start}
 use Rattle.vt_screen.specs.Reading.{read, terminal}
 use Rattle.vt_screen.specs.Screen.{ScreenValue, IsScreen, above_page, canvas_of, visible_row, visible_rows, with_canvas}
 
--- the rows in view, cut to the screen's width, with its cursor, its attributes and whether the cursor is hidden
+-- The picture of a screen: the displayed rows, cut to its width, with its cursor, its attributes and whether the cursor
+-- is hidden.
 abbrev pub shown : ScreenValue → Picture
 shown screen = picture_over (visible_rows screen) (canvas_of screen)
 
--- the redraw of what a screen shows
+-- The redraw of a screen's picture.
 abbrev pub shown_text : ScreenValue → List ℕ
 shown_text screen = bytes_of_all (redraw (shown screen))
 
--- the difference between what two screens show
+-- The difference between the pictures of two screens.
 abbrev pub shown_change : (was new : ScreenValue) → List ℕ
 shown_change was new = bytes_of_all (difference (shown new) (shown was))
 
--- no scrollback is in view, so that the rows that are shown are those of the active page
+-- No scrollback is displayed, so the displayed rows are those of the active page.
 abbrev pub ShowsOwnPage : ScreenValue → Type 0
 ShowsOwnPage screen = (above_page screen).offset ≡ 0
 
--- in each row that is shown, over the columns of the screen, no character of a cell's text is U+FE0F
+-- No displayed cell within the columns of the screen contains U+FE0F.
 abbrev pub ShowsNoSelector : ScreenValue → Type 0
 ShowsNoSelector screen = (r col : ℕ) → r < length screen.page.rows → col < screen.page.width
     → list_any is_selector (chars (text_of (at (visible_row screen r).cells col))) ≡ false
 
--- the region is the whole page, origin mode is off, and no scrollback is in view
+-- The scroll region is the whole page, origin mode is off, and no scrollback is displayed.
 pub record IsPlain (screen : ScreenValue) : Type 0 where
   pub page : IsPlainPage screen.page
   pub offset : (above_page screen).offset ≡ 0
 
--- a screen that shows a picture; but for what was saved and the last character, the rest as it was
+-- A terminal that displays a picture; except for what is saved and the last character, the rest is that of `reader`.
 abbrev pub showing : Picture → Saved → Option ℕ → ScreenValue → ScreenValue
 showing picture saved last reader =
     record (with_canvas (with_saved saved (with_picture picture (canvas_of reader))) reader) { last = last }
 
--- two screens show the same, and no scrollback is in view of either
+-- Two screens display the same, and neither displays scrollback.
 pub record ShowSamePage (screen other : ScreenValue) : Type 0 where
   pub sound : IsScreen screen
   pub other_sound : IsScreen other
@@ -53,57 +54,57 @@ pub record ShowSamePage (screen other : ScreenValue) : Type 0 where
   pub other_own : ShowsOwnPage other
   pub same : shown screen ≡ shown other
 
--- ---- the terminals that read a text
+-- ---- the terminals that read output
 
--- a plain terminal of a picture's size
+-- A plain terminal of a picture's size.
 pub record IsReader (picture : Picture) (reader : ScreenValue) : Type 0 where
   pub sound : IsScreen reader
   pub plain : IsPlain reader
   pub size : SamePictureSize picture (shown reader)
 
--- one that shows another picture, of the same size
+-- A plain terminal that displays another picture of the same size.
 pub record IsReaderOf (picture prev : Picture) (reader : ScreenValue) : Type 0 where
   pub is : IsReader picture reader
   pub shows : shown reader ≡ prev
 
--- one that shows the rows of a picture, and draws with default attributes
+-- A plain terminal that displays the rows of a picture and has default attributes.
 pub record IsReaderOfRows (picture : Picture) (reader : ScreenValue) : Type 0 where
   pub is : IsReader picture reader
   pub shows : (shown reader).rows ≡ picture.rows
   pub attrs : reader.attrs ≡ default_attrs
 
--- ---- what a text makes of them
+-- ---- what output makes of the terminals
 
--- a terminal in ground state reads the text to its end: it calls nobody, takes no memory, pushes no row off its
--- page, and is in ground state again
+-- A terminal in ground state reads the output to its end without callbacks, allocations or rows that scroll off the
+-- page, and is in ground state again.
 abbrev pub ReadsTo : List ℕ → (reader after : ScreenValue) → Type 0
 ReadsTo text reader after = read (terminal start reader) text ≡ Some (terminal start after)
 
--- every such terminal reads the text so
+-- Every terminal with the property `Reader` reads the output to its end.
 abbrev pub IsReadBy : (ScreenValue → Type 0) → List ℕ → Type 0
 IsReadBy Reader text = (reader : ScreenValue) → Reader reader → (after : ScreenValue) × ReadsTo text reader after
 
--- and this is what it has become then
+-- Every terminal with the property `Reader` that has read the output to its end is then as `Made` says.
 abbrev pub Makes : (ScreenValue → Type 0) → List ℕ → ((reader after : ScreenValue) → Type 0) → Type 0
 Makes Reader text Made = (reader after : ScreenValue) → Reader reader → ReadsTo text reader after → Made reader after
 
--- it is plain, and shows the picture
+-- The terminal is plain and displays the picture.
 abbrev pub ShowsPlainly : Picture → (reader after : ScreenValue) → Type 0
 ShowsPlainly picture reader after = IsPlain after × (shown after ≡ picture)
 
--- its page has the picture's rows, cells and flags
+-- The terminal's page has the rows of the picture.
 abbrev pub HasRows : Picture → (reader after : ScreenValue) → Type 0
 HasRows picture reader after = after.page.rows ≡ picture.rows
 
--- its cursor, its attributes and whether its cursor is hidden are the picture's
+-- The terminal's cursor, its attributes and whether its cursor is hidden are those of the picture.
 pub record HasCursor (picture : Picture) (reader after : ScreenValue) : Type 0 where
   pub row : after.page.row ≡ picture.row
   pub column : after.page.column ≡ picture.column
   pub attrs : after.attrs ≡ picture.attrs
   pub hidden : after.hidden ≡ picture.hidden
 
--- all else but the modes is as before, save for the saved cursor, the saved origin mode, the saved attributes and the
--- last character: scrollback and its offset, the other page, the region
+-- Everything but the display, the modes, what is saved and the last character is unchanged: scrollback and its offset,
+-- the other page and the scroll region.
 pub record KeepsRestButModes (reader after : ScreenValue) : Type 0 where
   pub other : after.other ≡ reader.other
   pub is_alternate : after.is_alternate ≡ reader.is_alternate
@@ -113,12 +114,14 @@ pub record KeepsRestButModes (reader after : ScreenValue) : Type 0 where
   pub bottom : after.page.bottom ≡ reader.page.bottom
   pub origin : after.page.origin ≡ reader.page.origin
 
--- and the modes are as before, too
+-- Everything but the display, what is saved and the last character is unchanged: scrollback and its offset, the other
+-- page, the scroll region and the modes.
 pub record KeepsRest (reader after : ScreenValue) : Type 0 where
   pub but_modes : KeepsRestButModes reader after
   pub modes : after.modes ≡ reader.modes
 
--- a text that redraws a picture, if that is steady, on every such terminal; this is kept of the rest
+-- Output that redraws a picture, if that is steady, on every terminal with the property `Reader`; `Kept` says what else
+-- is unchanged.
 pub record Redraws (picture : Picture) (Reader : ScreenValue → Type 0)
     (Kept : (reader after : ScreenValue) → Type 0) (text : List ℕ) : Type 0 where
   pub quiet : IsSteady picture → IsReadBy Reader text
@@ -127,11 +130,11 @@ pub record Redraws (picture : Picture) (Reader : ScreenValue → Type 0)
   pub cursor : IsSteady picture → Makes Reader text (HasCursor picture)
   pub rest : IsSteady picture → Makes Reader text Kept
 
--- one that redraws what a screen shows, on every plain terminal that shows what another one shows
+-- Output that redraws the picture of `new` on every plain terminal that displays that of `was`.
 abbrev pub RedrawsFrom : (was new : ScreenValue) → List ℕ → Type 0
 RedrawsFrom was new text = Redraws (shown new) (IsReaderOf (shown new) (shown was)) KeepsRest text
 
--- its cursor goes to the picture's and is hidden where that is; its cells, flags and attributes stay
+-- The terminal's cursor is where the picture has it, and is hidden if it is there; rows and attributes are unchanged.
 pub record TakesCursor (picture : Picture) (reader after : ScreenValue) : Type 0 where
   pub rows : after.page.rows ≡ reader.page.rows
   pub attrs : after.attrs ≡ reader.attrs
@@ -139,12 +142,12 @@ pub record TakesCursor (picture : Picture) (reader after : ScreenValue) : Type 0
   pub column : after.page.column ≡ picture.column
   pub hidden : after.hidden ≡ picture.hidden
 
--- it is plain again
+-- The terminal is plain again.
 abbrev pub StaysPlain : (reader after : ScreenValue) → Type 0
 StaysPlain reader after = IsPlain after
 
--- every such terminal reads the text to its end, calling nobody and taking no memory, and then is so; it is plain
--- again, and as before in all that is no part of its page
+-- Every terminal with the property `Reader` reads the output to its end without callbacks or allocations and is then as
+-- `Made` says; it is plain again, and everything outside of its page is unchanged.
 pub record Turns (Reader : ScreenValue → Type 0) (text : List ℕ)
     (Made : (reader after : ScreenValue) → Type 0) : Type 0 where
   pub quiet : IsReadBy Reader text
@@ -152,10 +155,10 @@ pub record Turns (Reader : ScreenValue → Type 0) (text : List ℕ)
   pub plain : Makes Reader text StaysPlain
   pub rest : Makes Reader text KeepsRest
 
--- SGR without a number, and the change from the defaults to these attributes
+-- SGR without a number, followed by the change from the default attributes to these.
 abbrev pub attributes_text : Attrs → List ℕ
 attributes_text attrs = bytes_of_all (ClearAttrs ∷ ChangeAttrs default_attrs attrs ∷ [])
 
--- a text that sets these attributes on every terminal in ground state, and nothing else
+-- Output that sets these attributes on every terminal in ground state, and changes nothing else.
 abbrev pub SetsAttrs : Attrs → List ℕ → Type 0
 SetsAttrs attrs text = (reader : ScreenValue) → ReadsTo text reader (record reader { attrs = attrs })

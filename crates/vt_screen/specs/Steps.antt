@@ -1,4 +1,4 @@
--- The elementary steps of an event, and what each makes of the screen.
+-- The elementary steps of an event, and the screen after each.
 use Rattle.std.specs.Prelude.{◌≡◌, ℕ, ◌&&◌, nat_lt, nat_le, Bool, false, List}
 use Rattle.std.specs.Prelude.{[], length, Option, Some, None, if◌then◌else◌}
 use Rattle.vt_cells.specs.Glyph.{columns_of}
@@ -20,27 +20,28 @@ pub data Step : Type 0 where
   Print : (c : ℕ) → Step
   LineFeed : Step
   ScrollUp : (count : ℕ) → Step
-  -- any other step of the page
+  -- Any other step that changes the page.
   OnPage : PageStep → Step
   SaveCursor : Step
   RestoreCursor : Step
-  -- the alternate page is entered as it is, or fresh; it is left, and what was saved restored
+  -- Switches to the alternate page, with its contents or reset; switches back, without or with restoring what was
+  -- saved.
   EnterAlternate : Step
   EnterFresh : Step
   LeaveAlternate : Step
   LeaveRestoring : Step
-  -- all as on a fresh screen
+  -- Resets the screen to a fresh one.
   Reset : Step
   EraseScrollback : Step
   Render : Setting → Step
   HideCursor : (hidden : Bool) → Step
   SetMode : ModeStep → Step
-  -- a callback
+  -- Invokes a callback.
   CallBack : CallValue → Step
 
--- ---- what a step makes of the screen, but for scrollback that takes over rows or is given up; `screen_after` is the whole
+-- ---- the screen after a step, except for scrollback that takes over rows or is erased; `screen_after` is the whole
 
--- a character that takes columns, and fits the page, is the last one from now on
+-- Whether a printed character becomes the last character: it takes columns and fits on the page.
 abbrev pub becomes_last : ScreenValue → Option ℕ → Bool
 becomes_last screen None = false
 becomes_last screen (Some columns) = nat_lt 0 columns && nat_le columns screen.page.width
@@ -48,7 +49,7 @@ becomes_last screen (Some columns) = nat_lt 0 columns && nat_le columns screen.p
 abbrev pub last_after : ℕ → ScreenValue → Option ℕ
 last_after c screen = if becomes_last screen (columns_of c) then Some c else screen.last
 
--- the screen after a step, but for what that does to scrollback
+-- The screen after a step, except for what the step does to scrollback.
 abbrev pub display_after : Step → ScreenValue → ScreenValue
 display_after (Print c) screen = record screen { page = printed c screen.attrs screen.page; last = last_after c screen }
 display_after LineFeed screen = with_page (line_feed screen.page) screen
@@ -67,23 +68,23 @@ display_after (HideCursor hidden) screen = record screen { hidden = hidden }
 display_after (SetMode step) screen = record screen { modes = modes_after step screen.modes }
 display_after (CallBack call) screen = screen
 
--- ---- the rows that a step sends off the page
+-- ---- the rows that a step scrolls off the page
 
--- of the active page, at its top
+-- The rows that a step scrolls off the top of the active page.
 abbrev pub outgoing : Step → ScreenValue → List RowValue
 outgoing (Print c) screen = printed_out c screen.attrs screen.page
 outgoing LineFeed screen = fed_out screen.page
 outgoing (ScrollUp count) screen = scrolled_out count screen.page
 outgoing _ screen = []
 
--- the screen after a step that may send rows off the main page, to scrollback
+-- The screen after a step that may scroll rows off the main page into scrollback.
 abbrev pub sent : Step → ScreenValue → ScreenValue
 sent step screen =
     if screen.is_alternate then display_after step screen
     else record (display_after step screen)
     { scrollback = pushed (length screen.page.rows) screen.page.width (outgoing step screen) screen.scrollback }
 
--- the screen after a step
+-- The screen after a step.
 abbrev pub screen_after : Step → ScreenValue → ScreenValue
 screen_after (Print c) screen = sent (Print c) screen
 screen_after LineFeed screen = sent LineFeed screen
@@ -92,12 +93,12 @@ screen_after EraseScrollback screen =
     if screen.is_alternate then screen else record screen { scrollback = cleared screen.scrollback }
 screen_after step screen = display_after step screen
 
--- the rows that are reported, older first: those that aren't kept
+-- The rows that a step reports, older first: those that aren't kept.
 abbrev pub reports : Step → ScreenValue → List RowValue
 reports EraseScrollback screen = (above_page screen).rows
 reports step screen = reported (outgoing step screen) (above_page screen)
 
--- a step that takes memory: a row is moved into scrollback, or an alternate page is entered that isn't there yet
+-- A step that allocates: it moves a row into scrollback, or switches to an alternate page that doesn't exist yet.
 abbrev pub Grows : Step → ScreenValue → Type 0
 Grows EnterAlternate screen = screen.other ≡ None
 Grows EnterFresh screen = screen.other ≡ None

@@ -1,9 +1,9 @@
--- A text that is printed character by character, and sends no row off the page.
+-- Text that is printed character by character and scrolls no row off the page.
 use Rattle.std.specs.Prelude.{ℕ, List, [], ◌∷◌}
 use Rattle.vt_screen.specs.Screen.{ScreenValue}
 use Rattle.vt_screen.specs.Steps.{Print, display_after}
 
--- characters are printed, one after the other
+-- The screen after characters are printed in order.
 abbrev pub screen_after_text : List ℕ → ScreenValue → ScreenValue
 screen_after_text [] screen = screen
 screen_after_text (c ∷ text) screen = screen_after_text text (display_after (Print c) screen)

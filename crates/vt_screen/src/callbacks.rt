@@ -1,55 +1,61 @@
-//! What a terminal calls the program around it for.
+//! The callbacks by which a terminal reports to the program around it.
 
 use crate::screen::Screen;
 use vt_rows::RowContents;
 
-/// A call of one of [`Callbacks`]' functions, with what it lends.
+/// A call of one of the functions of [`Callbacks`], with its arguments.
 #[derive(Clone, Copy)]
 pub enum Call<'a> {
-    /// [`Callbacks::audible_bell`].
+    /// A call of [`Callbacks::audible_bell`].
     AudibleBell,
 
-    /// [`Callbacks::visual_bell`].
+    /// A call of [`Callbacks::visual_bell`].
     VisualBell,
 
-    /// [`Callbacks::resize`].
+    /// A call of [`Callbacks::resize`], with the rows and columns.
     Resize((u16, u16)),
 
-    /// [`Callbacks::set_window_icon_name`].
+    /// A call of [`Callbacks::set_window_icon_name`], with the name.
     SetWindowIconName(&'a [u8]),
 
-    /// [`Callbacks::set_window_title`].
+    /// A call of [`Callbacks::set_window_title`], with the title.
     SetWindowTitle(&'a [u8]),
 
-    /// [`Callbacks::copy_to_clipboard`].
+    /// A call of [`Callbacks::copy_to_clipboard`], with the clipboards and the
+    /// Base64 text.
     CopyToClipboard(&'a [u8], &'a [u8]),
 
-    /// [`Callbacks::paste_from_clipboard`].
+    /// A call of [`Callbacks::paste_from_clipboard`], with the clipboards.
     PasteFromClipboard(&'a [u8]),
 
-    /// [`Callbacks::unhandled_char`].
+    /// A call of [`Callbacks::unhandled_char`], with the character.
     UnhandledChar(char),
 
-    /// [`Callbacks::unhandled_control`].
+    /// A call of [`Callbacks::unhandled_control`], with the control byte.
     UnhandledControl(u8),
 
-    /// [`Callbacks::unhandled_escape`].
+    /// A call of [`Callbacks::unhandled_escape`], with two intermediate bytes
+    /// and the final byte.
     UnhandledEscape(Option<u8>, Option<u8>, u8),
 
-    /// [`Callbacks::unhandled_csi`].
+    /// A call of [`Callbacks::unhandled_csi`], with the private marker or
+    /// intermediate bytes, the groups of parameters and the final byte.
     UnhandledCsi(Option<u8>, Option<u8>, &'a [&'a [u16]], char),
 
-    /// [`Callbacks::unhandled_osc`].
+    /// A call of [`Callbacks::unhandled_osc`], with the parts of the command.
     UnhandledOsc(&'a [&'a [u8]]),
 }
 
-/// What a terminal calls for what its screen doesn't show.
+/// The functions that a terminal calls for everything that its screen doesn't
+/// display: bells, titles, the clipboard, requests for a size, unknown
+/// sequences, and rows that scroll away.
 ///
-/// `does` is the relation that says what each call does to the callbacks and
-/// to the screen that it is lent; an implementation may resize, scroll or
-/// replace that screen. Each function has a body that hands the call to
-/// [`Callbacks::otherwise`], so an implementation writes that one and
-/// [`Callbacks::on_scroll`], and of the others those that it likes:
+/// `does` is the relation that says what each call does to the callbacks and to
+/// the screen that it receives. An implementation may resize, scroll or replace
+/// that screen.
+///
+/// Only [`Callbacks::otherwise`] and [`Callbacks::on_scroll`] must be
+/// implemented; every other function calls `otherwise` by default:
 ///
 /// ```
 /// struct Tally {
@@ -86,78 +92,82 @@ pub trait Callbacks {
 
     ghost does: { CallValue → Self → ScreenValue → Self → ScreenValue → Type 0 };
 
-    /// What is done for a call that has no function of its own.
+    /// Handles a call whose own function is not implemented.
     fn otherwise(&mut self, screen: &mut Screen, call: Call<'_>)
         ensures { does (call_of call.entry) self.old screen.old self.new screen.new };
 
-    /// Called for each row that leaves a page at its top and isn't kept, for
-    /// each that scrollback drops to make room, and for each that ED 3
-    /// (`CSI 3 J` of xterm's control sequences) gives up, older ones first.
-    /// `alternate`: the row is from the alternate page, which keeps none.
+    /// Called for each row that is dropped, older rows first: one that scrolls
+    /// off the top of a page and isn't kept, one that scrollback drops to make
+    /// room, and one that ED 3 (xterm, `CSI 3 J`) erases. `alternate` is true
+    /// if the row comes from the alternate page, which keeps no rows.
     ///
-    /// A row comes from the page without the default blanks at its end. One
-    /// that wasn't kept comes back to the page blank where a resize brings it
-    /// back, and is then a row like any other: where it leaves again it is
-    /// reported again, blank. RIS, [`Screen::clear_scrollback`] and
-    /// [`Screen::set_size`] call nobody.
+    /// A row of the page comes without the default blanks at its end. If a
+    /// resize brings back a row that wasn't kept, it comes back blank; it is
+    /// then a row like any other and is reported again when it scrolls off
+    /// again.
+    ///
+    /// RIS, [`Screen::clear_scrollback`] and [`Screen::set_size`] invoke no
+    /// callbacks.
     fn on_scroll(&mut self, row: RowContents<'_>, alternate: bool)
         ensures { (screen : ScreenValue) → does (calls.OnScroll row.entry alternate) self.old screen self.new screen };
 
-    /// Called for BEL (ECMA-48).
+    /// Called for BEL (ECMA-48), the audible bell.
     fn audible_bell(&mut self, screen: &mut Screen)
         ensures { does calls.AudibleBell self.old screen.old self.new screen.new }
     {
         self.otherwise(screen, Call::AudibleBell);
     }
 
-    /// Called for the escape sequence `ESC g` (GNU Screen's manual: visual
-    /// bell).
+    /// Called for the visual bell, the escape sequence `ESC g` (GNU Screen).
     fn visual_bell(&mut self, screen: &mut Screen)
         ensures { does calls.VisualBell self.old screen.old self.new screen.new }
     {
         self.otherwise(screen, Call::VisualBell);
     }
 
-    /// Called for `CSI 8 ; rows ; cols t` (xterm's control sequences), with the
-    /// rows and columns that a program asks for; nothing is resized before.
+    /// Called when a program requests a new size in rows and columns, by
+    /// `CSI 8 ; rows ; cols t` (xterm). The screen has not been resized.
     ///
-    /// Only a group that is missing at the end is the screen's own number; one
-    /// that is there and empty is 0.
+    /// A number that is missing at the end of the sequence is the screen's own;
+    /// an empty one is 0.
     fn resize(&mut self, screen: &mut Screen, size: (u16, u16))
         ensures { does (calls.Resize size.0 size.1) self.old screen.old self.new screen.new }
     {
         self.otherwise(screen, Call::Resize(size));
     }
 
-    /// Called with a new name for the window's icon (OSC 0 and 1 of xterm's
-    /// control sequences), as its bytes were sent, which may be no UTF-8. For
-    /// OSC 0 the title follows.
+    /// Called with a new icon name for the window (xterm, OSC 0 and 1).
+    ///
+    /// `name` holds the bytes as they were sent, which may not be UTF-8. For
+    /// OSC 0, a call of [`Callbacks::set_window_title`] follows.
     fn set_window_icon_name(&mut self, screen: &mut Screen, name: &[u8])
         ensures { does (calls.SetWindowIconName name.now) self.old screen.old self.new screen.new }
     {
         self.otherwise(screen, Call::SetWindowIconName(name));
     }
 
-    /// Called with a new title for the window (OSC 0 and 2 of xterm's control
-    /// sequences), as its bytes were sent, which may be no UTF-8.
+    /// Called with a new title for the window (xterm, OSC 0 and 2).
+    ///
+    /// `title` holds the bytes as they were sent, which may not be UTF-8.
     fn set_window_title(&mut self, screen: &mut Screen, title: &[u8])
         ensures { does (calls.SetWindowTitle title.now) self.old screen.old self.new screen.new }
     {
         self.otherwise(screen, Call::SetWindowTitle(title));
     }
 
-    /// Called where a program writes to clipboards (OSC 52 of xterm's control
-    /// sequences): each byte of `kind` names one, by `c`, `p`, `q`, `s` or a
-    /// digit from 0 to 7. The text is of the characters of Base64, as it was
-    /// sent. Both may be empty.
+    /// Called when a program writes to one or more clipboards (xterm, OSC 52).
+    ///
+    /// Each byte of `kind` names a clipboard: `c`, `p`, `q`, `s` or a digit
+    /// from 0 to 7. `text` holds Base64 characters as they were sent; it is not
+    /// decoded. Both may be empty.
     fn copy_to_clipboard(&mut self, screen: &mut Screen, kind: &[u8], text: &[u8])
         ensures { does (calls.CopyToClipboard kind.now text.now) self.old screen.old self.new screen.new }
     {
         self.otherwise(screen, Call::CopyToClipboard(kind, text));
     }
 
-    /// Called where a program asks for the text of a clipboard (OSC 52 of
-    /// xterm's control sequences, with `?` as its text); `kind` is as in
+    /// Called when a program asks for the contents of a clipboard (xterm, OSC
+    /// 52 with `?` as its text). `kind` is as in
     /// [`Callbacks::copy_to_clipboard`].
     fn paste_from_clipboard(&mut self, screen: &mut Screen, kind: &[u8])
         ensures { does (calls.PasteFromClipboard kind.now) self.old screen.old self.new screen.new }
@@ -165,28 +175,28 @@ pub trait Callbacks {
         self.otherwise(screen, Call::PasteFromClipboard(kind));
     }
 
-    /// Called for U+FFFD, which stands for bytes that are no character (the
-    /// Unicode Standard's Table 3-7), and for U+0080 to U+009F, the controls of
-    /// ECMA-48's set C1.
+    /// Called for a character that is not printed: U+FFFD, which stands for
+    /// malformed UTF-8 (Unicode Standard, Table 3-7), and U+0080 to U+009F, the
+    /// C1 controls of ECMA-48.
     fn unhandled_char(&mut self, screen: &mut Screen, code: char)
         ensures { does (calls.UnhandledChar code) self.old screen.old self.new screen.new }
     {
         self.otherwise(screen, Call::UnhandledChar(code));
     }
 
-    /// Called for a control function of one byte (ECMA-48's set C0) that the
-    /// screen doesn't know.
+    /// Called for an unknown control function of one byte (ECMA-48, set C0).
     fn unhandled_control(&mut self, screen: &mut Screen, byte: u8)
         ensures { does (calls.UnhandledControl byte) self.old screen.old self.new screen.new }
     {
         self.otherwise(screen, Call::UnhandledControl(byte));
     }
 
-    /// Called for an escape sequence (ECMA-48) that the screen doesn't know,
-    /// with its first two intermediates and its final byte.
+    /// Called for an unknown escape sequence (ECMA-48), with its first two
+    /// intermediate bytes and its final byte.
     ///
-    /// The string terminator `ESC \` is one, so that it comes here behind each
-    /// command or string that it ends, as `unhandled_escape(None, None, b'\\')`.
+    /// The string terminator `ESC \` counts as one: after each command or
+    /// string that it ends, it is reported as
+    /// `unhandled_escape(None, None, b'\\')`.
     fn unhandled_escape(
         &mut self,
         screen: &mut Screen,
@@ -199,13 +209,13 @@ pub trait Callbacks {
         self.otherwise(screen, Call::UnhandledEscape(first, second, byte));
     }
 
-    /// Called for a control sequence (ECMA-48) that the screen doesn't know,
-    /// and for each setting of SGR and each private mode that it doesn't know:
-    /// with the first two of the sequence's marker and intermediates, the
-    /// groups of its first 32 numbers, and its final byte.
+    /// Called for an unknown control sequence (ECMA-48), and for each unknown
+    /// setting of SGR and each unknown private mode.
     ///
-    /// For a sequence behind a space, `first` and `second` are None, unless the
-    /// final byte is `q` (DECSCUSR).
+    /// `first` and `second` are the first two of the sequence's private marker
+    /// and intermediate bytes, `groups` are the groups of its first 32 numbers,
+    /// and `byte` is its final byte. If the first intermediate byte is a space,
+    /// `first` and `second` are `None` unless the final byte is `q` (DECSCUSR).
     fn unhandled_csi(
         &mut self,
         screen: &mut Screen,
@@ -220,8 +230,8 @@ pub trait Callbacks {
         self.otherwise(screen, Call::UnhandledCsi(first, second, groups, byte));
     }
 
-    /// Called for an operating system command (ECMA-48) that the screen doesn't
-    /// know, with its parts between semicolons, at most the first 16.
+    /// Called for an unknown operating system command (ECMA-48), with its parts
+    /// between semicolons, at most the first 16.
     fn unhandled_osc(&mut self, screen: &mut Screen, parts: &[&[u8]])
         ensures { does (calls.UnhandledOsc (map (λ part. part.now) parts.now)) self.old screen.old self.new screen.new }
     {
@@ -229,7 +239,7 @@ pub trait Callbacks {
     }
 }
 
-/// No callbacks: every call does nothing.
+/// The callbacks that do nothing.
 impl Callbacks for () {
     ghost use Rattle.std.specs.Prelude.{◌≡◌};
 

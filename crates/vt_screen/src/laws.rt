@@ -1,5 +1,5 @@
-//! What holds of what screens show. These functions do nothing: their clauses
-//! are what a proof may cite.
+//! Laws about what screens display. These functions do nothing when run; their
+//! clauses state what is proved.
 
 ghost use Rattle.std.specs.Prelude.{[], codes, ◌≡◌, ◌+◌, ◌<◌, ◌≤◌, ◌↔◌, ℕ, List, suc, ◌++◌, length, replicate};
 ghost use Rattle.vt_grid.specs.Page.{SameSize};
@@ -23,13 +23,15 @@ ghost use Rattle.vt_screen.specs.Steps.{EraseScrollback, screen_after};
 ghost use Rattle.vt_screen.specs.Streamed.{AreSameTrimmed, HasNoRis, HasWideFlags, without_scrollback, rows_of_calls, sent_off_in};
 ghost use Rattle.vt_screen.specs.CallsOfRun.{calls_in, screen_in};
 
-/// What a screen shows is a picture of the screen's size, and screens are of one
-/// size exactly where their pictures are (`sizes`).
+/// States that what a screen displays is a picture of the screen's size, and
+/// that two screens have the same size if and only if their pictures do
+/// (`sizes`).
 ///
-/// With no scrollback in view its rows are those that getters read (`own`). Rows
-/// of scrollback are cut to the screen's columns; also then all cells but those
-/// of the last column are the ones that getters read (`inner`): in that column a
-/// wide glyph that is cut in two shows as a blank.
+/// With no scrollback displayed, its rows are those that the getters return
+/// (`own`). Displayed rows of scrollback are cut to the screen's columns; even
+/// then all cells before the last column are those that the getters return
+/// (`inner`). In the last column, a wide character that is cut in two is
+/// displayed as a blank.
 pub fn shown_is()
     ensures picture { (screen : ScreenValue) → IsScreen screen → IsPicture (shown screen) }
     ensures rows { (screen : ScreenValue) → length (shown screen).rows ≡ length screen.page.rows }
@@ -41,10 +43,13 @@ pub fn shown_is()
         at (row_of_picture (shown screen) row).cells col ≡ at (visible_row screen row).cells col }
 {}
 
-/// Of two screens that show the same, getters answer the same: size, cursor,
-/// attributes, hiding of the cursor, and the cells left of the last column; and
-/// with no scrollback in view of either, all rows that are shown, with their
-/// cells and flags, and the texts of the screen and of each range.
+/// States that getters return the same values for two screens that display the
+/// same.
+///
+/// They agree on the size, the cursor, the attributes, whether the cursor is
+/// hidden, and the cells left of the last column. If neither displays
+/// scrollback, they also agree on all displayed rows with their cells and
+/// whether they are wrapped, and on the text of the screen and of each range.
 pub fn same_shown()
     ensures size { (screen other : ScreenValue) → shown screen ≡ shown other → SameSize screen.page other.page }
     ensures row { (screen other : ScreenValue) → shown screen ≡ shown other → screen.page.row ≡ other.page.row }
@@ -65,18 +70,23 @@ pub fn same_shown()
         between_of start_row start_col end_row end_col screen ≡ between_of start_row start_col end_row end_col other }
 {}
 
-/// A screen without U+FE0F in any cell that getters read of its rows and columns
-/// shows a steady picture, whatever the widths of its characters are.
+/// States that a screen without U+FE0F in any displayed cell is steady,
+/// whatever the widths of its characters are.
 pub fn steady_without_selectors()
     ensures { (screen : ScreenValue) → IsScreen screen → ShowsNoSelector screen → IsSteady (shown screen) }
 {}
 
-/// Where no character that bytes read is U+FE0F, none comes into a cell: a
-/// screen that has none on either page and in scrollback, as a fresh one has
-/// none (`fresh`), has none after a run whose callbacks leave the screen alone
-/// (`ran`), in another size (`sized`) and scrolled back (`scrolled_back`). What it
-/// shows has none then (`shown`), and is steady by `steady_without_selectors`. Bytes in
-/// which EF B8 8F stands nowhere read none, by `vt_scan::laws::selectors`.
+/// States that a screen contains no U+FE0F if no character that was read is
+/// U+FE0F.
+///
+/// - `fresh`: a fresh screen contains none on either page or in scrollback.
+/// - `ran`, `sized`, `scrolled_back`: this is preserved by a run whose
+///   callbacks leave the screen alone, by a resize, and by scrolling back.
+/// - `shown`: then no displayed cell contains U+FE0F, so the screen is steady
+///   by `steady_without_selectors`.
+///
+/// Bytes that don't contain EF B8 8F read no U+FE0F, by
+/// `vt_scan::laws::selectors`.
 pub fn no_selectors()
     ensures fresh { (rows cols capacity : ℕ) → HasNoSelectors (fresh_screen rows cols capacity) }
     ensures ran { (scan : State) (screen : ScreenValue) (bytes : List ℕ) → IsScreen screen →
@@ -88,21 +98,25 @@ pub fn no_selectors()
     ensures shown { (screen : ScreenValue) → HasNoSelectors screen → ShowsNoSelector screen }
 {}
 
-/// A fresh screen is captured as line ends alone, one less than its rows.
+/// States that the capture of a fresh screen consists of line ends alone, one
+/// fewer than it has rows.
 pub fn fresh_capture()
     ensures { (rows cols capacity : ℕ) →
         basic_texts unwritten (visible_rows (fresh_screen (suc rows) cols capacity)) ≡ replicate rows 0x0A }
 {}
 
-/// Rows that stream out of the main page, in a run whose callbacks leave the
-/// screen alone: those that are reported with `false`, followed by scrollback
-/// after the run, are scrollback before it followed by those that left the main
-/// page at its top (`kept`), with the same flags, and the same cells but for
-/// default blanks at their ends. This holds where the run has no RIS, and no
-/// row of scrollback that goes on below was shorter than the screen.
+/// States which rows stream out of the main page in a run whose callbacks leave
+/// the screen alone.
 ///
-/// The rows that leave (`sent`), and all of the screen but its scrollback
-/// (`rest`), depend neither on its capacity nor on what it holds.
+/// - `kept`: the rows that are reported with `false`, followed by scrollback
+///   after the run, are scrollback before the run followed by the rows that
+///   scrolled off the top of the main page. They agree in their cells, except
+///   for default blanks at their ends, and in whether they are wrapped. The
+///   premises are that the run contains no RIS and that no wrapped row of
+///   scrollback was shorter than the screen.
+/// - `sent`, `rest`: the rows that scroll off, and the screen without its
+///   scrollback, depend neither on the capacity nor on the contents of
+///   scrollback.
 pub fn streams()
     ensures kept { (scan : State) (screen : ScreenValue) (bytes : List ℕ) → IsScreen screen → HasWideFlags screen →
         HasNoRis scan bytes →
@@ -114,16 +128,17 @@ pub fn streams()
         without_scrollback screen ≡ without_scrollback other → without_scrollback (screen_in scan screen bytes) ≡ without_scrollback (screen_in scan other bytes) }
 {}
 
-/// Rows of scrollback whose text goes on below are at least as wide as the
-/// screen, which `streams` has as a premise. So it is on a fresh screen. It
-/// stays so over any run whose callbacks leave the screen alone, RIS among its
-/// bytes or not, wherever the screen is scrolled back, where scrollback is
-/// given up, and in a size of no more columns.
+/// States when every wrapped row of scrollback is at least as wide as the
+/// screen, which is a premise of `streams`.
 ///
-/// A size of more columns need not keep it: a row of scrollback that goes on
-/// below keeps its old width. On a screen of two rows and one column whose
-/// scrollback keeps a row, after `abc`, the row of `a` is one column wide and
-/// goes on below, and stays so where the screen then gets more columns.
+/// It holds for a fresh screen. It is preserved by any run whose callbacks
+/// leave the screen alone, even with RIS, by scrolling back, by erasing
+/// scrollback, and by a resize to no more columns.
+///
+/// A resize to more columns may break it, because a wrapped row of scrollback
+/// keeps its old width. For example, after `abc` on a screen of two rows and
+/// one column whose scrollback keeps a row, the row of `a` is one column wide
+/// and wrapped, and stays so when the screen gets more columns.
 pub fn wide_flags()
     ensures fresh { (rows cols capacity : ℕ) → HasWideFlags (fresh_screen rows cols capacity) }
     ensures run { (scan : State) (screen : ScreenValue) (bytes : List ℕ) → IsScreen screen →
@@ -134,11 +149,14 @@ pub fn wide_flags()
         HasWideFlags screen → HasWideFlags (resized rows cols screen) }
 {}
 
-/// Decoded, each character of a text that a clause `controls` is about is either
-/// no control (of C0 or C1, or DEL) or one of BS, LF, CR and ESC, and each ESC is
-/// followed by one of a few characters: by `[`, `7` or `8` in texts that draw
-/// (`drawing`, `scrolling`, `reset`), also by `=` or `>` in texts of states
-/// (`state`), by `[` alone in captures. Plain texts have no ESC.
+/// States which controls and escape sequences the output of each function
+/// contains, from its clause `controls`.
+///
+/// Once decoded, each character of the output is either no control (of C0 or
+/// C1, or DEL) or one of BS, LF, CR and ESC. Each ESC is followed by `[`, `7`
+/// or `8` in output that draws (`drawing`, `scrolling`, `reset`), by these or
+/// `=` or `>` in output that also sets modes (`state`), and by `[` in captures.
+/// Plain text contains no ESC.
 pub fn escapes()
     ensures drawing { (text : List ℕ) → IsMadeOf drawing_finals drawing_controls text →
         HasOnlyEscapes (codes "[78") text }

@@ -1,5 +1,5 @@
 //! The screen of a terminal: its two pages, scrollback, attributes and modes,
-//! what a program's controls make of them, and the texts that redraw it.
+//! what control functions do to them, and the output that redraws it.
 #![tactic(auto)]
 
 pub mod callbacks;

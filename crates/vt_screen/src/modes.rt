@@ -9,27 +9,28 @@ use vt_cells::modes::{CursorStyle, MouseProtocolEncoding, MouseProtocolMode};
 /// The modes that a program sets for the terminal's input and its cursor.
 #[derive(Clone, Copy, PartialEq, Eq, Debug)]
 pub struct Modes {
-    /// The keypad sends application sequences (DECKPAM).
+    /// Whether the keypad sends application sequences (DECKPAM).
     pub application_keypad: bool,
 
-    /// The cursor keys send application sequences (DECCKM).
+    /// Whether the cursor keys send application sequences (DECCKM).
     pub application_cursor: bool,
 
-    /// Pasted text comes between brackets (xterm's private mode 2004).
+    /// Whether pasted text is bracketed (xterm, DEC private mode 2004).
     pub bracketed_paste: bool,
 
-    /// Which mouse events are reported.
+    /// The mouse events that are reported.
     pub mouse_mode: MouseProtocolMode,
 
-    /// How mouse events are encoded.
+    /// The encoding of mouse events.
     pub mouse_encoding: MouseProtocolEncoding,
 
-    /// The look of the cursor.
+    /// The cursor style (DECSCUSR).
     pub cursor_style: CursorStyle,
 }
 
 impl Modes {
-    /// The modes of a fresh screen: each off, or its default.
+    /// Creates the modes of a fresh screen: each is off or has its default
+    /// value.
     pub fn new() -> Self
         ensures { result ≡ no_modes }
     {
@@ -44,7 +45,8 @@ impl Modes {
     }
 }
 
-/// The mouse mode that is left where one is cleared.
+/// Returns the mouse mode after `mode` is reset: `None` if `mode` is the active
+/// one, otherwise the active one.
 pub fn clear_mode(was: MouseProtocolMode, mode: MouseProtocolMode) -> MouseProtocolMode
     ensures { result ≡ mouse_mode_without was mode }
 {
@@ -54,7 +56,8 @@ pub fn clear_mode(was: MouseProtocolMode, mode: MouseProtocolMode) -> MouseProto
     MouseProtocolMode::None
 }
 
-/// The encoding that is left where one is cleared.
+/// Returns the mouse encoding after `encoding` is reset: `Default` if
+/// `encoding` is the active one, otherwise the active one.
 pub fn clear_encoding(
     was: MouseProtocolEncoding,
     encoding: MouseProtocolEncoding,

@@ -1,15 +1,16 @@
-//! Rows that leave the screen, reported to callbacks.
+//! The link between rows that scroll off a page and the callbacks they are
+//! reported to.
 
 use crate::callbacks::Callbacks;
 use vt_rows::{Leaving, RowContents};
 
-/// Callbacks that are called for the rows of one page.
+/// A borrowed set of callbacks, to which the rows of one page are reported.
 #[derive(Drop)]
 pub struct Reporter<'a, CB: Callbacks> {
-    /// Who is called.
+    /// The callbacks to which the rows are reported.
     pub callbacks: &'a mut CB,
 
-    /// Whether the rows are those of the alternate page.
+    /// Whether the rows come from the alternate page.
     pub alternate: bool,
 }
 

@@ -1,5 +1,5 @@
-//! The texts of the rows of a screen, one after the other: without attributes
-//! here, and to redraw them in the modules below.
+//! Iterators over the rows of a screen: their plain text here, and the output
+//! that redraws them in the modules below.
 
 ghost use Rattle.std.specs.Prelude.{◌≡◌, ◌+◌};
 ghost use Rattle.vt_screen.specs.Contents.{row_texts, rows_left};
@@ -13,11 +13,10 @@ pub use diff::RowsDiff;
 pub use formatted::RowsFormatted;
 use vt_cells::Error;
 
-/// An iterator over the texts of the rows that a screen shows; see
-/// [`Screen::rows`].
+/// An iterator over the plain text of each displayed row; see [`Screen::rows`].
 ///
-/// An item is an error where memory for its text is refused; the next one is
-/// then the next row's. After the last row there is none, now and later.
+/// An item is an error if its text cannot be allocated; the next item is then
+/// that of the next row. After the last row, `next` returns `None` every time.
 #[derive(Drop)]
 pub struct Rows<'a> {
     screen: &'a Screen,
@@ -27,7 +26,8 @@ pub struct Rows<'a> {
 }
 
 impl<'a> Rows<'a> {
-    /// The rows from the top, in `width` columns from `start` on.
+    /// Creates an iterator over the rows from the top, in `width` columns from
+    /// `start` on.
     pub(crate) fn new(screen: &'a Screen, start: u16, width: u16) -> Rows<'a>
         ensures { rows_left result ≡ row_texts start (start + width) (visible_rows screen.now) }
     {

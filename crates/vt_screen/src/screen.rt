@@ -30,9 +30,9 @@ use vt_grid::{Grid, Scrollback, Size};
 use vt_rows::RowContents;
 use vt_rows::capture::cell_of;
 
-/// A terminal's screen: two pages of cells, each with its cursor, of which one
-/// is active; scrollback above the main one; the attributes that new text is
-/// drawn with, and the modes that a program set.
+/// The screen of a terminal: two pages of cells, one of them active, each with
+/// its own cursor; scrollback above the main page; the attributes of newly
+/// printed text; and the modes that a program has set.
 pub struct Screen {
     alloc: Global,
     grid: Grid,
@@ -69,8 +69,8 @@ impl Model for Screen {
         (record { other = s.other; is_alternate = s.is_alternate; active = s.scrollback; idle = s.other_scrollback }) };
 }
 
-// One call wherever a screen is given up: a derived drop is taken apart field by field in each
-// caller's proof, at each of its exits.
+// Dropping is written out, so that it is one call: a derived drop is taken apart field by field in
+// each caller's proof, at each of its exits.
 impl Drop for Screen {
     fn drop(self) {
         let Screen {
@@ -89,11 +89,13 @@ impl Drop for Screen {
     }
 }
 
-/// A fresh screen: default blanks, the cursor in the corner, default
-/// attributes, each mode off or its default. Its scrollback may keep
-/// `scrollback_capacity` rows.
+/// Creates a fresh screen: default blanks, the cursor in the top left corner,
+/// default attributes, and each mode off or at its default. Its scrollback
+/// keeps at most `scrollback_capacity` rows.
 ///
-/// Fails where memory for its rows is refused.
+/// # Errors
+///
+/// `Error::OutOfMemory` if its rows cannot be allocated.
 #[tactic(auto, using(crate::proofs::Kept::kept_blank))]
 pub fn new_screen(
     alloc: Global,
@@ -125,9 +127,11 @@ pub fn new_screen(
 }
 
 impl Screen {
-    /// A copy of the screen, with both pages and scrollback.
+    /// Returns a copy of the screen, with both pages and scrollback.
     ///
-    /// Fails where its memory is refused.
+    /// # Errors
+    ///
+    /// `Error::OutOfMemory` if the copy cannot be allocated.
     pub fn clone(&self) -> Result<Screen, Error>
         ensures ok { IfOk result (λ screen. screen ≡ self.now) }
         ensures memory { OnlyOutOfMemory result }
@@ -148,14 +152,14 @@ impl Screen {
     }
 }
 
-// What is known of the screen.
+// The getters of a screen.
 impl Screen {
-    /// How many rows and columns the screen has.
+    /// Returns the number of rows and columns of the screen.
     ///
-    /// The clauses `whole` and `colored` say what every screen is, whatever was
-    /// done to it: both pages of one size, with rows, cursors and regions in
-    /// bounds, scrollback within its capacity, and a last character that is one
-    /// to print; and colours whose numbers are at most 255.
+    /// The clauses `whole` and `colored` state the invariant of every screen:
+    /// both pages have one size, with rows, cursors and regions in bounds;
+    /// scrollback is within its capacity; the last character is a printable
+    /// one; and palette colours are at most 255.
     pub fn size(&self) -> (NonZeroU16, NonZeroU16)
         ensures whole { IsScreen self.now }
         ensures colored { IsColored self.now }
@@ -163,14 +167,16 @@ impl Screen {
         ensures cols { result.1.value ≡ self.now.page.width }
     {
         let size = self.grid.size();
-        // For the proof: every screen is whole.
+        // Only for the proof: it makes the screen's invariant known.
         self.sound();
         (non_zero(size.rows), non_zero(size.cols))
     }
 
-    /// Whether the other screen has as many rows and as many columns as this
-    /// one. [`Screen::contents_diff`], [`Screen::state_diff`] and
-    /// [`Screen::rows_diff`] ask for such a pair.
+    /// Returns whether two screens have the same number of rows and of columns.
+    /// [`Screen::contents_diff`], [`Screen::state_diff`] and
+    /// [`Screen::rows_diff`] require it.
+    ///
+    /// # Examples
     ///
     /// ```text
     /// let update = if screen.is_sized_as(&before) {
@@ -185,9 +191,9 @@ impl Screen {
         self.size() == other.size()
     }
 
-    /// The cell at a row and a column of what is shown, counted from 0: None
-    /// outside of the rows that are shown, and past the end of that row. A row
-    /// of scrollback may have more columns than the screen.
+    /// Returns the displayed cell at a row and column, counted from 0, or
+    /// `None` if there is no such row or the row has no such column. A row of
+    /// scrollback may have more columns than the screen.
     #[inline]
     pub fn cell(&self, row: u16, col: u16) -> Option<&Cell>
         ensures inside { IsSome result
@@ -197,8 +203,8 @@ impl Screen {
         cell_of(&self.visible_row(row)?, usize::from(col))
     }
 
-    /// Whether the text of a row of what is shown goes on in the row below it;
-    /// false past the last row.
+    /// Returns whether a displayed row, counted from 0, is wrapped: its text
+    /// continues on the next row. It is false past the last row.
     pub fn row_wrapped(&self, row: u16) -> bool
         ensures { result ≡ (visible_row self.now row).wrapped }
     {
@@ -208,7 +214,8 @@ impl Screen {
         }
     }
 
-    /// A row of what is shown: scrollback that is in view, and the page below.
+    /// Returns a displayed row: a row of scrollback if it is scrolled back that
+    /// far, or else a row of the page.
     #[inline]
     fn visible_row(&self, row: u16) -> Option<RowContents<'_>>
         ensures inside { IsSome result ↔ (row < length self.now.page.rows) }
@@ -218,9 +225,9 @@ impl Screen {
         self.scrollback.visible_row(self.grid.rows(), row)
     }
 
-    /// The cursor's row and column, counted from 0. A column that is the
-    /// number of columns is a pending wrap: the next character goes on in the
-    /// row below.
+    /// Returns the cursor's row and column, counted from 0. If the column is
+    /// the number of columns, a wrap is pending: the next character is printed
+    /// on the next row.
     pub fn cursor_position(&self) -> (u16, u16)
         ensures row { result.0 ≡ self.now.page.row }
         ensures column { result.1 ≡ self.now.page.column }
@@ -229,107 +236,109 @@ impl Screen {
         (pos.row, pos.col)
     }
 
-    /// Whether the alternate page is the active one (xterm's private modes 47
-    /// and 1049).
+    /// Returns whether the alternate page is active (xterm, DEC private modes
+    /// 47 and 1049).
     pub fn alternate_screen(&self) -> bool
         ensures { result ≡ self.now.is_alternate }
     {
         self.is_alternate
     }
 
-    /// Whether the keypad sends application sequences (DECKPAM).
+    /// Returns whether the keypad sends application sequences (DECKPAM).
     pub fn application_keypad(&self) -> bool
         ensures { result ≡ self.now.modes.application_keypad }
     {
         self.modes.application_keypad
     }
 
-    /// Whether the cursor keys send application sequences (DECCKM).
+    /// Returns whether the cursor keys send application sequences (DECCKM).
     pub fn application_cursor(&self) -> bool
         ensures { result ≡ self.now.modes.application_cursor }
     {
         self.modes.application_cursor
     }
 
-    /// Whether the cursor is hidden (DECTCEM).
+    /// Returns whether the cursor is hidden (DECTCEM).
     pub fn hide_cursor(&self) -> bool
         ensures { result ≡ self.now.hidden }
     {
         self.hidden
     }
 
-    /// Whether pasted text comes between brackets (xterm's private mode 2004).
+    /// Returns whether pasted text is bracketed (xterm, DEC private mode 2004).
     pub fn bracketed_paste(&self) -> bool
         ensures { result ≡ self.now.modes.bracketed_paste }
     {
         self.modes.bracketed_paste
     }
 
-    /// Which mouse events are reported (xterm's private modes 9, 1000, 1002 and
-    /// 1003).
+    /// Returns which mouse events are reported (xterm, DEC private modes 9,
+    /// 1000, 1002 and 1003).
     pub fn mouse_protocol_mode(&self) -> MouseProtocolMode
         ensures { result ≡ self.now.modes.mouse_mode }
     {
         self.modes.mouse_mode
     }
 
-    /// How mouse events are encoded (xterm's private modes 1005 and 1006).
+    /// Returns the encoding of mouse events (xterm, DEC private modes 1005 and
+    /// 1006).
     pub fn mouse_protocol_encoding(&self) -> MouseProtocolEncoding
         ensures { result ≡ self.now.modes.mouse_encoding }
     {
         self.modes.mouse_encoding
     }
 
-    /// The look of the cursor (DECSCUSR).
+    /// Returns the cursor style (DECSCUSR).
     pub fn cursor_style(&self) -> CursorStyle
         ensures { result ≡ self.now.modes.cursor_style }
     {
         self.modes.cursor_style
     }
 
-    /// The foreground colour that new text is drawn with (SGR of ECMA-48).
+    /// Returns the foreground colour of newly printed text (ECMA-48, SGR).
     pub fn fgcolor(&self) -> Color
         ensures { result ≡ self.now.attrs.fgcolor }
     {
         self.attrs.fgcolor()
     }
 
-    /// The background colour that new text is drawn with (SGR of ECMA-48).
+    /// Returns the background colour of newly printed text (ECMA-48, SGR).
     pub fn bgcolor(&self) -> Color
         ensures { result ≡ self.now.attrs.bgcolor }
     {
         self.attrs.bgcolor()
     }
 
-    /// Whether new text is bold.
+    /// Returns whether newly printed text is bold.
     pub fn bold(&self) -> bool
         ensures { result ≡ is_bold self.now.attrs }
     {
         self.attrs.bold()
     }
 
-    /// Whether new text is dim.
+    /// Returns whether newly printed text is dim.
     pub fn dim(&self) -> bool
         ensures { result ≡ is_dim self.now.attrs }
     {
         self.attrs.dim()
     }
 
-    /// Whether new text is in italics.
+    /// Returns whether newly printed text is italic.
     pub fn italic(&self) -> bool
         ensures { result ≡ self.now.attrs.italic }
     {
         self.attrs.italic()
     }
 
-    /// Whether new text is underlined.
+    /// Returns whether newly printed text is underlined.
     pub fn underline(&self) -> bool
         ensures { result ≡ self.now.attrs.underline }
     {
         self.attrs.underline()
     }
 
-    /// Whether new text has foreground and background exchanged.
+    /// Returns whether newly printed text is inverse (foreground and background
+    /// exchanged).
     pub fn inverse(&self) -> bool
         ensures { result ≡ self.now.attrs.inverse }
     {
@@ -338,7 +347,7 @@ impl Screen {
 }
 
 impl Screen {
-    /// The current attributes.
+    /// Returns the attributes of newly printed text.
     fn attrs(&self) -> Attrs
         ensures { result ≡ self.now.attrs }
     {
@@ -346,7 +355,11 @@ impl Screen {
     }
 }
 
-/// A copy of a page, if there is one.
+/// Returns a copy of a page, if there is one.
+///
+/// # Errors
+///
+/// `Error::OutOfMemory` if the copy cannot be allocated.
 fn copied_page(page: &Option<Grid>, alloc: Global) -> Result<Option<Grid>, Error>
     ensures ok { IfOk result (λ copy. copy ≡ page.now) }
     ensures memory { OnlyOutOfMemory result }
@@ -357,7 +370,7 @@ fn copied_page(page: &Option<Grid>, alloc: Global) -> Result<Option<Grid>, Error
     }
 }
 
-/// A number that is not 0, as one.
+/// Converts a positive number to a `NonZeroU16`.
 fn non_zero(number: u16) -> NonZeroU16
     requires { 0 < number }
     ensures { result.value ≡ number }

@@ -8,10 +8,10 @@ ghost use Rattle.vt_screen.specs.declared.sgr.GroupRead.{GroupRead};
 use vt_cells::attrs::{Attrs, Intensity};
 use vt_cells::color::Color;
 
-/// One change of the current attributes.
+/// A change of the current attributes by SGR.
 #[derive(Clone, Copy, PartialEq, Eq, Debug)]
 pub enum Setting {
-    /// All attributes become the default ones.
+    /// All attributes return to their defaults.
     Reset,
 
     /// The foreground colour.
@@ -20,79 +20,83 @@ pub enum Setting {
     /// The background colour.
     Background(Color),
 
-    /// Normal, bold or dim.
+    /// The intensity: normal, bold or dim.
     Strength(Intensity),
 
-    /// Italics on or off.
+    /// Italic, on or off.
     Italic(bool),
 
-    /// Underline on or off.
+    /// Underline, on or off.
     Underline(bool),
 
-    /// Inverse on or off.
+    /// Inverse, on or off.
     Inverse(bool),
 }
 
-/// What a long colour is for.
+/// The colour of a cell that an extended colour (SGR 38 or 48) sets: foreground
+/// or background.
 #[derive(Clone, Copy, PartialEq, Eq, Debug)]
 pub enum Layer {
-    /// The foreground (38).
+    /// The foreground colour (SGR 38).
     Front,
 
-    /// The background (48).
+    /// The background colour (SGR 48).
     Back,
 }
 
 /// What the next group of an SGR sequence is read as.
 #[derive(Clone, Copy, PartialEq, Eq, Debug)]
 pub enum Wanted {
-    /// A setting.
+    /// The next group is a setting.
     Any,
 
-    /// The form of a long colour, 2 or 5.
+    /// The next group is the form of an extended colour: 2 (RGB) or 5
+    /// (palette).
     Form(Layer),
 
-    /// A colour's index.
+    /// The next group is the palette index of a colour.
     Index(Layer),
 
-    /// A colour's red part.
+    /// The next group is the red component of a colour.
     Red(Layer),
 
-    /// A colour's green part, behind its red one.
+    /// The next group is the green component of a colour, after its red
+    /// component.
     Green(Layer, u8),
 
-    /// A colour's blue part, behind its red and green ones.
+    /// The next group is the blue component of a colour, after its red and
+    /// green components.
     Blue(Layer, u8, u8),
 
-    /// Nothing: the rest of the sequence is not read.
+    /// The rest of the sequence is ignored.
     Stopped,
 }
 
-/// What a group of an SGR sequence gives.
+/// The effect of one group of an SGR sequence.
 #[derive(Clone, Copy, PartialEq, Eq, Debug)]
 pub enum Reading {
-    /// Nothing yet, or nothing at all.
+    /// The group sets nothing, or a later group completes it.
     Silent,
 
-    /// A change of the attributes.
+    /// The group changes the attributes.
     Set(Setting),
 
-    /// A group that is not known.
+    /// The group is unknown.
     Unhandled,
 }
 
-/// A group's reading, and what the next group is read as.
+/// The reading of a group, and what the next group is read as.
 #[derive(Clone, Copy, PartialEq, Eq, Debug)]
 pub struct GroupRead {
-    /// What the group gives.
+    /// The effect of the group.
     pub reading: Reading,
 
-    /// What the group after it is read as.
+    /// What the next group is read as.
     pub wanted: Wanted,
 }
 
 impl Setting {
-    /// These attributes with the setting made.
+    /// Returns `attrs` with the setting applied.
     pub fn applied_to(self, attrs: Attrs) -> Attrs
         ensures { result ≡ rendered self attrs }
     {
@@ -111,7 +115,7 @@ impl Setting {
 }
 
 impl Layer {
-    /// The setting of this layer's colour.
+    /// Returns the setting of this layer's colour.
     fn colored(self, color: Color) -> Setting
         ensures { result ≡ colored self color }
     {
@@ -123,7 +127,8 @@ impl Layer {
 }
 
 impl GroupRead {
-    /// Nothing is set, and the next group is read as this.
+    /// Creates a reading that sets nothing, with the next group read as
+    /// `wanted`.
     fn silent(wanted: Wanted) -> Self
         ensures { result ≡ silent wanted }
     {
@@ -133,7 +138,8 @@ impl GroupRead {
         }
     }
 
-    /// A setting is made, and another may follow.
+    /// Creates a reading that applies a setting, with the next group read as a
+    /// setting.
     fn set(setting: Setting) -> Self
         ensures { result ≡ set setting }
     {
@@ -143,7 +149,8 @@ impl GroupRead {
         }
     }
 
-    /// The group is not known, and a setting may follow.
+    /// Creates a reading of an unknown group, with the next group read as a
+    /// setting.
     fn unknown() -> Self
         ensures { result ≡ unknown }
     {
@@ -155,13 +162,14 @@ impl GroupRead {
 }
 
 impl Wanted {
-    /// Reads a group of an SGR sequence, where this is wanted.
+    /// Reads a group of an SGR sequence as what `self` says is wanted (ECMA-48,
+    /// and xterm for the extended colours). The first group of a sequence is
+    /// read as [`Wanted::Any`].
     ///
-    /// After a long colour with a part above 255 the rest of the sequence is
-    /// not read. Neither is it after one over several groups that is cut short
-    /// or is of a form other than 2 and 5; in one group such a colour is
-    /// unknown, and reading goes on. The first group of a sequence is read as
-    /// [`Wanted::Any`]. (ECMA-48, and xterm's control sequences.)
+    /// After an extended colour with a component above 255, the rest of the
+    /// sequence is ignored. So it is after an extended colour over several
+    /// groups that is cut short or has a form other than 2 and 5; within one
+    /// group, such a colour is unknown and reading continues.
     #[inline(always)]
     #[tactic(auto, unfolding(crate::specs::Sgr::group_read))]
     pub fn read(self, group: &[u16]) -> GroupRead
@@ -179,7 +187,7 @@ impl Wanted {
     }
 }
 
-/// A group where a setting is wanted.
+/// Reads a group as a setting.
 #[inline(always)]
 #[tactic(auto, unfolding(crate::specs::Sgr::setting_read))]
 fn read_setting(group: &[u16]) -> GroupRead
@@ -195,7 +203,7 @@ fn read_setting(group: &[u16]) -> GroupRead
     }
 }
 
-/// A group of one number where a setting is wanted.
+/// Reads a group of one number as a setting.
 #[inline(always)]
 #[tactic(auto, using(std::proofs::lemmas::Bool::Decides::nat_tests), unfolding(crate::specs::Sgr::number_read))]
 fn read_number(number: u16) -> GroupRead
@@ -224,7 +232,7 @@ fn read_number(number: u16) -> GroupRead
     }
 }
 
-/// A long colour in one group of three numbers.
+/// Reads a group of three numbers as an extended colour with a palette index.
 fn read_three(layer: Layer, form: u16, index: u16) -> GroupRead
     ensures { result ≡ three_read layer form index }
 {
@@ -234,7 +242,7 @@ fn read_three(layer: Layer, form: u16, index: u16) -> GroupRead
     index_colored(layer, index)
 }
 
-/// A long colour in one group of five numbers.
+/// Reads a group of five numbers as an extended colour with RGB components.
 fn read_five(layer: Layer, form: u16, red: u16, green: u16, blue: u16) -> GroupRead
     ensures { result ≡ five_read layer form red green blue }
 {
@@ -244,7 +252,7 @@ fn read_five(layer: Layer, form: u16, red: u16, green: u16, blue: u16) -> GroupR
     rgb_colored(layer, red, green, blue)
 }
 
-/// The colour of the palette with this index, up to 255.
+/// Reads a palette index, which must be at most 255.
 #[tactic(auto, using(std::proofs::lemmas::Bool::Decides::nat_tests), unfolding(crate::specs::Sgr::index_read))]
 fn index_colored(layer: Layer, index: u16) -> GroupRead
     ensures { result ≡ index_read layer index }
@@ -255,7 +263,7 @@ fn index_colored(layer: Layer, index: u16) -> GroupRead
     GroupRead::set(layer.colored(Color::Idx(index as u8)))
 }
 
-/// The colour of these parts, each up to 255.
+/// Reads RGB components, each of which must be at most 255.
 #[tactic(auto, using(std::proofs::lemmas::Bool::Decides::nat_tests), unfolding(crate::specs::Sgr::rgb_read))]
 fn rgb_colored(layer: Layer, red: u16, green: u16, blue: u16) -> GroupRead
     ensures { result ≡ rgb_read layer red green blue }
@@ -266,7 +274,7 @@ fn rgb_colored(layer: Layer, red: u16, green: u16, blue: u16) -> GroupRead
     GroupRead::set(layer.colored(Color::Rgb(red as u8, green as u8, blue as u8)))
 }
 
-/// The form of a long colour.
+/// Reads a group as the form of an extended colour.
 #[tactic(auto, using(std::proofs::lemmas::Bool::Decides::nat_tests), unfolding(crate::specs::Sgr::form_read))]
 fn read_form(layer: Layer, group: &[u16]) -> GroupRead
     ensures { result ≡ form_read layer group.now }
@@ -281,7 +289,8 @@ fn read_form(layer: Layer, group: &[u16]) -> GroupRead
     }
 }
 
-/// A part of a colour, or a colour's index: one number, up to 255.
+/// Returns the number of a group that holds a colour component or a palette
+/// index: a single number of at most 255.
 #[tactic(auto, using(std::proofs::lemmas::Bool::Decides::nat_tests))]
 fn part_of(group: &[u16]) -> Option<u8>
     ensures { MatchOption result ((next : ℕ → GroupRead) → part_read group.now next ≡ silent Wanted.Stopped)
@@ -293,7 +302,7 @@ fn part_of(group: &[u16]) -> Option<u8>
     }
 }
 
-/// A group where the index of a colour is wanted.
+/// Reads a group as the palette index of a colour.
 fn read_index(layer: Layer, group: &[u16]) -> GroupRead
     ensures { result ≡ part_read group.now (λ i. set (colored layer (Color.Idx i))) }
 {
@@ -303,7 +312,7 @@ fn read_index(layer: Layer, group: &[u16]) -> GroupRead
     }
 }
 
-/// A group where a colour's red part is wanted.
+/// Reads a group as the red component of a colour.
 fn read_red(layer: Layer, group: &[u16]) -> GroupRead
     ensures { result ≡ part_read group.now (λ r. silent (Wanted.Green layer r)) }
 {
@@ -313,7 +322,7 @@ fn read_red(layer: Layer, group: &[u16]) -> GroupRead
     }
 }
 
-/// A group where a colour's green part is wanted.
+/// Reads a group as the green component of a colour.
 fn read_green(layer: Layer, red: u8, group: &[u16]) -> GroupRead
     ensures { result ≡ part_read group.now (λ g. silent (Wanted.Blue layer red g)) }
 {
@@ -323,7 +332,7 @@ fn read_green(layer: Layer, red: u8, group: &[u16]) -> GroupRead
     }
 }
 
-/// A group where a colour's blue part is wanted.
+/// Reads a group as the blue component of a colour.
 fn read_blue(layer: Layer, red: u8, green: u8, group: &[u16]) -> GroupRead
     ensures { result ≡ part_read group.now (λ b. set (colored layer (Color.Rgb red green b))) }
 {

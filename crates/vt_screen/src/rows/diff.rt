@@ -1,5 +1,5 @@
-//! Texts of the rows of a screen that show them where rows of another screen
-//! stand.
+//! An iterator over the output that turns the rows of one screen into those of
+//! another.
 
 ghost use Rattle.std.specs.Prelude.{◌≡◌, ◌≤◌, length};
 ghost use Rattle.vt_grid.specs.Page.{SameSize};
@@ -10,11 +10,11 @@ use crate::screen::Screen;
 use std::marker::Model;
 use vt_cells::Error;
 
-/// An iterator over texts that turn the rows of one screen into those of
+/// An iterator over the output that turns each row of one screen into that of
 /// another; see [`Screen::rows_diff`].
 ///
-/// An item is an error where memory for its text is refused; the next one is
-/// then the next row's. After the last row there is none, now and later.
+/// An item is an error if its output cannot be allocated; the next item is then
+/// that of the next row. After the last row, `next` returns `None` every time.
 #[derive(Drop)]
 pub struct RowsDiff<'a> {
     screen: &'a Screen,
@@ -24,7 +24,7 @@ pub struct RowsDiff<'a> {
     stop: u16,
 }
 
-/// It is the list of the texts that are still to come.
+/// The value of the iterator: the list of the outputs that are still to come.
 impl<'a> Model for RowsDiff<'a> {
     ghost use Rattle.std.specs.Prelude.{List, ℕ, length};
     ghost use Rattle.vt_grid.specs.Page.{SameSize};
@@ -41,7 +41,8 @@ impl<'a> Model for RowsDiff<'a> {
 }
 
 impl<'a> RowsDiff<'a> {
-    /// The rows from the top, in the columns from `start` up to `stop`.
+    /// Creates an iterator over the rows from the top, in the columns from
+    /// `start` up to but not including `stop`.
     pub(crate) fn new(screen: &'a Screen, prev: &'a Screen, start: u16, stop: u16) -> RowsDiff<'a>
         requires order { start ≤ stop }
         requires stop { stop ≤ screen.now.page.width }

@@ -1,4 +1,4 @@
-//! Texts of the rows of a screen that show them where rows are blank.
+//! An iterator over the output that draws the rows of a screen on blank rows.
 
 ghost use Rattle.std.specs.Prelude.{◌≡◌, ◌≤◌, length};
 ghost use Rattle.vt_screen.specs.RowsShown.{formatted_text, texts_from};
@@ -8,11 +8,11 @@ use crate::screen::Screen;
 use std::marker::Model;
 use vt_cells::Error;
 
-/// An iterator over texts that show the rows of a screen where rows are blank;
+/// An iterator over the output that draws each row of a screen on a blank row;
 /// see [`Screen::rows_formatted`].
 ///
-/// An item is an error where memory for its text is refused; the next one is
-/// then the next row's. After the last row there is none, now and later.
+/// An item is an error if its output cannot be allocated; the next item is then
+/// that of the next row. After the last row, `next` returns `None` every time.
 #[derive(Drop)]
 pub struct RowsFormatted<'a> {
     screen: &'a Screen,
@@ -21,7 +21,7 @@ pub struct RowsFormatted<'a> {
     stop: u16,
 }
 
-/// It is the list of the texts that are still to come.
+/// The value of the iterator: the list of the outputs that are still to come.
 impl<'a> Model for RowsFormatted<'a> {
     ghost use Rattle.std.specs.Prelude.{List, ℕ, length};
     ghost use Rattle.vt_screen.specs.Internals.{IsColumns};
@@ -37,7 +37,8 @@ impl<'a> Model for RowsFormatted<'a> {
 }
 
 impl<'a> RowsFormatted<'a> {
-    /// The rows from the top, in the columns from `start` up to `stop`.
+    /// Creates an iterator over the rows from the top, in the columns from
+    /// `start` up to but not including `stop`.
     pub(crate) fn new(screen: &'a Screen, start: u16, stop: u16) -> RowsFormatted<'a>
         requires order { start ≤ stop }
         requires stop { stop ≤ screen.now.page.width }

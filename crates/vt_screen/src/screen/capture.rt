@@ -1,4 +1,4 @@
-//! Captures: texts of rows with SGR alone.
+//! Captures: the text of rows with SGR as the only escape sequences.
 
 ghost use Rattle.std.specs.Prelude.{◌≡◌, ◌≤◌, ◌++◌, OnErr, OnOk, length};
 ghost use Rattle.std.specs.List.{slice_range};
@@ -17,18 +17,20 @@ use vt_cells::{Error, Sink};
 use vt_rows::{BasicFormattedCaptureRange, BasicFormattedCaptureState};
 
 impl Screen {
-    /// The basic text of the rows that are shown, as they stand: their text
-    /// and SGR, and nothing else. Its only controls are line ends and the ESC
-    /// that begins each SGR change. Rows of scrollback may be wider than the
-    /// screen.
+    /// Returns the displayed rows as text with SGR as the only escape
+    /// sequences. Its only controls are line ends and the ESC that begins each
+    /// SGR sequence.
     ///
-    /// A `\n` stands between two rows, unless the upper one goes on in the lower
-    /// one; default blanks at a row's end are dropped (see
+    /// Rows are separated by `\n`, except after a wrapped row. Default blanks
+    /// at a row's end are dropped (see
     /// [`RowContents::write_formatted_basic`](vt_rows::RowContents::write_formatted_basic)).
-    /// The text counts on default attributes where it begins, and does not go
-    /// back to them at its end.
+    /// Rows of scrollback may be wider than the screen. The text assumes
+    /// default attributes at its beginning and doesn't restore them at its end.
     ///
-    /// Fails where memory for the text is refused; an empty text needs none.
+    /// # Errors
+    ///
+    /// `Error::OutOfMemory` if the text cannot be allocated; empty text needs
+    /// no allocation.
     pub fn contents_formatted_basic(&self) -> Result<String, Error>
         ensures text { IfText result (λ text. text ≡ basic_texts unwritten (visible_rows self.now)) }
         ensures controls { IfText result (IsMadeOf capture_finals plain_controls) }
@@ -42,13 +44,16 @@ impl Screen {
         }
     }
 
-    /// Writes the basic text of the rows of `range`: their text and SGR, and
-    /// nothing else.
+    /// Writes the rows of `range` as text with SGR as the only escape
+    /// sequences.
     ///
-    /// An error is the sink's own; then nothing more was written. The sink took
-    /// some first rows whole and stopped in the next one, and the caller's
-    /// state is that behind the whole rows. What the sink holds of the next one
-    /// is for it to say: a string has the pieces that it took, each as a whole.
+    /// # Errors
+    ///
+    /// The error of the sink, which ends the writing. The sink has then
+    /// accepted some first rows in full and has stopped within the next row;
+    /// the caller's capture state is the one after the complete rows. What the
+    /// sink holds of the incomplete row is for the sink to define: a string
+    /// holds the chunks that it accepted, each of them complete.
     pub fn write_contents_formatted_basic<S: Sink>(
         &self,
         sink: &mut S,
@@ -71,7 +76,8 @@ impl Screen {
         }
     }
 
-    /// Writes all rows behind those of `state`.
+    /// Writes all rows of scrollback and the page, continuing from the capture
+    /// state `state`.
     fn write_all_rows<S: Sink>(
         &self,
         sink: &mut S,
@@ -84,7 +90,7 @@ impl Screen {
         self.write_rows(sink, state, 0, end)
     }
 
-    /// Writes the rows that are shown behind those of `state`.
+    /// Writes the displayed rows, continuing from the capture state `state`.
     fn write_visible_rows<S: Sink>(
         &self,
         sink: &mut S,
@@ -98,7 +104,9 @@ impl Screen {
         self.write_rows(sink, state, end - rows.len(), end)
     }
 
-    /// Writes some of all rows behind those of `state`.
+    /// Writes the rows from index `start` up to but not including `end`,
+    /// counted from the first row of scrollback, continuing from the capture
+    /// state `state`.
     fn write_rows<S: Sink>(
         &self,
         sink: &mut S,

@@ -1,4 +1,4 @@
-//! The text of a screen without attributes.
+//! The plain text of a screen, without attributes.
 
 ghost use Rattle.std.specs.Prelude.{◌≡◌, ◌≤◌, ◌<◌, ◌+◌, ◌-◌, ◌++◌, ◌↔◌, IfErr, IfSome};
 ghost use Rattle.std.specs.Prelude.{IsSome, OnOk, false, length, min, string_bytes, if◌then◌else◌};
@@ -20,15 +20,17 @@ use vt_cells::{Error, Pos, Sink};
 use vt_rows::{RowContents, plain};
 
 impl Screen {
-    /// The text of the rows that are shown, without attributes.
+    /// Returns the text of the displayed rows, without attributes.
     ///
-    /// A row's text ends with its last glyph; before and between glyphs a
-    /// column is a space. A row is followed by `\n`, unless its text goes on in
-    /// the row below; where that has no glyph, a `\n` stands for it. There is
-    /// no `\n` at the end. Longer rows of scrollback are cut to the columns of
-    /// the screen.
+    /// A row's text ends with its last glyph; blank columns before that are
+    /// spaces. Each row is followed by `\n`, unless it is wrapped and a glyph
+    /// begins on the next row. Line ends at the end of the text are dropped.
+    /// Rows of scrollback that are longer than the screen are cut to its
+    /// columns.
     ///
-    /// Fails where memory for the text is refused.
+    /// # Errors
+    ///
+    /// `Error::OutOfMemory` if the text cannot be allocated.
     pub fn contents(&self) -> Result<String, Error>
         ensures text { IfText result (λ text. text ≡ contents_of self.now) }
         ensures controls { IfText result (IsMadeOf [] plain_controls) }
@@ -44,18 +46,24 @@ impl Screen {
         }
     }
 
-    /// The text from a column of one row up to a column of another, as it may
-    /// be copied: the first row from `start_col` on, the rows between, and the
-    /// last one up to `end_col`; in one row the columns from `start_col` up to
-    /// `end_col`. Rows and columns count from 0, and `end_col` itself is left
-    /// out. A row before the last one is followed by `\n`, unless its text goes
-    /// on in the row below. Where `start_row` is before `end_row`, `start_col`
-    /// is to be at most the number of columns.
+    /// Returns the text between two positions, as it would be copied from a
+    /// selection, without attributes.
     ///
-    /// Rows that aren't shown have no text, and neither has a range whose end
-    /// is before its start. Only the last row is read past the columns of the
-    /// screen, where it is a longer one of scrollback. Fails where memory for
-    /// the text is refused; an empty text needs none.
+    /// It is the first row from `start_col` on, the rows between, and the last
+    /// row up to but not including `end_col`; within one row, the columns from
+    /// `start_col` up to but not including `end_col`. Rows and columns count
+    /// from 0. Each row but the last is followed by `\n` unless it is wrapped.
+    /// If `start_row` is less than `end_row`, `start_col` must be at most the
+    /// number of columns.
+    ///
+    /// Rows that aren't displayed have no text, and a range whose end is before
+    /// its start is empty. Only the last row is read past the screen's columns,
+    /// if it is a longer row of scrollback.
+    ///
+    /// # Errors
+    ///
+    /// `Error::OutOfMemory` if the text cannot be allocated; empty text needs
+    /// no allocation.
     pub fn contents_between(
         &self,
         start_row: u16,
@@ -84,14 +92,18 @@ impl Screen {
         }
     }
 
-    /// The texts of the rows that are shown, from the top, each in the columns
-    /// from `start` on, which counts from 0, `width` of them, without line ends.
-    /// Both may be any number: a column that a row doesn't have has no text.
-    /// Longer rows of scrollback are read as they stand. A wide glyph is in the
-    /// text where its left half is among the columns.
+    /// Returns an iterator over the plain text of each displayed row from the
+    /// top, in `width` columns from `start` on, without line ends.
     ///
-    /// There are as many items as rows. An item is an error where memory for
-    /// its text is refused; the next one is then the next row's.
+    /// `start` counts from 0, and both numbers may be any: a column that a row
+    /// doesn't have contributes no text. Rows of scrollback that are longer
+    /// than the screen are read in full. A wide character is included if its
+    /// first column is in the range.
+    ///
+    /// There is one item for each row of the screen. An item is an error if its
+    /// text cannot be allocated; the next item is then that of the next row.
+    ///
+    /// # Examples
     ///
     /// ```text
     /// for text in screen.rows(0, 80) {
@@ -104,13 +116,13 @@ impl Screen {
         ensures controls { (r : ℕ) → IsMadeOf [] plain_controls (text_at (rows_left result) r) }
         ensures count { length (rows_left result) ≡ length self.now.page.rows }
     {
-        // For the proof: every screen is whole.
+        // Only for the proof: it makes the screen's invariant known.
         self.sound();
         Rows::new(self, start, width)
     }
 
-    /// The text of the row that is shown at a place, if there is one, in the
-    /// columns from `start` up to `stop`.
+    /// Returns the plain text of a displayed row, if there is such a row, in
+    /// the columns from `start` up to but not including `stop`.
     pub(crate) fn row_text(
         &self,
         row: u16,
@@ -128,7 +140,7 @@ impl Screen {
         Some(text_of(self.alloc, &found, start, stop))
     }
 
-    /// Writes all rows, each with its line end.
+    /// Writes the text of all displayed rows, each with its line end.
     #[tactic(auto, using(crate::proofs::ContentTexts::lines_more, crate::proofs::ContentTexts::lines_done))]
     fn write_lines<S: Sink>(&self, sink: &mut S) -> Result<(), S::Error>
         ensures { OnOk result
@@ -146,8 +158,8 @@ impl Screen {
         Ok(())
     }
 
-    /// Writes the rows from one position up to another, as far as they are
-    /// shown.
+    /// Writes the text from one position up to another, as far as its rows are
+    /// displayed.
     #[tactic(auto, using(crate::proofs::ContentTexts::parts_more, crate::proofs::ContentTexts::parts_done))]
     fn write_between<S: Sink>(&self, sink: &mut S, start: Pos, end: Pos) -> Result<(), S::Error>
         ensures text { OnOk result
@@ -162,8 +174,8 @@ impl Screen {
         Ok(())
     }
 
-    /// Writes what of a row lies between two positions, and its line end if it
-    /// isn't the last one.
+    /// Writes the part of a row that lies between two positions, and its line
+    /// end unless it is the last row of the range.
     fn write_part<S: Sink>(
         &self,
         sink: &mut S,
@@ -187,21 +199,27 @@ impl Screen {
     }
 }
 
-/// The first column where the test holds, else the second.
+/// Returns `column` if `test` holds, and `other` if not.
 fn column_if(test: bool, column: u16, other: u16) -> u16
     ensures { result ≡ (if test then column else other) }
 {
     if test { column } else { other }
 }
 
-/// The row behind a row, at most the number of rows.
+/// Returns the index of the next row, at most the number of rows.
 fn past_row(row: u16, rows: u16) -> u16
     ensures { result ≡ min (row + 1) rows }
 {
     if row < rows { row + 1 } else { rows }
 }
 
-/// The text of a row, in the columns from `start` up to `stop`.
+/// Returns the plain text of a row, in the columns from `start` up to but not
+/// including `stop`.
+///
+/// # Errors
+///
+/// `Error::OutOfMemory` if the text cannot be allocated; empty text needs no
+/// allocation.
 fn text_of(alloc: Global, row: &RowContents<'_>, start: usize, stop: usize) -> Result<String, Error>
     ensures { AnswersText result (plain_text start stop row.now.cells) }
 {
@@ -212,7 +230,9 @@ fn text_of(alloc: Global, row: &RowContents<'_>, start: usize, stop: usize) -> R
     }
 }
 
-/// Writes a row over the columns of the screen, with its line end.
+/// Writes the text of a row in the columns of the screen, with its line end,
+/// and with one before it if the previous row is wrapped and no glyph begins in
+/// this one.
 fn write_line<S: Sink>(
     sink: &mut S,
     row: &RowContents<'_>,
@@ -227,8 +247,8 @@ fn write_line<S: Sink>(
     write_line_end(sink, row)
 }
 
-/// Writes a line end before a row in which no glyph begins, if the row above
-/// goes on in it.
+/// Writes a line end for a row in which no glyph begins, if the row before it
+/// is wrapped.
 fn write_gap_line<S: Sink>(
     sink: &mut S,
     row: &RowContents<'_>,
@@ -244,7 +264,7 @@ fn write_gap_line<S: Sink>(
     }
 }
 
-/// Writes a line end, unless the row's text goes on in the row below.
+/// Writes a line end after a row, unless the row is wrapped.
 fn write_line_end<S: Sink>(sink: &mut S, row: &RowContents<'_>) -> Result<(), S::Error>
     ensures text { OnOk result (S.text sink.new ≡ S.text sink.old ++ line_end row.now) }
     ensures some { RefusedOnlyIfSome result (line_end row.now) }
@@ -256,7 +276,7 @@ fn write_line_end<S: Sink>(sink: &mut S, row: &RowContents<'_>) -> Result<(), S:
     }
 }
 
-/// Writes a row's line end, unless it is the last row.
+/// Writes the line end of a row, unless it is the last one of the range.
 fn write_end_unless<S: Sink>(
     sink: &mut S,
     is_last: bool,
@@ -273,7 +293,7 @@ fn write_end_unless<S: Sink>(
     }
 }
 
-/// Drops the line ends at the end of a text.
+/// Removes the line ends at the end of a string.
 #[tactic(auto, using(crate::proofs::ContentTexts::trim_more))]
 fn drop_line_ends(text: &mut String)
     ensures { string_bytes text.new ≡ without_line_ends (string_bytes text.old) }
@@ -283,7 +303,7 @@ fn drop_line_ends(text: &mut String)
     }
 }
 
-/// Whether the text's last byte is a line end.
+/// Returns whether the last byte of a string is a line end.
 #[tactic(auto, using(crate::proofs::ContentTexts::trim_none, crate::proofs::ContentTexts::trim_other))]
 fn ends_line(text: &String) -> bool
     ensures yes { IsTrue result →

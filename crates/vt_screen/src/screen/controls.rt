@@ -1,4 +1,4 @@
-//! What a program's controls do, but for those that scroll rows off the page.
+//! Control functions, except for those that scroll rows off the page.
 
 ghost use Rattle.std.specs.Prelude.{◌≡◌};
 ghost use Rattle.vt_grid.specs.PageStep as page;
@@ -19,101 +19,104 @@ pub fn cr(screen: &mut Screen)
     screen.grid.cr();
 }
 
-/// Moves the cursor to the right, at most to the last column (CUF).
+/// Moves the cursor right by `count` columns, at most to the last column (CUF).
 pub fn cuf(screen: &mut Screen, count: u16)
     ensures { screen.new ≡ display_after (step.OnPage (page.MoveRight count)) screen.old }
 {
     screen.grid.col_inc_clamp(count);
 }
 
-/// Moves the cursor to a row and a column, counted from 0, each at most
-/// the last one (CUP). In origin mode the row counts from the scroll
-/// region's top and stays in the region.
+/// Moves the cursor to a row and column, counted from 0, each at most the last
+/// one (CUP). In origin mode the row counts from the top of the scroll region
+/// and stays within it.
 pub fn cup(screen: &mut Screen, row: u16, col: u16)
     ensures { screen.new ≡ display_after (step.OnPage (page.MoveTo row col)) screen.old }
 {
     screen.grid.move_to(row, col);
 }
 
-/// Makes the screen blank, in the current attributes, from the cursor on
-/// (ED 0); at a pending wrap the cursor's row stays.
+/// Erases from the cursor to the end of the screen, in the current attributes
+/// (ED 0). If a wrap is pending, the cursor's row is unchanged.
 pub fn erase_below(screen: &mut Screen)
     ensures { screen.new ≡ display_after (step.OnPage page.EraseBelow) screen.old }
 {
     screen.grid.erase_all_forward(screen.attrs);
 }
 
-/// Makes the cursor's row blank, in the current attributes, from the cursor
-/// on (EL 0); at a pending wrap nothing happens.
+/// Erases from the cursor to the end of its row, in the current attributes (EL
+/// 0). If a wrap is pending, nothing is erased.
 pub fn erase_rest(screen: &mut Screen)
     ensures { screen.new ≡ display_after (step.OnPage page.EraseRest) screen.old }
 {
     screen.grid.erase_row_forward(screen.attrs);
 }
 
-/// Makes this many columns from the cursor on blank, in the current
-/// attributes, at most to the end of the row (ECH); at a pending wrap none.
+/// Erases `count` columns from the cursor on, at most to the end of the row, in
+/// the current attributes (ECH). If a wrap is pending, nothing is erased.
 pub fn ech(screen: &mut Screen, count: u16)
     ensures { screen.new ≡ display_after (step.OnPage (page.EraseChars count)) screen.old }
 {
     screen.grid.erase_cells(count, screen.attrs);
 }
 
-/// Moves the cursor to the left by one column (BS); in the first column it
-/// stays.
+/// Moves the cursor left by one column, unless it is in the first column (BS).
 pub fn bs(screen: &mut Screen)
     ensures { screen.new ≡ display_after (step.OnPage (page.MoveLeft 1)) screen.old }
 {
     screen.grid.col_dec(1);
 }
 
-/// Moves the cursor to the next column that is a multiple of 8, at most to
-/// the last one (HT).
+/// Moves the cursor to the next column that is a multiple of 8, at most to the
+/// last column (HT).
 pub fn tab(screen: &mut Screen)
     ensures { screen.new ≡ display_after (step.OnPage page.Tab) screen.old }
 {
     screen.grid.col_tab();
 }
 
-/// Moves the cursor up by one row, its column as it is: at the scroll
-/// region's top, and in the first row, the region scrolls down instead (RI).
+/// Moves the cursor up by one row and keeps its column; if it is in the top row
+/// of the scroll region or in the first row, the region scrolls down instead
+/// (RI).
 pub fn ri(screen: &mut Screen)
     ensures { screen.new ≡ display_after (step.OnPage page.ReverseIndex) screen.old }
 {
     screen.grid.reverse_index();
 }
 
-/// Moves the cursor up, its column as it is: from within the scroll region
-/// at most to its top, else to the first row (CUU).
+/// Moves the cursor up by `count` rows and keeps its column: from within the
+/// scroll region at most to its top, otherwise at most to the first row (CUU).
 pub fn cuu(screen: &mut Screen, count: u16)
     ensures { screen.new ≡ display_after (step.OnPage (page.MoveUp count)) screen.old }
 {
     screen.grid.row_dec_clamp(count);
 }
 
-/// Moves the cursor down, its column as it is: from within the scroll
-/// region at most to its bottom, else to the last row (CUD).
+/// Moves the cursor down by `count` rows and keeps its column: from within the
+/// scroll region at most to its bottom, otherwise at most to the last row
+/// (CUD).
 pub fn cud(screen: &mut Screen, count: u16)
     ensures { screen.new ≡ display_after (step.OnPage (page.MoveDown count)) screen.old }
 {
     screen.grid.row_inc_clamp(count);
 }
 
-/// Moves the cursor to the left, at most to the first column (CUB).
+/// Moves the cursor left by `count` columns, at most to the first column (CUB).
 pub fn cub(screen: &mut Screen, count: u16)
     ensures { screen.new ≡ display_after (step.OnPage (page.MoveLeft count)) screen.old }
 {
     screen.grid.col_dec(count);
 }
 
-/// Moves the cursor down as CUD does, and to the first column (CNL).
+/// Moves the cursor down by `count` rows, as [`cud`] does, and to the first
+/// column (CNL).
 pub fn cnl(screen: &mut Screen, count: u16)
     ensures { screen.new ≡ display_after (step.OnPage (page.NextLine count)) screen.old }
 {
     screen.grid.next_line(count);
 }
 
-/// Moves the cursor up as CUU does, and to the first column (CPL).
+/// Moves the cursor up by `count` rows, as [`cuu`] does, and to the first
+/// column (CPL).
 pub fn cpl(screen: &mut Screen, count: u16)
     ensures { screen.new ≡ display_after (step.OnPage (page.PreviousLine count)) screen.old }
 {
@@ -135,93 +138,95 @@ pub fn vpa(screen: &mut Screen, row: u16)
     screen.grid.row_set(row);
 }
 
-/// Makes the rows from `top` to `bottom`, counted from 0, the scroll region,
-/// or the whole page where these are not two rows or more, and moves the
-/// cursor to the region's first place (DECSTBM).
+/// Sets the scroll region to the rows from `top` through `bottom`, counted from
+/// 0, and moves the cursor to its first position (DECSTBM). If these are not
+/// two rows or more, the region becomes the whole page.
 pub fn decstbm(screen: &mut Screen, top: u16, bottom: u16)
     ensures { screen.new ≡ display_after (step.OnPage (page.SetRegion top bottom)) screen.old }
 {
     screen.grid.set_scroll_region(top, bottom);
 }
 
-/// Turns origin mode on or off, and moves the cursor to the first place that
-/// it then has (DECOM).
+/// Turns origin mode on or off, and moves the cursor to its first position in
+/// that mode (DECOM).
 pub fn set_origin_mode(screen: &mut Screen, on: bool)
     ensures { screen.new ≡ display_after (step.OnPage (page.UseOrigin on)) screen.old }
 {
     screen.grid.set_origin_mode(on);
 }
 
-/// Inserts default blanks at the cursor; what passes the last column is lost
-/// (ICH).
+/// Inserts `count` default blanks at the cursor; what moves past the last
+/// column is lost (ICH).
 pub fn ich(screen: &mut Screen, count: u16)
     ensures { screen.new ≡ display_after (step.OnPage (page.InsertChars count)) screen.old }
 {
     screen.grid.insert_cells(count);
 }
 
-/// Deletes columns at the cursor; default blanks come in at the end of the
-/// row (DCH).
+/// Deletes `count` columns at the cursor; default blanks come in at the end of
+/// the row (DCH).
 pub fn dch(screen: &mut Screen, count: u16)
     ensures { screen.new ≡ display_after (step.OnPage (page.DeleteChars count)) screen.old }
 {
     screen.grid.delete_cells(count);
 }
 
-/// Inserts default blank rows at the cursor's row; what passes the scroll
-/// region's bottom is lost. Outside the region nothing happens (IL).
+/// Inserts `count` default blank rows at the cursor's row; what moves past the
+/// bottom of the scroll region is lost (IL). Outside of the region nothing
+/// happens.
 pub fn il(screen: &mut Screen, count: u16)
     ensures { screen.new ≡ display_after (step.OnPage (page.InsertLines count)) screen.old }
 {
     screen.grid.insert_lines(count);
 }
 
-/// Deletes rows at the cursor's row; default blank rows come in at the scroll
-/// region's bottom. Outside the region nothing happens (DL).
+/// Deletes `count` rows at the cursor's row; default blank rows come in at the
+/// bottom of the scroll region (DL). Outside of the region nothing happens.
 pub fn dl(screen: &mut Screen, count: u16)
     ensures { screen.new ≡ display_after (step.OnPage (page.DeleteLines count)) screen.old }
 {
     screen.grid.delete_lines(count);
 }
 
-/// Scrolls the scroll region down; default blank rows come in at its top (SD).
+/// Scrolls the scroll region down by `count` rows; default blank rows come in
+/// at its top (SD).
 pub fn sd(screen: &mut Screen, count: u16)
     ensures { screen.new ≡ display_after (step.OnPage (page.ScrollDown count)) screen.old }
 {
     screen.grid.scroll_down(count);
 }
 
-/// Makes the screen blank, in the current attributes, from its first place
-/// through the cursor (ED 1).
+/// Erases from the beginning of the screen through the cursor, in the current
+/// attributes (ED 1).
 pub fn erase_above(screen: &mut Screen)
     ensures { screen.new ≡ display_after (step.OnPage page.EraseAbove) screen.old }
 {
     screen.grid.erase_all_backward(screen.attrs);
 }
 
-/// Makes the whole screen blank, in the current attributes (ED 2).
+/// Erases the whole screen, in the current attributes (ED 2).
 pub fn erase_page(screen: &mut Screen)
     ensures { screen.new ≡ display_after (step.OnPage page.ErasePage) screen.old }
 {
     screen.grid.erase_all(screen.attrs);
 }
 
-/// Makes the cursor's row blank, in the current attributes, from its first
-/// column through the cursor (EL 1).
+/// Erases from the beginning of the cursor's row through the cursor, in the
+/// current attributes (EL 1).
 pub fn erase_start(screen: &mut Screen)
     ensures { screen.new ≡ display_after (step.OnPage page.EraseStart) screen.old }
 {
     screen.grid.erase_row_backward(screen.attrs);
 }
 
-/// Makes the cursor's row blank, in the current attributes (EL 2).
+/// Erases the cursor's row, in the current attributes (EL 2).
 pub fn erase_row(screen: &mut Screen)
     ensures { screen.new ≡ display_after (step.OnPage page.EraseRow) screen.old }
 {
     screen.grid.erase_row(screen.attrs);
 }
 
-/// Makes one setting of SGR: what is drawn from now on has it.
+/// Applies one setting of SGR to the current attributes.
 #[inline(always)]
 pub fn render(screen: &mut Screen, setting: Setting)
     ensures { screen.new ≡ display_after (step.Render setting) screen.old }
@@ -229,65 +234,65 @@ pub fn render(screen: &mut Screen, setting: Setting)
     screen.attrs = setting.applied_to(screen.attrs);
 }
 
-/// Hides the cursor, or shows it (DECTCEM).
+/// Hides or shows the cursor (DECTCEM).
 pub fn set_hidden(screen: &mut Screen, hidden: bool)
     ensures { screen.new ≡ display_after (step.HideCursor hidden) screen.old }
 {
     screen.hidden = hidden;
 }
 
-/// Turns the application sequences of the keypad on or off (DECKPAM,
-/// DECKPNM).
+/// Turns application keypad mode on or off (DECKPAM, DECKPNM).
 pub fn set_application_keypad(screen: &mut Screen, on: bool)
     ensures { screen.new ≡ display_after (step.SetMode (modes.UseApplicationKeypad on)) screen.old }
 {
     screen.modes.application_keypad = on;
 }
 
-/// Turns the application sequences of the cursor keys on or off (DECCKM).
+/// Turns application cursor keys on or off (DECCKM).
 pub fn set_application_cursor(screen: &mut Screen, on: bool)
     ensures { screen.new ≡ display_after (step.SetMode (modes.UseApplicationCursor on)) screen.old }
 {
     screen.modes.application_cursor = on;
 }
 
-/// Turns brackets around pasted text on or off (xterm's private mode 2004).
+/// Turns bracketed paste on or off (xterm, DEC private mode 2004).
 pub fn set_bracketed_paste(screen: &mut Screen, on: bool)
     ensures { screen.new ≡ display_after (step.SetMode (modes.UseBracketedPaste on)) screen.old }
 {
     screen.modes.bracketed_paste = on;
 }
 
-/// Chooses which mouse events are reported (xterm's private modes 9, 1000,
-/// 1002 and 1003).
+/// Sets which mouse events are reported (xterm, DEC private modes 9, 1000, 1002
+/// and 1003).
 pub fn set_mouse_mode(screen: &mut Screen, mode: MouseProtocolMode)
     ensures { screen.new ≡ display_after (step.SetMode (modes.SetMouseMode mode)) screen.old }
 {
     screen.modes.mouse_mode = mode;
 }
 
-/// Ends the reports of mouse events, if they are in this mode.
+/// Stops the reports of mouse events if `mode` is the active mouse mode.
 pub fn clear_mouse_mode(screen: &mut Screen, mode: MouseProtocolMode)
     ensures { screen.new ≡ display_after (step.SetMode (modes.ClearMouseMode mode)) screen.old }
 {
     screen.modes.mouse_mode = modes::clear_mode(screen.modes.mouse_mode, mode);
 }
 
-/// Chooses how mouse events are encoded (xterm's private modes 1005 and 1006).
+/// Sets the encoding of mouse events (xterm, DEC private modes 1005 and 1006).
 pub fn set_mouse_encoding(screen: &mut Screen, encoding: MouseProtocolEncoding)
     ensures { screen.new ≡ display_after (step.SetMode (modes.SetMouseEncoding encoding)) screen.old }
 {
     screen.modes.mouse_encoding = encoding;
 }
 
-/// Goes back to the default encoding, if this one is set.
+/// Resets the encoding of mouse events to the default if `encoding` is the
+/// active one.
 pub fn clear_mouse_encoding(screen: &mut Screen, encoding: MouseProtocolEncoding)
     ensures { screen.new ≡ display_after (step.SetMode (modes.ClearMouseEncoding encoding)) screen.old }
 {
     screen.modes.mouse_encoding = modes::clear_encoding(screen.modes.mouse_encoding, encoding);
 }
 
-/// Sets the look of the cursor (DECSCUSR).
+/// Sets the cursor style (DECSCUSR).
 pub fn set_cursor_style(screen: &mut Screen, style: CursorStyle)
     ensures { screen.new ≡ display_after (step.SetMode (modes.SetCursorStyle style)) screen.old }
 {

@@ -1,4 +1,4 @@
-//! Texts that set a terminal's input modes.
+//! Escape sequences that set the input modes of a terminal.
 
 ghost use Rattle.std.specs.Prelude.{◌≡◌, ◌++◌, [], IsOk, OnOk};
 ghost use Rattle.vt_cells.specs.InputModes.{application_cursor_text, bracketed_paste_text, keypad_text};
@@ -18,16 +18,23 @@ use vt_cells::term::{
 use vt_cells::{Error, Sink};
 
 impl Screen {
-    /// A text that sets the input modes on a terminal whose mouse mode, mouse
-    /// encoding and cursor style are the default ones: the keypad (DECKPAM or
-    /// DECKPNM), the cursor keys (DECCKM), bracketed paste (xterm's private
-    /// mode 2004), and mouse mode, mouse encoding and cursor style (DECSCUSR)
-    /// where they aren't the default ones.
+    /// Returns the escape sequences that set the input modes of this screen on
+    /// a terminal with the default mouse mode, mouse encoding and cursor style.
     ///
-    /// By `sets`, such a terminal, if it is in ground state, reads
-    /// the text without calling anybody and without taking memory, has these
-    /// modes then, and changes nothing else. Fails where memory for the text is
-    /// refused.
+    /// They set the keypad (DECKPAM or DECKPNM), the cursor keys (DECCKM) and
+    /// bracketed paste (xterm, DEC private mode 2004), and also the mouse mode,
+    /// the mouse encoding and the cursor style (DECSCUSR) if these aren't the
+    /// defaults.
+    ///
+    /// By `sets`, such a terminal in ground state has these modes after reading
+    /// them. Reading them invokes no callbacks, allocates nothing and changes
+    /// nothing else.
+    ///
+    /// # Errors
+    ///
+    /// `Error::OutOfMemory` if the output cannot be allocated.
+    ///
+    /// # Examples
     ///
     /// ```text
     /// // on a fresh screen
@@ -46,15 +53,19 @@ impl Screen {
         }
     }
 
-    /// A text that sets the input modes on a terminal that has those of `prev`:
-    /// only what differs, and nothing where all is the same. A mouse mode or
-    /// encoding that is the default one again is reset by the sequence of the
-    /// one before.
+    /// Returns the escape sequences that change the input modes of `prev` to
+    /// those of this screen. They contain only the modes that differ.
     ///
-    /// By `sets`, such a terminal, if it is in ground state, has
-    /// these modes then, and changes nothing else; by `empty` and `none` the
-    /// text is empty exactly where both screens have the same modes. Fails
-    /// where memory for the text is refused, and by `never` not there.
+    /// A mouse mode or encoding that is back at its default is reset by the
+    /// sequence of the previous one. By `sets`, a terminal in ground state with
+    /// the modes of `prev` has the modes of this screen after reading the
+    /// output, and nothing else changes. By `empty` and `none` the output is
+    /// empty if and only if both screens have the same modes.
+    ///
+    /// # Errors
+    ///
+    /// `Error::OutOfMemory` if the output cannot be allocated. By `never` this
+    /// cannot fail if both screens have the same modes.
     pub fn input_mode_diff(&self, prev: &Screen) -> Result<String, Error>
         ensures text { IfText result (λ text. text ≡ input_change prev.now.modes self.now.modes) }
         ensures controls { IfText result (IsMadeOf [] input_controls) }
@@ -72,7 +83,8 @@ impl Screen {
         }
     }
 
-    /// Writes all modes.
+    /// Writes the escape sequences that set all input modes, as
+    /// [`Screen::input_mode_formatted`] returns them.
     pub(super) fn write_input_mode_formatted<S: Sink>(&self, sink: &mut S) -> Result<(), S::Error>
         ensures { OnOk result (S.text sink.new ≡ S.text sink.old ++ input_text self.now.modes) }
     {
@@ -86,7 +98,8 @@ impl Screen {
         write_mouse_and_style(sink, Modes::new(), new)
     }
 
-    /// Writes the modes that differ.
+    /// Writes the escape sequences for the input modes that differ, as
+    /// [`Screen::input_mode_diff`] returns them.
     pub(super) fn write_input_mode_diff<S: Sink>(
         &self,
         sink: &mut S,
@@ -104,7 +117,8 @@ impl Screen {
     }
 }
 
-/// Writes mouse mode, mouse encoding and cursor style where they differ.
+/// Writes the mouse mode, the mouse encoding and the cursor style if they
+/// differ.
 fn write_mouse_and_style<S: Sink>(sink: &mut S, was: Modes, new: Modes) -> Result<(), S::Error>
     ensures text { OnOk result (S.text sink.new ≡ S.text sink.old ++ mouse_and_style_text was new) }
     ensures some { RefusedOnlyIfSome result (mouse_and_style_text was new) }
@@ -126,7 +140,7 @@ fn write_mouse_and_style<S: Sink>(sink: &mut S, was: Modes, new: Modes) -> Resul
     style.write_buf(sink)
 }
 
-/// Writes the keypad's mode if it differs.
+/// Writes the keypad mode if it differs.
 fn write_keypad<S: Sink>(sink: &mut S, was: bool, new: bool) -> Result<(), S::Error>
     ensures text { OnOk result (S.text sink.new ≡ S.text sink.old ++ where_changed was new (keypad_text new)) }
     ensures some { RefusedOnlyIfSome result (where_changed was new (keypad_text new)) }
@@ -137,7 +151,7 @@ fn write_keypad<S: Sink>(sink: &mut S, was: bool, new: bool) -> Result<(), S::Er
     ApplicationKeypad { state: new }.write_buf(sink)
 }
 
-/// Writes the cursor keys' mode if it differs.
+/// Writes the mode of the cursor keys if it differs.
 fn write_cursor_keys<S: Sink>(sink: &mut S, was: bool, new: bool) -> Result<(), S::Error>
     ensures text { OnOk result
         (S.text sink.new ≡ S.text sink.old ++ where_changed was new (application_cursor_text new)) }
@@ -149,7 +163,7 @@ fn write_cursor_keys<S: Sink>(sink: &mut S, was: bool, new: bool) -> Result<(), 
     ApplicationCursor { state: new }.write_buf(sink)
 }
 
-/// Writes whether pasted text comes between brackets if that differs.
+/// Writes the bracketed paste mode if it differs.
 fn write_paste<S: Sink>(sink: &mut S, was: bool, new: bool) -> Result<(), S::Error>
     ensures text { OnOk result (S.text sink.new ≡ S.text sink.old ++ where_changed was new (bracketed_paste_text new)) }
     ensures some { RefusedOnlyIfSome result (where_changed was new (bracketed_paste_text new)) }

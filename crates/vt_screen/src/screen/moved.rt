@@ -1,7 +1,8 @@
-//! Differences that may move rows first, and are never longer than the others.
+//! Differences that may move rows first, and are never longer than the plain
+//! difference.
 //!
-//! What is shown, which terminals are plain and which pictures are steady, is
-//! said beside the texts that redraw a screen.
+//! The module `redraw` defines what a screen displays, and when a terminal is
+//! plain and a screen steady.
 
 ghost use Rattle.std.specs.Prelude.{◌≡◌, ◌≤◌, ◌++◌, [], IsOk, OnOk, length, string_bytes};
 ghost use Rattle.vt_cells.specs.Refusals.{OnlyOutOfMemory};
@@ -20,23 +21,31 @@ use vt_cells::{Error, Sink};
 use vt_redraw::{Band, View, likely_band, write_contents_diff, write_moves};
 
 impl Screen {
-    /// A text that makes a plain terminal that shows what `prev` shows show
-    /// what this screen shows, as [`Screen::contents_diff`] does, and never a
-    /// longer one. Both screens are to be of one size.
+    /// Returns the escape sequences that turn the display of `prev` into the
+    /// display of this screen, moving rows first if they have scrolled. The
+    /// output is never longer than that of [`Screen::contents_diff`]. Both
+    /// screens must have the same size.
     ///
-    /// Where rows have scrolled, be it within a part of the screen, the text may
-    /// move them first (DL and IL), and so be much shorter. Which rows these are
-    /// is guessed, from the first 256.
+    /// If rows have scrolled, even within a part of the screen, the output may
+    /// move them (DL and IL) and so be much shorter. Which rows these are is
+    /// guessed from the first 256 rows; any row may be touched.
     ///
-    /// By `redraws`, for a screen whose picture is steady, such a terminal
-    /// reads the text as that of [`Screen::contents_formatted`], to the same
-    /// end. The text is empty where both show the same, and by `empty` only
-    /// there. It may touch any row. By `again` a plain terminal that has read it
-    /// is plain again, also where the picture is not steady.
+    /// By `redraws`, if this screen is steady (each glyph reproduces itself
+    /// when printed), a plain terminal (in ground state, with the full scroll
+    /// region, origin mode off and no scrollback displayed) that displays
+    /// `prev` displays this screen after reading the output, as with
+    /// [`Screen::contents_formatted`]. The output is empty if both screens
+    /// display the same, and by `empty` only then. By `again` a plain terminal
+    /// that has read the output is plain again, even if this screen is not
+    /// steady.
     ///
-    /// Fails where memory for the text, or for the plain difference that it is
-    /// compared with, is refused, and by `never` not where both screens show the
-    /// same.
+    /// # Errors
+    ///
+    /// `Error::OutOfMemory` if the output, or the plain difference that it is
+    /// compared with, cannot be allocated. By `never` this cannot fail if both
+    /// screens display the same.
+    ///
+    /// # Examples
     ///
     /// ```text
     /// // three rows of four columns: from `one`, `two`, `six` to `two`, `six`
@@ -57,12 +66,17 @@ impl Screen {
         ensures never { shown self.now ≡ shown prev.now → IsOk result }
     {
         let text = self.contents_diff(prev)?;
-        // For the proof: a value in the tail, so that its clause is found.
+        // Only for the proof: a value in tail position, so that its clause is found.
         let shorter = self.shortened(prev, text)?;
         Ok(shorter)
     }
 
-    /// The difference, or a shorter text that moves rows first.
+    /// Returns the plain difference `text`, or shorter output that moves rows
+    /// first.
+    ///
+    /// # Errors
+    ///
+    /// `Error::OutOfMemory` if the other output cannot be allocated.
     fn shortened(&self, prev: &Screen, text: String) -> Result<String, Error>
         requires size { SameSize self.now.page prev.now.page }
         requires text { string_bytes text ≡ shown_change prev.now self.now }
@@ -81,8 +95,12 @@ impl Screen {
         }
     }
 
-    /// The shorter one of the difference and the text by which this band moves
-    /// first.
+    /// Returns the shorter of the plain difference `text` and the output that
+    /// moves the rows of `band` first.
+    ///
+    /// # Errors
+    ///
+    /// `Error::OutOfMemory` if the other output cannot be allocated.
     fn shorter_of(&self, prev: &Screen, band: Band, text: String) -> Result<String, Error>
         requires size { SameSize self.now.page prev.now.page }
         requires band { IsBand (length (shown prev.now).rows) band }
@@ -99,8 +117,8 @@ impl Screen {
         }
     }
 
-    /// Writes the text by which a band moves, and the difference from the
-    /// picture that a terminal then shows.
+    /// Writes the escape sequences that move the rows of `band`, and the
+    /// difference from the picture that a terminal then displays.
     fn write_moved_diff<S: Sink>(
         &self,
         sink: &mut S,
@@ -116,7 +134,8 @@ impl Screen {
         write_contents_diff(sink, &self.view(), &prev.moved_view(band))
     }
 
-    /// What a terminal shows that showed this screen, and then moved a band.
+    /// Returns a view of what a terminal displays that displayed this screen
+    /// and then moved the rows of `band`.
     fn moved_view(&self, band: Band) -> View<'_>
         requires { IsBand (length (shown self.now).rows) band }
         ensures { result ≡ moved band (shown self.now) }

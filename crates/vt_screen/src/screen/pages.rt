@@ -1,4 +1,5 @@
-//! The two pages, what is saved, and all made fresh.
+//! Control functions for the two pages, for saving the cursor, and for the full
+//! reset.
 
 ghost use Rattle.std.specs.Prelude.{◌≡◌, IsErr, IsSome, None, OnErr, OnOk};
 ghost use Rattle.vt_cells.specs.Refusals.{OnlyOutOfMemory};
@@ -22,8 +23,7 @@ pub fn decsc(screen: &mut Screen)
     screen.saved_attrs = screen.attrs;
 }
 
-/// Restores the cursor, origin mode and the attributes as they were saved
-/// (DECRC).
+/// Restores the saved cursor, origin mode and attributes (DECRC).
 pub fn decrc(screen: &mut Screen)
     ensures { screen.new ≡ display_after step.RestoreCursor screen.old }
 {
@@ -31,11 +31,13 @@ pub fn decrc(screen: &mut Screen)
     screen.attrs = screen.saved_attrs;
 }
 
-/// Makes the alternate page the active one, as it was left (xterm's private
-/// mode 47). No row of scrollback stays in view.
+/// Switches to the alternate page with its contents, and stops displaying
+/// scrollback (xterm, DEC private mode 47).
 ///
-/// The first entry takes memory for the page. Fails where that is refused;
-/// then nothing has changed.
+/// # Errors
+///
+/// `Error::OutOfMemory` if the page cannot be allocated, which is done on the
+/// first switch; the screen is unchanged.
 pub fn enter_alternate(screen: &mut Screen) -> Result<(), Error>
     ensures ok { OnOk result (screen.new ≡ display_after step.EnterAlternate screen.old) }
     ensures err { OnErr result (screen.new ≡ screen.old) }
@@ -47,11 +49,13 @@ pub fn enter_alternate(screen: &mut Screen) -> Result<(), Error>
     Ok(())
 }
 
-/// Saves as [`decsc`] does, and makes the alternate page the active one, blank
-/// and fresh (xterm's private mode 1049).
+/// Saves as [`decsc`] does, and switches to the alternate page, cleared (xterm,
+/// DEC private mode 1049).
 ///
-/// The first entry takes memory for the page. Fails where that is refused;
-/// then nothing has changed.
+/// # Errors
+///
+/// `Error::OutOfMemory` if the page cannot be allocated, which is done on the
+/// first switch; the screen is unchanged.
 pub fn enter_fresh_alternate(screen: &mut Screen) -> Result<(), Error>
     ensures ok { OnOk result (screen.new ≡ display_after step.EnterFresh screen.old) }
     ensures err { OnErr result (screen.new ≡ screen.old) }
@@ -65,7 +69,7 @@ pub fn enter_fresh_alternate(screen: &mut Screen) -> Result<(), Error>
     Ok(())
 }
 
-/// Makes the main page the active one (xterm's private mode 47, turned off).
+/// Switches to the main page (xterm, DEC private mode 47, reset).
 pub fn leave_alternate(screen: &mut Screen)
     ensures value { screen.new ≡ display_after step.LeaveAlternate screen.old }
     ensures whole { IsScreen screen.old }
@@ -76,8 +80,8 @@ pub fn leave_alternate(screen: &mut Screen)
     exchange(screen);
 }
 
-/// Makes the main page the active one, and restores as [`decrc`] does (xterm's
-/// private mode 1049, turned off).
+/// Switches to the main page, and restores as [`decrc`] does (xterm, DEC
+/// private mode 1049, reset).
 pub fn leave_and_restore(screen: &mut Screen)
     ensures { screen.new ≡ display_after step.LeaveRestoring screen.old }
 {
@@ -85,10 +89,11 @@ pub fn leave_and_restore(screen: &mut Screen)
     decrc(screen);
 }
 
-/// Makes all as it is on a fresh screen of the same size and scrollback
-/// capacity, and takes no memory (RIS). Nobody is called for the rows that
-/// scrollback gives up; an alternate page that was entered keeps its rows,
-/// blank.
+/// Resets the screen to a fresh one of the same size and scrollback capacity
+/// (RIS). It allocates nothing.
+///
+/// No callbacks are invoked for the rows of scrollback. If the alternate page
+/// was created before, it stays allocated and becomes blank.
 pub fn ris(screen: &mut Screen)
     ensures { screen.new ≡ display_after step.Reset screen.old }
 {
@@ -103,7 +108,12 @@ pub fn ris(screen: &mut Screen)
     screen.last = None;
 }
 
-/// Makes the page that isn't active, if there is none yet.
+/// Creates the inactive page, if there is none yet.
+///
+/// # Errors
+///
+/// `Error::OutOfMemory` if the page cannot be allocated; the screen is
+/// unchanged.
 fn make_other(screen: &mut Screen) -> Result<(), Error>
     ensures ok { OnOk result (screen.new ≡ with_other screen.old) }
     ensures err { OnErr result (screen.new ≡ screen.old) }
@@ -119,7 +129,7 @@ fn make_other(screen: &mut Screen) -> Result<(), Error>
     Ok(())
 }
 
-/// Makes the alternate page, which there is, the active one.
+/// Switches to the alternate page, which must have been created.
 fn show_alternate(screen: &mut Screen)
     requires { IsSome screen.old.other }
     ensures { screen.new ≡ entered screen.old }
@@ -131,7 +141,7 @@ fn show_alternate(screen: &mut Screen)
     exchange(screen);
 }
 
-/// Exchanges the two pages, if there are two.
+/// Exchanges the active and the inactive page, if there are two.
 pub(super) fn exchange(screen: &mut Screen)
     ensures { screen.new ≡ exchanged screen.old }
 {
@@ -143,14 +153,14 @@ pub(super) fn exchange(screen: &mut Screen)
     screen.is_alternate = !screen.is_alternate;
 }
 
-/// Makes the active page fresh.
+/// Resets the active page to a fresh one.
 fn clear_active(screen: &mut Screen)
     ensures { screen.new ≡ with_fresh_page screen.old }
 {
     screen.grid.clear();
 }
 
-/// Makes the page that isn't active, if there is one, fresh.
+/// Resets the inactive page to a fresh one, if there is one.
 fn clear_other(screen: &mut Screen)
     ensures { screen.new ≡ with_fresh_other screen.old }
 {

@@ -1,4 +1,4 @@
-//! Characters that are printed, one by one or as one edit of their row.
+//! Printing of characters, one by one or as one edit of their row.
 
 ghost use Rattle.std.specs.Prelude.{◌≡◌, ◌≢◌, ◌+◌, ◌-◌, ◌*◌, ◌<◌, ◌≤◌, IfSome, OnErr, OnOk, Some, length};
 ghost use Rattle.vt_cells.specs.Glyph.{columns_of};
@@ -17,14 +17,19 @@ use vt_cells::{Error, columns};
 
 /// Prints a character.
 ///
-/// A character of one or two columns becomes a glyph in the current
-/// attributes, after a wrap where there is no room for it. One without
-/// columns of its own is put on the glyph before the cursor. A control,
-/// and a character wider than the screen, draws nothing. U+FFFD, which
-/// stands for bytes that are no character, is not to be printed.
+/// A character of one or two columns becomes a glyph in the current attributes,
+/// after a wrap if there is no room for it. A combining character is appended
+/// to the glyph before the cursor. A control, or a character wider than the
+/// screen, draws nothing. U+FFFD, which stands for malformed UTF-8, must not be
+/// printed.
 ///
-/// A wrap at the bottom may scroll a row off the page, as in
-/// [`super::scrolling::lf`].
+/// A wrap on the bottom row may scroll a row off the page, as
+/// [`super::scrolling::lf`] does.
+///
+/// # Errors
+///
+/// `Error::OutOfMemory` if a row that scrolls off the top cannot be kept; the
+/// screen is unchanged.
 #[inline(always)]
 pub fn text<CB: Callbacks>(screen: &mut Screen, c: char, callbacks: &mut CB) -> Result<(), Error>
     requires { c ≢ 0xFFFD }
@@ -51,8 +56,8 @@ pub fn text<CB: Callbacks>(screen: &mut Screen, c: char, callbacks: &mut CB) -> 
     Ok(())
 }
 
-/// The last character that REP repeats, once this one, which takes these
-/// columns, is printed.
+/// Returns the character that REP repeats once `c`, of `width` columns, is
+/// printed.
 #[inline(always)]
 fn last_after(screen: &Screen, c: char, width: Option<u8>) -> Option<char>
     requires sound { c ≢ 0xFFFD }
@@ -69,8 +74,8 @@ fn last_after(screen: &Screen, c: char, width: Option<u8>) -> Option<char>
     Some(c)
 }
 
-/// How many columns there are from the cursor on up to the end of its row:
-/// so many narrow characters are printed before a wrap.
+/// Returns the number of columns from the cursor to the end of its row, which
+/// is how many narrow characters can be printed before a wrap.
 #[inline]
 pub fn room(screen: &Screen) -> u16
     ensures { result ≡ screen.now.page.width - screen.now.page.column }
@@ -78,9 +83,9 @@ pub fn room(screen: &Screen) -> u16
     screen.grid.room()
 }
 
-/// Prints a text of printable ASCII for which the cursor's row has room:
-/// what [`text`] does with one character after the other, as one edit of the
-/// row. No row leaves the page, and no callback is called.
+/// Prints a run of printable ASCII that fits on the cursor's row as one edit,
+/// with the same effect as [`text`] for each character. No row scrolls off the
+/// page, and no callback is invoked.
 #[inline]
 pub fn print_text(screen: &mut Screen, text: &[u8])
     requires some { 0 < length text.now }
@@ -92,9 +97,9 @@ pub fn print_text(screen: &mut Screen, text: &[u8])
     screen.last = Some(char::from(text[text.len() - 1]));
 }
 
-/// Prints a text of wide characters for which the cursor's row has room: what
-/// [`text`] does with one character after the other, as one edit of the row. No
-/// row leaves the page, and no callback is called.
+/// Prints a run of wide characters that fits on the cursor's row as one edit,
+/// with the same effect as [`text`] for each character. No row scrolls off the
+/// page, and no callback is invoked.
 #[inline]
 pub fn print_wide_text(screen: &mut Screen, text: &[char])
     requires some { 0 < length text.now }
@@ -107,8 +112,8 @@ pub fn print_wide_text(screen: &mut Screen, text: &[char])
     screen.last = Some(last);
 }
 
-/// The last character that was printed in columns of its own, which REP
-/// (ECMA-48) repeats; None before the first one and after RIS.
+/// Returns the last printed character that took columns, which REP (ECMA-48)
+/// repeats, or `None` before the first one and after RIS.
 pub fn last_char(screen: &Screen) -> Option<char>
     ensures value { result ≡ screen.now.last }
     ensures reported { result ≢ Some 0xFFFD }

@@ -1,15 +1,15 @@
-//! Texts that redraw the screen on another terminal.
+//! Output that redraws the screen on another terminal.
 //!
-//! What is *shown* is the picture of a screen: the rows in view, cut to its
-//! columns, each with its flag whether it goes on below; the cursor, also where
-//! a wrap is pending; the current attributes; and whether the cursor is hidden.
+//! The *picture* of a screen is what it displays: the displayed rows, cut to
+//! its columns, and whether each is wrapped; the cursor, including a pending
+//! wrap; the current attributes; and whether the cursor is hidden.
 //!
-//! A *plain* terminal has its scroll region on all of its page, origin mode off
-//! and no scrollback in view, and is in ground state.
+//! A terminal is *plain* if it is in ground state, its scroll region is the
+//! whole page, origin mode is off and no scrollback is displayed.
 //!
-//! A picture is *steady* if each of its glyphs, printed on a blank row, gives
-//! just itself. All without U+FE0F are, and U+2764 U+FE0F on two columns or
-//! more.
+//! A picture is *steady* if each of its glyphs, printed on a blank row,
+//! reproduces itself. Every glyph without U+FE0F does, and so does U+2764
+//! U+FE0F on two columns or more.
 
 ghost use Rattle.std.specs.Prelude.{◌≡◌, ◌↔◌, ◌++◌, [], IfOk, IsOk, IsTrue, OnOk};
 ghost use Rattle.vt_cells.specs.Op.{bytes_of_all};
@@ -40,15 +40,16 @@ use vt_redraw::{
 
 impl Screen {
     /// Returns a screen of the same size that displays the same: a copy of the
-    /// active page, without scrollback and without the other page. It serves as
-    /// `prev` of [`Screen::contents_diff`] in less memory than a clone.
+    /// active page, without scrollback and without the other page. It can serve
+    /// as `prev` of [`Screen::contents_diff`] and takes less memory than a
+    /// clone.
     ///
     /// While scrollback is displayed, the result is a copy of the whole screen,
     /// as `Screen::clone` returns it.
     ///
     /// # Errors
     ///
-    /// `OutOfMemory` if an allocation fails.
+    /// `Error::OutOfMemory` if the copy cannot be allocated.
     pub fn shown_copy(&self) -> Result<Screen, Error>
         ensures shown { IfOk result (λ screen. shown screen ≡ shown self.now) }
         ensures size { IfOk result (λ screen. SameSize screen.page self.now.page) }
@@ -61,7 +62,11 @@ impl Screen {
         Ok(copy)
     }
 
-    /// Returns a screen with a copy of the active page alone.
+    /// Returns a screen with a copy of the active page only.
+    ///
+    /// # Errors
+    ///
+    /// `Error::OutOfMemory` if the copy cannot be allocated.
     #[tactic(auto, using(crate::proofs::Kept::kept_alone))]
     fn page_copy(&self) -> Result<Screen, Error>
         ensures shown { (above_page self.now).offset ≡ 0 → IfOk result (λ screen. shown screen ≡ shown self.now) }
@@ -84,16 +89,18 @@ impl Screen {
         })
     }
 
-    /// Returns whether the screen's picture is *steady*: whether each displayed
-    /// glyph, printed character by character on a blank row of the screen's
-    /// width, gives just itself.
+    /// Returns whether the screen is *steady*: whether each displayed glyph,
+    /// printed character by character on a blank row of the screen's width,
+    /// reproduces itself.
     ///
-    /// A steady screen is displayed exactly by a terminal that reads its redraw
-    /// or its difference. A glyph may fail to be steady only if its text
-    /// contains U+FE0F, which may make it wide or narrow.
+    /// A terminal that reads the redraw of a steady screen, or a difference to
+    /// one, displays exactly that screen. A glyph can fail to reproduce itself
+    /// only if its text contains U+FE0F, which may make it wide or narrow.
     ///
-    /// Only cells whose text contains U+FE0F are looked at closely. Of a row
+    /// Only cells whose text contains U+FE0F are examined closely. Of a row
     /// whose texts all have fewer than four bytes, only their lengths are read.
+    ///
+    /// # Examples
     ///
     /// ```text
     /// // U+2764 U+FE0F is a wide glyph, on a screen of two columns or more
@@ -106,30 +113,32 @@ impl Screen {
         is_steady(&self.view())
     }
 
-    /// A text that redraws the screen on any plain terminal of the same size,
-    /// whatever that showed before.
+    /// Returns the escape sequences that redraw the screen on a plain terminal
+    /// of the same size, whatever that displayed before.
     ///
-    /// A terminal is *plain* if its scroll region is all of its page, its
-    /// origin mode is off, no scrollback is in view, it is in ground
-    /// state and was never out of memory; so is every fresh one. What a
-    /// screen shows, its picture, is *steady* if each of its glyphs, printed on
-    /// a blank row, gives just itself. So are all without U+FE0F, which may make
-    /// a glyph wide.
+    /// A terminal is *plain* if it is in ground state, has not run out of
+    /// memory, its scroll region is the whole page, origin mode is off and no
+    /// scrollback is displayed; every fresh one is. A screen is *steady* if
+    /// each displayed glyph, printed on a blank row, reproduces itself; see
+    /// [`Screen::is_steady`].
     ///
-    /// By `redraws`, for a screen whose picture is steady, a plain terminal of
-    /// this size reads the text without calling anybody and without taking
-    /// memory. Then it is plain and shows what this screen shows; its
-    /// scrollback, its other page and its modes are as before. Only its saved
-    /// cursor, saved origin mode, saved attributes and last character may be
-    /// others. Screens that show the same give the same text, and by `same`
-    /// only those.
+    /// By `redraws`, if this screen is steady, a plain terminal of its size
+    /// that has read the output is plain and displays this screen. Reading it
+    /// invokes no callbacks and allocates nothing. Scrollback, the other page
+    /// and the modes are unchanged; only the saved cursor, saved origin mode,
+    /// saved attributes and last character may change. Screens that display the
+    /// same return the same output, and by `same` only those do.
     ///
-    /// Of every screen, steady or not, the text contains no control but those
-    /// that draw (`controls`), and by `again` a plain terminal that has read it is
-    /// plain again: no callback but `on_scroll` was invoked, and its other page,
-    /// input modes, cursor style and size are as before.
+    /// Whether the screen is steady or not, the output contains only controls
+    /// that draw (`controls`), and by `again` a plain terminal that has read it
+    /// is plain again: no callback but `on_scroll` was invoked, and its other
+    /// page, input modes, cursor style and size are unchanged.
     ///
-    /// Fails where memory for the text is refused.
+    /// # Errors
+    ///
+    /// `Error::OutOfMemory` if the output cannot be allocated.
+    ///
+    /// # Examples
     ///
     /// ```text
     /// // on a fresh screen
@@ -153,26 +162,32 @@ impl Screen {
         }
     }
 
-    /// A text that redraws the screen on any terminal of the same size with no
-    /// scrollback in view, whatever its scroll region and origin mode are and
-    /// whatever it showed before: origin mode off (DECOM), the whole page as
-    /// scroll region (DECSTBM), and behind that the text of
-    /// [`Screen::contents_formatted`].
+    /// Returns the escape sequences that redraw the screen on a terminal of the
+    /// same size with any scroll region and origin mode, whatever it displayed
+    /// before.
     ///
-    /// By `redraws`, for a screen whose picture is steady, such a terminal of
-    /// this size, if it is in ground state, reads the text without calling
-    /// anybody and without taking memory, be it on its main page or on the
-    /// alternate one. Then it is plain and shows what this screen shows; its
-    /// scrollback, its other page and its modes are as before. Beside the
-    /// region and origin mode, only its saved cursor, saved origin mode, saved
-    /// attributes and last character may be others. Screens that show the same
-    /// give the same text, and by `same` only those.
+    /// They turn off origin mode (DECOM), reset the scroll region to the whole
+    /// page (DECSTBM), and then redraw as [`Screen::contents_formatted`] does.
     ///
-    /// Of every screen, steady or not, by `again` such a terminal that has read the
-    /// text is plain: no callback but `on_scroll` was invoked, and its other page,
-    /// input modes, cursor style and size are as before.
+    /// By `redraws`, if this screen is steady (each glyph reproduces itself
+    /// when printed), a terminal of its size in ground state that displays no
+    /// scrollback, on its main page or the alternate one, is plain and displays
+    /// this screen after reading the output. Reading it invokes no callbacks
+    /// and allocates nothing. Scrollback, the other page and the modes are
+    /// unchanged; besides the scroll region and origin mode, only the saved
+    /// cursor, saved origin mode, saved attributes and last character may
+    /// change. Screens that display the same return the same output, and by
+    /// `same` only those do.
     ///
-    /// Fails where memory for the text is refused.
+    /// Whether the screen is steady or not, by `again` such a terminal that has
+    /// read the output is plain: no callback but `on_scroll` was invoked, and
+    /// its other page, input modes, cursor style and size are unchanged.
+    ///
+    /// # Errors
+    ///
+    /// `Error::OutOfMemory` if the output cannot be allocated.
+    ///
+    /// # Examples
     ///
     /// ```text
     /// // on a fresh screen
@@ -200,22 +215,32 @@ impl Screen {
         }
     }
 
-    /// A text that makes a plain terminal that shows what `prev` shows show
-    /// what this screen shows. Both screens are to be of one size.
+    /// Returns the escape sequences that turn the display of `prev` into the
+    /// display of this screen. Both screens must have the same size.
     ///
-    /// By `redraws`, for a screen whose picture is steady, such a terminal
-    /// reads the text as that of [`Screen::contents_formatted`], to the same
-    /// end. The text is empty where both show the same, and by `empty` only
-    /// there. By `touches` it touches only rows that differ and those directly
-    /// under one, and of the glyphs there that stand alike in both screens only
-    /// one in the first column and one in the last; and, to make a pending
-    /// wrap, the end of one row.
+    /// By `redraws`, if this screen is steady (each glyph reproduces itself
+    /// when printed), a plain terminal (in ground state, with the full scroll
+    /// region, origin mode off and no scrollback displayed) that displays
+    /// `prev` displays this screen after reading the output, as with
+    /// [`Screen::contents_formatted`]. The output is empty if both screens
+    /// display the same, and by `empty` only then.
     ///
-    /// Of every screen, steady or not, by `again` a plain terminal that has read
-    /// the text is plain again, as after [`Screen::contents_formatted`].
+    /// By `touches`, only rows that differ and rows directly below one are
+    /// touched. Of the glyphs there that are equal on both screens, only one in
+    /// the first column and one in the last may be touched, and, to make a
+    /// pending wrap, the end of one row.
     ///
-    /// Fails where memory for the text is refused. An empty text needs none: by
-    /// `never` this does not fail where both screens show the same.
+    /// Whether the screen is steady or not, by `again` a plain terminal that
+    /// has read the output is plain again, as after
+    /// [`Screen::contents_formatted`].
+    ///
+    /// # Errors
+    ///
+    /// `Error::OutOfMemory` if the output cannot be allocated. Empty output
+    /// needs no allocation: by `never` this cannot fail if both screens display
+    /// the same.
+    ///
+    /// # Examples
     ///
     /// ```text
     /// // from a fresh screen to one that read `a`
@@ -243,17 +268,22 @@ impl Screen {
         }
     }
 
-    /// A text that gives a plain terminal of this size, which shows the cells
-    /// and flags of this screen and draws with default attributes, its cursor
-    /// and whether that is hidden.
+    /// Returns the escape sequences that move the cursor to its position on
+    /// this screen and hide or show it.
     ///
-    /// By `turns`, for a screen whose picture is steady, such a terminal reads
-    /// the text without calling anybody and without taking memory. Its cells,
-    /// its flags and its attributes are as before, and it is plain again. By
-    /// `touches` it touches nothing, but the end of one row where a wrap is
-    /// pending. By `again` a plain terminal that has read it is plain again, also
-    /// where the picture is not steady. Fails where memory for the text is
-    /// refused.
+    /// They are for a plain terminal (in ground state, with the full scroll
+    /// region, origin mode off and no scrollback displayed) of this size that
+    /// displays the rows of this screen and has default attributes. By `turns`,
+    /// if this screen is steady (each glyph reproduces itself when printed),
+    /// reading them invokes no callbacks and allocates nothing; the rows and
+    /// attributes are unchanged, and the terminal is plain again. By `touches`
+    /// nothing is touched except the end of one row if a wrap is pending. By
+    /// `again` a plain terminal that has read the output is plain again, even
+    /// if this screen is not steady.
+    ///
+    /// # Errors
+    ///
+    /// `Error::OutOfMemory` if the output cannot be allocated.
     pub fn cursor_state_formatted(&self) -> Result<String, Error>
         ensures text { IfText result (λ text. text ≡ bytes_of_all (cursor_state (shown self.now))) }
         ensures controls { IfText result (IsMadeOf drawing_finals drawing_controls) }
@@ -271,12 +301,15 @@ impl Screen {
         }
     }
 
-    /// A text that sets the current attributes: SGR without a number, and the
-    /// change from the defaults.
+    /// Returns the escape sequences that set the current attributes: a reset
+    /// (SGR 0) and the change from the defaults.
     ///
-    /// By `sets`, on any terminal that is in ground state it sets
-    /// these attributes and changes nothing else. Fails where memory for the
-    /// text is refused.
+    /// By `sets`, any terminal in ground state has these attributes after
+    /// reading them, and nothing else changes.
+    ///
+    /// # Errors
+    ///
+    /// `Error::OutOfMemory` if the output cannot be allocated.
     pub fn attributes_formatted(&self) -> Result<String, Error>
         ensures text { IfText result (λ text. text ≡ attributes_text self.now.attrs) }
         ensures controls { IfText result (IsMadeOf drawing_finals drawing_controls) }
@@ -290,7 +323,7 @@ impl Screen {
         }
     }
 
-    /// Writes the text of [`Screen::contents_formatted`].
+    /// Writes the output of [`Screen::contents_formatted`].
     pub(super) fn write_contents_formatted<S: Sink>(&self, sink: &mut S) -> Result<(), S::Error>
         ensures whole { IsScreen self.now }
         ensures colored { IsColored self.now }
@@ -299,7 +332,7 @@ impl Screen {
         write_contents_formatted(sink, &self.view())
     }
 
-    /// Writes the text of [`Screen::contents_formatted_reset`].
+    /// Writes the output of [`Screen::contents_formatted_reset`].
     fn write_contents_formatted_reset<S: Sink>(&self, sink: &mut S) -> Result<(), S::Error>
         ensures whole { IsScreen self.now }
         ensures colored { IsColored self.now }
@@ -310,7 +343,7 @@ impl Screen {
         write_contents_formatted(sink, &view)
     }
 
-    /// Writes the text of [`Screen::contents_diff`].
+    /// Writes the output of [`Screen::contents_diff`].
     pub(super) fn write_contents_diff<S: Sink>(
         &self,
         sink: &mut S,
@@ -327,7 +360,7 @@ impl Screen {
         write_contents_diff(sink, &self.view(), &prev.view())
     }
 
-    /// Writes the text of [`Screen::cursor_state_formatted`].
+    /// Writes the output of [`Screen::cursor_state_formatted`].
     fn write_cursor_state<S: Sink>(&self, sink: &mut S) -> Result<(), S::Error>
         ensures whole { IsScreen self.now }
         ensures colored { IsColored self.now }
@@ -336,7 +369,7 @@ impl Screen {
         write_cursor_state(sink, &self.view())
     }
 
-    /// The picture that the screen shows.
+    /// Returns a view of the picture that the screen displays.
     pub(super) fn view(&self) -> View<'_>
         ensures value { result ≡ shown self.now }
         ensures whole { IsScreen self.now }
@@ -347,7 +380,7 @@ impl Screen {
     }
 }
 
-/// Writes the text of [`Screen::attributes_formatted`].
+/// Writes the output of [`Screen::attributes_formatted`].
 fn write_attrs<S: Sink>(sink: &mut S, attrs: Attrs) -> Result<(), S::Error>
     ensures text { OnOk result (S.text sink.new ≡ S.text sink.old ++ attributes_text attrs) }
 {

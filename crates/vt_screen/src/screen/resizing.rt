@@ -1,4 +1,4 @@
-//! Another size of the screen.
+//! Resizing of the screen.
 
 ghost use Rattle.std.specs.Prelude.{◌≡◌, IfOk, IsErr, OnErr, OnOk, false, option_map, true};
 ghost use Rattle.vt_cells.specs.Refusals.{OnlyOutOfMemory};
@@ -20,18 +20,24 @@ use vt_cells::Error;
 use vt_grid::{Grid, Scrollback, Size};
 
 impl Screen {
-    /// Gives the screen another number of rows and columns, as xterm's resize
-    /// does, on both pages. On each the scroll region becomes the whole page
-    /// and a pending wrap ends, and scrollback leaves view. Nobody is called
-    /// for the rows that leave. An equal size changes nothing and takes no memory.
+    /// Resizes both pages of the screen, as xterm does. A resize to the present
+    /// size changes nothing and allocates nothing.
     ///
-    /// Fewer rows: those below the cursor go first, and where that is not
-    /// enough, rows leave at the top, to scrollback. More rows: those that left
-    /// come back at the top, blank ones for those that scrollback did not keep,
-    /// and what is still free is blank rows at the bottom. Each row of the page
-    /// is cut or grown to the columns; text is not wrapped anew.
+    /// - Fewer rows: rows below the cursor are removed first; if that is not
+    ///   enough, rows scroll off the top, to scrollback.
+    /// - More rows: the rows that scrolled off come back at the top, as blank
+    ///   rows if scrollback did not keep them; the rest is filled with blank
+    ///   rows at the bottom.
+    /// - Columns: each row of the page is cut or extended; text is not
+    ///   rewrapped.
     ///
-    /// Fails where memory is refused; then nothing has changed.
+    /// On both pages the scroll region becomes the whole page and a pending
+    /// wrap ends. Scrollback is no longer displayed. No callbacks are invoked
+    /// for the rows that scroll off; see `Parser::set_size` for that.
+    ///
+    /// # Errors
+    ///
+    /// `Error::OutOfMemory` if an allocation fails; the screen is unchanged.
     pub fn set_size(&mut self, rows: NonZeroU16, cols: NonZeroU16) -> Result<(), Error>
         ensures ok { OnOk result (self.new ≡ resized rows.value cols.value self.old) }
         ensures err { OnErr result (self.new ≡ self.old) }
@@ -43,13 +49,14 @@ impl Screen {
     }
 }
 
-/// Gives the screen another size, as [`Screen::set_size`] does, and calls
-/// the callbacks for the rows that aren't kept (see
-/// [`Callbacks::on_scroll`]): first those of scrollback and the main page,
-/// then those of the alternate one, each older ones first.
+/// Resizes the screen, as [`Screen::set_size`] does, and reports the rows that
+/// aren't kept to [`Callbacks::on_scroll`]: first those of scrollback and the
+/// main page, then those of the alternate page, older rows first.
 ///
-/// Fails where memory is refused; then nothing has changed, and nobody was
-/// called.
+/// # Errors
+///
+/// `Error::OutOfMemory` if an allocation fails; the screen is unchanged and no
+/// callbacks were invoked.
 pub fn set_size_with_cb<CB: Callbacks>(
     screen: &mut Screen,
     rows: NonZeroU16,
@@ -74,7 +81,7 @@ pub fn set_size_with_cb<CB: Callbacks>(
     Ok(())
 }
 
-/// Whether this is the size of the screen.
+/// Returns whether the screen has this size.
 fn has_size(screen: &Screen, size: Size) -> bool
     ensures { result ≡ pages.has_size size.rows size.cols screen.now }
 {
@@ -82,7 +89,13 @@ fn has_size(screen: &Screen, size: Size) -> bool
     size.rows == now.rows && size.cols == now.cols
 }
 
-/// Gives both pages another size; see [`set_size_with_cb`].
+/// Resizes both pages to a size other than the present one; see
+/// [`set_size_with_cb`].
+///
+/// # Errors
+///
+/// `Error::OutOfMemory` if an allocation fails; the screen is unchanged and no
+/// callbacks were invoked.
 fn resize_pages<CB: Callbacks>(
     screen: &mut Screen,
     size: Size,
@@ -105,7 +118,12 @@ fn resize_pages<CB: Callbacks>(
     done
 }
 
-/// Gives both pages another size, while the main page is the active one.
+/// Resizes both pages while the main page is active.
+///
+/// # Errors
+///
+/// `Error::OutOfMemory` if an allocation fails; the screen is unchanged and no
+/// callbacks were invoked.
 fn resize_below<CB: Callbacks>(
     screen: &mut Screen,
     size: Size,
@@ -138,7 +156,11 @@ fn resize_below<CB: Callbacks>(
     Ok(())
 }
 
-/// A fresh page to take over another one, if there is one.
+/// Creates a blank page of the new size to replace `page`, if there is one.
+///
+/// # Errors
+///
+/// `Error::OutOfMemory` if the page cannot be allocated.
 fn fresh_page(page: &Option<Grid>, alloc: Global, size: Size) -> Result<Option<Grid>, Error>
     requires size { IsPageSize size.rows size.cols }
     ensures ok { IfOk result (λ fresh. fresh ≡ option_map (λ _. blank_page size.rows size.cols) page.now) }
@@ -150,8 +172,9 @@ fn fresh_page(page: &Option<Grid>, alloc: Global, size: Size) -> Result<Option<G
     }
 }
 
-/// Gives the alternate page, if there is one, another size. It takes no memory,
-/// since no row is kept above it.
+/// Resizes the alternate page into the blank page `fresh`, if there is one, and
+/// reports the rows that scroll off its top. It allocates nothing, since no row
+/// is kept above that page.
 fn resize_alternate<CB: Callbacks>(
     page: &mut Option<Grid>,
     fresh: Option<Grid>,
@@ -177,6 +200,6 @@ fn resize_alternate<CB: Callbacks>(
     };
     let done = page.set_size(fresh, nothing, &mut reporter);
     prove!(done.is_ok());
-    // For the proof: it is Ok, and has nothing to give up.
+    // Only for the proof: the result is `Ok`, and has nothing to drop.
     let _ = done;
 }

@@ -1,4 +1,4 @@
-//! Texts that redraw the rows of the screen, one by one.
+//! Output that redraws the rows of the screen one by one.
 
 ghost use Rattle.std.specs.Prelude.{◌≡◌, ◌+◌, ◌≤◌, ◌<◌, ◌↔◌, ℕ, [], length};
 ghost use Rattle.vt_cells.specs.Attrs.{default_attrs};
@@ -21,21 +21,25 @@ use vt_cells::Error;
 use vt_redraw::{write_row_diff, write_row_formatted};
 
 impl Screen {
-    /// Texts that show the rows that are shown on another terminal, from the
-    /// top, each in the columns from `start` on, `width` of them or as many as
-    /// there are. `start` is to be one of the columns.
+    /// Returns an iterator over the escape sequences that draw each displayed
+    /// row on a blank row of another terminal, from the top, in `width` columns
+    /// from `start` on or as many as there are. `start` must be one of the
+    /// columns.
     ///
-    /// There are as many items as rows. An item is an error where memory for
-    /// its text is refused; the next one is then the next row's.
+    /// There is one item for each row of the screen. An item is an error if its
+    /// output cannot be allocated; the next item is then that of the next row.
     ///
-    /// By `draws`, for a screen whose picture is steady and a row of which the
-    /// range cuts no wide glyph in two, the row's text is for plain terminals
-    /// of this size whose row is blank, which have the cursor at the begin of
-    /// the range and draw with default attributes. Such a terminal then has the
-    /// row's cells in the range, and no other cell of it changes; its cursor
-    /// and its attributes may be others; and by `off` the row does not go on
-    /// below. By `linked` the text of a whole row under one that goes on may
-    /// also be read with a wrap pending in the row above, which then goes on.
+    /// By `draws`, if this screen is steady (each glyph reproduces itself when
+    /// printed) and the range cuts no wide character of a row in two, that
+    /// row's output is for a plain terminal of this size whose row is blank,
+    /// with the cursor at the beginning of the range and default attributes.
+    /// After reading it, the terminal has the row's cells in the range, and
+    /// none of its other cells has changed; its cursor and attributes may have.
+    /// By `off` the row is then not wrapped. By `linked` the output of a whole
+    /// row after a wrapped one may also be read while a wrap is pending in the
+    /// row above, which is then wrapped.
+    ///
+    /// # Examples
     ///
     /// ```text
     /// for (row, text) in (1..).zip(screen.rows_formatted(10, 20)) {
@@ -56,25 +60,28 @@ impl Screen {
             EachLinked self.now (λ r. Turns (IsWrapReader (shown self.now) r) (text_at result (r + 1))
             (HasLinked r (shown_row self.now (r + 1)))) }
     {
-        // For the proof: every screen is whole.
+        // Only for the proof: it makes the screen's invariant known.
         self.sound();
         RowsFormatted::new(self, start, self.range_end(start, width))
     }
 
-    /// Texts that turn the rows that `prev` shows into those that are shown,
-    /// from the top, each in the columns from `start` on, `width` of them or as
-    /// many as there are. `start` is to be one of the columns, and both screens
-    /// are to be of one size.
+    /// Returns an iterator over the escape sequences that turn each displayed
+    /// row of `prev` into that of this screen, from the top, in `width` columns
+    /// from `start` on or as many as there are. `start` must be one of the
+    /// columns, and both screens must have the same size.
     ///
-    /// There are as many items as rows. An item is an error where memory for
-    /// its text is refused; the next one is then the next row's.
+    /// There is one item for each row of the screen. An item is an error if its
+    /// output cannot be allocated; the next item is then that of the next row.
     ///
-    /// By `draws`, a row's text is read as that of [`Screen::rows_formatted`],
-    /// by terminals that have the row of `prev` there, of which the range is to
-    /// cut no wide glyph either. The text of a whole row is empty exactly where
-    /// both screens show the same there, by `empty`; and by `off` the row does
-    /// not go on below where it is not to. Whether it does where it is to is
-    /// made by the text of the row below, or by what is printed there.
+    /// By `draws`, a row's output is read as that of
+    /// [`Screen::rows_formatted`], but by a terminal that displays the row of
+    /// `prev`, of which the range must not cut a wide character either. By
+    /// `empty` the output of a whole row is empty if and only if both screens
+    /// display the same row. By `off`, a row that isn't wrapped on this screen
+    /// is then not wrapped on the terminal; a row that is wrapped becomes so by
+    /// the output of the next row, or by what is printed there.
+    ///
+    /// # Examples
     ///
     /// ```text
     /// for (row, text) in (1..).zip(screen.rows_diff(&prev, 0, u16::MAX)) {
@@ -99,25 +106,25 @@ impl Screen {
         ensures empty { IsWholeRow start width self.now.page.width → (r : ℕ) → r < length self.now.page.rows →
             (text_at result r ≡ []) ↔ (shown_row self.now r ≡ shown_row prev.now r) }
     {
-        // For the proof: every screen is whole.
+        // Only for the proof: it makes the invariants of both screens known.
         self.sound();
         prev.sound();
         RowsDiff::new(self, prev, start, self.range_end(start, width))
     }
 
-    /// Says what every screen is; it does nothing.
+    /// Does nothing; its clauses state the invariant of every screen.
     #[inline]
     pub(super) fn sound(&self)
         ensures whole { IsScreen self.now }
         ensures colored { IsColored self.now }
     {
-        // For the proof: a field is touched, so that the invariant is known.
+        // Only for the proof: a field is read, so that the invariant is known.
         let _ = &self.alloc;
         let _ = self.attrs();
     }
 
-    /// The column behind `width` columns from `start` on, as far as there are
-    /// so many.
+    /// Returns the end of a range of `width` columns from `start` on, at most
+    /// the number of columns.
     fn range_end(&self, start: u16, width: u16) -> u16
         requires { start < self.now.page.width }
         ensures value { result ≡ range_end start width self.now.page.width }
@@ -128,8 +135,13 @@ impl Screen {
         start + width.min(cols.get() - start)
     }
 
-    /// The text of a row where a row is blank, in the columns from `start` up
-    /// to `stop`.
+    /// Returns the output that draws a row on a blank row, in the columns from
+    /// `start` up to but not including `stop`.
+    ///
+    /// # Errors
+    ///
+    /// `Error::OutOfMemory` if the output cannot be allocated; empty output
+    /// needs no allocation.
     pub(crate) fn row_formatted(&self, row: u16, start: u16, stop: u16) -> Result<String, Error>
         requires inside { row < length self.now.page.rows }
         requires columns { IsColumns start stop self.now }
@@ -142,8 +154,13 @@ impl Screen {
         }
     }
 
-    /// The text of a row where that of `prev` stands, in the columns from
-    /// `start` up to `stop`.
+    /// Returns the output that turns a row of `prev` into that of this screen,
+    /// in the columns from `start` up to but not including `stop`.
+    ///
+    /// # Errors
+    ///
+    /// `Error::OutOfMemory` if the output cannot be allocated; empty output
+    /// needs no allocation.
     pub(crate) fn row_diff(
         &self,
         prev: &Screen,

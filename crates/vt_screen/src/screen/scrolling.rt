@@ -1,4 +1,4 @@
-//! Controls that may scroll rows off the page, and scrollback.
+//! Control functions that may scroll rows off the page, and scrollback.
 
 ghost use Rattle.std.specs.Prelude.{◌≡◌, IsErr, OnErr, OnOk, false, length};
 ghost use Rattle.vt_cells.specs.Refusals.{OnlyOutOfMemory};
@@ -13,12 +13,16 @@ use crate::callbacks::Callbacks;
 use crate::reporter::Reporter;
 use vt_cells::Error;
 
-/// Moves the cursor down by one row, its column as it is; at the scroll
-/// region's bottom the region scrolls up instead (LF, VT and FF).
+/// Moves the cursor down by one row and keeps its column; at the bottom of the
+/// scroll region the region scrolls up instead (LF, VT, FF).
 ///
-/// A row that leaves the page at its top goes to scrollback; the callbacks
-/// are called for each row that isn't kept there. Fails where memory for
-/// scrollback is refused; then nothing has changed, and nobody was called.
+/// A row that scrolls off the top of the page moves into scrollback, and each
+/// row that isn't kept there is reported to the callbacks.
+///
+/// # Errors
+///
+/// `Error::OutOfMemory` if the row cannot be kept; the screen is unchanged and
+/// no callbacks were invoked.
 #[inline]
 pub fn lf<CB: Callbacks>(screen: &mut Screen, callbacks: &mut CB) -> Result<(), Error>
     ensures done { OnOk result
@@ -37,9 +41,14 @@ pub fn lf<CB: Callbacks>(screen: &mut Screen, callbacks: &mut CB) -> Result<(), 
     Ok(())
 }
 
-/// Scrolls the scroll region up; default blank rows come in at its bottom
-/// (SU). Rows that leave the page are kept and reported, and memory is refused,
-/// as in [`lf`].
+/// Scrolls the scroll region up by `count` rows; default blank rows come in at
+/// its bottom (SU). Rows that scroll off the page are kept or reported as by
+/// [`lf`].
+///
+/// # Errors
+///
+/// `Error::OutOfMemory` if the rows cannot be kept; the screen is unchanged and
+/// no callbacks were invoked.
 pub fn su<CB: Callbacks>(screen: &mut Screen, count: u16, callbacks: &mut CB) -> Result<(), Error>
     ensures done { OnOk result
         (Takes CB.does (state callbacks.old screen.old) (step.ScrollUp count) (state callbacks.new screen.new)) }
@@ -57,8 +66,8 @@ pub fn su<CB: Callbacks>(screen: &mut Screen, count: u16, callbacks: &mut CB) ->
     Ok(())
 }
 
-/// Gives up scrollback, and calls the callbacks for each of its rows, older
-/// ones first (ED 3).
+/// Erases scrollback, and reports each of its rows to the callbacks, older rows
+/// first (xterm, ED 3).
 pub fn erase_scrollback<CB: Callbacks>(screen: &mut Screen, callbacks: &mut CB)
     ensures { Takes CB.does (state callbacks.old screen.old) step.EraseScrollback (state callbacks.new screen.new) }
 {
@@ -70,16 +79,22 @@ pub fn erase_scrollback<CB: Callbacks>(screen: &mut Screen, callbacks: &mut CB)
 }
 
 impl Screen {
-    /// Scrolls the view back by `rows` rows of scrollback, at most by all; 0 is
-    /// the page alone. The number may exceed the screen's height: of the rows
-    /// from there on the screen shows as many as it has room for. On the
-    /// alternate page, which has no scrollback, nothing happens.
+    /// Scrolls the display back by `rows` rows of scrollback, at most by all of
+    /// them; 0 displays the page alone.
     ///
-    /// Rows of scrollback that are then shown are grown to the screen's
-    /// columns, and those that are grown go on no more in the row below; both
-    /// stay when the view is left. Fails where memory for that is refused; then
-    /// nothing has changed. Where no row has to grow, as on the way back to the
-    /// page alone, it takes no memory.
+    /// The number may exceed the height of the screen, which then displays as
+    /// many rows as it has room for, starting that far back. On the alternate
+    /// page, which has no scrollback, nothing happens.
+    ///
+    /// Displayed rows of scrollback that are shorter than the screen are
+    /// extended to its columns and are then no longer wrapped; both remain so
+    /// when the display returns to the page.
+    ///
+    /// # Errors
+    ///
+    /// `Error::OutOfMemory` if a row cannot be extended; the screen is
+    /// unchanged. Nothing is allocated if no row must be extended, as when
+    /// returning to the page alone.
     pub fn set_scrollback(&mut self, rows: usize) -> Result<(), Error>
         ensures ok { OnOk result (self.new ≡ scrolled_back rows self.old) }
         ensures err { OnErr result (self.new ≡ self.old) }
@@ -95,31 +110,34 @@ impl Screen {
         Ok(())
     }
 
-    /// Gives up scrollback, and the view goes back to the page; nobody is
-    /// called for the rows. None of them comes back where the screen gets more rows. On
-    /// the alternate page, which has no scrollback, nothing happens.
+    /// Erases scrollback and displays the page alone. No callbacks are invoked
+    /// for the rows, and none of them comes back when the screen gets more
+    /// rows. On the alternate page, which has no scrollback, nothing happens.
     pub fn clear_scrollback(&mut self)
         ensures { self.new ≡ screen_after step.EraseScrollback self.old }
     {
         self.scrollback.clear(&mut ());
     }
 
-    /// By how many rows of scrollback the view is scrolled back, which may be
-    /// more than the screen has room for; 0 on the alternate page.
+    /// Returns by how many rows of scrollback the display is scrolled back,
+    /// which may be more than the screen has room for. It is 0 on the alternate
+    /// page.
     pub fn scrollback(&self) -> usize
         ensures { result ≡ (above_page self.now).offset }
     {
         self.scrollback.offset()
     }
 
-    /// How many rows scrollback has; none on the alternate page.
+    /// Returns the number of rows in scrollback, which is 0 on the alternate
+    /// page.
     pub fn scrollback_len(&self) -> usize
         ensures { result ≡ length (above_page self.now).rows }
     {
         self.scrollback.len()
     }
 
-    /// How many rows scrollback keeps at most; none on the alternate page.
+    /// Returns the largest number of rows that scrollback keeps, which is 0 on
+    /// the alternate page.
     pub fn scrollback_capacity(&self) -> usize
         ensures { result ≡ (above_page self.now).capacity }
     {

@@ -1,7 +1,8 @@
-//! Texts of a whole state: what a screen shows, and its input modes.
+//! Output that reproduces the whole state of a screen: its display and its
+//! input modes.
 //!
-//! What is shown, which terminals are plain and which pictures are steady, is
-//! said beside the texts that redraw a screen.
+//! The module `redraw` defines what a screen displays, and when a terminal is
+//! plain and a screen steady.
 
 ghost use Rattle.std.specs.Prelude.{◌≡◌, ◌++◌, [], IsOk, OnOk};
 ghost use Rattle.vt_cells.specs.Refusals.{OnlyOutOfMemory};
@@ -18,19 +19,27 @@ use crate::screen::Screen;
 use vt_cells::{Error, Sink};
 
 impl Screen {
-    /// A text that redraws the screen on any plain terminal of the same size,
-    /// and gives it the input modes, if its mouse mode, mouse encoding and
-    /// cursor style are the default ones: that of
-    /// [`Screen::contents_formatted`], and behind it that of
+    /// Returns the escape sequences that redraw the screen on a plain terminal
+    /// of the same size and set its input modes. They are the output of
+    /// [`Screen::contents_formatted`] followed by that of
     /// [`Screen::input_mode_formatted`].
     ///
-    /// By `gives`, for a screen whose picture is steady, such a terminal reads
-    /// the text without calling anybody and without taking memory. Then it is
-    /// plain, shows what this screen shows and has its modes; its scrollback
-    /// and its other page are as before. Only its saved cursor, saved origin
-    /// mode, saved attributes and last character may be others.
+    /// The terminal must be plain (in ground state, with the full scroll
+    /// region, origin mode off and no scrollback displayed) and have the
+    /// default mouse mode, mouse encoding and cursor style.
     ///
-    /// Fails where memory for the text is refused.
+    /// By `gives`, if this screen is steady (each glyph reproduces itself when
+    /// printed), such a terminal is plain, displays this screen and has its
+    /// modes after reading the output. Reading it invokes no callbacks and
+    /// allocates nothing. Scrollback and the other page are unchanged; only the
+    /// saved cursor, saved origin mode, saved attributes and last character may
+    /// change.
+    ///
+    /// # Errors
+    ///
+    /// `Error::OutOfMemory` if the output cannot be allocated.
+    ///
+    /// # Examples
     ///
     /// ```text
     /// // on a fresh screen
@@ -52,18 +61,25 @@ impl Screen {
         }
     }
 
-    /// A text that makes a plain terminal that shows what `prev` shows, and has
-    /// its input modes, show what this screen shows, and have its input modes:
-    /// that of [`Screen::contents_diff`], and behind it that of
-    /// [`Screen::input_mode_diff`]. Both screens are to be of one size.
+    /// Returns the escape sequences that turn the display and the input modes
+    /// of `prev` into those of this screen. They are the output of
+    /// [`Screen::contents_diff`] followed by that of
+    /// [`Screen::input_mode_diff`]. Both screens must have the same size.
     ///
-    /// By `gives`, for a screen whose picture is steady, such a terminal reads
-    /// the text as that of [`Screen::state_formatted`], to the same end. The
-    /// text is empty where both show the same and have the same modes, and by
-    /// `empty` only there.
+    /// By `gives`, if this screen is steady (each glyph reproduces itself when
+    /// printed), a plain terminal (in ground state, with the full scroll
+    /// region, origin mode off and no scrollback displayed) with the display
+    /// and modes of `prev` has those of this screen after reading the output,
+    /// as with [`Screen::state_formatted`]. The output is empty if both screens
+    /// have the same display and modes, and by `empty` only then.
     ///
-    /// Fails where memory for the text is refused. An empty text needs none: by
-    /// `never` this does not fail where the text is empty so.
+    /// # Errors
+    ///
+    /// `Error::OutOfMemory` if the output cannot be allocated. Empty output
+    /// needs no allocation: by `never` this cannot fail if both screens have
+    /// the same display and modes.
+    ///
+    /// # Examples
     ///
     /// ```text
     /// // from a fresh screen to one that read `a`, and then DECKPAM
@@ -89,7 +105,7 @@ impl Screen {
         }
     }
 
-    /// Writes the text of [`Screen::state_formatted`].
+    /// Writes the output of [`Screen::state_formatted`].
     fn write_state_formatted<S: Sink>(&self, sink: &mut S) -> Result<(), S::Error>
         ensures whole { IsScreen self.now }
         ensures colored { IsColored self.now }
@@ -99,7 +115,7 @@ impl Screen {
         self.write_input_mode_formatted(sink)
     }
 
-    /// Writes the text of [`Screen::state_diff`].
+    /// Writes the output of [`Screen::state_diff`].
     fn write_state_diff<S: Sink>(&self, sink: &mut S, prev: &Screen) -> Result<(), S::Error>
         requires { SameSize self.now.page prev.now.page }
         ensures whole { IsScreen self.now }

@@ -1,4 +1,4 @@
--- SGR and CUP, by their bytes.
+-- SGR and CUP, decided by their final bytes.
 use Rattle.std.proofs.Common.{◌-◌, refl}
 use Rattle.vt_grid.specs.PageStep.{MoveTo}
 use Rattle.vt_screen.specs.Controls.{number_or, seen_of}

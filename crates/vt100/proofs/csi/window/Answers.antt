@@ -1,4 +1,4 @@
--- The size that is asked for.
+-- The requested size of a window manipulation.
 use Rattle.std.proofs.Common.{arith, ◌∙◌}
 use Rattle.vt_screen.specs.Calls.{Resize}
 use Rattle.vt100.proofs.Deciding.{sized}

@@ -1,4 +1,4 @@
--- Runs leave the size of the screen.
+-- Runs keep the size of the screen.
 use Rattle.vt100.proofs.Sizes.{quiet_leaves, some_ran_size, some_stopped_size}
 use Rattle.vt100.proofs.laws.sizes.Goals as goal
 

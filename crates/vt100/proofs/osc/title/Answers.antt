@@ -1,4 +1,4 @@
--- Two calls.
+-- The two calls of OSC 0.
 use Rattle.std.proofs.Common.{sym, ◌∙◌}
 use Rattle.vt_screen.specs.Calls.{SetWindowIconName, SetWindowTitle}
 use Rattle.vt100.proofs.Deciding.{named_both}

@@ -1,4 +1,4 @@
--- The bell, and controls that are not known.
+-- BEL, and unknown controls.
 use Rattle.std.proofs.Common.{arith}
 use Rattle.vt_screen.specs.Calls.{AudibleBell, UnhandledControl}
 use Rattle.vt_screen.specs.Controls.{control_steps}

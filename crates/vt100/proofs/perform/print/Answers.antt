@@ -1,4 +1,4 @@
--- A character that is reported, or printed.
+-- A character that is reported or printed.
 use Rattle.std.proofs.Common.{sym, ◌∙◌}
 use Rattle.std.proofs.lemmas.Bool.{false≢true}
 use Rattle.vt_screen.specs.Calls.{UnhandledChar}

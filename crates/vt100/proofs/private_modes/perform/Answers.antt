@@ -1,4 +1,4 @@
--- One more group is done, or stopped in.
+-- The steps left after one more group of private modes, or a stop within it.
 use Rattle.std.proofs.Common.{arith, refl, rules}
 use Rattle.vt100.specs.Internals.{report_of}
 use Rattle.vt100.proofs.Remaining.{modes_left, modes_stop}

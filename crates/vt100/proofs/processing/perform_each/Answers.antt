@@ -1,4 +1,4 @@
--- Two events, one after the other.
+-- The two events of a byte, in order.
 use Rattle.std.proofs.Common.{List, map, option_to_list, refl, subst, sym, rules}
 use Rattle.std.proofs.lemmas.List.{map-append}
 use Rattle.std.specs.List.{FoldsTo}

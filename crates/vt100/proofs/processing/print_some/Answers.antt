@@ -45,7 +45,7 @@ returns-in-Ok-clause-read g c =
     (byte_ran g.CB.Callbacks.does before now byte (one_character code)
     (text_answer held byte code feeds c.from-then-count-eq0.ensures) (stage now, c.in-Ok.ensures.done, refl)))
 
--- the bytes that are printed are plain
+-- The bytes that are printed are plain characters.
 plain_text : (g : given.Over) (c : After-text_len-count g) →
     All (ReadsItself c.args.scanner.now) (take c.text_len-count.result c.args.bytes.now)
 plain_text g c =

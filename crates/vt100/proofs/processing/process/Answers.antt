@@ -4,7 +4,7 @@ use Rattle.vt100.specs.Parser.{Ran, Stopped, parsing}
 use Rattle.vt100.proofs.Running.{ran_on, stopped_then}
 use Rattle.vt100.proofs.processing.process.Goals as goal
 
--- a slice up to the end is what is left
+-- A slice up to the end is the rest of the bytes.
 all_left : (bytes : List ℕ) (k : ℕ) → take (length bytes - k) (drop k bytes) ≡ drop k bytes
 all_left bytes k = take_all (length bytes - k) (drop k bytes) (omega (arith, length-drop k bytes))
 

@@ -1,4 +1,4 @@
--- Where no wide characters were printed, the bytes are those of one step.
+-- If no wide characters were printed, the bytes are read by one step.
 use Rattle.std.proofs.Common.{◌≡◌, ℕ, subst, take, arith}
 use Rattle.vt100.specs.Parser.{Ran, parsing}
 use Rattle.vt100.proofs.Running.{read_behind}

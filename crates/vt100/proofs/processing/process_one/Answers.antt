@@ -25,7 +25,7 @@ returns-in-Err-perform_each-clause-read g c =
     (stopped_at_after does before led now bytes 0 ran
     (stopped_at_first does led now c.feed.new.self bytes events c.requires fed stops))
 
--- a character that is all there
+-- A complete character of several bytes.
 
 pub returns-in-Err-clause-read : goal.returns-in-Err-clause-read
 returns-in-Err-clause-read g c =

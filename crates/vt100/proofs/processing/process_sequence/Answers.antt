@@ -1,4 +1,4 @@
--- What led in, and the byte behind it where that ends the sequence.
+-- The bytes that lead into a sequence, and the byte after them if it ends the sequence.
 use Rattle.std.proofs.Common.{[], ◌≤◌, ◌+◌, List, ℕ, drop, length, refl, subst, take, rules}
 use Rattle.vt_scan.proofs.Lists.{all_left}
 use Rattle.vt100.specs.Parser.{CallsByLast, Ran, Stopped, StoppedAt, parsing}

@@ -1,4 +1,4 @@
--- A control function of one byte; and where no sequence went on, the bytes are those of one step.
+-- A control function of one byte; and if there is no sequence, the bytes are read by one step.
 use Rattle.std.proofs.Common.{◌≡◌, List, ℕ, get_or, inl, inr, refl, subst, sym, take, arith}
 use Rattle.std.proofs.lemmas.List.{take_more}
 use Rattle.vt_scan.specs.declared.event.Event.TheVariants.{Executed}

@@ -1,4 +1,4 @@
--- Some more prints are done.
+-- The prints left after some more of them.
 use Rattle.std.proofs.Common.{replicate}
 use Rattle.vt_screen.specs.Steps.{Print}
 use Rattle.vt100.proofs.Repeats.{more_left}

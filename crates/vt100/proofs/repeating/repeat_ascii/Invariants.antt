@@ -1,4 +1,4 @@
--- The prints that are left.
+-- The prints that are left to do.
 use Rattle.std.proofs.Common.{replicate}
 use Rattle.vt_screen.specs.Steps.{Print}
 use Rattle.vt100.proofs.Stepping.{Left}

@@ -1,4 +1,4 @@
--- The first bytes of a row of equal ones are equal ones.
+-- A prefix of equal bytes consists of equal bytes.
 use Rattle.std.proofs.Common.{◌≤◌, ℕ, List, ap, ◌∙◌, arith, replicate}
 use Rattle.std.proofs.lemmas.List.{take-replicate}
 use Rattle.vt_screen.specs.Texts.{screen_after_text}

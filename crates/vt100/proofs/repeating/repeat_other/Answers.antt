@@ -1,4 +1,4 @@
--- One more print is done, or refused.
+-- The prints left after one more, or a stop at it.
 use Rattle.std.proofs.Common.{rules}
 use Rattle.vt100.proofs.Stepping.{prints_left, prints_stop}
 use Rattle.vt100.proofs.repeating.repeat_other.Goals as goal

@@ -1,4 +1,4 @@
--- One print that may scroll, or a text that its row has room for.
+-- One print that may scroll, or a string that fits on the row.
 use Rattle.std.proofs.Common.{rules, ◌+◌, ◌≤◌, ℕ, arith, subst, sym, replicate}
 use Rattle.vt_screen.specs.Run.{Refuses, Takes, state}
 use Rattle.vt_screen.specs.Screen.{ScreenValue}

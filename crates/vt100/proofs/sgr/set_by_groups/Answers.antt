@@ -1,4 +1,4 @@
--- One more group is done.
+-- The steps left after one more group of settings.
 use Rattle.std.proofs.Common.{◌∙◌, ap, arith}
 use Rattle.vt_screen.specs.Sgr.{group_read}
 use Rattle.vt100.proofs.Remaining.{settings_left}

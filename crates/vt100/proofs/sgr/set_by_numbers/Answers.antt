@@ -1,4 +1,4 @@
--- One more number is done, as the group that it is.
+-- The steps left after one more number, read as a group.
 use Rattle.std.proofs.Common.{◌≡◌, ◌<◌, ◌∙◌, ◌∷◌, [], List, ℕ, ap, arith, get_or, length, sym}
 use Rattle.std.proofs.lemmas.List.{get_or-map, length-map}
 use Rattle.vt_screen.specs.Sgr.{group_read}

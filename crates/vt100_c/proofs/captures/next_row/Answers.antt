@@ -1,4 +1,4 @@
--- The first row is within the text, and the next one begins behind it.
+-- The first row is within the text, and the next one begins after it.
 use Rattle.std.proofs.Common.{◌≤◌, List, ℕ, length, ap, ◌∙◌, arith}
 use Rattle.vt100_c.specs.Captures.{behind_line_end}
 use Rattle.vt100_c.proofs.RowPlaces.{next_inside, next_rows}

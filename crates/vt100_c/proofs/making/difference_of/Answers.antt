@@ -1,4 +1,4 @@
--- The difference is the one of this name.
+-- The difference is the one with this name.
 use Rattle.std.proofs.Common.{subst, sym}
 use Rattle.vt100_c.specs.Texts.{HasDifference}
 use Rattle.vt100_c.specs.declared.making.Difference.{Difference}

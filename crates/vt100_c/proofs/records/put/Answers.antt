@@ -1,4 +1,4 @@
--- There was room.
+-- There was room for the bytes.
 use Rattle.std.proofs.Common.{Bool, ◌+◌, ◌++◌, length, vec_len, ap, ◌∙◌}
 use Rattle.std.specs.Prelude.{if◌then◌else◌}
 use Rattle.vt100_c.proofs.records.put.Goals as goal

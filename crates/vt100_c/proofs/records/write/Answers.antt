@@ -1,4 +1,4 @@
--- The five parts of a record, one put behind the other.
+-- The five parts of a record, joined one after the other.
 use Rattle.std.proofs.Common.{ℕ, List, [], ◌∷◌, ◌++◌, length, ap, ◌∙◌}
 use Rattle.std.specs.Int.{w32, w64, to_le_bytes}
 use Rattle.vt100_c.proofs.Logging.{put_five}

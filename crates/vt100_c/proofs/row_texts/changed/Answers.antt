@@ -1,4 +1,4 @@
--- One more text is put behind the others.
+-- One more row's output is joined to the others.
 use Rattle.std.proofs.Common.{◌<◌, ◌≤◌, ◌++◌, List, ℕ, length, set, ap, ◌∙◌, arith}
 use Rattle.std.specs.Prelude.{string_bytes}
 use Rattle.vt100_c.proofs.Joining.{joined_next, joined_place}

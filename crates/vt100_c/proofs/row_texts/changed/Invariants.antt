@@ -1,4 +1,4 @@
--- The texts so far are put one behind the other.
+-- The outputs of the rows so far are joined.
 use Rattle.std.proofs.Common.{◌≤◌, length}
 use Rattle.std.specs.Prelude.{string_bytes}
 use Rattle.vt100_c.specs.Rows.{IsJoined}

@@ -1,4 +1,4 @@
--- The texts so far are put one behind the other.
+-- The texts of the rows so far are joined.
 use Rattle.std.proofs.Common.{◌≤◌, length}
 use Rattle.std.specs.Prelude.{string_bytes}
 use Rattle.vt_screen.specs.Contents.{rows_left}

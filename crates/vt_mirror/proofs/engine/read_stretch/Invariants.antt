@@ -1,4 +1,4 @@
--- There are bytes left to read before the next update.
+-- Bytes are left to read before the next update.
 use Rattle.vt_mirror.specs.Internals.{InStretch}
 use Rattle.vt_mirror.proofs.engine.read_stretch.Given as goal
 

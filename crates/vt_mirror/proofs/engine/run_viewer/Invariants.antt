@@ -1,4 +1,4 @@
--- All updates that were due are written.
+-- All updates that were due have been written.
 use Rattle.vt_mirror.specs.Internals.{IsWritten}
 use Rattle.vt_mirror.proofs.engine.run_viewer.Given as goal
 

@@ -9,12 +9,12 @@ use Rattle.vt_redraw.proofs.SteadyTests.{IsPrintedTo, glyph_not_half, no_empty_g
 use Rattle.vt_redraw.proofs.SteadyTests.{printed_mark, printed_narrowed, spelled, two_or_one}
 use Rattle.vt_redraw.proofs.steadiness.prints_itself.Goals as goal
 
--- the bytes of the text begin with those of its first character
+-- The bytes of the text begin with those of its first character.
 begins : (c : goal.After-new) →
     c.contents.result.now ≡ encode_utf8 c.in-Some.first ++ c.next.new.self.rest.now
 begins c = sym c.chars-chars.ensures.rest ∙ c.in-Some.ensures.steps.0
 
--- the characters of the text
+-- The characters of the text are its first character and the others.
 spelling : (c : goal.After-new) → chars (text_of c.args.cell.now) ≡ c.in-Some.first ∷ chars c.next.new.self.rest.now
 spelling c =
     ap chars (sym c.contents.ensures.value)

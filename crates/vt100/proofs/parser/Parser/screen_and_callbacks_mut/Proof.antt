@@ -1,5 +1,5 @@
--- The screen and the callbacks are lent at once, and the parser follows both. Its other two fields
--- stay inside the loan, with the way back from all four. Assumes `Logic`.
+-- The screen and the callbacks are borrowed at once, and the parser follows both. Its other two fields stay inside the
+-- borrow, with the way back from all four. Assumes `Logic`.
 use mathlib.Core.Path.{◌≡◌, refl, sym, ap, subst}
 use Prim.Native.Nat.{ℕ, ◌+◌}
 use mathlib.Core.List.{List, [], ◌∷◌, ◌++◌}
@@ -87,7 +87,7 @@ module _ (T : RattleType) (laws : Laws T) (g : declared.Ghosts T.Denot) (d : Dic
   abbrev stayed : Stays end.signature.params end.kept
   stayed = (stay_dropped (mut_ref_to (0 ∷ []) tt (plain (λ _. Whole))) no, tt)
 
-  -- the four fields, and where each ends and begins
+  -- The four fields of a parser, with their bounds.
   abbrev members : List Member
   members =
       record { row = Scanned; ty = lone Scanned.mir } ∷ record { row = Shown; ty = lone Shown.mir }

@@ -1,4 +1,4 @@
--- A handle may go to another thread, since the object may. Assumes nothing.
+-- A handle may be sent to another thread, since the object may. Assumes nothing.
 use Rattle.std.specs.Prelude.{Option, Some, None}
 use mir.Raw.{raw}
 use base.Shift.{Keyless}
@@ -31,7 +31,7 @@ ruleset object_crosses = (
   mirror_send,
 )
 
--- by its fields: that a mirror may go is proved by hand, too
+-- An object may be sent because its fields may; for a mirror that is proved by hand, too.
 object : IsSend Object.the_row
 object =
     let all : AllSend (declared.fields Object.the_type) = (search object_crosses depth 20, (search object_crosses depth 20, tt)) in

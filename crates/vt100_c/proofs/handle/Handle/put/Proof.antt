@@ -1,4 +1,4 @@
--- `put` writes the pointer, and what the parts owned goes with it.
+-- `put` writes the pointer, and the handle owns what the parts owned.
 use Rattle.std.proofs.Common.{List, [], ◌∷◌, ◌++◌, refl, sym, subst}
 use Rattle.std.specs.Prelude.{Some}
 use Rattle.std.proofs.raw_atomic.Walks.{proved_at}

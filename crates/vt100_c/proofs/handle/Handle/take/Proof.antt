@@ -1,4 +1,4 @@
--- `take` reads the pointer, and what the handle owned goes with it.
+-- `take` reads the pointer, and the parts own what the handle owned.
 use Rattle.std.proofs.Common.{List, [], ◌∷◌, ◌++◌, refl, sym, ap, ◌∙◌, subst, lit<}
 use Rattle.std.specs.Prelude.{Option, None, IsSome}
 use Rattle.std.proofs.raw_atomic.Walks.{proved_at}

@@ -1,4 +1,4 @@
--- `into_box` hands what the parts own to the library's call that makes a box.
+-- `into_box` passes what the parts own to the library's call that makes a box.
 use mathlib.Core.Path.{◌≡◌, refl, sym, subst, ap}
 use mathlib.Core.List.{List, [], ◌∷◌, ◌++◌}
 use lib.Dec.{T}
@@ -40,14 +40,14 @@ use Rattle.vt100_c.proofs.parts.Parts.into_box.Statement.{statement}
 abbrev ended : Bx → Ended
 ended E = f.ended E.row E.al.row E.al.g E.al.d E.al.drops
 
--- the parts, as a row
+-- The type of the parts.
 abbrev Given : Bx → RattleType
 Given E = the_row (R E) (P E) E.al.g
 
 abbrev stayed : (E : Bx) → Stays (ended E).signature.params (ended E).kept
 stayed E = (stay_dropped (plain (λ _. Given E)) no, tt)
 
--- what is left behind the block
+-- The statements after the block.
 abbrev rest : Body
 rest = seq (assign (place 0 []) (rv_opd (copy (place 4 [])))) return
 

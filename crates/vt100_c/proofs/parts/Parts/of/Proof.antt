@@ -50,7 +50,7 @@ ended E dx = f.ended E.row E.al.row E.al.g E.al.d E.al.drops dx
 abbrev stayed : (E : Bx) (dx : Dict) → Stays (ended E dx).signature.params (ended E dx).kept
 stayed E dx = (stay_dropped (plain (λ _. B E)) no, tt)
 
--- the parts, as a row
+-- The type of the parts.
 abbrev Made : Bx → RattleType
 Made E = the_row (R E) (P E) E.al.g
 

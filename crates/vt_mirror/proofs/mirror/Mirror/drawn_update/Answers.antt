@@ -13,7 +13,7 @@ contents_diff-requires c =
     copy_size c.self.inside.parser.screen c.screen-screen.result.now it.0 c.in-Some.prev.now
     c.screen-screen.ensures.value it.2 (c.self.invariant.sized c.args.viewer it.0 it.1)
 
--- for a viewer that is up to date
+-- A viewer that is up to date gets an empty difference.
 pub returns-then-is_current-clause-ok : goal.returns-then-is_current-clause-ok
 returns-then-is_current-clause-ok c =
     let it = c.is_current.ensures c.if-is_current.true in

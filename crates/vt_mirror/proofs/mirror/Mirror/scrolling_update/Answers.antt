@@ -16,7 +16,7 @@ contents_diff_scrolling-requires c =
     copy_size c.self.inside.parser.screen c.screen-screen.result.now it.0 c.in-Some.prev.now
     c.screen-screen.ensures.value it.2 (c.self.invariant.sized c.args.viewer it.0 it.1)
 
--- for a viewer whose noted screen is not steady
+-- A viewer whose recorded screen is not steady gets a full redraw.
 pub returns-then-not-is_steady-clause-ok : goal.returns-then-not-is_steady-clause-ok
 returns-then-not-is_steady-clause-ok c =
     let it = c.in-Some.ensures.some in
@@ -25,7 +25,7 @@ returns-then-not-is_steady-clause-ok c =
     (sym c.if-not-is_steady.true ∙ c.is_steady.ensures.1 (subst IsSteady (sym it.2.shown) steady)))
     c.full-then-not-is_steady.ensures.ok
 
--- for a viewer that is up to date
+-- A viewer that is up to date gets an empty difference.
 pub returns-then-is_current-clause-ok : goal.returns-then-is_current-clause-ok
 returns-then-is_current-clause-ok c =
     let it = c.is_current.ensures c.if-is_current.true in

@@ -7,7 +7,7 @@ use Rattle.vt_mirror.proofs.Bookkeeping.{if_refused, if_taken}
 use Rattle.vt_mirror.proofs.Keeping.{kept_put, no_more_kept, note_put, note_put_viewers, shared_renewed}
 use Rattle.vt_mirror.proofs.viewers.Viewers.note.Goals as goal
 
--- no copy could be made
+-- No copy could be made.
 pub invariant_of-self : goal.invariant_of-self
 invariant_of-self c = record {
   viewers = c.self.invariant.viewers;
@@ -18,7 +18,7 @@ invariant_of-self c = record {
       c.current_note.ensures.renewed c.self.invariant.shared;
 }
 
--- it could not be noted
+-- The copy could not be recorded.
 pub invariant_of-self-then-is_err : goal.invariant_of-self-then-is_err
 invariant_of-self-then-is_err c =
     subst (λ (es : List (ℕ × Note)). AreKept

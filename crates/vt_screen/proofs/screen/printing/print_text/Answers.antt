@@ -1,4 +1,4 @@
--- The text is printed, and its last character is the last one.
+-- The run is printed, and its last character is the last character of the screen.
 use Rattle.std.proofs.Common.{◌-◌, ◌<◌, length, sym, ap, ◌∙◌, arith}
 use Rattle.std.specs.Prelude.{Some}
 use Rattle.std.proofs.Common.{rules}

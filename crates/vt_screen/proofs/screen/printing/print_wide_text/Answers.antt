@@ -1,4 +1,4 @@
--- The text is printed, and its last character is the last one.
+-- The run is printed, and its last character is the last character of the screen.
 use Rattle.std.proofs.Common.{◌≡◌, ◌-◌, ◌<◌, ◌≤◌, length, get_or, sym, subst, ap, ◌∙◌, arith, rules}
 use Rattle.std.specs.Prelude.{Some}
 use Rattle.std.proofs.lemmas.List.{get_or_default}

@@ -1,4 +1,4 @@
--- The character is printed, and the callbacks hear of the row that left.
+-- The character is printed, and the row that scrolled off is reported.
 use Rattle.std.proofs.Common.{refl, subst, rules}
 use Rattle.std.specs.List.{FoldsTo}
 use Rattle.vt_cells.proofs.Packing.{attrs_fit}

@@ -1,4 +1,4 @@
--- The alternate page is resized, and the callbacks hear of the rows that left.
+-- The alternate page is resized, and the rows that scrolled off are reported.
 use Rattle.std.proofs.Common.{◌≡◌, true, refl, rules, sym, subst, ◌∙◌}
 use Rattle.std.specs.Prelude.{is_ok}
 use Rattle.vt_grid.specs.Resize.{resize_reports}

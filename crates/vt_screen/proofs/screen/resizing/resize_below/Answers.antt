@@ -1,4 +1,4 @@
--- Both pages are resized, and the callbacks hear of the rows that left.
+-- Both pages are resized, and the rows that scrolled off are reported.
 use Rattle.std.proofs.Common.{false, true, refl, rules, subst, ap, ◌∙◌}
 use Rattle.vt_grid.specs.Resize.{resize_reports}
 use Rattle.vt_grid.specs.Scrollback.{no_scrollback}

@@ -1,4 +1,4 @@
--- Scrollback is given up, and the callbacks hear of its rows.
+-- Scrollback is erased, and its rows are reported.
 use Rattle.std.proofs.Common.{refl, subst, rules}
 use Rattle.std.specs.List.{FoldsTo}
 use Rattle.vt_screen.specs.Run.{CalledOnScroll}

@@ -1,4 +1,4 @@
--- The page is fed, and the callbacks hear of the row that left.
+-- The line feed is done, and the row that scrolled off is reported.
 use Rattle.std.proofs.Common.{refl, subst, rules}
 use Rattle.std.specs.List.{FoldsTo}
 use Rattle.vt_grid.specs.Outgoing.{fed_out}

@@ -1,4 +1,4 @@
--- The region scrolls up, and the callbacks hear of the rows that left.
+-- The region is scrolled up, and the rows that scrolled off are reported.
 use Rattle.std.proofs.Common.{refl, subst, rules}
 use Rattle.std.specs.List.{FoldsTo}
 use Rattle.vt_grid.specs.Outgoing.{scrolled_out}
