@@ -7,6 +7,7 @@ import imports
 import lanes
 import surface
 import verdicts
+import words
 from edits import Edit, groups_of, renamed
 from sources import functions_in
 
@@ -55,6 +56,24 @@ class Sources(unittest.TestCase):
         row, root = functions_in("low/src/lib.rt", SOURCE)
         self.assertEqual(surface.parameters(row), [("at", "u16")])
         self.assertEqual(surface.parameters(root), [])
+
+
+class Words(unittest.TestCase):
+    def found(self, path, text):
+        return [(number, word) for number, word, _ in words.retired_in(path, text)]
+
+    def test_comments(self):
+        text = "/// It answers.\nlet answers = 1; // a row behind\n//! `lent`, left behind\n/// The same row\n"
+        self.assertEqual(self.found("a.rt", text), [(1, "answers"), (2, "behind"), (4, "The same")])
+        self.assertEqual(self.found("a.antt", "-- Rows lent\nlent = 1\n"), [(1, "lent")])
+
+    def test_documents(self):
+        text = "It calls nobody.\n```\nlent\n```\nThe same is done.\n"
+        self.assertEqual(self.found("docs/A.md", text), [(1, "calls nobody")])
+
+    def test_allowed(self):
+        self.assertEqual(self.found("docs/SECURITY.md", "A terminal answers."), [])
+        self.assertEqual(self.found("docs/MODEL.md", "A terminal answers."), [(1, "answers")])
 
 
 class Imports(unittest.TestCase):

@@ -46,7 +46,7 @@ longer old text n buffer e fits utf8 = record {
   utf8 = IsUtf8-append old text buffer.utf8 utf8;
 }
 
--- The invariant of a buffer holds after a string is copied behind its bytes.
+-- The invariant of a buffer holds after a string is copied after its bytes.
 pub pushed : (len k : ℕ) (bytes copied text : List ℕ) → IsBuffer len (take len bytes)
     → len ≤ length bytes → length (take len bytes) + length text ≤ 128 → copied ≡ text → IsUtf8 text
     → IsBuffer (len + length text) (take (len + length text) (put_mid len k bytes copied))

@@ -80,7 +80,7 @@ fed_character unfinished now new b code answer same some is extends e =
     subst (λ (l : List ℕ). Follows new answer (step_in Ground l b))
     same (character unfinished new b code answer some is extends e)
 
--- The events of an answer with one event, after another event.
+-- The events of a result with one event, after another event.
 alone : (held : Held) (e : automaton.Event) (events : Events) → events.second ≡ None
     → e ∷ map (event_of held) (option_to_list events.first) ≡ e ∷ events_in held events
 alone held e events s =

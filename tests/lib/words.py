@@ -1,0 +1,73 @@
+"""Finds words in comments and documents that this project writes another way.
+
+    words.py FOLDER    prints a line for each, and how many places were looked at
+
+The right-hand column of RETIRED is what to write instead.
+"""
+import glob
+import re
+import sys
+
+from sources import read
+
+RETIRED = (
+    (r"\banswer(?:s|ed)?\b", "returns"),
+    (r"\blen[dt]s?\b", "borrows, takes a reference to, passes"),
+    (r"(?<!fall )(?<!left )(?<!leave )\bbehind\b", "after"),
+    (r"^The same\b(?! is)", "the noun"),
+    (r"\bwant of memory\b|\bmemory is refused\b", "out of memory; the allocation fails"),
+    (r"\b(?:tells|calls) nobody\b", "invokes no callbacks"),
+    (r"\bgo(?:es)? on below\b", "is wrapped"),
+)
+
+# Where a word is meant as it is: the end of a file's name, the word, and what is meant.
+ALLOWED = (
+    ("docs/ARCHITECTURE.md", "answers", "files of proofs"),
+    ("docs/PROVING.md", "answers", "files of proofs"),
+    ("docs/SECURITY.md", "answers", "a terminal's reply to a query"),
+    ("bindings/README.md", "behind", "what a header hides"),
+)
+COMMENT = {".rt": r"(?:^|\s)//[/!]? ?(.*)$", ".antt": r"(?:^|\s)-- ?(.*)$"}
+PLACES = ("README.md", "docs/*.md", "crates/*/*.md", "bindings/*.md", "bindings/*/*.md", "crates/*/src/**/*.rt",
+          "crates/*/specs/**/*.antt", "crates/*/proofs/**/*.antt")
+
+
+def texts_of(path, text):
+    """The lines of a file that a reader reads, with their numbers: comments of sources, documents without code."""
+    ending = path[path.rindex("."):]
+    is_code = False
+    for number, line in enumerate(text.split("\n"), 1):
+        if ending in COMMENT:
+            found = re.search(COMMENT[ending], line)
+            if found:
+                yield number, found[1]
+            continue
+        is_code ^= line.startswith("```")
+        if not is_code:
+            yield number, line
+
+
+def is_allowed(path, word):
+    return any(path.endswith(end) and word == allowed for end, allowed, _ in ALLOWED)
+
+
+def retired_in(path, text):
+    """Of each retired word in a file the number of its line, the word, and what to write instead."""
+    for number, line in texts_of(path, text):
+        prose = re.sub(r"`[^`]*`", "``", line)
+        for pattern, instead in RETIRED:
+            for found in re.finditer(pattern, prose):
+                if not is_allowed(path, found[0]):
+                    yield number, found[0], instead
+
+
+def main(root):
+    paths = sorted(path for place in PLACES for path in glob.glob(f"{root}/{place}", recursive=True))
+    for path in paths:
+        for number, word, instead in retired_in(path, read(path)):
+            print(f"{path[len(root) + 1:]}:{number}: {word!r}: write {instead}")
+    print(len(paths))
+
+
+if __name__ == "__main__":
+    main(sys.argv[1])
