@@ -8,6 +8,12 @@ use vt100::{Call, Callbacks, Error, Parser, Screen};
 /// The largest size that a program may ask for, in rows and columns.
 const GREATEST: (u16, u16) = (200, 400);
 
+/// The longest command that a program may send, in bytes: enough for a clipboard.
+const LONGEST: usize = 1 << 20;
+
+/// The control function CAN, which ends a command.
+const CANCEL: &[u8] = b"\x18";
+
 /// A window that contains a terminal.
 #[derive(Drop)]
 pub struct Window {
@@ -65,13 +71,17 @@ impl Callbacks for Window {
     }
 }
 
-/// Parses `bytes`, and then resizes the screen if they asked for it, at most to the largest size.
+/// Parses `bytes`, ends a command that has become too long, and then resizes the screen if a
+/// program asked for it, at most to the largest size.
 ///
 /// # Errors
 ///
 /// Returns [`Error::OutOfMemory`] if an allocation fails, in a callback or elsewhere.
 pub fn read(parser: &mut Parser<Window>, bytes: &[u8]) -> Result<(), Error> {
     parser.process(bytes)?;
+    if parser.pending_len() > LONGEST {
+        parser.process(CANCEL)?;
+    }
     let window = parser.callbacks_mut();
     if window.has_lost {
         return Err(Error::OutOfMemory);

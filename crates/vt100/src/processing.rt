@@ -184,7 +184,10 @@ fn process_one<CB: Callbacks>(
         return Err(0);
     };
     match perform_each(screen, callbacks, scanner, events) {
-        Ok(()) => Ok(1),
+        Ok(()) => {
+            scanner.release_text();
+            Ok(1)
+        }
         Err(_) => Err(0),
     }
 }

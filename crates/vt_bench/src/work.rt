@@ -28,6 +28,9 @@ pub enum Work {
 
     /// Copies the screen.
     Clone,
+
+    /// Tests whether the screen is steady.
+    Steady,
 }
 
 impl Work {
@@ -42,12 +45,13 @@ impl Work {
             "contents" => Some(Work::Contents),
             "basic" => Some(Work::Basic),
             "clone" => Some(Work::Clone),
+            "steady" => Some(Work::Steady),
             _ => None,
         }
     }
 
     /// Makes the call once, and returns the length of its output in bytes; for a copy, the number
-    /// of rows.
+    /// of rows, and for a steady screen 1.
     pub fn call(self, screen: &Screen, prev: &Screen) -> Result<usize, Error> {
         match self {
             Work::Process => Ok(0),
@@ -58,6 +62,7 @@ impl Work {
             Work::Contents => Ok(screen.contents()?.len()),
             Work::Basic => Ok(screen.contents_formatted_basic()?.len()),
             Work::Clone => rows_of_copy(screen),
+            Work::Steady => Ok(usize::from(screen.is_steady())),
         }
     }
 }

@@ -1,5 +1,5 @@
 -- There is always a state that the scanner represents.
-use Rattle.std.proofs.Common.{◌≡◌, ℕ, List, [], ◌∷◌, ◌++◌, refl, sym, subst}
+use Rattle.std.proofs.Common.{◌≡◌, ◌≢◌, ℕ, List, [], ◌∷◌, ◌++◌, refl, sym, subst}
 use Rattle.std.proofs.Math.Logic.{∥∥₁_map}
 use Rattle.vt_scan.specs.Automaton.{State, step_in}
 use Rattle.vt_scan.specs.Automaton as automaton
@@ -7,7 +7,8 @@ use Rattle.vt_scan.specs.Run.{run}
 use Rattle.vt_scan.specs.Scanner.{Feeds, FeedsAll, Held, Reads, StandsFor}
 use Rattle.vt_scan.specs.declared.event.Events.{Events}
 use Rattle.vt_scan.specs.declared.table.Kind.{Kind}
-use Rattle.vt_scan.specs.declared.table.Kind.TheVariants.{Ground, OscString}
+use Rattle.vt_scan.specs.declared.table.Kind.TheVariants.{Ground, Escape, EscapeIntermediate, CsiEntry, CsiParam}
+use Rattle.vt_scan.specs.declared.table.Kind.TheVariants.{CsiIntermediate, CsiIgnore, OscString, Skip}
 
 stands_at : (held : Held) (kind : Kind) (text : List ℕ) → held.kind ≡ kind → Reads held kind text
     → StandsFor held (record { kind = kind; collected = text })
@@ -48,3 +49,25 @@ pub stands_fed_all : (old new : Held) (bytes : List ℕ) (events : List automato
 stands_fed_all old new bytes events feeds stands =
     ∥∥₁_map {B = (state : State) × StandsFor new state} stands
     (λ (s : (state : State) × StandsFor old state). ((run s.0 bytes).state, (feeds s.0 s.1).0))
+
+-- outside of a command, nothing is read from its text
+reads_without_text : (kind : Kind) (held : Held) (kept text : List ℕ) → kind ≢ OscString
+    → Reads held kind text → Reads (record held { text = kept }) kind text
+reads_without_text Ground held kept text other r = r
+reads_without_text Escape held kept text other r = record { table = r.table; intermediates = r.intermediates }
+reads_without_text EscapeIntermediate held kept text other r =
+    record { table = r.table; intermediates = r.intermediates }
+reads_without_text CsiEntry held kept text other r = record { table = r.table; intermediates = r.intermediates }
+reads_without_text CsiParam held kept text other r = record { table = r.table; intermediates = r.intermediates }
+reads_without_text CsiIntermediate held kept text other r =
+    record { table = r.table; intermediates = r.intermediates }
+reads_without_text CsiIgnore held kept text other r = r
+reads_without_text OscString held kept text other r = absurd (other refl)
+reads_without_text Skip held kept text other r = r
+
+pub stands_without_text : (held : Held) (kept : List ℕ) (state : State) → held.kind ≢ OscString
+    → StandsFor held state → StandsFor (record held { text = kept }) state
+stands_without_text held kept state other stands = record {
+  kind = stands.kind;
+  reads = reads_without_text held.kind held kept state.collected other stands.reads;
+}

@@ -1,8 +1,8 @@
 //! The scanner, which turns bytes into events.
 
-ghost use Rattle.std.specs.Prelude.{◌≡◌, ◌≢◌, ℕ};
+ghost use Rattle.std.specs.Prelude.{◌≡◌, ◌≢◌, ◌≤◌, ◌<◌, ◌⊎◌, ℕ};
 ghost use Rattle.std.specs.Prelude.{List, [], ◌∷◌, ◌++◌, IfOk, length};
-ghost use Rattle.std.specs.Prelude.{IsErr, None, OnErr, OnOk};
+ghost use Rattle.std.specs.Prelude.{IsErr, None, OnErr, OnOk, vec_capacity};
 ghost use Rattle.vt_cells.specs.Refusals.{OnlyOutOfMemory};
 ghost use Rattle.vt_scan.specs.Automaton.{State, fresh_step, parts_of, start, step_in};
 ghost use Rattle.vt_scan.specs.Internals.{Begins, Fits, answer_of};
@@ -152,6 +152,21 @@ impl Scanner {
         }
     }
 
+    /// Gives back the memory of the last operating system command if it takes
+    /// more than 4096 bytes, and none is unfinished; `parts` then returns one
+    /// empty part. Call it once the command's event has been handled: otherwise
+    /// the memory is kept for commands to come.
+    #[inline]
+    pub fn release_text(&mut self)
+        ensures stands { (state : State) → StandsFor self.old state → StandsFor self.new state }
+        ensures text { (self.new ≡ self.old) ⊎ (self.new ≡ record self.old { text = [] }) }
+    {
+        match self.kind {
+            Kind::OscString => {}
+            _ => release(&mut self.text),
+        }
+    }
+
     /// Parses a byte outside sequences.
     #[inline]
     fn feed_ground(&mut self, byte: u8) -> Events
@@ -268,6 +283,24 @@ impl Scanner {
             }
         }
     }
+}
+
+/// The largest number of bytes that a scanner keeps for a command's text
+/// between two commands.
+const KEPT_CAPACITY: usize = 4096;
+
+/// Empties a text whose memory is above [`KEPT_CAPACITY`], and frees it.
+#[inline]
+fn release(text: &mut Vec<u8>)
+    ensures bounded { vec_capacity text.new ≤ 4096 }
+    ensures kept { vec_capacity text.old ≤ 4096 → text.new ≡ text.old }
+    ensures emptied { 4096 < vec_capacity text.old → text.new.items ≡ [] }
+{
+    if text.capacity() <= KEPT_CAPACITY {
+        return;
+    }
+    text.clear();
+    text.shrink_to_fit();
 }
 
 /// Returns the events that the byte `byte` causes by ending what was collected.

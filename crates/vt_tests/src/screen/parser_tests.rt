@@ -64,13 +64,21 @@ fn counts_the_bytes_of_an_unfinished_command(rt: HostRuntime) -> Result<(), Fail
     Ok(())
 }
 
+/// Titles, and how many bytes are pending after `2;` and one of them. The buffer of
+/// the second is not kept.
+const TITLES: &[(&[u8], usize)] = &[(&[b'a'; 1000], 1002), (&[b'a'; 5000], 5002)];
+
 #[test]
 fn ends_a_long_command(rt: HostRuntime) -> Result<(), Fail> {
-    for end in [&b"\x07"[..], b"\x18"] {
-        let mut parser = read(rt.alloc(), (2, 4), &[b"\x1B]2;", &[b'a'; 1000]])?;
-        assert_eq!(rt; parser.pending_len(), 1002);
-        parser.process(end)?;
-        assert_eq!(rt; parser.pending_len(), 0);
+    for (title, pending) in TITLES {
+        for end in [&b"\x07"[..], b"\x18"] {
+            let mut parser = read(rt.alloc(), (2, 4), &[b"\x1B]2;", title])?;
+            assert_eq!(rt; parser.pending_len(), *pending);
+            parser.process(end)?;
+            assert_eq!(rt; parser.pending_len(), 0);
+            parser.process(b"\x1B]2;b")?;
+            assert_eq!(rt; parser.pending_len(), 3);
+        }
     }
     Ok(())
 }

@@ -2,4 +2,4 @@ use Rattle.vt_mirror.proofs.Healing.{viewer_heals}
 use Rattle.vt_mirror.proofs.laws.heals.Goals as goal
 
 pub returns : goal.returns
-returns g c = viewer_heals (g.CB.Callbacks.does)
+returns g c = record { shows = viewer_heals (g.CB.Callbacks.does) }
