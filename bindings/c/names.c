@@ -1,6 +1,11 @@
-/* The texts of statuses: the one call of the library that is written in C, and makes no promise that
-   a proof would carry. */
+/* The names of the version and of statuses: the two calls of the library that are written in C, and
+   make no promise that a proof would carry. */
 #include "vt100.h"
+
+#define TEXT_OF(number) #number
+#define VERSION(major, minor) TEXT_OF(major) "." TEXT_OF(minor)
+
+const char *vt100_version(void) { return VERSION(VT100_VERSION_MAJOR, VT100_VERSION_MINOR); }
 
 const char *vt100_status_text(vt100_status status) {
     switch (status) {

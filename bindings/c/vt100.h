@@ -65,8 +65,9 @@
  * VERSIONS
  *     VT100_VERSION_MAJOR and VT100_VERSION_MINOR number this interface. A change that breaks
  *     compiled programs raises MAJOR, which the shared object's name has, libvt100.so.MAJOR; an
- *     addition raises MINOR. VT100_CRATE_VERSION is the version of the Rust crate vt100 whose
- *     behavior the library has.
+ *     addition raises MINOR. vt100_version says which interface the library has that a program runs
+ *     with. VT100_CRATE_VERSION is the version of the Rust crate vt100 whose behavior the library
+ *     has.
  *
  * RUNNING A PROGRAM
  *     The code is for Linux with glibc, on processors of level x86-64-v2 (SSE4.2 and POPCNT, which
@@ -93,7 +94,7 @@ extern "C" {
 /* ---- versions */
 
 #define VT100_VERSION_MAJOR 1
-#define VT100_VERSION_MINOR 0
+#define VT100_VERSION_MINOR 1
 #define VT100_CRATE_VERSION "0.18.1"
 
 /* ---- handles and statuses */
@@ -236,6 +237,15 @@ vt100_status vt100_capture_new(vt100_handle *out);
 vt100_status vt100_save(vt100_handle *handle, vt100_handle *out);
 
 /*
+ * Fills `out` with a saved screen that displays what a parser's or a saved screen displays, and has
+ * its size, but neither scrollback nor the page that is not displayed: it serves as `prev` of
+ * differences in less memory than vt100_save takes. While scrollback is in view it is a whole copy.
+ * VT100_NO_OBJECT, VT100_WRONG_KIND. VT100_IN_USE: out isn't empty, nor is it if it is the same
+ * handle. VT100_OUT_OF_MEMORY.
+ */
+vt100_status vt100_shown_copy(vt100_handle *handle, vt100_handle *out);
+
+/*
  * Exchanges the screens of two handles, each a parser's or a saved one. Events, and what a parser
  * has read of a sequence, stay where they are. Takes no memory.
  * VT100_NO_OBJECT, VT100_WRONG_KIND, VT100_BAD_ARGUMENT: the same handle twice.
@@ -267,6 +277,15 @@ vt100_status vt100_process(vt100_handle *handle, const uint8_t *bytes, size_t le
  */
 vt100_status vt100_process_until(vt100_handle *handle, const uint8_t *bytes, size_t len,
                                  size_t *used);
+
+/*
+ * How many bytes of an unfinished operating system command (OSC, as titles are set by) a parser
+ * holds: those after ESC ] that were read, without control characters; 0 where none is unfinished.
+ * A command has no limit but memory. To end one at a limit, pass CAN (24) to vt100_process: what
+ * was read of it is dispatched. A parser alone.
+ * VT100_NO_OBJECT, VT100_WRONG_KIND.
+ */
+vt100_status vt100_pending_len(vt100_handle *handle, size_t *len);
 
 /* ---- sizes and scrollback */
 
@@ -317,6 +336,14 @@ vt100_status vt100_get_cells(vt100_handle *handle, uint16_t row, vt100_cell *out
  * VT100_NO_OBJECT, VT100_WRONG_KIND. VT100_BAD_ARGUMENT: there is no such row.
  */
 vt100_status vt100_row_wrapped(vt100_handle *handle, uint16_t row, uint8_t *out);
+
+/*
+ * 1 if the screen is steady: each glyph that is shown, printed on a blank row, is the same glyph
+ * again, so that redraws and differences show this screen exactly. Else 0, which only U+FE0F brings
+ * about.
+ * VT100_NO_OBJECT, VT100_WRONG_KIND.
+ */
+vt100_status vt100_is_steady(vt100_handle *handle, uint8_t *out);
 
 /* ---- texts: a parser or a saved screen
  *
@@ -531,9 +558,26 @@ vt100_status vt100_update(vt100_handle *mirror, uint64_t viewer, uint16_t *rows,
 vt100_status vt100_update_scrolling(vt100_handle *mirror, uint64_t viewer, uint16_t *rows,
                                     uint16_t *cols, size_t *len);
 
-/* ---- texts of statuses */
+/*
+ * 1 if it is known that the viewer's last update is up to date, so that the next one is an empty
+ * difference, or a redraw if it is one of vt100_update_scrolling and the screen is not steady. Else
+ * 0: for a viewer that had no update since it joined or since the last resize, if vt100_process was
+ * called since its last update, even if that changed nothing that is shown, and if there is no
+ * viewer of this number. Takes no memory, and reads no cell.
+ * VT100_NO_OBJECT, VT100_WRONG_KIND.
+ */
+vt100_status vt100_mirror_is_current(vt100_handle *mirror, uint64_t viewer, uint8_t *out);
 
-/* What a status means, in English, without a newline. It is never null, and lasts forever. */
+/* ---- names of the version and of statuses: never null, they last forever */
+
+/*
+ * The version of this interface that the library has: the VT100_VERSION_MAJOR and
+ * VT100_VERSION_MINOR of its header, as in "1.1". A program that is linked to the shared object may
+ * run with a later MINOR than it was compiled with.
+ */
+const char *vt100_version(void);
+
+/* What a status means, in English, without a newline. */
 const char *vt100_status_text(vt100_status status);
 
 #ifdef __cplusplus

@@ -36,7 +36,7 @@ static int update(vt100_handle *parser, vt100_handle *shown) {
     if (vt100_contents_diff(parser, shown, &len) != VT100_OK) return failed("out of memory");
     if (write_text(parser, len) != 0) return 1;
     vt100_free(shown);
-    return vt100_save(parser, shown) != VT100_OK ? failed("out of memory") : 0;
+    return vt100_shown_copy(parser, shown) != VT100_OK ? failed("out of memory") : 0;
 }
 
 /* Writes a redraw, and from then on what changes. */
@@ -45,7 +45,7 @@ static int follow(vt100_handle *parser, vt100_handle *shown, size_t every) {
     uint8_t *bytes = malloc(every);
     if (bytes == NULL) return failed("out of memory");
     int status = vt100_contents_formatted(parser, &len) != VT100_OK
-        || vt100_save(parser, shown) != VT100_OK;
+        || vt100_shown_copy(parser, shown) != VT100_OK;
     status = status != 0 ? failed("out of memory") : write_text(parser, len);
     while (status == 0 && (count = fread(bytes + held, 1, every - held, stdin)) > 0) {
         vt100_status read = vt100_process(parser, bytes + held, count);

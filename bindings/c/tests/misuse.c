@@ -58,6 +58,9 @@ static vt100_status get_state(vt100_handle *h) { return vt100_get_state(h, &stat
 static vt100_status get_cell(vt100_handle *h) { return vt100_get_cell(h, 0, 1, cells); }
 static vt100_status get_cells(vt100_handle *h) { return vt100_get_cells(h, 2, cells, COLS); }
 static vt100_status wrapped(vt100_handle *h) { return vt100_row_wrapped(h, 2, &byte); }
+static vt100_status pending(vt100_handle *h) { return vt100_pending_len(h, &len); }
+static vt100_status steady(vt100_handle *h) { return vt100_is_steady(h, &byte); }
+static vt100_status current(vt100_handle *h) { return vt100_mirror_is_current(h, 0, &byte); }
 static vt100_status contents(vt100_handle *h) { return vt100_contents(h, &len); }
 static vt100_status between(vt100_handle *h) {
     return vt100_contents_between(h, 0, COLS, 2, COLS, &len);
@@ -81,6 +84,14 @@ static vt100_status save(vt100_handle *h) {
     vt100_handle out = VT100_EMPTY;
     vt100_status status = vt100_save(h, &out);
     must((status == VT100_OK) == (vt100_kind(&out) != VT100_NONE));
+    vt100_free(&out);
+    return status;
+}
+
+static vt100_status shown_copy(vt100_handle *h) {
+    vt100_handle out = VT100_EMPTY;
+    vt100_status status = vt100_shown_copy(h, &out);
+    must((status == VT100_OK) == (vt100_kind(&out) == VT100_SCREEN));
     vt100_free(&out);
     return status;
 }
@@ -118,6 +129,8 @@ static const struct {
     {"clear_events", vt100_clear_events, P}, {"set_event_limit", limit, P}, {"join", join, M},
     {"leave", leave, M},
     {"update", update, M}, {"update_scrolling", update_scrolling, M}, {"save", save, P | S | C},
+    {"shown_copy", shown_copy, P | S}, {"is_steady", steady, P | S},
+    {"mirror_is_current", current, M}, {"pending_len", pending, P},
 };
 
 static void calls_of_one(void) {
@@ -128,9 +141,11 @@ static void calls_of_one(void) {
                 : (of_one[i].kinds >> kind & 1) != 0 ? VT100_OK
                                                      : VT100_WRONG_KIND;
             len = UNTOUCHED;
+            byte = 99;
             vt100_status status = of_one[i].call(&handle);
             size_t kept = of_one[i].call == until ? 0 : UNTOUCHED;
-            int is_right = status == wanted && (status == VT100_OK || len == kept);
+            int is_right =
+                status == wanted && (status == VT100_OK || (len == kept && byte == 99));
             if (!is_right) printf("%s of kind %d: %u, %zu\n", of_one[i].name, kind, status, len);
             must(is_right);
             must(vt100_kind(&handle) == kind);
@@ -217,6 +232,7 @@ static void twice(void) {
         must(status != VT100_OK && len == UNTOUCHED && vt100_kind(&parser) == VT100_PARSER);
     }
     must(vt100_save(&parser, &parser) == VT100_IN_USE);
+    must(vt100_shown_copy(&parser, &parser) == VT100_IN_USE);
     must(vt100_capture_row(&parser, 0, &parser, &len) != VT100_OK);
     must(vt100_kind(&parser) == VT100_PARSER);
     must(vt100_contents(&parser, &len) == VT100_OK && len == 2);
@@ -232,6 +248,7 @@ static void making(void) {
     must(vt100_mirror_new(ROWS, COLS, 0, &handle) == VT100_IN_USE);
     must(vt100_capture_new(&handle) == VT100_IN_USE);
     must(vt100_save(&screen, &handle) == VT100_IN_USE && handle.at == at);
+    must(vt100_shown_copy(&screen, &handle) == VT100_IN_USE && handle.at == at);
     must(vt100_parser_new(0, COLS, 0, 0, &empty) == VT100_BAD_ARGUMENT);
     must(vt100_parser_new(ROWS, 0, 0, 0, &empty) == VT100_BAD_ARGUMENT);
     must(vt100_mirror_new(0, COLS, 0, &empty) == VT100_BAD_ARGUMENT);

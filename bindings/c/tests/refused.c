@@ -16,7 +16,7 @@
 enum { STEPS = 40, UNTOUCHED = 4711 };
 
 /* What is made, and what the first run made of it. */
-static vt100_handle parser, saved, mirror, capture;
+static vt100_handle parser, saved, copied, mirror, capture;
 static struct text texts[STEPS];
 static uint64_t viewer;
 static int parser_failed, mirror_failed, is_first;
@@ -88,7 +88,8 @@ static vt100_status call(int step, size_t *len) {
     case 31: return vt100_screen_set_size(&saved, 5, 7);
     case 32: return vt100_set_size(&mirror, 2, 3);
     case 33: return vt100_update(&mirror, viewer, &rows, &cols, len);
-    default: return vt100_leave(&mirror, viewer);
+    case 34: return vt100_leave(&mirror, viewer);
+    default: return vt100_shown_copy(&parser, &copied);
     }
 }
 
@@ -113,6 +114,7 @@ static struct text shown(void) {
         add_modes(&text, &parser);
     }
     if (vt100_kind(&saved) != VT100_NONE) add_picture(&text, &saved);
+    if (vt100_kind(&copied) != VT100_NONE) add_picture(&text, &copied);
     add(&text, "%u %u\n", vt100_kind(&mirror), vt100_kind(&capture));
     heap_refused = refused;
     return text;
@@ -198,13 +200,14 @@ static void run(void) {
     parser_failed = mirror_failed = 0;
     long gaps_before = gaps;
     gaps = 0;
-    for (int step = 0; step < 35; step++) {
+    for (int step = 0; step < 36; step++) {
         take(step);
         if (step == 7) look_at_log();
     }
     gaps += gaps_before;
     vt100_free(&parser);
     vt100_free(&saved);
+    vt100_free(&copied);
     vt100_free(&mirror);
     vt100_free(&capture);
     must(heap_live == 0);

@@ -197,9 +197,12 @@ class Statuses(unittest.TestCase):
         for call in (
             parser.contents,
             parser.save,
+            parser.shown_copy,
+            parser.is_steady,
             lambda: parser.process(b"b"),
             lambda: parser.cell(0, 0),
             lambda: parser.size,
+            lambda: parser.pending_len,
         ):
             with self.assertRaisesRegex(vt100.Error, "closed"):
                 call()
@@ -309,6 +312,11 @@ class Import(unittest.TestCase):
         if done.returncode == 0:
             self.skipTest("the system has the library installed")
         return done.stderr.splitlines()[-1]
+
+    def test_the_version_is_that_of_the_shared_object(self):
+        major, minor = vt100.library_version.split(".")
+        self.assertEqual("libvt100.so." + major, vt100._library.SONAME)
+        self.assertTrue(minor.isdigit())
 
     def test_no_library_is_found(self):
         message = self.import_error(LD_LIBRARY_PATH="")

@@ -38,6 +38,28 @@ class Viewers(unittest.TestCase):
             terminal.process(update.text.encode())
             self.assertEqual(terminal.contents(), "one two")
 
+    def test_a_viewer_is_current_until_the_mirror_reads_or_is_resized(self):
+        mirror = vt100.Mirror(3, 8)
+        viewer, other = mirror.join(), mirror.join()
+        self.assertIs(mirror.is_current(viewer), False)
+        mirror.update(viewer)
+        self.assertIs(mirror.is_current(viewer), True)
+        self.assertIs(mirror.is_current(other), False)
+        mirror.process(b"a")
+        self.assertIs(mirror.is_current(viewer), False)
+        self.assertEqual(mirror.update(viewer), vt100.Update("a"))
+        self.assertIs(mirror.is_current(viewer), True)
+        self.assertEqual(mirror.update(viewer), vt100.Update(""))
+        mirror.set_size(2, 8)
+        self.assertIs(mirror.is_current(viewer), False)
+        mirror.update_scrolling(viewer)
+        self.assertIs(mirror.is_current(viewer), True)
+        mirror.leave(viewer)
+        self.assertIs(mirror.is_current(viewer), False)
+        for number in (-1, 1 << 64):
+            with self.assertRaises(ValueError):
+                mirror.is_current(number)
+
 
 if __name__ == "__main__":
     unittest.main()

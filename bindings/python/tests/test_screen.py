@@ -114,6 +114,73 @@ class Scrollback(unittest.TestCase):
         self.assertEqual(screen_of(b"\n" * 20, 2, 5, 3).scrollback_len, 3)
 
 
+#: U+231A, a wide character that U+FE0E and U+FE0F make narrow.
+NARROWED = "\u231a\ufe0e\ufe0f"
+
+
+class Steadiness(unittest.TestCase):
+    def test_a_screen_with_a_narrowed_glyph_is_not_steady(self):
+        screen = vt100.Parser(2, 4)
+        self.assertIs(screen.is_steady(), True)
+        for text, is_steady in (
+            ("\x1b[31mabcd\u4e2d\u6587", True),
+            ("\x1b[H\x1b[Je\u0301\u0302", True),
+            ("\x1b[H\x1b[Ja\u2764\ufe0fb", True),  # a heart that becomes wide
+            ("\x1b[H\x1b[J" + NARROWED, False),
+            ("\x1b[?47h", True),
+            ("\x1b[?47l", False),
+            ("\x1b[1;1Hx", True),
+        ):
+            screen.process(text.encode())
+            self.assertIs(screen.is_steady(), is_steady, repr(text))
+            self.assertIs(screen.save().is_steady(), is_steady, repr(text))
+
+
+class ShownCopies(unittest.TestCase):
+    def test_a_shown_copy_displays_the_same_and_nothing_else(self):
+        parser = screen_of(b"a\r\nb\r\nc\r\nd", 2, 4, 5)
+        copy = parser.shown_copy()
+        self.assertIs(type(copy), vt100.Screen)
+        self.assertEqual((copy.size, copy.display), ((2, 4), ["c   ", "d   "]))
+        self.assertEqual(copy.cursor, (1, 1))
+        self.assertEqual((parser.scrollback_len, copy.scrollback_len), (2, 0))
+        self.assertEqual(parser.contents_diff(copy), "")
+        parser.process(b"e")
+        self.assertEqual(copy.contents(), "c\nd")
+        self.assertEqual(parser.contents_diff(copy), "e")
+
+    def test_scrollback_that_is_displayed_is_copied(self):
+        parser = screen_of(b"a\r\nb\r\nc\r\nd", 2, 4, 5)
+        parser.set_scrollback(1)
+        copy = parser.shown_copy()
+        self.assertEqual((copy.contents(), copy.scrollback_len), ("b\nc", 2))
+
+    def test_a_shown_copy_has_the_displayed_page_alone(self):
+        parser = screen_of(b"main\x1b[?1049h\x1b[Halt", 2, 4)
+        copy = parser.shown_copy()
+        self.assertEqual(copy.contents(), "alt")
+        parser.process(b"\x1b[?1049l")
+        self.assertEqual((parser.contents(), copy.contents()), ("main", "alt"))
+
+
+class PendingCommands(unittest.TestCase):
+    def test_the_bytes_of_an_unfinished_command_are_counted(self):
+        parser = vt100.Parser(2, 4)
+        self.assertEqual(parser.pending_len, 0)
+        for data, length in (
+            (b"ab\x1b]", 0),
+            (b"2;ti", 4),
+            (b"\r\n", 4),
+            (b"\xc3\xa4", 6),
+            (b"\x18", 0),
+            (b"\x1b]0;title", 7),
+            (b"\x1b\\", 0),
+            (b"\x1bPtitle", 0),
+        ):
+            parser.process(data)
+            self.assertEqual(parser.pending_len, length, data)
+
+
 class Cells(unittest.TestCase):
     def test_wide_characters_take_two_cells(self):
         screen = screen_of("\u5b57\x1b[38;2;1;2;3me\u0301".encode(), 1, 10)

@@ -9,7 +9,8 @@
     assert parser.find("RED") == [(0, 13)]
 
 The shared object is the one that the environment variable VT100_LIBRARY names, or else
-libvt100.so.0.18, if the system finds it. Rows and columns count from 0.
+libvt100.so.1, if the system finds it; `library_version` is the version of its C interface. Rows and
+columns count from 0.
 
 Integers out of range raise `ValueError`, failed allocations `MemoryError`, and other failures
 `Error`. Calls of one object may come from any thread; they wait for each other. `vt100.testing`
@@ -26,7 +27,7 @@ from ._cells import (
     Position,
     Size,
 )
-from ._library import Error
+from ._library import Error, library_version
 from ._object import BytesLike
 from .callbacks import Callbacks
 from .mirror import Mirror, Update
@@ -49,6 +50,7 @@ __all__ = [
     "Screen",
     "Size",
     "Update",
+    "library_version",
 ]
 
 # Representations and tracebacks name the classes by the module that users import.

@@ -110,9 +110,11 @@ def _arguments() -> Dict[str, List[Any]]:
         "parser_new": [u16, u16, size, u16, handle],
         "mirror_new": [u16, u16, size, handle],
         "save": [handle, handle],
+        "shown_copy": [handle, handle],
         "swap": [handle, handle],
         "process": [handle, data, size],
         "process_until": [handle, data, size, length],
+        "pending_len": [handle, length],
         "set_size": [handle, u16, u16],
         "screen_set_size": [handle, u16, u16],
         "set_scrollback": [handle, size],
@@ -121,6 +123,7 @@ def _arguments() -> Dict[str, List[Any]]:
         "get_cell": [handle, u16, u16, data],
         "get_cells": [handle, u16, data, size],
         "row_wrapped": [handle, u16, flag],
+        "is_steady": [handle, flag],
         "contents_between": [handle, u16, u16, u16, u16, length],
         "rows": [handle, *rows],
         "rows_formatted": [handle, *rows],
@@ -129,6 +132,7 @@ def _arguments() -> Dict[str, List[Any]]:
         "clear_events": [handle],
         "join": [handle, ctypes.POINTER(u64)],
         "leave": [handle, u64],
+        "mirror_is_current": [handle, u64, flag],
     }
     for name in (
         "contents",
@@ -180,6 +184,7 @@ def _load() -> ctypes.CDLL:
             function = getattr(opened, "vt100_" + name)
             function.argtypes, function.restype = [handle, ctypes.c_void_p, size], size
         opened.vt100_free.argtypes, opened.vt100_free.restype = [handle], None
+        opened.vt100_version.argtypes, opened.vt100_version.restype = [], ctypes.c_char_p
     except AttributeError as error:
         raise ImportError(
             f"the library is of another version than this package ({error}):"
@@ -189,6 +194,9 @@ def _load() -> ctypes.CDLL:
 
 
 library = _load()
+
+#: The version of the C interface that the library has, such as "1.1".
+library_version: str = library.vt100_version().decode()
 
 
 def check(status: int) -> None:

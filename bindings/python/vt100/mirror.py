@@ -66,6 +66,20 @@ class Mirror(Object):
         """
         return self._update(library.vt100_update_scrolling, viewer)
 
+    def is_current(self, viewer: SupportsIndex) -> bool:
+        """Returns whether the last update of a viewer is known to be up to date, so that the next
+        one draws nothing, or redraws the screen if it is one of `update_scrolling` and the screen is
+        not steady.
+
+        Returns False for a viewer without an update since it joined or since the last change of the
+        size, for every viewer once `process` was called, even if the bytes changed nothing that is
+        displayed, and if there is no viewer of this number.
+        """
+        current = ctypes.c_uint8()
+        number = in_range("viewer", viewer, 0, MAX_U64)
+        self._call(library.vt100_mirror_is_current, number, ctypes.byref(current))
+        return current.value == 1
+
     def _update(self, function: Any, viewer: SupportsIndex) -> Update:
         number = in_range("viewer", viewer, 0, MAX_U64)
         rows, cols = ctypes.c_uint16(), ctypes.c_uint16()

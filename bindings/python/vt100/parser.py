@@ -75,6 +75,15 @@ class Parser(Screen):
             self._report()
             check(status)
 
+    @property
+    def pending_len(self) -> int:
+        """How many bytes of an unfinished operating system command are held: those after `ESC ]`
+        that were read, without control characters. A command has no limit but memory; processing CAN
+        (`b"\\x18"`) ends it."""
+        length = ctypes.c_size_t()
+        self._call(library.vt100_pending_len, ctypes.byref(length))
+        return length.value
+
     def set_size(self, rows: SupportsIndex, cols: SupportsIndex) -> None:
         """Resizes the screen, and invokes `on_scroll` for rows that leave it and are not kept.
         Called by a callback, it invokes none."""

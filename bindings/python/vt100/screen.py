@@ -48,6 +48,14 @@ class Screen(HasState):
         self._call(library.vt100_save, copy._at)
         return copy
 
+    def shown_copy(self) -> Screen:
+        """Returns a screen of the same size that displays the same, without scrollback and without
+        the page that is not displayed; a whole copy if scrollback is displayed. It serves as `prev`
+        of `contents_diff` in less memory than `save`."""
+        copy = Screen.__new__(Screen)
+        self._call(library.vt100_shown_copy, copy._at)
+        return copy
+
     def __copy__(self) -> Screen:
         return self.save()
 
@@ -129,6 +137,14 @@ class Screen(HasState):
         row = in_range("row", row, 0, MAX_U16)
         self._call(library.vt100_row_wrapped, row, ctypes.byref(wrapped))
         return wrapped.value == 1
+
+    def is_steady(self) -> bool:
+        """Returns whether each displayed glyph, printed on a blank row, is the same glyph again, so
+        that a terminal that reads a redraw or a difference displays exactly this screen. A screen
+        without U+FE0F is steady."""
+        steady = ctypes.c_uint8()
+        self._call(library.vt100_is_steady, ctypes.byref(steady))
+        return steady.value == 1
 
     def _records(self) -> List[bytes]:
         """Returns the array of `vt100_cell` of each displayed row."""

@@ -1,8 +1,9 @@
 //! A headless terminal emulator: it processes what a program writes to its terminal, keeps the screen
 //! that a person would see, and returns it as text, as a redraw or as a difference.
 //!
-//! The items are those of the crate `vt100` 0.18.1, and in addition [`mirror`] and
-//! [`Screen::contents_diff_scrolling`]. This crate calls a library that is formally verified.
+//! The items are those of the crate `vt100` 0.18.1, and in addition [`mirror`],
+//! [`Parser::pending_len`], [`Screen::contents_diff_scrolling`], [`Screen::is_steady`] and
+//! [`Screen::shown_copy`]. This crate calls a library that is formally verified.
 //!
 //! # Synopsis
 //!

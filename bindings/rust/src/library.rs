@@ -69,6 +69,7 @@ extern "C" {
     fn vt100_mirror_new(rows: u16, cols: u16, capacity: usize, out: *mut Handle) -> u8;
     fn vt100_capture_new(out: *mut Handle) -> u8;
     fn vt100_save(handle: *mut Handle, out: *mut Handle) -> u8;
+    fn vt100_shown_copy(handle: *mut Handle, out: *mut Handle) -> u8;
     fn vt100_swap(handle: *mut Handle, other: *mut Handle) -> u8;
     fn vt100_free(handle: *mut Handle);
     fn vt100_process(handle: *mut Handle, bytes: *const u8, len: usize) -> u8;
@@ -78,6 +79,7 @@ extern "C" {
         len: usize,
         used: *mut usize,
     ) -> u8;
+    fn vt100_pending_len(handle: *mut Handle, len: *mut usize) -> u8;
     fn vt100_set_size(handle: *mut Handle, rows: u16, cols: u16) -> u8;
     fn vt100_screen_set_size(handle: *mut Handle, rows: u16, cols: u16) -> u8;
     fn vt100_set_scrollback(handle: *mut Handle, rows: usize) -> u8;
@@ -86,6 +88,7 @@ extern "C" {
     fn vt100_get_cell(handle: *mut Handle, row: u16, col: u16, out: *mut Cell) -> u8;
     fn vt100_get_cells(handle: *mut Handle, row: u16, out: *mut Cell, room: usize) -> u8;
     fn vt100_row_wrapped(handle: *mut Handle, row: u16, out: *mut u8) -> u8;
+    fn vt100_is_steady(handle: *mut Handle, out: *mut u8) -> u8;
     fn vt100_contents(handle: *mut Handle, len: *mut usize) -> u8;
     fn vt100_contents_between(
         handle: *mut Handle,
@@ -160,6 +163,7 @@ extern "C" {
     fn vt100_set_event_limit(handle: *mut Handle, bytes: usize) -> u8;
     fn vt100_join(mirror: *mut Handle, viewer: *mut u64) -> u8;
     fn vt100_leave(mirror: *mut Handle, viewer: u64) -> u8;
+    fn vt100_mirror_is_current(mirror: *mut Handle, viewer: u64, out: *mut u8) -> u8;
     fn vt100_update(
         mirror: *mut Handle,
         viewer: u64,
@@ -302,6 +306,13 @@ impl Handle {
         out
     }
 
+    /// A screen that displays what this one displays, without scrollback and the other page.
+    pub fn shown_copy(&mut self) -> Self {
+        let mut out = Self::default();
+        check(unsafe { vt100_shown_copy(self, &mut out) });
+        out
+    }
+
     /// Exchanges the screens of two handles.
     pub fn swap(&mut self, other: &mut Self) {
         check(unsafe { vt100_swap(self, other) });
@@ -316,6 +327,13 @@ impl Handle {
         let mut used = 0;
         check(unsafe { vt100_process_until(self, bytes.as_ptr(), bytes.len(), &mut used) });
         used
+    }
+
+    /// How many bytes of an unfinished command a parser holds.
+    pub fn pending_len(&mut self) -> usize {
+        let mut len = 0;
+        check(unsafe { vt100_pending_len(self, &mut len) });
+        len
     }
 
     /// Another size of a parser, which keeps events of rows that leave.
@@ -371,6 +389,12 @@ impl Handle {
                 wrapped == 1
             }
         }
+    }
+
+    pub fn is_steady(&mut self) -> bool {
+        let mut steady = 0;
+        check(unsafe { vt100_is_steady(self, &mut steady) });
+        steady == 1
     }
 
     pub fn text(&mut self, text: Text) -> String {
@@ -472,6 +496,13 @@ impl Handle {
                 true
             }
         }
+    }
+
+    /// Whether a viewer's last update is known to be up to date.
+    pub fn is_current(&mut self, viewer: u64) -> bool {
+        let mut current = 0;
+        check(unsafe { vt100_mirror_is_current(self, viewer, &mut current) });
+        current == 1
     }
 
     /// What a viewer has to read, with the size that its terminal takes first, rows and columns,

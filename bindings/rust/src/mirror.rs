@@ -2,6 +2,7 @@
 
 use crate::library::{Handle, Updates};
 use std::num::NonZeroU16;
+use std::sync::{Mutex, PoisonError};
 
 /// An update for the terminal of a viewer.
 #[derive(Clone, Debug, PartialEq, Eq)]
@@ -48,7 +49,8 @@ impl Update {
 /// assert_eq!(update, Update::Diff("\x1b[H\x1b[M\x1b[3;1H".to_owned()));
 /// ```
 pub struct Mirror {
-    handle: Handle,
+    /// Each call of the library needs exclusive access, even one that only reads.
+    handle: Mutex<Handle>,
 }
 
 impl Mirror {
@@ -57,28 +59,34 @@ impl Mirror {
     #[must_use]
     pub fn new(rows: NonZeroU16, cols: NonZeroU16, scrollback_capacity: usize) -> Self {
         Self {
-            handle: Handle::mirror(rows.get(), cols.get(), scrollback_capacity),
+            handle: Mutex::new(Handle::mirror(rows.get(), cols.get(), scrollback_capacity)),
         }
+    }
+
+    fn handle(&mut self) -> &mut Handle {
+        self.handle
+            .get_mut()
+            .unwrap_or_else(PoisonError::into_inner)
     }
 
     /// Processes bytes. Input may be split anywhere.
     pub fn process(&mut self, bytes: &[u8]) {
-        self.handle.process(bytes);
+        self.handle().process(bytes);
     }
 
     /// Resizes the terminal.
     pub fn set_size(&mut self, rows: NonZeroU16, cols: NonZeroU16) {
-        self.handle.set_size(rows.get(), cols.get());
+        self.handle().set_size(rows.get(), cols.get());
     }
 
     /// Adds a viewer, and returns its number, which is never reused.
     pub fn join(&mut self) -> u64 {
-        self.handle.join()
+        self.handle().join()
     }
 
     /// Removes a viewer. Returns whether there was one of this number.
     pub fn leave(&mut self, viewer: u64) -> bool {
-        self.handle.leave(viewer)
+        self.handle().leave(viewer)
     }
 
     /// Returns the next update of a viewer, or `None` if there is no viewer of this number.
@@ -97,8 +105,21 @@ impl Mirror {
         self.next(Updates::SCROLLING, viewer)
     }
 
+    /// Returns whether the last update of a viewer is known to be up to date, so that its next one
+    /// is an empty difference, or a full update if it is one of
+    /// [`update_scrolling`](Self::update_scrolling) and the screen is not steady.
+    ///
+    /// Returns `false` for a viewer without an update since it joined or since the last resize, for
+    /// every viewer once [`process`](Self::process) was called, even if the bytes changed nothing
+    /// that is displayed, and if there is no viewer of this number.
+    #[must_use]
+    pub fn is_current(&self, viewer: u64) -> bool {
+        let mut handle = self.handle.lock().unwrap_or_else(PoisonError::into_inner);
+        handle.is_current(viewer)
+    }
+
     fn next(&mut self, updates: Updates, viewer: u64) -> Option<Update> {
-        let ((rows, cols), text) = self.handle.update(updates, viewer)?;
+        let ((rows, cols), text) = self.handle().update(updates, viewer)?;
         Some(match (NonZeroU16::new(rows), NonZeroU16::new(cols)) {
             (Some(rows), Some(cols)) => Update::Full { rows, cols, text },
             _ => Update::Diff(text),

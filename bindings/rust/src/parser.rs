@@ -91,6 +91,33 @@ impl<CB: Callbacks> Parser<CB> {
         }
     }
 
+    /// Returns how many bytes of an unfinished operating system command the parser holds: those after
+    /// `\x1b]` that were read, without control characters; 0 if no such command is unfinished. Not in
+    /// the crate `vt100`.
+    ///
+    /// A command has no limit but memory. To end one at a limit, process CAN: what was read of it is
+    /// dispatched, and then [`unhandled_control`](Callbacks::unhandled_control) is called for CAN.
+    ///
+    /// ```
+    /// let mut parser = vt100::Parser::default();
+    /// parser.process(b"\x1b]2;a title that does not end");
+    /// assert_eq!(parser.pending_len(), 27);
+    /// parser.process(b"\x18");
+    /// assert_eq!(parser.pending_len(), 0);
+    /// ```
+    #[must_use]
+    pub fn pending_len(&self) -> usize {
+        let parser = if self.is_together {
+            self.screen.handle()
+        } else {
+            &self.rest
+        };
+        parser
+            .lock()
+            .unwrap_or_else(PoisonError::into_inner)
+            .pending_len()
+    }
+
     /// Resizes the terminal.
     ///
     /// If it becomes lower, rows below the cursor are removed first; then rows at the top go into

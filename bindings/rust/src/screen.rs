@@ -208,6 +208,33 @@ impl Screen {
         self.has(library::INVERSE)
     }
 
+    /// Returns whether the screen is steady: each displayed glyph, printed on a blank row, is the
+    /// same glyph again.
+    ///
+    /// A terminal that reads a redraw or a difference of a steady screen displays exactly this
+    /// screen. A screen without U+FE0F is steady. Not in the crate `vt100`.
+    #[must_use]
+    pub fn is_steady(&self) -> bool {
+        self.lock().is_steady()
+    }
+
+    /// Returns a screen of the same size that displays the same, without scrollback and without the
+    /// page that is not displayed; a clone if scrollback is displayed.
+    ///
+    /// It serves as `prev` of [`contents_diff`](Self::contents_diff) in less memory than a clone.
+    /// Not in the crate `vt100`.
+    ///
+    /// ```
+    /// let mut parser = vt100::Parser::default();
+    /// let prev = parser.screen().shown_copy();
+    /// parser.process(b"a");
+    /// assert_eq!(parser.screen().contents_diff(&prev), "a");
+    /// ```
+    #[must_use]
+    pub fn shown_copy(&self) -> Self {
+        Self::new(self.lock().shown_copy())
+    }
+
     fn has(&self, flag: u8) -> bool {
         self.state().flags & flag != 0
     }

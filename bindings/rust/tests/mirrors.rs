@@ -73,3 +73,23 @@ fn viewers_are_kept_equal_by_both_kinds_of_update() {
         Some(Update::Diff(String::new()))
     );
 }
+
+#[test]
+fn a_viewer_is_current_until_the_mirror_reads_or_is_resized() {
+    let mut mirror = Mirror::new(size(3), size(8), 0);
+    let (viewer, other) = (mirror.join(), mirror.join());
+    assert!(!mirror.is_current(viewer));
+    mirror.update(viewer).unwrap();
+    assert!(mirror.is_current(viewer) && !mirror.is_current(other));
+    mirror.process(b"a");
+    assert!(!mirror.is_current(viewer));
+    assert_eq!(mirror.update(viewer), Some(Update::Diff("a".to_owned())));
+    assert!(mirror.is_current(viewer));
+    assert_eq!(mirror.update(viewer), Some(Update::Diff(String::new())));
+    assert!(mirror.is_current(viewer));
+    mirror.set_size(size(2), size(8));
+    assert!(!mirror.is_current(viewer));
+    mirror.update_scrolling(viewer).unwrap();
+    assert!(mirror.is_current(viewer));
+    assert!(mirror.leave(viewer) && !mirror.is_current(viewer));
+}

@@ -210,3 +210,73 @@ fn threads_may_read_one_screen() {
         }
     });
 }
+
+/// U+231A, a wide character that U+FE0E and U+FE0F make narrow.
+const NARROWED: &str = "\u{231a}\u{fe0e}\u{fe0f}";
+
+#[test]
+fn a_screen_with_a_narrowed_glyph_is_not_steady() {
+    let mut parser = Parser::new(size(2), size(4), 0);
+    assert!(parser.screen().is_steady());
+    for (text, is_steady) in [
+        ("\x1b[31mabcd\u{4e2d}\u{6587}", true),
+        ("\x1b[H\x1b[Je\u{301}\u{302}", true),
+        ("\x1b[H\x1b[Ja\u{2764}\u{fe0f}b", true), // a heart that becomes wide
+        ("\x1b[H\x1b[J", true),
+        (NARROWED, false),
+        ("\x1b[?47h", true),
+        ("\x1b[?47l", false),
+        ("\x1b[1;1Hx", true),
+    ] {
+        parser.process(text.as_bytes());
+        assert_eq!(parser.screen().is_steady(), is_steady, "{text:?}");
+        assert_eq!(parser.screen().clone().is_steady(), is_steady, "{text:?}");
+    }
+}
+
+#[test]
+fn a_shown_copy_displays_the_same_and_nothing_else() {
+    let mut parser = Parser::new(size(2), size(4), 5);
+    parser.process(b"a\r\nb\r\nc\r\nd");
+    let copy = parser.screen().shown_copy();
+    assert_eq!(copy.size(), (size(2), size(4)));
+    assert_eq!(copy.contents(), "c\nd");
+    assert_eq!(copy.cursor_position(), (1, 1));
+    assert_eq!(
+        (parser.screen().scrollback_len(), copy.scrollback_len()),
+        (2, 0)
+    );
+    parser.process(b"\x1b[?1049h\x1b[7mx");
+    let other = parser.screen().shown_copy();
+    assert_eq!(other.contents_diff(parser.screen()), "");
+    assert_eq!(other.contents(), "\n x");
+    assert_eq!(copy.contents(), "c\nd");
+    parser.process(b"\x1b[?1049l");
+    assert_eq!(parser.screen().contents_diff(&copy), "");
+    parser.screen_mut().set_scrollback(1);
+    let scrolled = parser.screen().shown_copy();
+    assert_eq!(scrolled.contents(), "b\nc");
+    assert_eq!(scrolled.scrollback_len(), 2);
+}
+
+#[test]
+fn the_bytes_of_an_unfinished_command_are_counted() {
+    let mut parser = Parser::new_with_callbacks(size(2), size(4), 0, Nothing);
+    assert_eq!(parser.pending_len(), 0);
+    for (bytes, len) in [
+        (&b"ab\x1b]"[..], 0),
+        (b"2;ti", 4),
+        (b"\r\n", 4),
+        (b"\xc3\xa4", 6),
+        (b"\x18", 0),
+        (b"\x1b]0;title", 7),
+    ] {
+        parser.process(bytes);
+        assert_eq!(parser.pending_len(), len, "{bytes:?}");
+    }
+    // The parser holds them, not the screen.
+    *parser.screen_mut() = Parser::default().screen().clone();
+    assert_eq!(parser.pending_len(), 7);
+    parser.process(b"\x07");
+    assert_eq!(parser.pending_len(), 0);
+}

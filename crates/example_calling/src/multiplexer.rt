@@ -22,7 +22,7 @@ impl Client {
             Some(seen) => text_from(screen, seen)?,
             None => screen.contents_formatted()?,
         };
-        let seen = screen.clone()?;
+        let seen = screen.shown_copy()?;
         writer.write_all(text.as_bytes())?;
         writer.flush()?;
         self.seen = Some(seen);

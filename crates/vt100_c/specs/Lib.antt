@@ -5,6 +5,7 @@ pub mod Sources
 pub mod Calls
 pub mod Life
 pub mod Reading
+pub mod Pending
 pub mod Due
 pub mod KeptText
 pub mod Shown

@@ -8,9 +8,11 @@ use Rattle.vt100_c.specs.Status.{ok, out_of_memory, bad_argument, wrong_kind, no
 use Rattle.vt100_c.specs.declared.object.Object.{Object}
 use Rattle.vt100_c.specs.declared.object.Source.{Source}
 use Rattle.vt100_c.specs.declared.object.Source.TheVariants.{Parser, Screen, Mirror, Capture}
+use Rattle.vt_grid.specs.Page.{SameSize}
 use Rattle.vt_scan.specs.Automaton.{start}
 use Rattle.vt_scan.specs.Scanner.{StandsFor}
 use Rattle.vt_screen.specs.Screen.{ScreenValue, fresh_screen}
+use Rattle.vt_screen.specs.Shown.{shown}
 
 -- A parser that has read nothing, with a fresh screen and an empty log.
 abbrev pub IsNewParser : (rows cols capacity wanted : ℕ) → Source → Type 0
@@ -49,6 +51,29 @@ Saves (Some object) None status new = SavesAs (saved_from object.source) status 
 abbrev pub refusal_of : Option Source → ℕ
 refusal_of None = wrong_kind
 refusal_of (Some copy) = out_of_memory
+
+-- The value is a saved screen that looks the same as this screen and has its size.
+abbrev pub IsShownCopy : ScreenValue → Source → Type 0
+IsShownCopy screen (Parser parser) = ⊥
+IsShownCopy screen (Screen copy) = (shown copy ≡ shown screen) × SameSize copy.page screen.page
+IsShownCopy screen (Mirror mirror) = ⊥
+IsShownCopy screen (Capture written) = ⊥
+
+-- A copy of what is displayed is stored in an empty handle.
+abbrev pub SavesShownAs : Option ScreenValue → ℕ → Option Object → Type 0
+SavesShownAs None status new = (status ≡ wrong_kind) × (new ≡ None)
+SavesShownAs (Some screen) status new = Fills (IsShownCopy screen) status new
+
+-- A copy of what the held screen displays is stored in another handle, which is unchanged if it isn't empty.
+abbrev pub SavesShown : Option Object → (old : Option Object) → ℕ → (new : Option Object) → Type 0
+SavesShown None old status new = (status ≡ no_object) × (new ≡ old)
+SavesShown (Some object) (Some old) status new = (status ≡ in_use) × (new ≡ Some old)
+SavesShown (Some object) None status new = SavesShownAs (screen_in object.source) status new
+
+-- The status if there is no such copy: there is no screen, or the allocation failed.
+abbrev pub refusal_on : Option ScreenValue → ℕ
+refusal_on None = wrong_kind
+refusal_on (Some screen) = out_of_memory
 
 -- A value with the screen of another one, if that has a screen.
 abbrev pub with_other : Option ScreenValue → Source → Source

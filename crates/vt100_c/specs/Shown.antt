@@ -1,5 +1,5 @@
 -- What is displayed, as C reads it: colours, cells and states.
-use Rattle.std.specs.Prelude.{◌≡◌, ◌+◌, ◌<◌, ℕ, Bool, List, [], ◌∷◌, length, slice_index_or, if◌then◌else◌}
+use Rattle.std.specs.Prelude.{◌≡◌, ◌⊎◌, ◌+◌, ◌<◌, ℕ, Bool, List, [], ◌∷◌, length, slice_index_or, if◌then◌else◌}
 use Rattle.vt_cells.specs.Attrs.{Attrs, is_bold, is_dim}
 use Rattle.vt_cells.specs.Cell.{CellValue, attrs_of, default_blank, is_right_half, is_wide, text_of}
 use Rattle.vt_cells.specs.CellInternals.{padded}
@@ -27,6 +27,10 @@ color_for_c (color.Rgb red green blue) = record { kind = 2; red = red; green = g
 -- A value if a test holds, and 0 if not.
 abbrev pub bit : ℕ → Bool → ℕ
 bit value is = if is then value else 0
+
+-- The number is 1 if `Holds` is true, and 0 if not.
+abbrev pub IsBitFor : Type 0 → ℕ → Type 0
+IsBitFor Holds out = ((out ≡ 1) × Holds) ⊎ ((out ≡ 0) × ¬ Holds)
 
 -- The flags of a style, from the lowest bit on: bold, dim, italic, underlined, inverse.
 abbrev pub style_flags : Attrs → ℕ

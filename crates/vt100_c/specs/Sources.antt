@@ -3,6 +3,7 @@ use Rattle.std.specs.Prelude.{ℕ, Option, Some, None}
 use Rattle.vt100_c.specs.declared.object.Object.{Object}
 use Rattle.vt100_c.specs.declared.object.Source.{Source}
 use Rattle.vt100_c.specs.declared.object.Source.TheVariants.{Parser, Screen, Mirror, Capture}
+use Rattle.vt_mirror.specs.Mirror.{MirrorValue}
 use Rattle.vt_screen.specs.Screen.{ScreenValue}
 
 -- The screen of a value, if it is a parser or a saved screen.
@@ -11,6 +12,13 @@ screen_in (Parser parser) = Some parser.screen
 screen_in (Screen screen) = Some screen
 screen_in (Mirror mirror) = None
 screen_in (Capture written) = None
+
+-- The mirror, if the value is one.
+abbrev pub mirror_in : Source → Option MirrorValue
+mirror_in (Parser parser) = None
+mirror_in (Screen screen) = None
+mirror_in (Mirror mirror) = Some mirror
+mirror_in (Capture written) = None
 
 -- The number of a value's kind.
 abbrev pub kind_of : Source → ℕ

@@ -1,6 +1,8 @@
 -- Calls on the viewers of a mirror that a handle holds.
-use Rattle.std.specs.Prelude.{◌≡◌, ℕ, List, string_bytes}
+use Rattle.std.specs.Prelude.{◌≡◌, ◌⊎◌, ℕ, List, Option, Some, None, string_bytes}
 use Rattle.vt_mirror.specs.Calls.{Kind}
+use Rattle.vt_mirror.specs.Mirror.{MirrorValue}
+use Rattle.vt_mirror.specs.Viewers.{note_of}
 use Rattle.vt_mirror.specs.Watching.{IsFresh}
 use Rattle.vt_scan.specs.Automaton.{start}
 use Rattle.vt_scan.specs.Scanner.{StandsFor}
@@ -8,7 +10,8 @@ use Rattle.vt_screen.specs.Screen.{fresh_screen}
 use Rattle.vt100.specs.Parser.{parsing}
 use Rattle.vt100_c.specs.Calls.{Refuses}
 use Rattle.vt100_c.specs.Mirrors.{Joins, LeavesIt, UpdateNumbers, Updates}
-use Rattle.vt100_c.specs.Status.{wrong_kind}
+use Rattle.vt100_c.specs.Sources.{mirror_in}
+use Rattle.vt100_c.specs.Status.{ok, no_object, wrong_kind}
 use Rattle.vt100_c.specs.declared.object.Object.{Object}
 use Rattle.vt100_c.specs.declared.object.Source.{Source}
 use Rattle.vt100_c.specs.declared.object.Source.TheVariants.{Parser, Screen, Mirror, Capture}
@@ -61,3 +64,28 @@ UpdatesSource kind viewer before after text text' (Capture old) status new =
 abbrev pub UpdatesObject : Kind → (viewer : ℕ) → (before after : UpdateNumbers) → Object → ℕ → Object → Type 0
 UpdatesObject kind viewer before after old status new =
     UpdatesSource kind viewer before after (string_bytes old.text) (string_bytes new.text) old.source status new.source
+
+-- ---- Whether a viewer is up to date
+
+-- The status of a call that needs a mirror.
+abbrev pub due_to : Option MirrorValue → ℕ
+due_to None = wrong_kind
+due_to (Some mirror) = ok
+
+abbrev pub due_to_mirror : Option Object → ℕ
+due_to_mirror None = no_object
+due_to_mirror (Some object) = due_to (mirror_in object.source)
+
+-- There is a mirror, and `Holds` is true of it.
+abbrev pub OnMirror : Option MirrorValue → (MirrorValue → Type 0) → Type 0
+OnMirror None Holds = ⊥
+OnMirror (Some mirror) Holds = Holds mirror
+
+abbrev pub HoldsMirror : Option Object → (MirrorValue → Type 0) → Type 0
+HoldsMirror None Holds = ⊥
+HoldsMirror (Some object) Holds = OnMirror (mirror_in object.source) Holds
+
+-- The number is 1 only if the screen noted for the viewer is the mirror's, and otherwise 0.
+abbrev pub TellsCurrent : (viewer : ℕ) → (out : ℕ) → MirrorValue → Type 0
+TellsCurrent viewer out mirror =
+    ((out ≡ 1) × (note_of mirror.viewers viewer ≡ Some mirror.parser.screen)) ⊎ (out ≡ 0)

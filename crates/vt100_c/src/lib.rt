@@ -17,6 +17,7 @@ mod making;
 mod mirrors;
 mod object;
 mod parts;
+mod pending;
 mod reading;
 mod records;
 mod row_changes;

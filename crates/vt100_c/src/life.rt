@@ -2,15 +2,16 @@
 
 ghost use Rattle.std.specs.Prelude.{◌≡◌, IfErr, IfOk, IfSome, None, Some, is_some, unwrap_or};
 ghost use Rattle.vt100_c.specs.Calls.{Fills, is_size};
-ghost use Rattle.vt100_c.specs.Life.{IsNewParser, Makes, Saves, Swaps, refusal_of, saved_from};
-ghost use Rattle.vt100_c.specs.Life.{swap_status, with_other};
+ghost use Rattle.vt100_c.specs.Due.{OnScreen};
+ghost use Rattle.vt100_c.specs.Life.{IsNewParser, IsShownCopy, Makes, Saves, SavesShown, Swaps};
+ghost use Rattle.vt100_c.specs.Life.{refusal_of, refusal_on, saved_from, swap_status, with_other};
 ghost use Rattle.vt100_c.specs.Sources.{kind_held, screen_in};
 ghost use Rattle.vt100_c.specs.Status.{out_of_memory};
 ghost use Rattle.vt100_c.specs.declared.object.Source.TheVariants as source;
 
 use crate::events::{DEFAULT_LIMIT, Events};
 use crate::handle::Handle;
-use crate::object::{Object, Source, kind_of};
+use crate::object::{Object, Source, kind_of, screen_of};
 use crate::status::{BAD_ARGUMENT, IN_USE, NO_OBJECT, OK, OUT_OF_MEMORY, WRONG_KIND};
 use std::alloc::Global;
 use std::mem;
@@ -69,6 +70,35 @@ pub extern "C" fn vt100_save(alloc: Global, handle: &mut Handle, out: &mut Handl
     }
     let object = handle.take_out(alloc);
     let copy = copy_of(&object.source);
+    handle.put_back(object);
+    match copy {
+        Ok(copy) => hold(alloc, copy, out),
+        Err(status) => status,
+    }
+}
+
+/// Stores a copy of what a parser's screen, or a saved one, displays in the empty
+/// handle `out`: a screen of the same size, without scrollback and without the
+/// other page ([`Screen::shown_copy`]).
+///
+/// # Errors
+///
+/// `NO_OBJECT` if the handle is empty, `IN_USE` if `out` is not, `WRONG_KIND` if
+/// the object has no screen, `OUT_OF_MEMORY` if an allocation fails. On error,
+/// nothing is changed.
+#[unsafe(no_mangle)]
+pub extern "C" fn vt100_shown_copy(alloc: Global, handle: &mut Handle, out: &mut Handle) -> u8
+    ensures same { handle.new.held ≡ handle.old.held }
+    ensures call { SavesShown handle.old.held out.old.held result out.new.held }
+{
+    if !handle.is_full() {
+        return NO_OBJECT;
+    }
+    if out.is_full() {
+        return IN_USE;
+    }
+    let object = handle.take_out(alloc);
+    let copy = shown_copy_of(&object.source);
     handle.put_back(object);
     match copy {
         Ok(copy) => hold(alloc, copy, out),
@@ -180,6 +210,25 @@ fn copy_of(source: &Source) -> Result<Source, u8>
             Ok(copy) => Ok(Source::Capture(copy)),
             Err(_) => Err(OUT_OF_MEMORY),
         },
+    }
+}
+
+/// Returns a saved screen that displays what a source's screen displays.
+///
+/// # Errors
+///
+/// `WRONG_KIND` if the source has no screen, `OUT_OF_MEMORY` if an allocation
+/// fails.
+fn shown_copy_of(source: &Source) -> Result<Source, u8>
+    ensures ok { IfOk result (λ copy. OnScreen (screen_in source.now) (λ screen. IsShownCopy screen copy)) }
+    ensures err { IfErr result (λ status. status ≡ refusal_on (screen_in source.now)) }
+{
+    match screen_of(source) {
+        Some(screen) => match screen.shown_copy() {
+            Ok(shown) => Ok(Source::Screen(shown)),
+            Err(_) => Err(OUT_OF_MEMORY),
+        },
+        None => Err(WRONG_KIND),
     }
 }
 

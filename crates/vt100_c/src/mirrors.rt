@@ -1,17 +1,19 @@
 //! Mirrors: a terminal, and viewers that escape sequences keep equal to it.
 
-ghost use Rattle.std.specs.Prelude.{◌≡◌};
+ghost use Rattle.std.specs.Prelude.{◌≡◌, IfSome, None, Some};
 ghost use Rattle.vt100_c.specs.Calls.{OnObject, OnSource};
 ghost use Rattle.vt100_c.specs.Life.{Makes};
 ghost use Rattle.vt100_c.specs.Mirrors.{numbers};
+ghost use Rattle.vt100_c.specs.Sources.{mirror_in};
 ghost use Rattle.vt100_c.specs.Status.{ok};
-ghost use Rattle.vt100_c.specs.Viewing.{IsNewMirror, JoinsSource, LeavesSource, UpdatesObject};
+ghost use Rattle.vt100_c.specs.Viewing.{HoldsMirror, IsNewMirror, JoinsSource, LeavesSource, OnMirror};
+ghost use Rattle.vt100_c.specs.Viewing.{TellsCurrent, UpdatesObject, due_to, due_to_mirror};
 ghost use Rattle.vt_mirror.specs.Calls.{Drawn, Scrolling};
 
 use crate::handle::Handle;
 use crate::life::{hold, size_of};
 use crate::object::{Object, Source};
-use crate::status::{BAD_ARGUMENT, IN_USE, NO_OBJECT, OUT_OF_MEMORY, WRONG_KIND};
+use crate::status::{BAD_ARGUMENT, IN_USE, NO_OBJECT, OK, OUT_OF_MEMORY, WRONG_KIND};
 use crate::viewers;
 use std::alloc::Global;
 use vt_mirror::Mirror;
@@ -144,6 +146,34 @@ pub extern "C" fn vt100_update_scrolling(
     status
 }
 
+/// Reports whether a viewer's last update is known to be up to date, as 1 or 0
+/// ([`Mirror::is_current`]).
+///
+/// # Errors
+///
+/// `NO_OBJECT` if the handle is empty, `WRONG_KIND` if it holds no mirror. On
+/// error, `out` is unchanged.
+#[unsafe(no_mangle)]
+pub extern "C" fn vt100_mirror_is_current(
+    alloc: Global,
+    handle: &mut Handle,
+    viewer: u64,
+    out: &mut u8,
+) -> u8
+    ensures same { handle.new.held ≡ handle.old.held }
+    ensures status { result ≡ due_to_mirror handle.old.held }
+    ensures current { result ≡ ok → HoldsMirror handle.old.held (TellsCurrent viewer out.new) }
+    ensures refused { ¬ (result ≡ ok) → out.new ≡ out.old }
+{
+    if !handle.is_full() {
+        return NO_OBJECT;
+    }
+    let object = handle.take_out(alloc);
+    let status = write_current(&object.source, viewer, out);
+    handle.put_back(object);
+    status
+}
+
 /// Adds a viewer, if the source is a mirror.
 fn join(source: &mut Source, viewer: &mut u64) -> u8
     ensures call { JoinsSource viewer.old viewer.new source.old result source.new }
@@ -207,5 +237,33 @@ fn update_scrolling(
         Source::Parser(_) => WRONG_KIND,
         Source::Screen(_) => WRONG_KIND,
         Source::Capture(_) => WRONG_KIND,
+    }
+}
+
+/// Returns the mirror, if the source is one.
+fn mirror_of(source: &Source) -> Option<&Mirror>
+    ensures some { IfSome result (λ mirror. mirror_in source.now ≡ Some mirror.now) }
+    ensures none { result ≡ None → mirror_in source.now ≡ None }
+{
+    match source {
+        Source::Mirror(mirror) => Some(mirror),
+        Source::Parser(_) => None,
+        Source::Screen(_) => None,
+        Source::Capture(_) => None,
+    }
+}
+
+/// Reports whether a viewer is up to date, if the source is a mirror.
+fn write_current(source: &Source, viewer: u64, out: &mut u8) -> u8
+    ensures status { result ≡ due_to (mirror_in source.now) }
+    ensures current { result ≡ ok → OnMirror (mirror_in source.now) (TellsCurrent viewer out.new) }
+    ensures refused { ¬ (result ≡ ok) → out.new ≡ out.old }
+{
+    match mirror_of(source) {
+        Some(mirror) => {
+            *out = viewers::current_bit(mirror, viewer);
+            OK
+        }
+        None => WRONG_KIND,
     }
 }

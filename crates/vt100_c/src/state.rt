@@ -1,8 +1,10 @@
 //! The state of a screen, without its cells.
 
 ghost use Rattle.std.specs.Prelude.{◌≡◌};
+ghost use Rattle.vt_redraw.specs.Steady.{IsSteady};
+ghost use Rattle.vt_screen.specs.Shown.{shown};
 ghost use Rattle.vt100_c.specs.Due.{HoldsScreen, OnScreen, any_screen, due_at, due_on};
-ghost use Rattle.vt100_c.specs.Shown.{state_for_c};
+ghost use Rattle.vt100_c.specs.Shown.{IsBitFor, state_for_c};
 ghost use Rattle.vt100_c.specs.Sources.{screen_in};
 ghost use Rattle.vt100_c.specs.Status.{ok};
 
@@ -12,6 +14,7 @@ use crate::handle::Handle;
 use crate::object::{Source, screen_of};
 use crate::status::{NO_OBJECT, OK, WRONG_KIND};
 use std::alloc::Global;
+use vt100::Screen;
 
 /// Stores the state of a screen: its size and cursor, its modes, the attributes
 /// of newly printed text, and its scrollback.
@@ -36,6 +39,29 @@ pub extern "C" fn vt100_get_state(alloc: Global, handle: &mut Handle, out: &mut 
     status
 }
 
+/// Reports whether a screen is steady: 1 if every visible glyph reproduces itself
+/// when it is printed on a blank row, otherwise 0 ([`Screen::is_steady`]).
+///
+/// # Errors
+///
+/// `NO_OBJECT` if the handle is empty, `WRONG_KIND` if the object has no screen.
+/// On error, `out` is unchanged.
+#[unsafe(no_mangle)]
+pub extern "C" fn vt100_is_steady(alloc: Global, handle: &mut Handle, out: &mut u8) -> u8
+    ensures same { handle.new.held ≡ handle.old.held }
+    ensures status { result ≡ due_at any_screen handle.old.held }
+    ensures steady { result ≡ ok → HoldsScreen handle.old.held (λ screen. IsBitFor (IsSteady (shown screen)) out.new) }
+    ensures refused { ¬ (result ≡ ok) → out.new ≡ out.old }
+{
+    if !handle.is_full() {
+        return NO_OBJECT;
+    }
+    let object = handle.take_out(alloc);
+    let status = write_steady(&object.source, out);
+    handle.put_back(object);
+    status
+}
+
 /// Stores the state of a source's screen, if it has one.
 fn write_state(source: &Source, out: &mut VtState) -> u8
     ensures status { result ≡ due_on any_screen (screen_in source.now) }
@@ -49,4 +75,26 @@ fn write_state(source: &Source, out: &mut VtState) -> u8
         }
         None => WRONG_KIND,
     }
+}
+
+/// Reports whether a source's screen is steady, if it has one.
+fn write_steady(source: &Source, out: &mut u8) -> u8
+    ensures status { result ≡ due_on any_screen (screen_in source.now) }
+    ensures steady { result ≡ ok → OnScreen (screen_in source.now) (λ screen. IsBitFor (IsSteady (shown screen)) out.new) }
+    ensures refused { ¬ (result ≡ ok) → out.new ≡ out.old }
+{
+    match screen_of(source) {
+        Some(screen) => {
+            *out = steady_bit(screen);
+            OK
+        }
+        None => WRONG_KIND,
+    }
+}
+
+/// Returns 1 if a screen is steady, otherwise 0.
+fn steady_bit(screen: &Screen) -> u8
+    ensures { IsBitFor (IsSteady (shown screen.now)) result }
+{
+    if screen.is_steady() { 1 } else { 0 }
 }

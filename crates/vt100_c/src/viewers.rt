@@ -3,6 +3,7 @@
 ghost use Rattle.std.specs.Prelude.{◌≡◌, string_bytes};
 ghost use Rattle.vt100_c.specs.Mirrors.{Joins, LeavesIt, status_after, text_after, numbers, numbers_after};
 ghost use Rattle.vt100_c.specs.Status.{ok};
+ghost use Rattle.vt100_c.specs.Viewing.{TellsCurrent};
 
 use crate::status::{BAD_ARGUMENT, OK, status_of};
 use vt_mirror::{Mirror, Update};
@@ -31,6 +32,13 @@ pub(crate) fn leave(mirror: &mut Mirror, viewer: u64) -> u8
     } else {
         BAD_ARGUMENT
     }
+}
+
+/// Returns 1 if a viewer's last update is known to be up to date, otherwise 0.
+pub(crate) fn current_bit(mirror: &Mirror, viewer: u64) -> u8
+    ensures { TellsCurrent viewer result mirror.now }
+{
+    if mirror.is_current(viewer) { 1 } else { 0 }
 }
 
 /// Keeps the text of an update, and stores its length and the size it is for.

@@ -168,7 +168,8 @@ pub trait Callbacks {
 
     /// Called when a program asks for the contents of a clipboard (xterm, OSC
     /// 52 with `?` as its text). `kind` is as in
-    /// [`Callbacks::copy_to_clipboard`].
+    /// A call of [`Callbacks::copy_to_clipboard`], with the clipboards and the
+    /// Base64 text.
     fn paste_from_clipboard(&mut self, screen: &mut Screen, kind: &[u8])
         ensures { does (calls.PasteFromClipboard kind.now) self.old screen.old self.new screen.new }
     {

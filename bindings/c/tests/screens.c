@@ -1,0 +1,173 @@
+/*
+ * screens: whether a screen is steady, copies of what a screen displays, whether a viewer is up to
+ * date, unfinished commands, and the version.
+ */
+#include "heap_refusing.h"
+#include "lines.h"
+
+#include <stdio.h>
+#include <stdlib.h>
+#include <string.h>
+
+/* U+231A, a wide character that U+FE0E and U+FE0F make narrow. */
+#define NARROWED "\xe2\x8c\x9a\xef\xb8\x8e\xef\xb8\x8f"
+
+static uint8_t answer;
+
+static vt100_handle made(uint16_t rows, uint16_t cols, size_t capacity) {
+    vt100_handle parser = VT100_EMPTY;
+    must(vt100_parser_new(rows, cols, capacity, 0, &parser) == VT100_OK);
+    return parser;
+}
+
+static void read_into(vt100_handle *handle, const char *bytes) {
+    must(vt100_process(handle, (const uint8_t *)bytes, strlen(bytes)) == VT100_OK);
+}
+
+/* Whether a handle's text that was just made is this one. */
+static int is_text(vt100_handle *handle, size_t len, const char *text) {
+    uint8_t *bytes = malloc(len + 1);
+    must(bytes != NULL && vt100_copy(handle, bytes, len + 1) == len);
+    int same = len == strlen(text) && memcmp(bytes, text, len) == 0;
+    free(bytes);
+    return same;
+}
+
+static int has_contents(vt100_handle *handle, const char *text) {
+    size_t len = 0;
+    must(vt100_contents(handle, &len) == VT100_OK);
+    return is_text(handle, len, text);
+}
+
+static int is_steady(vt100_handle *handle) {
+    answer = 99;
+    must(vt100_is_steady(handle, &answer) == VT100_OK && answer <= 1);
+    return answer;
+}
+
+/* A glyph that U+FE0F made narrow is not steady while it is shown; all others here are. */
+static void steady(void) {
+    static const struct {
+        const char *bytes;
+        int is_steady;
+    } steps[] = {
+        {"\x1b[31mabcd\xe4\xb8\xad\xe6\x96\x87", 1}, {"\x1b[H\x1b[Je\xcc\x81\xcc\x82", 1},
+        {"\x1b[H\x1b[Ja\xe2\x9d\xa4\xef\xb8\x8f", 1}, {"\x1b[H\x1b[J" NARROWED, 0},
+        {"\x1b[?47h", 1}, {"\x1b[?47l", 0}, {"\x1b[1;1Hx", 1},
+    };
+    vt100_handle parser = made(2, 4, 0);
+    must(is_steady(&parser) == 1);
+    for (size_t i = 0; i < sizeof steps / sizeof *steps; i++) {
+        vt100_handle saved = VT100_EMPTY;
+        read_into(&parser, steps[i].bytes);
+        must(is_steady(&parser) == steps[i].is_steady);
+        must(vt100_save(&parser, &saved) == VT100_OK && is_steady(&saved) == steps[i].is_steady);
+        vt100_free(&saved);
+    }
+    vt100_free(&parser);
+}
+
+/* A copy has what is displayed, and neither scrollback nor the other page; it takes less memory. */
+static void shown_copies(void) {
+    vt100_handle parser = made(2, 4, 1000), copy = VT100_EMPTY, whole = VT100_EMPTY;
+    vt100_state state;
+    size_t len = 99, before, copied;
+    for (int i = 0; i < 500; i++) read_into(&parser, "some\r\n");
+    read_into(&parser, "\x1b[?1049h\x1b[Halt");
+    before = heap_bytes;
+    must(vt100_shown_copy(&parser, &copy) == VT100_OK);
+    copied = heap_bytes - before;
+    must(vt100_kind(&copy) == VT100_SCREEN && has_contents(&copy, "alt"));
+    must(vt100_save(&parser, &whole) == VT100_OK);
+    must(heap_bytes - before - copied > copied + 400 * 4 * sizeof(vt100_cell));
+    must(vt100_contents_diff(&parser, &copy, &len) == VT100_OK && len == 0);
+    must(vt100_shown_copy(&parser, &copy) == VT100_IN_USE && has_contents(&copy, "alt"));
+    must(vt100_shown_copy(&parser, &parser) == VT100_IN_USE);
+    vt100_free(&copy);
+
+    read_into(&parser, "\x1b[?1049l\x1b[H1\r\n2");
+    must(vt100_shown_copy(&parser, &copy) == VT100_OK && has_contents(&copy, "1ome\n2"));
+    must(vt100_get_state(&copy, &state) == VT100_OK && state.scrollback_len == 0);
+    must(state.rows == 2 && state.cols == 4 && state.cursor_row == 1 && state.cursor_col == 1);
+    read_into(&parser, "3");
+    must(vt100_contents_diff(&parser, &copy, &len) == VT100_OK && is_text(&parser, len, "3"));
+    must(has_contents(&copy, "1ome\n2"));
+    vt100_free(&copy);
+
+    must(vt100_set_scrollback(&parser, 1) == VT100_OK);
+    must(vt100_shown_copy(&parser, &copy) == VT100_OK && has_contents(&copy, "some\n1ome"));
+    vt100_free(&copy);
+    vt100_free(&whole);
+    vt100_free(&parser);
+}
+
+static int is_current(vt100_handle *mirror, uint64_t viewer) {
+    answer = 99;
+    must(vt100_mirror_is_current(mirror, viewer, &answer) == VT100_OK && answer <= 1);
+    return answer;
+}
+
+/* A viewer is up to date from its update on, until the mirror reads, is resized, or it leaves. */
+static void viewers(void) {
+    vt100_handle mirror = VT100_EMPTY;
+    uint64_t viewer, other;
+    uint16_t rows, cols;
+    size_t len;
+    must(vt100_mirror_new(3, 8, 0, &mirror) == VT100_OK);
+    must(vt100_join(&mirror, &viewer) == VT100_OK && vt100_join(&mirror, &other) == VT100_OK);
+    must(!is_current(&mirror, viewer));
+    must(vt100_update(&mirror, viewer, &rows, &cols, &len) == VT100_OK);
+    must(is_current(&mirror, viewer) && !is_current(&mirror, other));
+    read_into(&mirror, "a");
+    must(!is_current(&mirror, viewer));
+    must(vt100_update(&mirror, viewer, &rows, &cols, &len) == VT100_OK && rows == 0);
+    must(is_text(&mirror, len, "a") && is_current(&mirror, viewer));
+    must(vt100_update(&mirror, viewer, &rows, &cols, &len) == VT100_OK && len == 0);
+    must(vt100_set_size(&mirror, 2, 8) == VT100_OK && !is_current(&mirror, viewer));
+    must(vt100_update_scrolling(&mirror, viewer, &rows, &cols, &len) == VT100_OK && rows == 2);
+    must(is_current(&mirror, viewer));
+    must(vt100_leave(&mirror, viewer) == VT100_OK && !is_current(&mirror, viewer));
+    vt100_free(&mirror);
+}
+
+/* The bytes of a command count until it ends; other sequences and strings have none. */
+static void pending(void) {
+    static const struct {
+        const char *bytes;
+        size_t len;
+    } steps[] = {
+        {"ab\x1b", 0}, {"]", 0}, {"2;ti", 4}, {"\r\n", 4}, {"\xc3\xa4", 6}, {"\x18", 0},
+        {"\x1b]0;title", 7}, {"\a", 0}, {"\x1b]0;", 2}, {"\x1b", 0}, {"\\", 0},
+        {"\x1bPtitle", 0}, {"\x1b\\\x1b[1;2", 0}, {"m\xe2\x8c", 0},
+    };
+    vt100_handle parser = made(2, 4, 0);
+    size_t len = 99;
+    must(vt100_pending_len(&parser, &len) == VT100_OK && len == 0);
+    for (size_t i = 0; i < sizeof steps / sizeof *steps; i++) {
+        read_into(&parser, steps[i].bytes);
+        len = 99;
+        must(vt100_pending_len(&parser, &len) == VT100_OK && len == steps[i].len);
+    }
+    read_into(&parser, "\x1b]2;");
+    for (size_t i = 0; i < 1000; i++) read_into(&parser, "x");
+    must(vt100_pending_len(&parser, &len) == VT100_OK && len == 1002);
+    must(heap_bytes > 0 && has_contents(&parser, "ab"));
+    vt100_free(&parser);
+}
+
+/* The version is that of the header. */
+static void version(void) {
+    char text[16];
+    snprintf(text, sizeof text, "%d.%d", VT100_VERSION_MAJOR, VT100_VERSION_MINOR);
+    must(strcmp(vt100_version(), text) == 0);
+}
+
+int main(void) {
+    steady();
+    shown_copies();
+    viewers();
+    pending();
+    version();
+    must(heap_live == 0);
+    return 0;
+}

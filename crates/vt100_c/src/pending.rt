@@ -1,0 +1,64 @@
+//! The number of bytes that a parser keeps of an unfinished command.
+
+ghost use Rattle.std.specs.Prelude.{◌≡◌, IfSome, None, Some};
+ghost use Rattle.vt100_c.specs.Pending.{ArePending, HoldsParser, OnParser, due_to, due_to_parser, parser_in};
+ghost use Rattle.vt100_c.specs.Status.{ok};
+
+use crate::events::Events;
+use crate::handle::Handle;
+use crate::object::Source;
+use crate::status::{NO_OBJECT, OK, WRONG_KIND};
+use std::alloc::Global;
+use vt100::Parser;
+
+/// Reports the number of bytes that a parser keeps of an unfinished operating
+/// system command ([`Parser::pending_len`]).
+///
+/// # Errors
+///
+/// `NO_OBJECT` if the handle is empty, `WRONG_KIND` if it holds no parser. On
+/// error, `len` is unchanged.
+#[unsafe(no_mangle)]
+pub extern "C" fn vt100_pending_len(alloc: Global, handle: &mut Handle, len: &mut usize) -> u8
+    ensures same { handle.new.held ≡ handle.old.held }
+    ensures status { result ≡ due_to_parser handle.old.held }
+    ensures pending { result ≡ ok → HoldsParser handle.old.held (ArePending len.new) }
+    ensures refused { ¬ (result ≡ ok) → len.new ≡ len.old }
+{
+    if !handle.is_full() {
+        return NO_OBJECT;
+    }
+    let object = handle.take_out(alloc);
+    let status = write_pending(&object.source, len);
+    handle.put_back(object);
+    status
+}
+
+/// Returns the parser, if the source is one.
+fn parser_of(source: &Source) -> Option<&Parser<Events>>
+    ensures some { IfSome result (λ parser. parser_in source.now ≡ Some parser.now) }
+    ensures none { result ≡ None → parser_in source.now ≡ None }
+{
+    match source {
+        Source::Parser(parser) => Some(parser),
+        Source::Screen(_) => None,
+        Source::Mirror(_) => None,
+        Source::Capture(_) => None,
+    }
+}
+
+/// Reports the number of bytes kept of an unfinished command, if the source is a
+/// parser.
+fn write_pending(source: &Source, len: &mut usize) -> u8
+    ensures status { result ≡ due_to (parser_in source.now) }
+    ensures pending { result ≡ ok → OnParser (parser_in source.now) (ArePending len.new) }
+    ensures refused { ¬ (result ≡ ok) → len.new ≡ len.old }
+{
+    match parser_of(source) {
+        Some(parser) => {
+            *len = parser.pending_len();
+            OK
+        }
+        None => WRONG_KIND,
+    }
+}
