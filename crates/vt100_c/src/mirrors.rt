@@ -74,6 +74,11 @@ pub extern "C" fn vt100_join(alloc: Global, handle: &mut Handle, viewer: &mut u6
 ///
 /// `NO_OBJECT` if the handle is empty, `WRONG_KIND` if it holds no mirror,
 /// `BAD_ARGUMENT` if there is no viewer with this number; nothing has changed.
+///
+/// # Errors
+///
+/// `NO_OBJECT` if the handle is empty, `WRONG_KIND` if it holds no mirror,
+/// `BAD_ARGUMENT` if there is no viewer with this number; nothing has changed.
 #[unsafe(no_mangle)]
 pub extern "C" fn vt100_leave(alloc: Global, handle: &mut Handle, viewer: u64) -> u8
     ensures { OnSource (LeavesSource viewer) handle.old.held result handle.new.held }

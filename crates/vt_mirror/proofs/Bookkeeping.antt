@@ -12,7 +12,7 @@ use Rattle.std.specs.Prelude.{Result, Ok, Err, OnErr, OnOk, is_err}
 use Rattle.vt_screen.specs.Screen.{ScreenValue}
 use Rattle.vt_mirror.specs.Viewers.{AreViewers, Puts, ViewersValue, is_viewer, next_number, note_of}
 
-same_number : (v q : ℕ) → (v == q) ≡ true → v ≡ q
+pub same_number : (v q : ℕ) → (v == q) ≡ true → v ≡ q
 same_number v q e = grind (arith, nat_tests)
 
 other_number : (v q : ℕ) → q ≢ v → (v == q) ≡ false
@@ -98,3 +98,7 @@ if_refused (Err e) P o h = h
 pub if_taken : {A E : Type 0} (r : Result A E) (P : Type 0) → is_err r ≡ false → OnOk r P → P
 if_taken (Ok x) P e h = h
 if_taken (Err e) P o h = absurd (false≢true (sym o))
+
+pub on_err : {A E : Type 0} (r : Result A E) (P : Type 0) → P → OnErr r P
+on_err (Ok x) P h = tt
+on_err (Err e) P h = h

@@ -8,11 +8,13 @@ use Rattle.std.specs.BTreeSet as set
 use Rattle.std.specs.BTreeSet.{BTreeSet}
 use Rattle.std.specs.List.{list_any}
 use Rattle.std.specs.Map.{lookup}
+use Rattle.std.specs.Map.Calls.{RetainsPairs}
 use Rattle.std.specs.Ordering.{nat_cmp}
-use Rattle.std.specs.Prelude.{cond, string_bytes}
+use Rattle.std.specs.Prelude.{cond, map as list_map, string_bytes}
 use Rattle.vt_screen.specs.Screen.{ScreenValue}
-use Rattle.vt_mirror.specs.Kept.{AreKept, AreOfOneVersion, AreShared, Copies, DiffFrom, IsCurrentNote, IsKept, IsRenewed}
-use Rattle.vt_mirror.specs.Kept.{diff_of, from_of, noted_at, screen_of, screens_of}
+use Rattle.vt_mirror.specs.Kept.{AreKept, AreOfOneVersion, AreShared, Copies, DiffFrom, HasVersion, HaveNext}
+use Rattle.vt_mirror.specs.Kept.{IsCurrentNote, IsKept, IsRenewed}
+use Rattle.vt_mirror.specs.Kept.{diff_of, from_of, noted_at, screen_of, screens_of, without_versions}
 use Rattle.vt_mirror.specs.Viewers.{AreViewers, Puts, ViewersValue, is_viewer, note_of}
 use Rattle.vt_mirror.specs.declared.copies.Note.{Note}
 use Rattle.vt_mirror.specs.declared.texts.DiffCache.{DiffCache}
@@ -40,34 +42,13 @@ note_is viewers notes viewer e =
 
 -- ---- the copies that are kept
 
-no_version : (note other : Note) → AreOfOneVersion note other → note.version ≡ 0 → ⊥
-no_version note other same none = omega (arith, same.numbered, none)
-
-no_version_too : (note other : Note) → AreOfOneVersion note other → other.version ≡ 0 → ⊥
-no_version_too note other same none = omega (arith, same.numbered, same.equal, none)
-
--- Only copies are kept that were kept before, and some without a version.
-pub no_more_kept : (old new : Copies) (version : ℕ)
-    → ((note : Note) → IsKept new note → IsKept old note ⊎ (note.version ≡ 0))
-    → AreShared old version → AreShared new version
-no_more_kept old new version was s = record {
-  below = λ note is. below_one note (was note is);
-  agree = λ one other is is_too same. agree_two one other (was one is) (was other is_too) same;
-} where
-  below_one : (note : Note) → IsKept old note ⊎ (note.version ≡ 0) → note.version ≤ version
-  below_one note (inl is) = s.below note is
-  below_one note (inr none) = omega (arith, none)
-
-  agree_two : (one other : Note) → IsKept old one ⊎ (one.version ≡ 0) → IsKept old other ⊎ (other.version ≡ 0) →
-      AreOfOneVersion one other → one.screen ≡ other.screen
-  agree_two one other (inl is) (inl is_too) same = s.agree one other is is_too same
-  agree_two one other (inr none) is_too same = absurd (no_version one other same none)
-  agree_two one other (inl is) (inr none) same = absurd (no_version_too one other same none)
-
 -- Only copies are kept that were kept before.
 pub fewer_kept : (old new : Copies) (version : ℕ) → ((note : Note) → IsKept new note → IsKept old note) →
     AreShared old version → AreShared new version
-fewer_kept old new version was s = no_more_kept old new version (λ note is. inl (was note is)) s
+fewer_kept old new version was s = record {
+  below = λ note is. s.below note (was note is);
+  agree = λ one other is is_too same. s.agree one other (was one is) (was other is_too) same;
+}
 
 -- Copies are kept that were kept before, and one with the next version.
 pub one_more_kept : (old new : Copies) (version after : ℕ) (added : Note)
@@ -114,20 +95,13 @@ noted_after viewer had has put other note u e =
 pub kept_put : (viewer : ℕ) (screen : ScreenValue) (had has : BTreeMap ℕ Note) (old : Copies) (put note : Note)
     → old.notes ≡ had.entries → map.UpdatesBy nat_cmp (nat_cmp viewer) had has (Some put)
     → IsCurrentNote screen old.current put
-    → IsKept (record old { notes = has.entries }) note → IsKept old note ⊎ (note.version ≡ 0)
+    → IsKept (record old { notes = has.entries }) note → IsKept old note
 kept_put viewer screen had has old put note e u is (inl noted) =
     by_side (noted_after viewer had has (Some put) noted.0 note u noted.1) where
-      by_copy : Some put ≡ Some note → (old.current ≡ Some put) ⊎ (put.version ≡ 0) →
-          IsKept old note ⊎ (note.version ≡ 0)
-      by_copy here (inl same) = inl (inr (inl (same ∙ here)))
-      by_copy here (inr none) = inr (ap (λ (n : Note). n.version) (sym (same_some put note here)) ∙ none)
-
-      by_side : (noted_at had.entries noted.0 ≡ Some note) ⊎ (Some put ≡ Some note) →
-          IsKept old note ⊎ (note.version ≡ 0)
-      by_side (inl before) =
-          inl (inl (noted.0, ap (λ (es : List (ℕ × Note)). noted_at es noted.0) e ∙ before))
-      by_side (inr here) = by_copy here is.shared
-kept_put viewer screen had has old put note e u is (inr other) = inl (inr other)
+      by_side : (noted_at had.entries noted.0 ≡ Some note) ⊎ (Some put ≡ Some note) → IsKept old note
+      by_side (inl before) = inl (noted.0, ap (λ (es : List (ℕ × Note)). noted_at es noted.0) e ∙ before)
+      by_side (inr here) = inr (inl (is.kept ∙ here))
+kept_put viewer screen had has old put note e u is (inr other) = inr other
 
 -- A copy was removed.
 pub kept_left : (viewer : ℕ) (had has : BTreeMap ℕ Note) (old : Copies) (note : Note)
@@ -156,7 +130,7 @@ shared_renewed screen old version after renewed (inr new) s =
       old_or_new note (inr (inr diff)) = inl (inr (inr diff))
 
 -- The screen changed, so its copy and the differences were dropped.
-pub shared_changed : (old : Copies) (diff scrolling : Option Note) (version : ℕ) → diff ≡ None → scrolling ≡ None →
+shared_changed : (old : Copies) (diff scrolling : Option Note) (version : ℕ) → diff ≡ None → scrolling ≡ None →
     AreShared old version →
     AreShared (record { notes = old.notes; current = None; diff = diff; scrolling = scrolling }) version
 shared_changed old diff scrolling version no_diff no_scrolling s =
@@ -167,6 +141,84 @@ shared_changed old diff scrolling version no_diff no_scrolling s =
       was note (inr (inl never)) = absurd (none_some note never)
       was note (inr (inr (inl is))) = absurd (none_some note (sym no_diff ∙ is))
       was note (inr (inr (inr is))) = absurd (none_some note (sym no_scrolling ∙ is))
+
+-- a map whose values a closure turned, and which all stay
+module _ {F K X : Type 0} (T : F → K → X → Bool → X → F → Type 0) (turn : X → X) where
+  pub map_from_retain : ((f : F) (k : K) (v : X) (b : Bool) (w : X) (g : F) → T f k v b w g → (b ≡ true) × (w ≡ turn v))
+      → (f : F) (es kept : List (K × X)) → RetainsPairs T f es kept → kept ≡ list_map (λ (e : K × X). (e.0, turn e.1)) es
+  map_from_retain told f [] kept s = s
+  map_from_retain told f (e ∷ es) kept s =
+      let t = told f e.0 e.1 s.0 s.1 s.2 s.4 in
+      let rest = map_from_retain told s.2 es s.3 s.5 in
+      s.6 ∙ (λ j. cond (t.0 j) ((e.0, t.1 j) ∷ rest j) (rest j))
+
+-- it changed, and versions start again
+unversioned : (test : ℕ → Bool) (notes : List (ℕ × Note)) (note : Note) →
+    lookup test (without_versions notes) ≡ Some note → note.version ≡ 0
+unversioned test [] note is = absurd (none_some note is)
+unversioned test (e ∷ es) note is = by_test (test e.0) (unversioned test es note) is where
+  by_test : (b : Bool) → (lookup test (without_versions es) ≡ Some note → note.version ≡ 0)
+      → cond b (Some (record (e.1) { version = 0 })) (lookup test (without_versions es)) ≡ Some note → note.version ≡ 0
+  by_test true later here = ap (λ (n : Note). n.version) (sym (same_some (record (e.1) { version = 0 }) note here))
+  by_test false later there = later there
+
+shared_anew : (notes : List (ℕ × Note)) (diff scrolling : Option Note) → diff ≡ None → scrolling ≡ None →
+    AreShared (record { notes = without_versions notes; current = None; diff = diff; scrolling = scrolling }) 0
+shared_anew notes diff scrolling no_diff no_scrolling = record {
+  below = λ note is. omega (arith, none note is);
+  agree = λ one other is is_too same. absurd (numberless one other (none one is) same);
+} where
+  none : (note : Note)
+      → IsKept (record { notes = without_versions notes; current = None; diff = diff; scrolling = scrolling }) note
+      → note.version ≡ 0
+  none note (inl noted) = unversioned (is_at (nat_cmp noted.0)) notes note noted.1
+  none note (inr (inl never)) = absurd (none_some note never)
+  none note (inr (inr (inl is))) = absurd (none_some note (sym no_diff ∙ is))
+  none note (inr (inr (inr is))) = absurd (none_some note (sym no_scrolling ∙ is))
+
+  numberless : (one other : Note) → one.version ≡ 0 → AreOfOneVersion one other → ⊥
+  numberless one other zero same = omega (arith, zero, same.numbered)
+
+pub shared_next : (old : Copies) (diff scrolling : Option Note) (version after : ℕ) (renewed : List (ℕ × Note))
+    → HaveNext version old.notes after renewed → diff ≡ None → scrolling ≡ None → AreShared old version
+    → AreShared (record { notes = renewed; current = None; diff = diff; scrolling = scrolling }) after
+shared_next old diff scrolling version after renewed (inl same) no_diff no_scrolling s =
+    subst (λ (n : ℕ). AreShared (record { notes = renewed; current = None; diff = diff; scrolling = scrolling }) n)
+    (sym same.0)
+    (subst (λ (es : List (ℕ × Note)).
+    AreShared (record { notes = es; current = None; diff = diff; scrolling = scrolling }) version) (sym same.1)
+    (shared_changed old diff scrolling version no_diff no_scrolling s))
+shared_next old diff scrolling version after renewed (inr anew) no_diff no_scrolling s =
+    subst (λ (n : ℕ). AreShared (record { notes = renewed; current = None; diff = diff; scrolling = scrolling }) n)
+    (sym anew.0)
+    (subst (λ (es : List (ℕ × Note)).
+    AreShared (record { notes = es; current = None; diff = diff; scrolling = scrolling }) 0) (sym anew.1)
+    (shared_anew old.notes diff scrolling no_diff no_scrolling))
+
+screens_without : (notes : List (ℕ × Note)) → screens_of (without_versions notes) ≡ screens_of notes
+screens_without [] = refl
+screens_without (e ∷ es) = ap (λ (rest : List (ℕ × ScreenValue)). (e.0, e.1.screen) ∷ rest) (screens_without es)
+
+-- whichever versions there are, the screens that are noted stay
+pub next_screens : (version : ℕ) (notes : List (ℕ × Note)) (after : ℕ) (renewed : List (ℕ × Note)) →
+    HaveNext version notes after renewed → screens_of renewed ≡ screens_of notes
+next_screens version notes after renewed (inl same) = ap (λ (es : List (ℕ × Note)). screens_of es) same.1
+next_screens version notes after renewed (inr anew) =
+    ap (λ (es : List (ℕ × Note)). screens_of es) anew.1 ∙ screens_without notes
+
+pub next_numbered : (version : ℕ) (notes : List (ℕ × Note)) (after : ℕ) (renewed : List (ℕ × Note)) →
+    HaveNext version notes after renewed → HasVersion None after
+next_numbered version notes after renewed (inl same) = omega (arith, same.0, same.2)
+next_numbered version notes after renewed (inr anew) = omega (arith, anew.0)
+
+-- the copy of the current screen that was made has a version
+pub numbered_renewed : (screen : ScreenValue) (version : ℕ) (current : Option Note) (after : ℕ) (renewed : Option Note) →
+    IsRenewed screen version current after renewed → HasVersion current version → HasVersion renewed after
+numbered_renewed screen version current after renewed (inl same) h =
+    subst (λ (n : ℕ). HasVersion renewed n) (sym same.1)
+    (subst (λ (o : Option Note). HasVersion o version) (sym same.0) h)
+numbered_renewed screen version current after renewed (inr new) h =
+    subst (λ (o : Option Note). HasVersion o after) (sym new.1) (omega (arith, new.2, new.3))
 
 -- All recorded screens were dropped.
 pub shared_cleared : (old : Copies) (notes : List (ℕ × Note)) (version : ℕ) → notes ≡ [] →
@@ -210,6 +262,7 @@ fresh_kept numbers notes diff scrolling e f no_diff no_scrolling = record {
       (sym no_diff)
       (subst (λ (o : Option Note). AreShared (record { notes = notes; current = None; diff = None; scrolling = o }) 0)
       (sym no_scrolling) (shared_none notes f));
+  numbered = omega arith;
 }
 
 -- A difference from the screen recorded for a viewer was stored, or nothing changed.

@@ -1,5 +1,6 @@
 pub mod Bookkeeping
 pub mod Keeping
+pub mod Current
 pub mod Noted
 pub mod Alikes
 pub mod Sharing

@@ -77,13 +77,13 @@ sharing_redrawn parser old new text (inr kept) is s =
 
 -- The screen changed, but not its size.
 pub sharing_changed : (parser after : Parsing (Unit {0})) (old new : KeptValue)
-    → new ≡ record old { current = None; diff = None; scrolling = None; redraw = None }
+    → new ≡ record old { current = None; diff = None; scrolling = None; redraw = None; current_viewers = [] }
     → SameSize after.screen.page parser.screen.page → IsSharing parser old → IsSharing after new
 sharing_changed parser after old new e size s =
     subst (λ (k : KeptValue). IsSharing after k) (sym e) (record {
       sized =
-          noted_parser (record { parser = parser; viewers = old.viewers })
-          (record { parser = after; viewers = old.viewers }) refl size s.sized;
+          noted_parser (record { parser = parser; viewers = old.viewers; current = old.current_viewers })
+          (record { parser = after; viewers = old.viewers; current = [] }) refl size s.sized;
       current = tt;
       diff = tt;
       scrolling = tt;
@@ -98,11 +98,12 @@ pub sharing_resized : (after : Parsing (Unit {0})) (old new : KeptValue)
       diff = None;
       scrolling = None;
       redraw = None;
+      current_viewers = [];
     }
     → IsSharing after new
 sharing_resized after old new e =
     subst (λ (k : KeptValue). IsSharing after k) (sym e) (record {
-      sized = noted_none (record { parser = after; viewers = record (old.viewers) { notes = [] } }) refl;
+      sized = noted_none (record { parser = after; viewers = record (old.viewers) { notes = [] }; current = [] }) refl;
       current = tt;
       diff = tt;
       scrolling = tt;
@@ -115,8 +116,9 @@ pub sharing_parser : (parser after : Parsing (Unit {0})) (kept : KeptValue) → 
 sharing_parser parser after kept same s = subst (λ (p : Parsing (Unit {0})). IsSharing p kept) (sym same) s
 
 -- Viewers joined or left.
-pub sharing_viewers : (parser : Parsing (Unit {0})) (old new : KeptValue) → new ≡ record old { viewers = new.viewers }
-    → IsMirror (record { parser = parser; viewers = new.viewers }) → IsSharing parser old → IsSharing parser new
+pub sharing_viewers : (parser : Parsing (Unit {0})) (old new : KeptValue)
+    → new ≡ record old { viewers = new.viewers; current_viewers = new.current_viewers }
+    → IsMirror (record { parser = parser; viewers = new.viewers; current = new.current_viewers }) → IsSharing parser old → IsSharing parser new
 sharing_viewers parser old new e sized s = record {
   sized = sized;
   current = subst (CopiesScreen parser) (sym (ap (λ (k : KeptValue). k.current) e)) s.current;
@@ -127,7 +129,7 @@ sharing_viewers parser old new e sized s = record {
 
 -- The current screen was recorded for a viewer.
 pub sharing_noted : (parser : Parsing (Unit {0})) (old new : KeptValue)
-    → IsMirror (record { parser = parser; viewers = new.viewers }) → CopiesScreen parser new.current
+    → IsMirror (record { parser = parser; viewers = new.viewers; current = new.current_viewers }) → CopiesScreen parser new.current
     → new.diff ≡ old.diff → new.scrolling ≡ old.scrolling → new.redraw ≡ old.redraw
     → IsSharing parser old → IsSharing parser new
 sharing_noted parser old new sized current e f g s = record {

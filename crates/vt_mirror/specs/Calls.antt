@@ -19,7 +19,7 @@ use Rattle.vt_screen.specs.Touched.{TouchesOnly}
 use Rattle.vt100.specs.Calls.{ParserProcesses}
 use Rattle.vt100.specs.Parser.{quietly}
 use Rattle.vt_mirror.specs.Mirror.{MirrorValue}
-use Rattle.vt_mirror.specs.Viewers.{Puts, ViewersValue, is_viewer, next_number, note_of}
+use Rattle.vt_mirror.specs.Viewers.{Puts, PutsAmong, ViewersValue, is_viewer, next_number, note_of}
 use Rattle.vt_mirror.specs.declared.update.Update.{Update}
 use Rattle.vt_mirror.specs.declared.update.Update.TheVariants.{Diff, Full}
 
@@ -30,6 +30,7 @@ pub record MirrorProcesses (old : MirrorValue) (bytes : List ℕ)
   pub viewers : new.viewers ≡ old.viewers
   pub size : SameSize new.parser.screen.page old.parser.screen.page
   pub parser : ParserProcesses quietly old.parser bytes answer new.parser
+  pub current : new.current ≡ []
 
 -- A call of `set_size`: the screen is resized, and no screen is recorded for any viewer; a resize to the present size
 -- changes nothing and never fails.
@@ -41,6 +42,7 @@ pub record Resizes (old : MirrorValue) (rows cols : ℕ)
       ≡ record {
         parser = record (old.parser) { screen = resized rows cols old.parser.screen };
         viewers = record (old.viewers) { notes = [] };
+        current = [];
       })
   pub refused : IfErr answer (λ error. (error ≡ OutOfMemory) × (new ≡ old))
 
@@ -135,6 +137,7 @@ pub record GivesUpdate (kind : Kind) (old : MirrorValue) (viewer : ℕ) (update 
   pub parser : new.parser ≡ old.parser
   pub last : new.viewers.last ≡ old.viewers.last
   pub puts : Puts old.viewers viewer true (Some old.parser.screen) new.viewers
+  pub current : PutsAmong old.current viewer true new.current
 
 -- What the result of an update means; `None` is for a number without a viewer.
 abbrev pub Answers : Kind → (old : MirrorValue) → ℕ → Option Update → (new : MirrorValue) → Type 0

@@ -1,10 +1,12 @@
 -- What a mirror keeps for its viewers: numbered copies of screens, which viewers share, and texts.
-use Rattle.std.specs.Prelude.{◌≡◌, ◌⊎◌, ℕ, suc, ◌<◌, ◌≤◌, List, map, string_bytes, Option, Some, None}
+use Rattle.std.specs.Prelude.{◌≡◌, ◌⊎◌, ℕ, suc, ◌<◌, ◌≤◌, ◌==◌, ◌&&◌, nat_lt, Bool, false, List, filter, map, string_bytes}
+use Rattle.std.specs.Prelude.{Option, Some, None}
 use Rattle.std.specs.BTreeMap.{is_at}
 use Rattle.std.specs.Map.{lookup}
 use Rattle.std.specs.Ordering.{nat_cmp}
 use Rattle.vt_screen.specs.Screen.{ScreenValue}
 use Rattle.vt_mirror.specs.Viewers.{AreViewers, ViewersValue}
+use Rattle.vt_mirror.specs.Calls.{greatest}
 use Rattle.vt_mirror.specs.declared.copies.Note.{Note}
 use Rattle.vt_mirror.specs.declared.texts.DiffCache.{DiffCache}
 use Rattle.vt_mirror.specs.declared.texts.KeptDiff.{KeptDiff}
@@ -24,6 +26,8 @@ pub record KeptValue : Type 0 where
   pub scrolling : Option DiffFrom
   -- The text of the current screen's redraw, if it is stored.
   pub redraw : Option (List ℕ)
+  -- The viewers that were updated since the screen changed.
+  pub current_viewers : List ℕ
 
 -- The recorded screens, without the versions of their copies.
 abbrev pub screens_of : List (ℕ × Note) → List (ℕ × ScreenValue)
@@ -45,6 +49,20 @@ from_of (Some diff) = Some diff.from
 
 abbrev pub noted_at : List (ℕ × Note) → ℕ → Option Note
 noted_at notes viewer = lookup (is_at (nat_cmp viewer)) notes
+
+-- Whether two notes have the same version other than 0, which stands for no version.
+abbrev pub have_one_version : (one other : Note) → Bool
+have_one_version one other = nat_lt 0 one.version && (one.version == other.version)
+
+-- Whether a note is a copy of the current screen.
+abbrev pub is_of_current : (current note : Option Note) → Bool
+is_of_current None _ = false
+is_of_current (Some current) None = false
+is_of_current (Some current) (Some note) = have_one_version note current
+
+-- The viewers among `numbers` for which a copy of the current screen is noted.
+abbrev pub current_in : (numbers : List ℕ) → List (ℕ × Note) → (current : Option Note) → List ℕ
+current_in numbers notes current = filter (λ viewer. is_of_current current (noted_at notes viewer)) numbers
 
 -- All copies that are kept: those recorded for viewers, that of the current screen, and those that the stored
 -- differences start from.
@@ -74,9 +92,25 @@ pub record AreShared (copies : Copies) (version : ℕ) : Type 0 where
   pub agree : (one other : Note) → IsKept copies one → IsKept copies other →
       AreOfOneVersion one other → one.screen ≡ other.screen
 
+-- The copy of the current screen has a version; if there is no copy, there is a next version.
+abbrev pub HasVersion : Option Note → (version : ℕ) → Type 0
+HasVersion None version = version < greatest
+HasVersion (Some note) version = 0 < note.version
+
 pub record AreKept (value : ViewersValue) (copies : Copies) (version : ℕ) : Type 0 where
   pub viewers : AreViewers value
   pub shared : AreShared copies version
+  pub numbered : HasVersion copies.current version
+
+-- The notes with version 0.
+abbrev pub without_versions : List (ℕ × Note) → List (ℕ × Note)
+without_versions notes = map (λ (e : ℕ × Note). (e.0, record (e.1) { version = 0 })) notes
+
+-- Versions and notes are unchanged, and there is a next version; or versions start again, and no note has one.
+abbrev pub HaveNext : (version : ℕ) (notes : List (ℕ × Note)) (after : ℕ) (renewed : List (ℕ × Note)) → Type 0
+HaveNext version notes after renewed =
+    ((after ≡ version) × (renewed ≡ notes) × (version < greatest))
+    ⊎ ((after ≡ 0) × (renewed ≡ without_versions notes))
 
 -- The copy of the current screen is unchanged, or is a new one with the next version if there was none.
 abbrev pub IsRenewed : (screen : ScreenValue) → (version : ℕ) (current : Option Note)
@@ -86,7 +120,7 @@ IsRenewed screen version current after renewed =
     ⊎ ((note : Note) × (renewed ≡ Some note) × (note.version ≡ after)
     × (after ≡ suc version) × (note.screen ≡ screen) × (current ≡ None))
 
--- A copy of the current screen for a viewer: the shared one, or one without a version.
+-- A copy of the current screen for a viewer: the one that is kept.
 pub record IsCurrentNote (self : ScreenValue) (current : Option Note) (note : Note) : Type 0 where
   pub screen : note.screen ≡ self
-  pub shared : (current ≡ Some note) ⊎ (note.version ≡ 0)
+  pub kept : current ≡ Some note

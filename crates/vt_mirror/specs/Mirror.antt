@@ -1,13 +1,19 @@
 -- A mirror: a terminal, and viewers that each get the updates by which they display the same.
-use Rattle.std.specs.Prelude.{◌≡◌, ℕ, Some}
+use Rattle.std.specs.Prelude.{◌≡◌, ℕ, Bool, List, Some}
 use Rattle.vt_grid.specs.Page.{SameSize}
 use Rattle.vt_screen.specs.Screen.{ScreenValue}
 use Rattle.vt100.specs.Parser.{HasFreshScreen, Parsing}
-use Rattle.vt_mirror.specs.Viewers.{ViewersValue, note_of}
+use Rattle.vt_mirror.specs.Viewers.{ViewersValue, is_among, note_of}
 
 pub record MirrorValue : Type 0 where
   pub parser : Parsing (Unit {0})
   pub viewers : ViewersValue
+  -- The numbers of the viewers that had an update after the last input and the last resize.
+  pub current : List ℕ
+
+-- Whether a viewer has had an update since the screen last changed.
+abbrev pub is_current : MirrorValue → ℕ → Bool
+is_current mirror viewer = is_among mirror.current viewer
 
 -- The recorded screens have the size of the mirror's screen.
 abbrev pub IsMirror : MirrorValue → Type 0

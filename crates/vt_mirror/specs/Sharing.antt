@@ -21,7 +21,7 @@ pub record IsRedraw (self : ScreenValue) (text : List ℕ) : Type 0 where
 -- The recorded screens have the mirror's size, and the current copy and the stored texts are those of the mirror's
 -- screen.
 pub record IsSharing (parser : Parsing (Unit {0})) (kept : KeptValue) : Type 0 where
-  pub sized : IsMirror (record { parser = parser; viewers = kept.viewers })
+  pub sized : IsMirror (record { parser = parser; viewers = kept.viewers; current = kept.current_viewers })
   pub current : IfSome kept.current (λ screen. screen ≡ parser.screen)
   pub diff : IfSome kept.diff (λ diff. IsDrawn parser.screen diff.0 diff.1)
   pub scrolling : IfSome kept.scrolling (λ diff. Scrolls parser.screen diff.0 diff.1)

@@ -17,6 +17,15 @@ pub record ViewersValue : Type 0 where
 abbrev pub is_viewer : ViewersValue → ℕ → Bool
 is_viewer viewers viewer = list_any (is_at (nat_cmp viewer)) viewers.numbers
 
+-- Whether `viewer` is one of the numbers.
+abbrev pub is_among : (numbers : List ℕ) → ℕ → Bool
+is_among numbers viewer = list_any (is_at (nat_cmp viewer)) numbers
+
+-- Whether `viewer` is among the numbers becomes `is`; for all other numbers it is unchanged.
+pub record PutsAmong (old : List ℕ) (viewer : ℕ) (is : Bool) (new : List ℕ) : Type 0 where
+  pub here : is_among new viewer ≡ is
+  pub others : (other : ℕ) → other ≢ viewer → is_among new other ≡ is_among old other
+
 -- The screen that is recorded for a viewer number.
 abbrev pub note_of : ViewersValue → ℕ → Option ScreenValue
 note_of viewers viewer = lookup (is_at (nat_cmp viewer)) viewers.notes

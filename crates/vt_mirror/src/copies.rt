@@ -3,7 +3,7 @@
 ghost use Rattle.std.specs.Prelude.{◌≡◌, ◌↔◌, IfOk, IfSome, true};
 ghost use Rattle.vt_cells.specs.Refusals.{OnlyOutOfMemory};
 ghost use Rattle.vt_mirror.specs.Alike.{ShowsAlike};
-ghost use Rattle.vt_mirror.specs.Kept.{AreOfOneVersion};
+ghost use Rattle.vt_mirror.specs.Kept.{AreOfOneVersion, have_one_version};
 
 use std::alloc::Global;
 use std::marker::Model;
@@ -138,7 +138,8 @@ impl Note {
     /// Returns whether both have the same version, so that they are copies of
     /// one screen.
     pub(crate) fn is_of_version(&self, other: &Note) -> bool
-        ensures { result ≡ true ↔ AreOfOneVersion self.now other.now }
+        ensures test { result ≡ have_one_version self.now other.now }
+        ensures equal { result ≡ true ↔ AreOfOneVersion self.now other.now }
     {
         self.version > 0 && self.version == other.version
     }

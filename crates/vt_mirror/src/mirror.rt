@@ -1,12 +1,12 @@
 //! A terminal with viewers.
 
-ghost use Rattle.std.specs.Prelude.{◌≡◌, IfOk, IsTrue, None, OnErr, OnOk, Some, [], string_bytes, true};
+ghost use Rattle.std.specs.Prelude.{◌≡◌, IfOk, IsTrue, None, OnErr, OnOk, Some, [], false, string_bytes, true, ℕ};
 ghost use Rattle.vt_cells.specs.Refusals.{OnlyOutOfMemory};
 ghost use Rattle.vt_mirror.specs.Calls.{Asks, Drawn, IsFullUpdate, IsUpdate, JoinsMirror, Leaves};
 ghost use Rattle.vt_mirror.specs.Calls.{MirrorProcesses, Resizes, Scrolling};
-ghost use Rattle.vt_mirror.specs.Mirror.{ShowsFreshScreen};
+ghost use Rattle.vt_mirror.specs.Mirror.{ShowsFreshScreen, is_current};
 ghost use Rattle.vt_mirror.specs.Sharing.{IsRedraw};
-ghost use Rattle.vt_mirror.specs.Viewers.{Puts, is_viewer, note_of};
+ghost use Rattle.vt_mirror.specs.Viewers.{Puts, PutsAmong, is_viewer, note_of};
 ghost use Rattle.vt_scan.specs.Automaton.{start};
 ghost use Rattle.vt_scan.specs.Scanner.{StandsFor};
 ghost use Rattle.vt_screen.specs.Screen.{IsColored, IsScreen};
@@ -56,7 +56,11 @@ impl Model for Mirror {
 
     ghost Value = { MirrorValue };
 
-    ghost view = { λ m. record { parser = m.parser; viewers = m.viewers.viewers } };
+    ghost view = { λ m. record {
+      parser = m.parser;
+      viewers = m.viewers.viewers;
+      current = m.viewers.current_viewers;
+    } };
 
     ghost invariant = { λ m. IsSharing m.parser m.viewers };
 }
@@ -90,6 +94,7 @@ impl Mirror {
         ensures last { IfOk result (λ mirror. mirror.viewers.last ≡ None) }
         ensures nobody { IfOk result (λ mirror. mirror.viewers.numbers ≡ []) }
         ensures nothing { IfOk result (λ mirror. mirror.viewers.notes ≡ []) }
+        ensures current { IfOk result (λ mirror. mirror.current ≡ []) }
         ensures memory { OnlyOutOfMemory result }
     {
         Ok(Mirror {
@@ -145,6 +150,8 @@ impl Mirror {
     pub fn join(&mut self) -> Result<u64, Error>
         ensures parser { self.new.parser ≡ self.old.parser }
         ensures call { JoinsMirror self.old.viewers result self.new.viewers }
+        ensures current { (viewer : ℕ) → is_current self.new viewer ≡ is_current self.old viewer }
+        ensures refused { OnErr result (self.new ≡ self.old) }
     {
         self.viewers.join()
     }
@@ -153,6 +160,7 @@ impl Mirror {
     pub fn leave(&mut self, viewer: u64) -> bool
         ensures parser { self.new.parser ≡ self.old.parser }
         ensures call { Leaves self.old.viewers viewer result self.new.viewers }
+        ensures current { PutsAmong self.old.current viewer false self.new.current }
     {
         self.viewers.leave(viewer)
     }
@@ -215,17 +223,17 @@ impl Mirror {
         Ok(Some(update))
     }
 
-    /// Returns true only if the screen has not changed since the viewer's last
-    /// update, so that its next update would be an empty difference, or a full
-    /// one if it is one of `update_scrolling` and the screen is not steady. The
-    /// test allocates nothing and reads no cell.
+    /// Returns whether the viewer is up to date: whether it had an update after the
+    /// last call to [`process`](Mirror::process) and the last change of size. If so,
+    /// its next update is an empty difference, or a full one if it is one of
+    /// `update_scrolling` and the screen is not steady. The test allocates nothing
+    /// and reads no cell.
     ///
-    /// It returns false if there is no viewer with this number, if the viewer
-    /// has had no update since the last resize, and if
-    /// [`process`](Mirror::process) was called since its last update, even if
-    /// the bytes changed nothing that is displayed.
+    /// It returns false for a number that is no viewer's, and after each call of
+    /// `process`, even if the bytes changed nothing that is displayed.
     pub fn is_current(&self, viewer: u64) -> bool
-        ensures { IsTrue result → note_of self.now.viewers viewer ≡ Some self.now.parser.screen }
+        ensures exact { result ≡ is_current self.now viewer }
+        ensures noted { IsTrue result → note_of self.now.viewers viewer ≡ Some self.now.parser.screen }
     {
         self.viewers.is_current(viewer)
     }
@@ -332,6 +340,7 @@ impl Mirror {
         ensures last { self.new.viewers.last ≡ self.old.viewers.last }
         ensures ok { OnOk result
             (Puts self.old.viewers viewer true (Some self.old.parser.screen) self.new.viewers) }
+        ensures current { OnOk result (PutsAmong self.old.current viewer true self.new.current) }
         ensures err { OnErr result (self.new ≡ self.old) }
         ensures memory { OnlyOutOfMemory result }
     {

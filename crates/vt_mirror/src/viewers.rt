@@ -1,11 +1,11 @@
 //! The viewers of a mirror.
 
-ghost use Rattle.std.specs.Prelude.{◌≡◌, ◌≢◌, ◌⊎◌, IfNone, IfOk, IfSome, IsTrue, None, OnErr, OnOk, Some, [], option_copied, true};
+ghost use Rattle.std.specs.Prelude.{◌≡◌, ◌≢◌, ◌⊎◌, IfNone, IfOk, IfSome, IsTrue, None, OnErr, OnOk, Some, [], false, option_copied, true, ℕ};
 ghost use Rattle.vt_cells.specs.Refusals.{OnlyOutOfMemory};
 ghost use Rattle.vt_mirror.specs.Alike.{ShowsAlike};
 ghost use Rattle.vt_mirror.specs.Calls.{JoinsMirror, Leaves, greatest};
-ghost use Rattle.vt_mirror.specs.Kept.{IsCurrentNote, IsRenewed};
-ghost use Rattle.vt_mirror.specs.Viewers.{Puts, is_viewer, next_number, note_of};
+ghost use Rattle.vt_mirror.specs.Kept.{HasVersion, HaveNext, IsCurrentNote, IsRenewed};
+ghost use Rattle.vt_mirror.specs.Viewers.{Puts, PutsAmong, is_among, is_viewer, next_number, note_of};
 ghost use Rattle.vt_screen.specs.Screen.{ScreenValue};
 
 use crate::copies::{Note, SharedCopy};
@@ -46,7 +46,7 @@ pub(crate) struct Viewers {
 
 impl Model for Viewers {
     ghost use Rattle.std.specs.Prelude.{option_map, string_bytes};
-    ghost use Rattle.vt_mirror.specs.Kept.{AreKept, KeptValue, copies_of, diff_of, screen_of, screens_of};
+    ghost use Rattle.vt_mirror.specs.Kept.{AreKept, KeptValue, copies_of, current_in, diff_of, screen_of, screens_of};
 
     ghost Value = { KeptValue };
 
@@ -56,6 +56,7 @@ impl Model for Viewers {
       diff = diff_of v.diff.last;
       scrolling = diff_of v.scrolling.last;
       redraw = option_map (λ text. string_bytes text) v.redraw;
+      current_viewers = current_in v.numbers.keys v.notes.entries v.current;
     } };
 
     ghost invariant = { λ v. AreKept
@@ -73,6 +74,7 @@ impl Viewers {
         ensures diff { result.diff ≡ None }
         ensures scrolling { result.scrolling ≡ None }
         ensures redraw { result.redraw ≡ None }
+        ensures nobody_current { result.current_viewers ≡ [] }
     {
         Viewers {
             last: None,
@@ -94,7 +96,13 @@ impl Viewers {
     /// `Error::OutOfMemory` if an allocation fails; nothing has changed.
     pub(crate) fn join(&mut self) -> Result<u64, Error>
         ensures call { JoinsMirror self.old.viewers result self.new.viewers }
-        ensures rest { self.new ≡ record self.old { viewers = self.new.viewers } }
+        ensures rest { self.new ≡ record self.old {
+          viewers = self.new.viewers;
+          current_viewers = self.new.current_viewers;
+        } }
+        ensures current { (viewer : ℕ) →
+            is_among self.new.current_viewers viewer ≡ is_among self.old.current_viewers viewer }
+        ensures refused { OnErr result (self.new.current_viewers ≡ self.old.current_viewers) }
     {
         let Some(viewer) = next_after(self.last) else {
             return Err(Error::NoNumber);
@@ -109,7 +117,11 @@ impl Viewers {
     /// Removes a viewer. Returns whether there was one of this number.
     pub(crate) fn leave(&mut self, viewer: u64) -> bool
         ensures call { Leaves self.old.viewers viewer result self.new.viewers }
-        ensures rest { self.new ≡ record self.old { viewers = self.new.viewers } }
+        ensures rest { self.new ≡ record self.old {
+          viewers = self.new.viewers;
+          current_viewers = self.new.current_viewers;
+        } }
+        ensures current { PutsAmong self.old.current_viewers viewer false self.new.current_viewers }
     {
         self.notes.remove(&viewer);
         self.numbers.remove(&viewer)
@@ -135,10 +147,11 @@ impl Viewers {
         }
     }
 
-    /// Returns true only if the screen recorded for a viewer is the current
-    /// one.
+    /// Returns whether a viewer was updated since the screen changed, so that the
+    /// screen noted for it is the current one.
     pub(crate) fn is_current(&self, viewer: u64) -> bool
-        ensures { IsTrue result → (screen : ScreenValue)
+        ensures exact { result ≡ is_among self.now.current_viewers viewer }
+        ensures noted { IsTrue result → (screen : ScreenValue)
             × (note_of self.now.viewers viewer ≡ Some screen) × (self.now.current ≡ Some screen) }
     {
         let Some(current) = &self.current else {
@@ -238,6 +251,9 @@ impl Viewers {
         ensures diff { self.new.diff ≡ self.old.diff }
         ensures scrolling { self.new.scrolling ≡ self.old.scrolling }
         ensures redraw { self.new.redraw ≡ self.old.redraw }
+        ensures noted { OnOk result
+            (PutsAmong self.old.current_viewers viewer true self.new.current_viewers) }
+        ensures unnoted { OnErr result (self.new.current_viewers ≡ self.old.current_viewers) }
         ensures memory { OnlyOutOfMemory result }
     {
         if self.is_current(viewer) {
@@ -253,12 +269,19 @@ impl Viewers {
     /// Drops the copy of the current screen and all texts, since the screen
     /// changes.
     pub(crate) fn discard_current(&mut self)
-        ensures { self.new ≡ record self.old { current = None; diff = None; scrolling = None; redraw = None } }
+        ensures { self.new ≡ record self.old {
+          current = None;
+          diff = None;
+          scrolling = None;
+          redraw = None;
+          current_viewers = [];
+        } }
     {
         self.current = None;
         self.diff.clear();
         self.scrolling.clear();
         self.redraw = None;
+        leave_a_version(&mut self.version, &mut self.notes);
     }
 
     /// Drops all copies and texts, including the screens recorded for viewers,
@@ -270,6 +293,7 @@ impl Viewers {
           diff = None;
           scrolling = None;
           redraw = None;
+          current_viewers = [];
         } }
     {
         self.discard_current();
@@ -277,60 +301,74 @@ impl Viewers {
     }
 }
 
-/// Returns a copy of the current screen for a viewer: the shared one, or else a
-/// new one with the next version, which is then shared. If there is no next
-/// version, or the shared copy already has as many holders as can be counted,
-/// it returns a copy without a version, for this viewer alone.
+/// Starts the versions again if the last one was given, so that the next copy
+/// can have one: then no copy that is noted has a version any more.
+fn leave_a_version(version: &mut u64, notes: &mut BTreeMap<u64, Note>)
+    ensures { HaveNext version.old notes.old.entries version.new notes.new.entries }
+{
+    if *version < u64::MAX {
+        return;
+    }
+    notes.retain(|_, note| {
+        note.version = 0;
+        true
+    });
+    *version = 0;
+}
+
+/// Returns a copy of the current screen for a viewer: the one that is kept, or
+/// else a new one with the next version, which is kept too.
 ///
 /// # Errors
 ///
-/// `Error::OutOfMemory` if a copy is needed and cannot be allocated.
+/// `OutOfMemory` if a copy is needed and cannot be allocated.
 fn current_note(
     alloc: Global,
     screen: &Screen,
     version: &mut u64,
     current: &mut Option<Note>,
 ) -> Result<Note, Error>
-    requires { IfSome current.old (λ note. note.screen ≡ screen.now) }
+    requires same { IfSome current.old (λ note. note.screen ≡ screen.now) }
+    requires numbered { HasVersion current.old version.old }
     ensures ok { IfOk result (IsCurrentNote screen.now current.new) }
     ensures renewed { IsRenewed screen.now version.old current.old version.new current.new }
     ensures memory { OnlyOutOfMemory result }
 {
     if let Some(note) = current {
-        return match note.share() {
-            Some(note) => Ok(note),
-            None => own_note(alloc, screen),
-        };
+        let screen = shared_or_new(alloc, screen, &note.screen)?;
+        return Ok(Note {
+            version: note.version,
+            screen,
+        });
     }
-    let note = own_note(alloc, screen)?;
-    let Some(next) = version.checked_add(1) else {
-        return Ok(note);
-    };
-    let Some(copy) = note.screen.share() else {
-        return Ok(note);
-    };
-    *version = next;
+    let kept = SharedCopy::new(alloc, screen)?;
+    let screen = shared_or_new(alloc, screen, &kept)?;
+    *version += 1;
     *current = Some(Note {
-        version: next,
-        screen: copy,
+        version: *version,
+        screen: kept,
     });
     Ok(Note {
-        version: next,
-        screen: note.screen,
+        version: *version,
+        screen,
     })
 }
 
-/// Returns a copy of the screen without a version, for one viewer alone.
+/// Returns the copy for one more holder, or a new one if it has as many as can
+/// be counted.
 ///
 /// # Errors
 ///
-/// `Error::OutOfMemory` if it cannot be allocated.
-fn own_note(alloc: Global, screen: &Screen) -> Result<Note, Error>
-    ensures ok { IfOk result (λ note. (note.screen ≡ screen.now) × (note.version ≡ 0)) }
+/// `OutOfMemory` if a new copy is needed and cannot be allocated.
+fn shared_or_new(alloc: Global, screen: &Screen, copy: &SharedCopy) -> Result<SharedCopy, Error>
+    requires { copy.now ≡ screen.now }
+    ensures ok { IfOk result (λ copy. copy ≡ screen.now) }
     ensures memory { OnlyOutOfMemory result }
 {
-    let screen = SharedCopy::new(alloc, screen)?;
-    Ok(Note { version: 0, screen })
+    match copy.share() {
+        Some(copy) => Ok(copy),
+        None => SharedCopy::new(alloc, screen),
+    }
 }
 
 /// Returns the number after the last one, or `None` if that is the greatest

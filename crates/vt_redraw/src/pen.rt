@@ -58,6 +58,10 @@ impl Pen {
     /// # Errors
     ///
     /// The error of the sink; part of the output may have been written.
+    ///
+    /// # Errors
+    ///
+    /// The error of the sink; part of the output may have been written.
     #[inline]
     pub fn move_to<S: Sink>(&mut self, sink: &mut S, to: Pos) -> Result<(), S::Error>
         ensures ops { AppendsOrStops result (S.text sink.old) (S.text sink.new) (move_ops self.old to.row to.col) }

@@ -5,9 +5,9 @@ use Rattle.vt_mirror.specs.Viewers.{note_of}
 use Rattle.vt_mirror.proofs.Sharing.{CopiesScreen}
 use Rattle.vt_mirror.proofs.mirror.Mirror.is_current.Goals as goal
 
-pub returns : goal.returns
-returns c = λ is.
-    let it = c.is_current.ensures is in
+pub returns-clause-noted : goal.returns-clause-noted
+returns-clause-noted c = λ is.
+    let it = c.is_current.ensures.noted is in
     let same : it.0 ≡ c.self.inside.parser.screen =
     subst (CopiesScreen c.self.inside.parser) it.2 c.self.invariant.current in
     subst (λ (m : MirrorValue). note_of m.viewers c.args.viewer ≡ Some m.parser.screen) c.self.view_is

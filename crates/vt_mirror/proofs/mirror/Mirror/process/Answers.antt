@@ -26,6 +26,15 @@ returns c =
     record {
       call =
           subst (λ (old : MirrorValue). MirrorProcesses old c.args.bytes.now c.process.result
-          (record { parser = c.process.new.self; viewers = c.discard_current.new.self.viewers }))
-          c.self.view_is (record { viewers = ap (λ (k : KeptValue). k.viewers) c.discard_current.ensures; size = size; parser = c.process.ensures.call });
+          (record {
+            parser = c.process.new.self;
+            viewers = c.discard_current.new.self.viewers;
+            current = c.discard_current.new.self.current_viewers;
+          }))
+          c.self.view_is (record {
+            viewers = ap (λ (k : KeptValue). k.viewers) c.discard_current.ensures;
+            size = size;
+            parser = c.process.ensures.call;
+            current = ap (λ (k : KeptValue). k.current_viewers) c.discard_current.ensures;
+          });
     }

@@ -4,6 +4,6 @@ pub returns-in-Some : goal.returns-in-Some
 returns-in-Some c = (
   c.in-Some.diff,
   c.in-Some.is,
-  c.is_of_version.ensures.0 c.if-is_of_version.true,
+  c.is_of_version.ensures.equal.0 c.if-is_of_version.true,
   c.as_str.ensures.value,
 )

@@ -12,4 +12,5 @@ invariant_of-self c = record {
       shared_cleared
       (copies_of c.self.inside.notes.entries c.self.inside.current c.self.inside.diff c.self.inside.scrolling)
       c.clear.new.self.entries c.self.inside.version c.clear.ensures.empty c.self.invariant.shared;
+  numbered = c.self.invariant.numbered;
 }

@@ -13,6 +13,7 @@ invariant_of-self c = record {
       (sym c.in-Some.ensures.value)
       (from_kept c.self.inside.scrolling c.keep.new.self c.in-Some.note.now c.args.text.now c.keep.ensures)
       c.self.invariant.shared;
+  numbered = c.self.invariant.numbered;
 }
 
 pub returns-clause-scrolling : goal.returns-clause-scrolling

@@ -1,7 +1,8 @@
-use Rattle.std.proofs.Common.{refl, subst}
+use Rattle.std.proofs.Common.{ap, refl, subst}
 use Rattle.vt_mirror.specs.Calls.{Leaves}
 use Rattle.vt_mirror.specs.Kept.{KeptValue, copies_of, screens_of}
 use Rattle.vt_mirror.specs.Viewers.{ViewersValue}
+use Rattle.vt_mirror.proofs.Current.{current_left}
 use Rattle.vt_mirror.proofs.Keeping.{fewer_kept, kept_left, note_left, note_left_viewers}
 use Rattle.vt_mirror.proofs.viewers.Viewers.leave.Goals as goal
 
@@ -21,6 +22,7 @@ invariant_of-self c = record {
       (copies_of c.self.inside.notes.entries c.self.inside.current c.self.inside.diff c.self.inside.scrolling) note refl
       c.remove.ensures.updates is)
       c.self.invariant.shared;
+  numbered = c.self.invariant.numbered;
 }
 
 pub returns-clause-call : goal.returns-clause-call
@@ -36,3 +38,15 @@ returns-clause-call c =
           note_left old c.args.viewer c.self.inside.numbers c.remove-2.new.self c.self.inside.notes c.remove.new.self
           refl refl c.remove-2.ensures.updates c.remove.ensures.updates;
     })
+
+pub returns-clause-current : goal.returns-clause-current
+returns-clause-current c =
+    let old : ViewersValue =
+    record { last = c.self.inside.last; numbers = c.self.inside.numbers.keys; notes = screens_of c.self.inside.notes.entries } in
+    current_left c.args.self.now.current_viewers old
+    (record old { numbers = c.remove-2.new.self.keys; notes = screens_of c.remove.new.self.entries })
+    c.self.inside.notes c.remove.new.self c.self.inside.current c.args.viewer _
+    c.self.invariant.viewers refl
+    (note_left_viewers old c.args.viewer c.self.inside.numbers c.remove-2.new.self c.self.inside.notes c.remove.new.self
+    refl refl c.remove-2.ensures.updates c.remove.ensures.updates c.self.invariant.viewers)
+    refl c.remove.ensures.updates (ap (λ (k : KeptValue). k.current_viewers) c.self.view_is) refl
