@@ -82,7 +82,7 @@ pub fn process_some<CB: Callbacks>(
     if count > 0 {
         return Ok(count);
     }
-    process_one(scanner, screen, callbacks, bytes)
+    process_rest(scanner, screen, callbacks, bytes)
 }
 
 /// Parses and applies a sequence at the start of `bytes`, or the part of it
@@ -144,9 +144,9 @@ fn end_sequence<CB: Callbacks>(
     Ok(0)
 }
 
-/// Parses and applies the first unit of `bytes`: a complete character of
-/// several bytes, bytes of a string, or else one byte. Returns its length in
-/// bytes.
+/// Parses and applies the complete character of several bytes at the start of
+/// `bytes`, or, if there is none, what [`process_rest`] parses. Returns its
+/// length in bytes.
 ///
 /// # Errors
 ///
@@ -170,6 +170,28 @@ fn process_one<CB: Callbacks>(
             Err(_) => Err(count - 1),
         };
     }
+    process_rest(scanner, screen, callbacks, bytes)
+}
+
+/// Parses and applies the bytes of a string at the start of `bytes`, or, if there
+/// is none, one byte. Returns the number of bytes.
+///
+/// # Errors
+///
+/// The number of bytes before the one whose allocation fails.
+#[inline(always)]
+fn process_rest<CB: Callbacks>(
+    scanner: &mut Scanner,
+    screen: &mut Screen,
+    callbacks: &mut CB,
+    bytes: &[u8],
+) -> Result<usize, usize>
+    requires { 0 < length bytes.now }
+    ensures some { IfOk result (λ count. 0 < count) }
+    ensures last { IfOk result (λ count. CallsByLast callbacks.old scanner.old bytes.now count callbacks.new) }
+    ensures read { ReadsOrStops CB.does (parsing scanner.old screen.old callbacks.old) bytes.now
+        (parsing scanner.new screen.new callbacks.new) result }
+{
     let skipped = scanner.skipped_len(bytes);
     if skipped > 0 {
         return Ok(skipped);
@@ -267,7 +289,7 @@ fn print_wide<CB: Callbacks>(
     ensures { ReadsOrStops CB.does (parsing scanner.now screen.old callbacks.now) bytes.now
         (parsing scanner.now screen.new callbacks.now) result }
 {
-    if bytes[0] < 0xE3 {
+    if bytes[0] < 0xE3 || bytes[0] > 0xED {
         return Ok(0);
     }
     print_wide_run(scanner, screen, callbacks, bytes)

@@ -42,11 +42,11 @@ returns-clause-read g c =
     let bytes = c.args.bytes.now in
     let before = parsing c.args.scanner.now c.args.screen.now c.args.callbacks.now in
     let led = parsing c.process_sequence.new.scanner c.process_sequence.new.screen c.process_sequence.new.callbacks in
-    let now = parsing c.process_one.new.scanner c.process_one.new.screen c.process_one.new.callbacks in
+    let now = parsing c.process_rest.new.scanner c.process_rest.new.screen c.process_rest.new.callbacks in
     let zero : c.in_ok-count-2.count ≡ 0 = omega (arith, c.if-count-gt0.false) in
     let ran : Ran does before (take 0 bytes) led =
     subst (λ (n : ℕ). Ran does before (take n bytes) led) zero c.in_ok-count-2.ensures.read.ran in
-    read_behind does before led now bytes _ ran c.process_one.ensures.read
+    read_behind does before led now bytes _ ran c.process_rest.ensures.read
 
 pub returns-in-Ok-clause-last : goal.returns-in-Ok-clause-last
 returns-in-Ok-clause-last g c = inr (omega arith, λ s stands. refl)
@@ -56,9 +56,9 @@ returns-clause-last g c =
     let before = parsing c.args.scanner.now c.args.screen.now c.args.callbacks.now in
     let led = parsing c.process_sequence.new.scanner c.process_sequence.new.screen c.process_sequence.new.callbacks in
     let zero : c.in_ok-count-2.count ≡ 0 = omega (arith, c.if-count-gt0.false) in
-    map_some (λ k. CallsByLast led.callbacks led.scanner c.args.bytes.now k c.process_one.new.callbacks)
-    (λ k. CallsByLast before.callbacks before.scanner c.args.bytes.now k c.process_one.new.callbacks)
-    c.process_one.result
-    (λ k. later_by_last g.CB.Callbacks.does before led c.process_one.new.callbacks c.args.bytes.now
+    map_some (λ k. CallsByLast led.callbacks led.scanner c.args.bytes.now k c.process_rest.new.callbacks)
+    (λ k. CallsByLast before.callbacks before.scanner c.args.bytes.now k c.process_rest.new.callbacks)
+    c.process_rest.result
+    (λ k. later_by_last g.CB.Callbacks.does before led c.process_rest.new.callbacks c.args.bytes.now
     c.in_ok-count-2.count k zero c.in_ok-count-2.ensures.read.ran c.in_ok-count-2.ensures.last)
-    c.process_one.ensures.last
+    c.process_rest.ensures.last
