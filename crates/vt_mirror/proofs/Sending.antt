@@ -25,12 +25,12 @@ ruleset crossing = (sendable, heap.crosses, maps.crosses, over.crosses)
 
 display_send : IsSend display_row
 display_send =
-    let all : AllSend (fields display.the_type) = (search crossing depth 20, (screen.the_send, tt)) in
+    let all : AllSend (fields display.the_type) = (search crossing depth 20, (screen.the_send, (search crossing depth 20, tt))) in
     view_send _ _ _ _ _ (recorded_send _ _ _ (display.the_type).to_one (struct_send (shape display.the_type) all))
 
 display_sync : IsSync display_row
 display_sync =
-    let all : AllSync (fields display.the_type) = (search crossing depth 20, (screen.the_sync, tt)) in
+    let all : AllSync (fields display.the_type) = (search crossing depth 20, (screen.the_sync, (search crossing depth 20, tt))) in
     view_sync _ _ _ _ _ (recorded_sync _ _ _ (display.the_type).to_one (struct_sync (shape display.the_type) all))
 
 shared_send : IsSend shared_row

@@ -1,9 +1,11 @@
 //! Copies of a screen that viewers share.
 
-ghost use Rattle.std.specs.Prelude.{◌≡◌, ◌↔◌, IfOk, IfSome, true};
+ghost use Rattle.std.specs.Prelude.{◌≡◌, ◌↔◌, IfOk, IfSome, IsTrue, true};
 ghost use Rattle.vt_cells.specs.Refusals.{OnlyOutOfMemory};
 ghost use Rattle.vt_mirror.specs.Alike.{ShowsAlike};
 ghost use Rattle.vt_mirror.specs.Kept.{AreOfOneVersion, have_one_version};
+ghost use Rattle.vt_redraw.specs.Steady.{IsSteady};
+ghost use Rattle.vt_screen.specs.Shown.{shown};
 
 use std::alloc::Global;
 use std::marker::Model;
@@ -18,17 +20,22 @@ use vt100::{Error, Screen};
 pub(crate) struct DisplayCopy {
     of: Snapshot<Screen>,
     copy: Screen,
+    is_steady: bool,
 }
 
 impl Model for DisplayCopy {
+    ghost use Rattle.std.specs.Prelude.{◌↔◌, IsTrue};
     ghost use Rattle.vt_mirror.specs.Alike.{ShowsAlike};
+    ghost use Rattle.vt_redraw.specs.Steady.{IsSteady};
     ghost use Rattle.vt_screen.specs.Screen.{ScreenValue};
+    ghost use Rattle.vt_screen.specs.Shown.{shown};
 
     ghost Value = { ScreenValue };
 
     ghost view = { λ c. c.of.value };
 
-    ghost invariant = { λ c. ShowsAlike c.of.value c.copy };
+    ghost invariant = { λ c.
+        ShowsAlike c.of.value c.copy × (IsTrue c.is_steady ↔ IsSteady (shown c.of.value)) };
 }
 
 impl DisplayCopy {
@@ -42,8 +49,13 @@ impl DisplayCopy {
         ensures memory { OnlyOutOfMemory result }
     {
         let copy = screen.shown_copy()?;
+        let is_steady = screen.is_steady();
         let of = Snapshot::of(screen);
-        Ok(DisplayCopy { of, copy })
+        Ok(DisplayCopy {
+            of,
+            copy,
+            is_steady,
+        })
     }
 
     /// Returns a screen that displays the same as the screen that was copied.
@@ -51,6 +63,13 @@ impl DisplayCopy {
         ensures { ShowsAlike self.now result.now }
     {
         &self.copy
+    }
+
+    /// Returns whether the screen is steady. The test was made when it was copied.
+    fn is_steady(&self) -> bool
+        ensures { IsTrue result ↔ IsSteady (shown self.now) }
+    {
+        self.is_steady
     }
 }
 
@@ -102,6 +121,13 @@ impl SharedCopy {
         ensures { ShowsAlike self.now result.now }
     {
         self.shared.screen()
+    }
+
+    /// Returns whether the screen is steady, without reading its cells.
+    pub(crate) fn is_steady(&self) -> bool
+        ensures { IsTrue result ↔ IsSteady (shown self.now) }
+    {
+        self.shared.is_steady()
     }
 
     /// Returns whether the copy has other holders.

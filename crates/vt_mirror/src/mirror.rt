@@ -275,7 +275,7 @@ impl Mirror {
         let screen = self.parser.screen();
         // Only for the proof: the contract of `size` says that every screen is valid.
         screen.size();
-        let Some(prev) = self.viewers.noted(viewer) else {
+        let Some(noted) = self.viewers.noted(viewer) else {
             return self.full();
         };
         if self.viewers.is_current(viewer) {
@@ -286,6 +286,7 @@ impl Mirror {
             let copy = String::from_str(self.alloc, kept)?;
             return Ok(Update::Diff(copy));
         }
+        let prev = noted.screen();
         let text = screen.contents_diff(prev)?;
         self.viewers.keep_diff(viewer, text.as_str(), self.alloc);
         Ok(Update::Diff(text))
@@ -309,10 +310,10 @@ impl Mirror {
         let screen = self.parser.screen();
         // Only for the proof: the contract of `size` says that every screen is valid.
         screen.size();
-        let Some(prev) = self.viewers.noted(viewer) else {
+        let Some(noted) = self.viewers.noted(viewer) else {
             return self.full();
         };
-        if !prev.is_steady() {
+        if !noted.is_steady() {
             return self.full();
         }
         if self.viewers.is_current(viewer) {
@@ -323,6 +324,7 @@ impl Mirror {
             let copy = String::from_str(self.alloc, kept)?;
             return Ok(Update::Diff(copy));
         }
+        let prev = noted.screen();
         let text = screen.contents_diff_scrolling(prev)?;
         self.viewers
             .keep_scrolling(viewer, text.as_str(), self.alloc);

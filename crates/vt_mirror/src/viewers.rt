@@ -2,7 +2,6 @@
 
 ghost use Rattle.std.specs.Prelude.{◌≡◌, ◌≢◌, ◌⊎◌, IfNone, IfOk, IfSome, IsTrue, None, OnErr, OnOk, Some, [], false, option_copied, true, ℕ};
 ghost use Rattle.vt_cells.specs.Refusals.{OnlyOutOfMemory};
-ghost use Rattle.vt_mirror.specs.Alike.{ShowsAlike};
 ghost use Rattle.vt_mirror.specs.Calls.{JoinsMirror, Leaves, greatest};
 ghost use Rattle.vt_mirror.specs.Kept.{HasVersion, HaveNext, IsCurrentNote, IsRenewed};
 ghost use Rattle.vt_mirror.specs.Viewers.{Puts, PutsAmong, is_among, is_viewer, next_number, note_of};
@@ -134,15 +133,13 @@ impl Viewers {
         self.numbers.contains(&viewer)
     }
 
-    /// Returns a screen that displays the same as the one recorded for a
-    /// viewer.
-    pub(crate) fn noted(&self, viewer: u64) -> Option<&Screen>
-        ensures some { IfSome result (λ copy. (screen : ScreenValue)
-            × (note_of self.now.viewers viewer ≡ Some screen) × ShowsAlike screen copy.now) }
+    /// Returns the copy of the screen noted for a viewer.
+    pub(crate) fn noted(&self, viewer: u64) -> Option<&SharedCopy>
+        ensures some { IfSome result (λ copy. note_of self.now.viewers viewer ≡ Some copy.now) }
         ensures none { IfNone result (note_of self.now.viewers viewer ≡ None) }
     {
         match self.notes.get(&viewer) {
-            Some(note) => Some(note.screen.screen()),
+            Some(note) => Some(&note.screen),
             None => None,
         }
     }

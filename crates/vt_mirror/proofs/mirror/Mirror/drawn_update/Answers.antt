@@ -9,9 +9,8 @@ use Rattle.vt_mirror.proofs.mirror.Mirror.drawn_update.Goals as goal
 
 pub contents_diff-requires : goal.contents_diff-requires
 contents_diff-requires c =
-    let it = c.in-Some.ensures.some in
-    copy_size c.self.inside.parser.screen c.screen-screen.result.now it.0 c.in-Some.prev.now
-    c.screen-screen.ensures.value it.2 (c.self.invariant.sized c.args.viewer it.0 it.1)
+    copy_size c.self.inside.parser.screen c.screen-screen.result.now c.in-Some.noted.now c.screen-prev.result.now
+    c.screen-screen.ensures.value c.screen-prev.ensures (c.self.invariant.sized c.args.viewer c.in-Some.noted.now c.in-Some.ensures.some)
 
 -- A viewer that is up to date gets an empty difference.
 pub returns-then-is_current-clause-ok : goal.returns-then-is_current-clause-ok
@@ -27,25 +26,23 @@ returns-then-is_current-clause-ok c =
 
 pub returns-clause-ok : goal.returns-clause-ok
 returns-clause-ok c =
-    let it = c.in-Some.ensures.some in
     let e = c.in_ok-text.ensures in
-    diff_update Drawn _ _ c.args.viewer it.0 c.in_ok-text.text c.self.view_is it.1
-    (drawn_from c.self.inside.parser.screen c.screen-screen.result.now it.0 c.in-Some.prev.now
-    (string_bytes c.in_ok-text.text) c.screen-screen.ensures.value it.2
-    (c.self.invariant.sized c.args.viewer it.0 it.1) e.text e.redraws e.empty e.none e.touches e.controls e.again)
+    diff_update Drawn _ _ c.args.viewer c.in-Some.noted.now c.in_ok-text.text c.self.view_is c.in-Some.ensures.some
+    (drawn_from c.self.inside.parser.screen c.screen-screen.result.now c.in-Some.noted.now c.screen-prev.result.now
+    (string_bytes c.in_ok-text.text) c.screen-screen.ensures.value c.screen-prev.ensures
+    (c.self.invariant.sized c.args.viewer c.in-Some.noted.now c.in-Some.ensures.some) e.text e.redraws e.empty e.none e.touches e.controls e.again)
 
 pub invariant_of-self : goal.invariant_of-self
 invariant_of-self c =
     let screen = c.self.inside.parser.screen in
-    let it = c.in-Some.ensures.some in
     let e = c.in_ok-text.ensures in
-    let is : IsDrawn screen it.0 (string_bytes c.in_ok-text.text) =
-    drawn_from screen c.screen-screen.result.now it.0 c.in-Some.prev.now
-    (string_bytes c.in_ok-text.text) c.screen-screen.ensures.value it.2
-    (c.self.invariant.sized c.args.viewer it.0 it.1) e.text e.redraws e.empty e.none e.touches e.controls e.again in
+    let is : IsDrawn screen c.in-Some.noted.now (string_bytes c.in_ok-text.text) =
+    drawn_from screen c.screen-screen.result.now c.in-Some.noted.now c.screen-prev.result.now
+    (string_bytes c.in_ok-text.text) c.screen-screen.ensures.value c.screen-prev.ensures
+    (c.self.invariant.sized c.args.viewer c.in-Some.noted.now c.in-Some.ensures.some) e.text e.redraws e.empty e.none e.touches e.controls e.again in
     sharing_drawn c.self.inside.parser c.self.inside.viewers c.keep_diff.new.self c.args.viewer c.as_str.result.now
     c.keep_diff.ensures.rest c.keep_diff.ensures.diff
     (of_noted (λ (s : ScreenValue). IsDrawn screen s c.as_str.result.now)
-    (note_of c.self.inside.viewers.viewers c.args.viewer) it.0 it.1
-    (subst (λ (t : List ℕ). IsDrawn screen it.0 t) (sym c.as_str.ensures.value) is))
+    (note_of c.self.inside.viewers.viewers c.args.viewer) c.in-Some.noted.now c.in-Some.ensures.some
+    (subst (λ (t : List ℕ). IsDrawn screen c.in-Some.noted.now t) (sym c.as_str.ensures.value) is))
     c.self.invariant
