@@ -17,69 +17,72 @@
  *     vt100_free(&parser);
  *
  * DESCRIPTION
- *     Reads what a program writes to its terminal, keeps the screen that a person would see, and
- *     writes it as text: whole, as a redraw for another terminal, or as what has changed. Rows and
- *     columns count from 0. The library is proved: no call stops the program, or touches memory
- *     that it was not given, if the duties below are kept.
+ *     A headless terminal emulator. It parses what a program writes to its terminal, maintains the
+ *     screen that a person would see, and returns it as text, as a redraw for another terminal, or
+ *     as the difference from an earlier screen. Rows and columns are 0-based. The library is
+ *     formally verified: if the caller follows the rules below, no call aborts the program or
+ *     accesses memory that it was not given.
  *
  * HANDLES
- *     An object of the library stands behind a handle, one word of the caller's. A handle begins as
- *     VT100_EMPTY. A call that makes an object wants an empty handle and fills it; vt100_free gives
- *     the object back and empties the handle. The library owns the object; the caller owns the
- *     handle, may move it, and leaves `at` alone. A handle is not copied: of two copies only one is
- *     ever used again. What a handle holds is one of four kinds:
+ *     The caller refers to an object of the library by a handle, which is one machine word.
+ *     Initialize a handle with VT100_EMPTY. A function that creates an object requires an empty
+ *     handle and stores the object in it; vt100_free frees the object and empties the handle. The
+ *     library owns the object. The caller owns the handle and may move it, but must not change
+ *     `at`. If a handle is copied, only one of the copies may be used from then on. A handle holds
+ *     one of four kinds of objects:
  *
- *         VT100_PARSER   reads bytes into its screen, and keeps events
- *         VT100_SCREEN   a saved screen, which reads nothing
- *         VT100_MIRROR   reads bytes, and writes updates for its viewers
- *         VT100_CAPTURE  where a capture of rows stands
+ *         VT100_PARSER   parses bytes, maintains a screen, and logs events
+ *         VT100_SCREEN   a saved screen, which parses nothing
+ *         VT100_MIRROR   parses bytes, and generates updates for viewers
+ *         VT100_CAPTURE  the state of a capture of rows
  *
  * THREADS
- *     A handle may be given to another thread. One call at a time uses a handle, reading calls too.
- *     Calls with other handles may run beside it; nothing is shared between them.
+ *     A handle may be passed to another thread. Only one call at a time may use a handle, even if
+ *     the call only reads. Calls with different handles may run in parallel; handles share nothing.
  *
- *     Calls take and give back memory by malloc and free. So none may be made in a signal handler,
- *     nor, in the child of a process that had several threads, between fork and exec.
+ *     The library allocates with malloc and free. Therefore, no function may be called in a signal
+ *     handler, nor between fork and exec in the child of a multithreaded process.
  *
  * MEMORY AND TEXTS
- *     Pointers are lent for one call; nothing that a caller passes is kept, and no pointer into the
- *     library is handed out. A text is made by one call, which says how many bytes it has and keeps
- *     it with the handle, and is fetched by vt100_copy. It is UTF-8 without a byte 0 at its end. It
- *     stands until the next call that makes a text with this handle.
+ *     The library uses a pointer only during the call it is passed to, and never returns a pointer
+ *     to its own objects. A function that generates a text stores the text in the handle and
+ *     reports its length; vt100_copy copies it out. The text is UTF-8 without a terminating null
+ *     byte. It stays in the handle until the next call that generates a text with this handle.
  *
- *     Bytes and room are a pointer and a length; the pointer may be null where the length is 0, and
- *     else leads to so many. A handle and a pointer to a result are never null, and lead to an
- *     object of their type. What the pointers of one call lead to does not overlap; the same handle
- *     twice is answered by a status.
+ *     Buffers are passed as a pointer and a length. The pointer may be null if the length is 0;
+ *     otherwise it must point to at least that many elements. Pointers to handles and to results
+ *     must not be null and must point to an object of their type. The memory areas passed to one
+ *     call must not overlap, except that passing the same handle twice returns a status.
  *
  * REDRAWS
- *     What is said below of terminals that read redraws and differences is proved for plain
- *     terminals and steady screens. A terminal is plain where its scroll region is the whole page,
- *     origin mode is off, no scrollback is in view and no sequence is unfinished, as every fresh
- *     one is. A screen is steady where U+FE0F has not changed how wide a character is.
+ *     The statements below about terminals that read redraws and differences are proved for plain
+ *     terminals and steady screens. A terminal is plain if its scroll region is the whole page,
+ *     origin mode is off, no scrollback is displayed and no sequence is unfinished, as in every new
+ *     terminal. A screen is steady if every visible glyph reproduces itself when it is printed;
+ *     only glyphs with U+FE0F may not.
  *
  * THE ALTERNATE SCREEN
- *     It has no scrollback: while it is shown, none is in view, none is counted, and calls that
- *     bring it into view or drop it do nothing.
+ *     The alternate screen has no scrollback. While it is active, no scrollback is displayed or
+ *     counted, and functions that display or discard scrollback do nothing.
  *
  * VERSIONS
- *     VT100_VERSION_MAJOR and VT100_VERSION_MINOR number this interface. A change that breaks
- *     compiled programs raises MAJOR, which the shared object's name has, libvt100.so.MAJOR; an
- *     addition raises MINOR. vt100_version says which interface the library has that a program runs
- *     with. VT100_CRATE_VERSION is the version of the Rust crate vt100 whose behavior the library
- *     has.
+ *     VT100_VERSION_MAJOR and VT100_VERSION_MINOR are the version of this interface. MAJOR is
+ *     increased by changes that break compiled programs and is part of the name of the shared
+ *     object, libvt100.so.MAJOR. MINOR is increased by additions. vt100_version returns the version
+ *     of the library that a program runs with. VT100_CRATE_VERSION is the version of the Rust crate
+ *     vt100 whose behavior the library has.
  *
  * RUNNING A PROGRAM
- *     The code is for Linux with glibc, on processors of level x86-64-v2 (SSE4.2 and POPCNT, which
- *     they have since about 2009); others end the program by SIGILL. A program that was linked to
- *     libvt100.a needs no file of this library. One that was linked to libvt100.so needs
- *     libvt100.so.MAJOR where the dynamic linker looks: in the system's folders, in those that
- *     LD_LIBRARY_PATH names, or in one that was named at the link (-Wl,-rpath,FOLDER).
+ *     The library runs on Linux with glibc, on processors of level x86-64-v2 (SSE4.2 and POPCNT,
+ *     available since about 2009); on older processors, programs end with SIGILL. A program linked
+ *     to libvt100.a needs no other files of this library. A program linked to libvt100.so needs
+ *     libvt100.so.MAJOR where the dynamic linker finds it: in a system directory, in a directory in
+ *     LD_LIBRARY_PATH, or in one that was specified when linking (-Wl,-rpath,DIRECTORY).
  *
  * RETURN VALUE
- *     Most calls answer a status. Where it is not VT100_OK, nothing is written to the results and
- *     nothing has changed, except where a call says what has. Where several statuses fit, it is one
- *     of them.
+ *     Most functions return a status. If it is not VT100_OK, no results are stored and nothing has
+ *     changed, unless the description of the function says otherwise. If several statuses apply,
+ *     one of them is returned.
  */
 #ifndef VT100_H
 #define VT100_H
@@ -99,7 +102,7 @@ extern "C" {
 
 /* ---- handles and statuses */
 
-/* One word; null means that it holds nothing. Begin with VT100_EMPTY. */
+/* One machine word; null means that the handle is empty. Initialize with VT100_EMPTY. */
 typedef struct vt100_handle {
     void *at;
 } vt100_handle;
@@ -110,23 +113,23 @@ typedef struct vt100_handle {
 #define VT100_EMPTY {0}
 #endif
 
-/* One of the following. */
+/* The result of a call: one of the constants below. */
 typedef uint8_t vt100_status;
 
 enum {
-    VT100_OK = 0,            /* done */
-    VT100_OUT_OF_MEMORY = 1, /* memory was refused */
-    VT100_FAILED = 2,        /* a parser or mirror ran out of memory before, and reads no more */
-    VT100_BAD_ARGUMENT = 3,  /* no rows, no columns, no such row, column, cell, event, viewer or
-                                place in a text; too little room; the same handle twice */
-    VT100_WRONG_KIND = 4,    /* the handle holds something of a kind that the call isn't for */
-    VT100_OTHER_SIZE = 5,    /* two screens of different sizes */
+    VT100_OK = 0,            /* success */
+    VT100_OUT_OF_MEMORY = 1, /* an allocation failed */
+    VT100_FAILED = 2,        /* the parser or mirror ran out of memory before and reads nothing */
+    VT100_BAD_ARGUMENT = 3,  /* zero rows or columns; no such row, column, cell, event, viewer or
+                                position in a text; not enough room; the same handle twice */
+    VT100_WRONG_KIND = 4,    /* the handle holds an object of the wrong kind */
+    VT100_OTHER_SIZE = 5,    /* the screens have different sizes */
     VT100_NO_OBJECT = 6,     /* the handle is empty */
-    VT100_IN_USE = 7,        /* the handle that is to be filled isn't empty */
-    VT100_NO_NUMBER = 8      /* a mirror has no number left for a viewer */
+    VT100_IN_USE = 7,        /* the handle to fill is not empty */
+    VT100_NO_NUMBER = 8      /* the mirror has no viewer number left */
 };
 
-/* What a handle holds, as vt100_kind answers it. */
+/* The kind of object in a handle, as returned by vt100_kind. */
 enum {
     VT100_NONE = 0,
     VT100_PARSER = 1,
@@ -135,7 +138,7 @@ enum {
     VT100_CAPTURE = 4
 };
 
-/* Kinds of events (EVENTS below). */
+/* Kinds of events (see EVENTS below). */
 enum {
     VT100_EVENT_AUDIBLE_BELL = 0,
     VT100_EVENT_VISUAL_BELL = 1,
@@ -152,18 +155,18 @@ enum {
     VT100_EVENT_ON_SCROLL = 12
 };
 
-/* The bit of `wanted` for a kind of events, and all of them. */
+/* The bit of `wanted` that requests one kind of event, and the bits of all kinds. */
 #define VT100_WANTS(kind) (1u << (kind))
 #define VT100_WANTS_ALL 0x1fffu
 
-/* ---- what is shown */
+/* ---- the display */
 
-/* Kind 0: the default colour; 1: one of the palette, its number in red; 2: red, green and blue. */
+/* kind 0: the default color; 1: a palette color, with its index in red; 2: red, green and blue. */
 typedef struct vt100_color {
     uint8_t kind, red, green, blue;
 } vt100_color;
 
-/* Bits of `flags`. The last two are of cells alone: a wide character, and the cell behind it. */
+/* Bits of `flags`. The last two occur only in cells: a wide character and its continuation cell. */
 enum {
     VT100_BOLD = 1,
     VT100_DIM = 2,
@@ -174,22 +177,22 @@ enum {
     VT100_WIDE_CONTINUATION = 64
 };
 
-/* A cell: 40 bytes, no padding. */
+/* A cell: 40 bytes, without padding. */
 typedef struct vt100_cell {
-    uint8_t text[30]; /* UTF-8, the first len bytes; the others are 0 */
-    uint8_t len;      /* 0 to 29; 0: nothing was written, or what is behind a wide character */
+    uint8_t text[30]; /* UTF-8 in the first len bytes; the others are 0 */
+    uint8_t len;      /* 0 to 29; 0 for a cell without text and for a continuation cell */
     uint8_t flags;
     vt100_color fgcolor, bgcolor;
 } vt100_cell;
 
 /*
- * What a screen is but for its cells: 56 bytes. What is in the 4 bytes of padding before
- * `scrollback` is not said, so compare members, not memory.
+ * The properties of a screen other than its cells: 56 bytes. The 4 bytes of padding before
+ * `scrollback` are unspecified, so compare the members rather than the memory.
  */
 typedef struct vt100_state {
     uint16_t rows, cols;
-    uint16_t cursor_row, cursor_col;   /* a column that is cols: behind the last one */
-    uint8_t alternate_screen;          /* this and the next four: 0 or 1 */
+    uint16_t cursor_row, cursor_col;   /* cursor_col is cols if a wrap is pending */
+    uint8_t alternate_screen;          /* this and the next four are 0 or 1 */
     uint8_t application_keypad;
     uint8_t application_cursor;
     uint8_t hide_cursor;
@@ -200,89 +203,94 @@ typedef struct vt100_state {
     uint8_t cursor_style;              /* 0 default, 1 blinking block, 2 steady block, 3 blinking
                                           underline, 4 steady underline, 5 blinking bar, 6 steady
                                           bar */
-    uint8_t flags;                     /* VT100_BOLD to VT100_INVERSE: what the next character is
-                                          drawn with */
+    uint8_t flags;                     /* VT100_BOLD to VT100_INVERSE: attributes of the next
+                                          character */
     uint8_t reserved[3];               /* 0 */
-    vt100_color fgcolor, bgcolor;      /* what the next character is drawn with */
-    size_t scrollback;                 /* by how many rows it is scrolled back */
-    size_t scrollback_len;             /* how many are kept */
-    size_t scrollback_capacity;        /* how many are kept at most */
+    vt100_color fgcolor, bgcolor;      /* colors of the next character */
+    size_t scrollback;                 /* rows by which the display is scrolled back */
+    size_t scrollback_len;             /* scrollback rows */
+    size_t scrollback_capacity;        /* maximum number of scrollback rows */
 } vt100_state;
 
-/* ---- making and freeing */
+/* ---- creating and freeing objects */
 
 /*
- * Makes a parser with a fresh screen. Bit k of `wanted` says whether events of kind k are kept
- * (EVENTS below); 0 keeps none, which is fastest. VT100_ROWS_WITHOUT_TEXT beside bit 12 leaves the
- * plain text out of the records of rows, for callers that read rows by vt100_capture_row alone.
- * Fills `out`. VT100_IN_USE: it isn't empty. VT100_BAD_ARGUMENT: rows or cols is 0.
- * VT100_OUT_OF_MEMORY.
+ * Creates a parser with a blank screen and stores it in `out`. Bit k of `wanted` requests that
+ * events of kind k be logged (see EVENTS below); 0 logs no events, which is fastest. The additional
+ * bit VT100_ROWS_WITHOUT_TEXT omits the plain text from the records of rows, for callers that only
+ * read rows with vt100_capture_row.
+ * VT100_IN_USE: `out` is not empty. VT100_BAD_ARGUMENT: rows or cols is 0. VT100_OUT_OF_MEMORY.
  */
 vt100_status vt100_parser_new(uint16_t rows, uint16_t cols, size_t scrollback_capacity,
                               uint16_t wanted, vt100_handle *out);
 
-/* Makes a mirror with a fresh screen and no viewers. Statuses: as vt100_parser_new. */
+/* Creates a mirror with a blank screen and no viewers. Statuses: as for vt100_parser_new. */
 vt100_status vt100_mirror_new(uint16_t rows, uint16_t cols, size_t scrollback_capacity,
                               vt100_handle *out);
 
-/* Makes a capture that nothing was written to. VT100_IN_USE, VT100_OUT_OF_MEMORY. */
+/* Creates an empty capture. VT100_IN_USE, VT100_OUT_OF_MEMORY. */
 vt100_status vt100_capture_new(vt100_handle *out);
 
 /*
- * Fills `out` with a copy: of a parser's or a saved screen the screen, with both pages and
- * scrollback, as a saved screen; of a capture where it stands, with no text.
- * VT100_NO_OBJECT. VT100_WRONG_KIND: a mirror. VT100_IN_USE: out isn't empty, nor is it if it is
- * the same handle. VT100_OUT_OF_MEMORY.
+ * Stores a copy in `out`. From a parser or a saved screen, this is a saved screen with both pages
+ * and the scrollback. From a capture, it is a capture in the same state, without text.
+ * VT100_NO_OBJECT. VT100_WRONG_KIND: the handle holds a mirror. VT100_IN_USE: `out` is not empty,
+ * or is the same handle. VT100_OUT_OF_MEMORY.
  */
 vt100_status vt100_save(vt100_handle *handle, vt100_handle *out);
 
 /*
- * Fills `out` with a saved screen that displays what a parser's or a saved screen displays, and has
- * its size, but neither scrollback nor the page that is not displayed: it serves as `prev` of
- * differences in less memory than vt100_save takes. While scrollback is in view it is a whole copy.
- * VT100_NO_OBJECT, VT100_WRONG_KIND. VT100_IN_USE: out isn't empty, nor is it if it is the same
- * handle. VT100_OUT_OF_MEMORY.
+ * Stores in `out` a saved screen that displays the same content as a parser or a saved screen and
+ * has the same size. The copy has neither the scrollback nor the inactive page, so that it takes
+ * less memory than one made by vt100_save. It can serve as `prev` of differences. While scrollback
+ * is displayed, the copy is complete.
+ * VT100_NO_OBJECT, VT100_WRONG_KIND. VT100_IN_USE: `out` is not empty, or is the same handle.
+ * VT100_OUT_OF_MEMORY.
  */
 vt100_status vt100_shown_copy(vt100_handle *handle, vt100_handle *out);
 
 /*
- * Exchanges the screens of two handles, each a parser's or a saved one. Events, and what a parser
- * has read of a sequence, stay where they are. Takes no memory.
- * VT100_NO_OBJECT, VT100_WRONG_KIND, VT100_BAD_ARGUMENT: the same handle twice.
+ * Swaps the screens of two handles that each hold a parser or a saved screen. A parser keeps its
+ * events and its unfinished sequence. This never allocates.
+ * VT100_NO_OBJECT, VT100_WRONG_KIND. VT100_BAD_ARGUMENT: both are the same handle.
  */
 vt100_status vt100_swap(vt100_handle *handle, vt100_handle *other);
 
-/* Gives back what the handle holds, and empties it. An empty one stays empty. */
+/* Frees the object in the handle and empties the handle. Does nothing if it is empty. */
 void vt100_free(vt100_handle *handle);
 
-/* What the handle holds: VT100_NONE to VT100_CAPTURE. */
+/* Returns the kind of object in the handle: VT100_NONE to VT100_CAPTURE. */
 uint8_t vt100_kind(vt100_handle *handle);
 
-/* ---- reading: a parser or a mirror */
+/* ---- input: for a parser or a mirror */
 
 /*
- * Reads bytes, in any pieces: a sequence or a character may go on in the next call.
+ * Parses bytes and applies them to the screen. Input may be split anywhere: an incomplete character
+ * or sequence continues with the next call.
  * VT100_NO_OBJECT, VT100_WRONG_KIND.
- * VT100_OUT_OF_MEMORY: all before the step that was refused was done, and that step did nothing.
- * From then on each call answers VT100_FAILED and reads nothing; all others serve as before.
+ * VT100_OUT_OF_MEMORY: everything before the step whose allocation failed has taken effect, and
+ * that step has not. From then on, vt100_process and vt100_process_until return VT100_FAILED and
+ * read nothing; other functions work as before.
  */
 vt100_status vt100_process(vt100_handle *handle, const uint8_t *bytes, size_t len);
 
 /*
- * Reads up to and including the first byte that left or lost an event; `*used` is the number of
- * bytes read. Call it until all bytes are read. It reads on over rows that are recorded without
- * text, until those of this call take 64 KiB or the log reaches its limit. If the status is not
- * VT100_OK, `*used` counts the bytes before the one whose allocation failed. A parser alone.
- * Statuses: as vt100_process, but VT100_OK for no bytes.
+ * Parses bytes up to and including the first byte that logs or loses an event, and stores the
+ * number of bytes read in `*used`. Call it until all bytes are read. Rows that are logged without
+ * text don't stop it until those of this call take 64 KiB or the log reaches its limit. If the
+ * status is not VT100_OK, `*used` is the number of bytes before the one whose allocation failed.
+ * Only for a parser.
+ * Statuses: as for vt100_process, but VT100_OK if there are no bytes.
  */
 vt100_status vt100_process_until(vt100_handle *handle, const uint8_t *bytes, size_t len,
                                  size_t *used);
 
 /*
- * How many bytes of an unfinished operating system command (OSC, as titles are set by) a parser
- * holds: those after ESC ] that were read, without control characters; 0 where none is unfinished.
- * A command has no limit but memory. To end one at a limit, pass CAN (24) to vt100_process: what
- * was read of it is dispatched. A parser alone.
+ * Stores the number of bytes that a parser holds of an unfinished operating system command (OSC,
+ * which also sets titles): the bytes read after ESC ], not counting control characters. 0 if no
+ * command is unfinished. Only memory limits the length of a command. To end one at a limit of your
+ * own, pass CAN (byte 24) to vt100_process, which dispatches the part that was read. Only for a
+ * parser.
  * VT100_NO_OBJECT, VT100_WRONG_KIND.
  */
 vt100_status vt100_pending_len(vt100_handle *handle, size_t *len);
@@ -290,294 +298,326 @@ vt100_status vt100_pending_len(vt100_handle *handle, size_t *len);
 /* ---- sizes and scrollback */
 
 /*
- * Another size. Of a parser, rows that leave and are not kept are events; of a saved screen and a
- * mirror none.
- * VT100_NO_OBJECT. VT100_WRONG_KIND: a capture. VT100_BAD_ARGUMENT: rows or cols is 0.
- * VT100_OUT_OF_MEMORY.
+ * Resizes the terminal. A parser logs events for rows that scroll off and are not kept; a saved
+ * screen and a mirror log none.
+ * VT100_NO_OBJECT. VT100_WRONG_KIND: the handle holds a capture. VT100_BAD_ARGUMENT: rows or cols
+ * is 0. VT100_OUT_OF_MEMORY.
  */
 vt100_status vt100_set_size(vt100_handle *handle, uint16_t rows, uint16_t cols);
 
-/* The same for a parser or a saved screen, telling nobody. VT100_WRONG_KIND: a mirror too. */
+/*
+ * Resizes the screen of a parser or a saved screen without logging events. Statuses: as for
+ * vt100_set_size, and VT100_WRONG_KIND also for a mirror.
+ */
 vt100_status vt100_screen_set_size(vt100_handle *handle, uint16_t rows, uint16_t cols);
 
 /*
- * Scrolls back by so many rows, at most as many as are kept; 0 is the page itself. Cells and texts
- * are of what is in view then, but captures of all rows and the cursor of the page. A parser or a
- * saved screen.
+ * Sets the number of rows by which the display is scrolled back, at most the number of scrollback
+ * rows; 0 displays the page itself. Cells and texts are those of the displayed rows, but captures
+ * still include all rows, and the cursor is still that of the page. For a parser or a saved screen.
  * VT100_NO_OBJECT, VT100_WRONG_KIND, VT100_OUT_OF_MEMORY.
  */
 vt100_status vt100_set_scrollback(vt100_handle *handle, size_t rows);
 
 /*
- * Drops scrollback, telling nobody. A parser or a saved screen.
+ * Discards the scrollback without logging events. For a parser or a saved screen.
  * VT100_NO_OBJECT, VT100_WRONG_KIND.
  */
 vt100_status vt100_clear_scrollback(vt100_handle *handle);
 
-/* ---- what is shown: a parser or a saved screen */
+/* ---- the display: for a parser or a saved screen */
 
-/* All but the cells. VT100_NO_OBJECT, VT100_WRONG_KIND. */
+/* Stores the properties of the screen other than its cells. VT100_NO_OBJECT, VT100_WRONG_KIND. */
 vt100_status vt100_get_state(vt100_handle *handle, vt100_state *out);
 
 /*
- * The cell at a place. A row of scrollback may have more cells than the screen has columns.
+ * Stores the displayed cell at a row and column. A scrollback row may have more cells than the
+ * screen has columns.
  * VT100_NO_OBJECT, VT100_WRONG_KIND. VT100_BAD_ARGUMENT: there is no such cell.
  */
 vt100_status vt100_get_cell(vt100_handle *handle, uint16_t row, uint16_t col, vt100_cell *out);
 
 /*
- * The cells of a row that is shown, as many as the screen has columns; there is room for `room`.
- * VT100_NO_OBJECT, VT100_WRONG_KIND. VT100_BAD_ARGUMENT: there is no such row, or too little room.
+ * Stores the cells of a displayed row, one for each column of the screen. `room` is the number of
+ * cells that `out` has room for.
+ * VT100_NO_OBJECT, VT100_WRONG_KIND. VT100_BAD_ARGUMENT: there is no such row, or not enough room.
  */
 vt100_status vt100_get_cells(vt100_handle *handle, uint16_t row, vt100_cell *out, size_t room);
 
 /*
- * 1 if the text of a row goes on in the next one, else 0.
+ * Stores 1 if a displayed row is wrapped (its text continues on the next row), otherwise 0.
  * VT100_NO_OBJECT, VT100_WRONG_KIND. VT100_BAD_ARGUMENT: there is no such row.
  */
 vt100_status vt100_row_wrapped(vt100_handle *handle, uint16_t row, uint8_t *out);
 
 /*
- * 1 if the screen is steady: each glyph that is shown, printed on a blank row, is the same glyph
- * again, so that redraws and differences show this screen exactly. Else 0, which only U+FE0F brings
- * about.
+ * Stores 1 if the screen is steady, otherwise 0. On a steady screen, every displayed glyph
+ * reproduces itself when it is printed on a blank row, so that redraws and differences show the
+ * screen exactly. Only U+FE0F makes a screen unsteady.
  * VT100_NO_OBJECT, VT100_WRONG_KIND.
  */
 vt100_status vt100_is_steady(vt100_handle *handle, uint8_t *out);
 
-/* ---- texts: a parser or a saved screen
+/* ---- texts: for a parser or a saved screen
  *
- * Each keeps its text with the first handle, and `*len` is its length; vt100_copy fetches it.
- * VT100_NO_OBJECT, VT100_WRONG_KIND, VT100_OUT_OF_MEMORY: the text before stands.
+ * Each call stores its text in the first handle and the length of the text in `*len`; vt100_copy
+ * copies it out.
+ * VT100_NO_OBJECT, VT100_WRONG_KIND, VT100_OUT_OF_MEMORY: the previous text is unchanged.
  */
 
 /*
- * The plain text, a newline behind each row that does not go on, and before one that has no text;
- * none at the end.
+ * The plain text. A newline follows each row that is not wrapped, and precedes a row without text
+ * after a wrapped row. There are no newlines at the end.
  */
 vt100_status vt100_contents(vt100_handle *handle, size_t *len);
 
 /*
- * The plain text from one place up to before another. Over several rows start_col is at most the
- * columns, else VT100_BAD_ARGUMENT.
+ * The plain text from one position up to but excluding another. If the range has more than one row,
+ * start_col must not be greater than the number of columns, otherwise VT100_BAD_ARGUMENT.
  */
 vt100_status vt100_contents_between(vt100_handle *handle, uint16_t start_row, uint16_t start_col,
                                     uint16_t end_row, uint16_t end_col, size_t *len);
 
 /*
- * A redraw: any plain terminal of this size that reads it shows this screen (REDRAWS above).
+ * A redraw: the escape sequences that make any plain terminal of this size display this screen (see
+ * REDRAWS above).
  */
 vt100_status vt100_contents_formatted(vt100_handle *handle, size_t *len);
 
-/* A redraw for terminals of this size in any scroll region and origin mode. */
+/* A redraw for terminals of this size with any scroll region and origin mode. */
 vt100_status vt100_contents_formatted_reset(vt100_handle *handle, size_t *len);
 
-/* The text with its colours and attributes, and no sequences but those. */
+/* The text with its colors and attributes, and no other escape sequences. */
 vt100_status vt100_contents_formatted_basic(vt100_handle *handle, size_t *len);
 
-/* A redraw, and the input modes, for a terminal as vt100_input_mode_formatted wants one. */
+/*
+ * A redraw followed by the input modes, for a terminal as described for vt100_input_mode_formatted.
+ */
 vt100_status vt100_state_formatted(vt100_handle *handle, size_t *len);
 
 /*
- * The part of a redraw that sets the cursor, for a plain terminal that shows these rows and draws
- * with default attributes; it may print and erase on the way.
+ * The part of a redraw that sets the cursor, for a plain terminal that displays these rows and has
+ * default attributes. It may print and erase characters to do so.
  */
 vt100_status vt100_cursor_state_formatted(vt100_handle *handle, size_t *len);
 
-/* The part that sets what the next character is drawn with. */
+/* The part of a redraw that sets the attributes of the next character. */
 vt100_status vt100_attributes_formatted(vt100_handle *handle, size_t *len);
 
 /*
- * The input modes: keypad, cursor keys and bracketed paste, and the mouse and the cursor's style
- * where they are not the default ones, which a terminal has that reads this.
+ * The sequences that set the input modes. Keypad mode, cursor key mode and bracketed paste mode are
+ * always set. The mouse modes and the cursor style are set only if they are not the default, so the
+ * terminal must have the defaults.
  */
 vt100_status vt100_input_mode_formatted(vt100_handle *handle, size_t *len);
 
 /*
- * The difference from another screen: a plain terminal that shows `prev` shows this screen once it
- * has read it. VT100_BAD_ARGUMENT: the same handle twice. VT100_OTHER_SIZE.
+ * The difference from another screen: it makes a plain terminal that displays `prev` display this
+ * screen.
+ * VT100_BAD_ARGUMENT: both are the same handle. VT100_OTHER_SIZE.
  */
 vt100_status vt100_contents_diff(vt100_handle *handle, vt100_handle *prev, size_t *len);
 
-/* The same, never longer; rows may move first. */
+/*
+ * A difference that may move rows first and is never longer than that of vt100_contents_diff.
+ * Statuses: as for vt100_contents_diff.
+ */
 vt100_status vt100_contents_diff_scrolling(vt100_handle *handle, vt100_handle *prev, size_t *len);
 
-/* The difference of the contents, and of the input modes. VT100_BAD_ARGUMENT, VT100_OTHER_SIZE. */
+/*
+ * The difference of the contents, followed by that of the input modes. VT100_BAD_ARGUMENT,
+ * VT100_OTHER_SIZE.
+ */
 vt100_status vt100_state_diff(vt100_handle *handle, vt100_handle *prev, size_t *len);
 
-/* The difference of the input modes, also of screens of other sizes. VT100_BAD_ARGUMENT. */
+/* The difference of the input modes. The screens may have different sizes. VT100_BAD_ARGUMENT. */
 vt100_status vt100_input_mode_diff(vt100_handle *handle, vt100_handle *prev, size_t *len);
 
 /*
- * The plain texts of all rows that are shown, from column `start` on and `width` columns wide, one
- * behind the other: that of row k ends at ends[k] and begins where that of the row before ends.
- * There is room for `room` numbers. VT100_BAD_ARGUMENT: that is less than the rows.
+ * The concatenated plain texts of all displayed rows, each limited to `width` columns from column
+ * `start` on. The text of row k ends at ends[k] and begins where the previous one ends. `room` is
+ * the number of values that `ends` has room for.
+ * VT100_BAD_ARGUMENT: `room` is less than the number of rows.
  */
 vt100_status vt100_rows(vt100_handle *handle, uint16_t start, uint16_t width, size_t *ends,
                         size_t room, size_t *len);
 
 /*
- * The same with what draws each row on a blank one of a terminal, if default attributes are current
- * and the cursor is in it at column `start`, and no wide character lies on an end of the range.
- * That a row goes on is drawn with the one below. VT100_BAD_ARGUMENT: start is no column, too.
+ * As vt100_rows, with the output that draws each row on a blank row of a terminal. The terminal
+ * must have default attributes and its cursor in column `start` of that row, and neither end of the
+ * range may split a wide character. The wrapped flag of a row is drawn together with the row below.
+ * VT100_BAD_ARGUMENT: also if `start` is not a column of the screen.
  */
 vt100_status vt100_rows_formatted(vt100_handle *handle, uint16_t start, uint16_t width,
                                   size_t *ends, size_t room, size_t *len);
 
 /*
- * The same with what turns each row of `prev` into that of this screen, with the cursor and the
- * attributes as there. VT100_BAD_ARGUMENT: the same handle twice, too. VT100_OTHER_SIZE.
+ * As vt100_rows_formatted, with the output that turns each row of `prev` into that row of this
+ * screen.
+ * VT100_BAD_ARGUMENT: also if both are the same handle. VT100_OTHER_SIZE.
  */
 vt100_status vt100_rows_diff(vt100_handle *handle, vt100_handle *prev, uint16_t start,
                              uint16_t width, size_t *ends, size_t room, size_t *len);
 
 /*
- * Copies the text that was made last, as far as there is room, and answers how many bytes it
- * copied; 0 for an empty handle. Of any kind of handle; the text stays.
+ * Copies the handle's text, or as much of it as there is room for, and returns the number of bytes
+ * copied; 0 for an empty handle. Works for every kind of object. The text stays in the handle.
  */
 size_t vt100_copy(vt100_handle *handle, uint8_t *out, size_t room);
 
 /* ---- captures
  *
- * A capture is the basic text of rows, one behind the other as they leave a screen, and of those
- * still on it at the end. Its handle knows where it stands: what was drawn with last, and whether a
- * newline is due. The text goes to the capture's handle.
+ * A capture is the concatenated basic text of rows: first the rows that scroll off a screen, in
+ * order, and finally the rows that are still on it. A capture object stores the state between two
+ * rows: the attributes of the last text, and whether a newline is due. The text is stored in the
+ * handle of the capture.
  */
 
 /*
- * The text of all rows of a parser's or a saved screen, with scrollback, behind what was captured.
- * VT100_NO_OBJECT, VT100_WRONG_KIND of either, VT100_OUT_OF_MEMORY: the capture stands as before.
- * VT100_BAD_ARGUMENT: the same handle twice.
+ * Appends the text of all rows of a parser or a saved screen, including scrollback, to a capture.
+ * VT100_NO_OBJECT, VT100_WRONG_KIND: for either handle. VT100_OUT_OF_MEMORY: the capture is
+ * unchanged. VT100_BAD_ARGUMENT: both are the same handle.
  */
 vt100_status vt100_capture_screen(vt100_handle *handle, vt100_handle *capture, size_t *len);
 
 /*
- * The text of a row that left a parser's screen: that of the index-th on_scroll event that is kept,
- * from 0, behind what was captured.
- * VT100_NO_OBJECT, VT100_WRONG_KIND of either, VT100_OUT_OF_MEMORY: the capture stands as before.
- * VT100_BAD_ARGUMENT: there is no such event, or the same handle twice.
+ * Appends the text of a row that scrolled off a parser's screen to a capture. `index` counts the
+ * logged on_scroll events from 0.
+ * VT100_NO_OBJECT, VT100_WRONG_KIND: for either handle. VT100_OUT_OF_MEMORY: the capture is
+ * unchanged. VT100_BAD_ARGUMENT: there is no such event, or both are the same handle.
  */
 vt100_status vt100_capture_row(vt100_handle *parser, size_t index, vt100_handle *capture,
                                size_t *len);
 
 /*
- * The next piece of a capture's text that is no sequence, from byte `at` on: text[*start] to before
- * text[*end]. Both are len where there is none. Go on at *end.
- * VT100_BAD_ARGUMENT: it isn't UTF-8, or `at` is within a character or past its end.
+ * Finds the next piece of a capture's text without escape sequences, from byte `at` on:
+ * text[*start] up to but excluding text[*end]. Both are len if there is no such piece. Continue at
+ * *end.
+ * VT100_BAD_ARGUMENT: the text is not UTF-8, or `at` is inside a character or past the end.
  */
 vt100_status vt100_next_plain(const uint8_t *text, size_t len, size_t at, size_t *start,
                               size_t *end);
 
 /*
- * The row of a capture's text that begins at byte `at`, on a screen of `width` columns: it ends
- * before text[*end], and the next one begins at *next. SIZE_MAX: there is no next one.
- * VT100_BAD_ARGUMENT: as vt100_next_plain.
+ * Finds the end of the row of a capture's text that begins at byte `at`, on a screen of `width`
+ * columns: the row ends before text[*end], and the next one begins at *next. *next is SIZE_MAX if
+ * there is no next row.
+ * VT100_BAD_ARGUMENT: as for vt100_next_plain.
  */
 vt100_status vt100_next_row(const uint8_t *text, size_t len, uint16_t width, size_t at, size_t *end,
                             size_t *next);
 
-/* ---- EVENTS: a parser
+/* ---- EVENTS: for a parser
  *
- * What a program asks of its terminal beside drawing, what the screen does not know, and rows that
- * leave. A parser keeps those of the wanted kinds as records, in order, until they are cleared. A
- * record is its kind (1 byte), two numbers (4 bytes each), the length of its text (8 bytes) and the
- * text; numbers have their low byte first.
+ * Events are requests of a program other than drawing, sequences that the screen doesn't support,
+ * and rows that scroll off. A parser logs the events of the requested kinds as records, in order,
+ * until the log is cleared. A record is the kind of the event (1 byte), two numbers (4 bytes each),
+ * the length of its text (8 bytes) and the text. All numbers are little-endian.
  *
  *      0  audible_bell
  *      1  visual_bell
  *      2  resize: rows, cols
  *      3  set_window_icon_name: text
  *      4  set_window_title: text
- *      5  copy_to_clipboard: text is kind and data, each behind its length in 8 bytes
+ *      5  copy_to_clipboard: text is the kind and the data, each after its length in 8 bytes
  *      6  paste_from_clipboard: text
- *      7  unhandled_char: its code
+ *      7  unhandled_char: its code point
  *      8  unhandled_control: the byte
  *      9  unhandled_escape: two intermediates, 256 for none; text is the final byte
  *     10  unhandled_csi: two intermediates, 256 for none; text is the final character in 4 bytes,
- *         then each group of numbers: how many in 8 bytes, and 2 bytes each
- *     11  unhandled_osc: text is the parts, each behind its length in 8 bytes
- *     12  on_scroll: 1 for the alternate screen, 1 if the row goes on; text is its plain text, or
- *         nothing with VT100_ROWS_WITHOUT_TEXT
+ *         then each group of numbers: its count in 8 bytes, and 2 bytes for each number
+ *     11  unhandled_osc: text is the parts, each after its length in 8 bytes
+ *     12  on_scroll: 1 for the alternate screen, 1 if the row is wrapped; text is its plain text,
+ *         or nothing with VT100_ROWS_WITHOUT_TEXT
  *
- * A program may leave events without end: one byte may scroll a thousand rows. So the log has a
- * limit, 1 MiB unless vt100_set_event_limit sets another one. Its records count, and 40 bytes for
- * each cell of a row that scrolled off. Events are kept until they take so much, and are lost from
- * then on, until vt100_clear_events. A caller that clears the log after each vt100_process_until
- * loses only what a single byte leaves past the limit.
+ * A program can cause any number of events; even a single byte may scroll a thousand rows.
+ * Therefore, the log has a limit, which is 1 MiB unless it is changed by vt100_set_event_limit. The
+ * limit applies to the records plus 40 bytes for each cell of a row that scrolled off. Once it is
+ * reached, events are lost until vt100_clear_events is called. A caller that clears the log after
+ * each vt100_process_until loses only those events of a single byte that exceed the limit.
  */
 
-/* A bit of `wanted`: the records of rows have no text. */
+/* A bit of `wanted`: rows are logged without their text. */
 enum { VT100_ROWS_WITHOUT_TEXT = 1 << 13 };
 
 /*
- * The number of bytes that the records take. *is_whole is 0 if an event was lost, because its
- * allocation failed or the log had reached its limit: it and all later ones are missing, until
- * vt100_clear_events, so that the order holds. Else 1.
+ * Stores the number of bytes that the records take. *is_whole is 0 if an event was lost because its
+ * allocation failed or the log had reached its limit, otherwise 1. After a loss, all further events
+ * are lost too, until vt100_clear_events, so that the log has no gaps.
  * VT100_NO_OBJECT, VT100_WRONG_KIND.
  */
 vt100_status vt100_events(vt100_handle *handle, size_t *len, uint8_t *is_whole);
 
-/* Copies the records as far as there is room, and answers how many bytes; 0: no parser. */
+/*
+ * Copies the records, or as much of them as there is room for. Returns the number of bytes copied;
+ * 0 if the handle holds no parser.
+ */
 size_t vt100_copy_events(vt100_handle *handle, uint8_t *out, size_t room);
 
-/* Forgets the records and the rows that left. VT100_NO_OBJECT, VT100_WRONG_KIND. */
+/* Clears the log, including the rows that scrolled off. VT100_NO_OBJECT, VT100_WRONG_KIND. */
 vt100_status vt100_clear_events(vt100_handle *handle);
 
 /*
- * Sets the limit of the log in bytes, and forgets the records. SIZE_MAX: no limit but memory.
+ * Sets the limit of the log in bytes, and clears the log. SIZE_MAX: no limit except memory.
  * VT100_NO_OBJECT, VT100_WRONG_KIND.
  */
 vt100_status vt100_set_event_limit(vt100_handle *handle, size_t bytes);
 
 /* ---- viewers of a mirror
  *
- * A viewer is a terminal elsewhere. Its first update redraws it, each later one is what has changed
- * since; after another size the next one redraws it. A viewer shows the mirror's screen as it was
- * at its last update.
+ * A viewer is a terminal elsewhere. Its first update is a redraw, and each later one is the
+ * difference since its previous update; after a resize, the next update is a redraw again. A viewer
+ * displays the mirror's screen as it was at the viewer's last update.
  */
 
-/* A viewer's number. VT100_NO_OBJECT, VT100_WRONG_KIND, VT100_NO_NUMBER, VT100_OUT_OF_MEMORY. */
+/*
+ * Adds a viewer and stores its number. VT100_NO_OBJECT, VT100_WRONG_KIND, VT100_NO_NUMBER,
+ * VT100_OUT_OF_MEMORY.
+ */
 vt100_status vt100_join(vt100_handle *mirror, uint64_t *viewer);
 
-/* Forgets a viewer. VT100_NO_OBJECT, VT100_WRONG_KIND. VT100_BAD_ARGUMENT: no viewer's number. */
+/*
+ * Removes a viewer. VT100_NO_OBJECT, VT100_WRONG_KIND. VT100_BAD_ARGUMENT: there is no such viewer.
+ */
 vt100_status vt100_leave(vt100_handle *mirror, uint64_t viewer);
 
 /*
- * What the viewer has to read. *rows and *cols are the size that its terminal has to take first, of
- * a redraw, and both 0 of a difference.
- * VT100_NO_OBJECT, VT100_WRONG_KIND, VT100_OUT_OF_MEMORY. VT100_BAD_ARGUMENT: no viewer's number.
+ * Generates the update that the viewer must read. For a redraw, *rows and *cols are the size that
+ * the viewer's terminal must have first; for a difference, both are 0.
+ * VT100_NO_OBJECT, VT100_WRONG_KIND, VT100_OUT_OF_MEMORY. VT100_BAD_ARGUMENT: there is no such
+ * viewer.
  */
 vt100_status vt100_update(vt100_handle *mirror, uint64_t viewer, uint16_t *rows, uint16_t *cols,
                           size_t *len);
 
 /*
- * As vt100_update, with a difference that is never longer and may move rows first. After a screen
- * with a glyph that does not reproduce itself when it is printed again (only U+FE0F makes such), it
- * is a redraw, so that a viewer that was displayed wrong is right again.
+ * As vt100_update, but differences may move rows first and are never longer. If the screen of the
+ * viewer's last update was not steady, the update is a redraw, so that a viewer that displayed that
+ * screen incorrectly is corrected.
  */
 vt100_status vt100_update_scrolling(vt100_handle *mirror, uint64_t viewer, uint16_t *rows,
                                     uint16_t *cols, size_t *len);
 
 /*
- * 1 if it is known that the viewer's last update is up to date, so that the next one is an empty
- * difference, or a redraw if it is one of vt100_update_scrolling and the screen is not steady. Else
- * 0: for a viewer that had no update since it joined or since the last resize, if vt100_process was
- * called since its last update, even if that changed nothing that is shown, and if there is no
- * viewer of this number. Takes no memory, and reads no cell.
+ * Stores 1 if the viewer is known to be up to date, otherwise 0. Its next update is then an empty
+ * difference, or, with vt100_update_scrolling and an unsteady screen, a redraw. The value is 0 if
+ * the viewer has had no update since it joined or since the last resize, if vt100_process was
+ * called since its last update (even if nothing displayed has changed), and if there is no such
+ * viewer. This neither allocates nor reads cells.
  * VT100_NO_OBJECT, VT100_WRONG_KIND.
  */
 vt100_status vt100_mirror_is_current(vt100_handle *mirror, uint64_t viewer, uint8_t *out);
 
-/* ---- names of the version and of statuses: never null, they last forever */
+/* ---- the version and the texts of statuses: never null, and valid forever */
 
 /*
- * The version of this interface that the library has: the VT100_VERSION_MAJOR and
- * VT100_VERSION_MINOR of its header, as in "1.1". A program that is linked to the shared object may
+ * Returns the version of the interface that the running library has, which is VT100_VERSION_MAJOR
+ * and VT100_VERSION_MINOR of its header, such as "1.1". A program linked to the shared object may
  * run with a later MINOR than it was compiled with.
  */
 const char *vt100_version(void);
 
-/* What a status means, in English, without a newline. */
+/* Returns the meaning of a status, in English, without a newline. */
 const char *vt100_status_text(vt100_status status);
 
 #ifdef __cplusplus

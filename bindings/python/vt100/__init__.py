@@ -1,4 +1,5 @@
-"""A terminal screen in memory: bytes in, a screen out.
+"""A headless terminal emulator: it parses what a program writes to its terminal, and keeps the
+screen in memory.
 
     import vt100
 
@@ -8,13 +9,13 @@
     assert parser.cell(0, 13).fgcolor == 1
     assert parser.find("RED") == [(0, 13)]
 
-The shared object is the one that the environment variable VT100_LIBRARY names, or else
-libvt100.so.1, if the system finds it; `library_version` is the version of its C interface. Rows and
-columns count from 0.
+The shared object is loaded from the path in the environment variable VT100_LIBRARY, otherwise it is
+libvt100.so.1, wherever the system finds it. `library_version` is the version of its C interface.
+Rows and columns are 0-based.
 
-Integers out of range raise `ValueError`, failed allocations `MemoryError`, and other failures
-`Error`. Calls of one object may come from any thread; they wait for each other. `vt100.testing`
-runs programs in a terminal.
+Integers out of range raise `ValueError`, failed allocations raise `MemoryError`, and all other
+failures raise `Error`. The methods of one object may be called from several threads; calls wait for
+each other. `vt100.testing` runs programs in a terminal.
 """
 
 from ._cells import (
@@ -53,7 +54,7 @@ __all__ = [
     "library_version",
 ]
 
-# Representations and tracebacks name the classes by the module that users import.
+# Makes representations and tracebacks show the module that users import the classes from.
 for _public in list(globals().values()):
     if isinstance(_public, type):
         _public.__module__ = __name__

@@ -8,20 +8,21 @@ import itertools
 import struct
 from typing import List, NamedTuple, Tuple, Union
 
-#: None for the default color, a number of the palette, or red, green and blue.
+#: None for the default color, the index of a palette color, or a tuple of red, green and blue.
 Color = Union[None, int, Tuple[int, int, int]]
 
-#: The bits of `flags`, for each value: bold, dim, italic, underline, inverse, wide, continuation.
+#: The attributes for each value of `flags`: bold, dim, italic, underline, inverse, wide,
+#: continuation.
 FLAGS = [tuple(flags >> bit & 1 == 1 for bit in range(7)) for flags in range(256)]
 
-#: How many bytes a `vt100_cell` has.
+#: The size of a `vt100_cell` in bytes.
 CELL_SIZE = 40
 _CELL = struct.Struct("30s10B")
 _WHOLE_CELL = struct.Struct(f"{CELL_SIZE}s")
 
 
 class Position(NamedTuple):
-    """A place on a screen. Rows and columns count from 0."""
+    """A position on a screen. Rows and columns are 0-based."""
 
     row: int
     col: int
@@ -45,7 +46,7 @@ class Size(NamedTuple):
 
 
 class Attributes(NamedTuple):
-    """What the next character is drawn with."""
+    """The attributes with which the next character is drawn."""
 
     fgcolor: Color = None
     bgcolor: Color = None
@@ -59,8 +60,8 @@ class Attributes(NamedTuple):
 class Cell(NamedTuple):
     """A cell of a screen.
 
-    `text` is empty if nothing was written there, and in the continuation cell of a wide character;
-    otherwise it is a character with its combining characters.
+    `text` is a character followed by its combining characters. It is empty if nothing was written
+    to the cell, and in the continuation cell of a wide character.
     """
 
     text: str
@@ -76,12 +77,12 @@ class Cell(NamedTuple):
 
     @property
     def display(self) -> str:
-        """The text, or a blank if nothing was written there. Empty in a continuation cell."""
+        """The text, or a space if nothing was written to the cell. Empty in a continuation cell."""
         return self.text or ("" if self.wide_continuation else " ")
 
 
 class MouseProtocolMode(enum.IntEnum):
-    """Which mouse events a program asks for."""
+    """The mouse events that a program has requested."""
 
     NONE = 0
     PRESS = 1
@@ -91,7 +92,7 @@ class MouseProtocolMode(enum.IntEnum):
 
 
 class MouseProtocolEncoding(enum.IntEnum):
-    """How mouse events are written to a program."""
+    """The encoding of mouse events that are sent to a program."""
 
     DEFAULT = 0
     UTF8 = 1
@@ -111,16 +112,17 @@ class CursorStyle(enum.IntEnum):
 
 
 def color_of(kind: int, red: int, green: int, blue: int) -> Color:
-    """Returns the color of the fields of a `vt100_color`."""
+    """Returns the color that the fields of a `vt100_color` represent."""
     if kind == 0:
         return None
     return red if kind == 1 else (red, green, blue)
 
 
-# A screen has few different cells, and cells are immutable: most are found here.
+# Cells are immutable, and a screen has few different ones, so that most of them are found in this
+# cache.
 @functools.lru_cache(maxsize=8192)
 def cell_of(record: bytes) -> Cell:
-    """Returns the cell of the bytes of a `vt100_cell`."""
+    """Returns the cell that the bytes of a `vt100_cell` represent."""
     text, length, flags, kind, r, g, b, bg_kind, bg_r, bg_g, bg_b = _CELL.unpack(record)
     return Cell(
         text[:length].decode(),
@@ -131,5 +133,5 @@ def cell_of(record: bytes) -> Cell:
 
 
 def cells_of(records: bytes) -> List[Cell]:
-    """Returns the cells of an array of `vt100_cell`."""
+    """Returns the cells that an array of `vt100_cell` represents."""
     return list(itertools.starmap(cell_of, _WHOLE_CELL.iter_unpack(records)))

@@ -1,4 +1,4 @@
-"""The event log of a parser, as vt100.h describes it under EVENTS."""
+"""The event log of a parser, as described under EVENTS in vt100.h."""
 
 from __future__ import annotations
 
@@ -7,7 +7,7 @@ from typing import Any, Callable, Dict, Iterator, List, Optional, Tuple
 
 from .callbacks import Callbacks
 
-#: The callback that an event of each kind invokes.
+#: The name of the callback for each kind of event.
 NAMES = (
     "audible_bell",
     "visual_bell",
@@ -31,7 +31,7 @@ _CODE = struct.Struct("<I")
 
 
 def wanted(callbacks: Callbacks) -> int:
-    """Returns the bits of the kinds of events whose callbacks are overridden."""
+    """Returns the bits for the kinds of events whose callbacks are overridden."""
     bits = 0
     for kind, name in enumerate(NAMES):
         method = getattr(callbacks, name)
@@ -41,7 +41,7 @@ def wanted(callbacks: Callbacks) -> int:
 
 
 def report(log: bytes, callbacks: Callbacks, screen: Any) -> None:
-    """Invokes the callbacks of the events of a log, in order."""
+    """Invokes the callbacks for the events of a log, in order."""
     for kind, first, second, text in _records(log):
         if kind < len(NAMES):
             arguments = _ARGUMENTS[kind](first, second, text)
@@ -59,12 +59,12 @@ def _records(log: bytes) -> Iterator[Tuple[int, int, int, bytes]]:
 
 
 def _byte(number: int) -> Optional[int]:
-    """Returns an intermediate byte; 256 stands for none."""
+    """Returns an intermediate byte, or None for 256."""
     return None if number > 255 else number
 
 
 def _parts(text: bytes) -> List[bytes]:
-    """Returns byte strings that are stored one after the other, each after its length."""
+    """Returns the byte strings in a text that stores each of them after its length."""
     parts, at = [], 0
     while at < len(text):
         (length,) = _LENGTH.unpack_from(text, at)
@@ -75,7 +75,7 @@ def _parts(text: bytes) -> List[bytes]:
 
 
 def _groups(text: bytes) -> List[List[int]]:
-    """Returns groups of numbers that are stored one after the other, each after its count."""
+    """Returns the groups of numbers in a text that stores each group after its count."""
     groups, at = [], 0
     while at < len(text):
         (count,) = _LENGTH.unpack_from(text, at)
@@ -90,7 +90,8 @@ def _csi(first: int, second: int, text: bytes) -> Tuple[object, ...]:
     return _byte(first), _byte(second), _groups(text[_CODE.size :]), chr(final)
 
 
-#: The arguments of the callback of each kind, from the numbers and the text of a record.
+#: A function for each kind of event that returns the callback's arguments from the numbers and the
+#: text of a record.
 _ARGUMENTS: Dict[int, Callable[[int, int, bytes], Tuple[object, ...]]] = {
     0: lambda first, second, text: (),
     1: lambda first, second, text: (),

@@ -1,4 +1,4 @@
-"""Search for text on a screen."""
+"""Searching for text on a screen."""
 
 from __future__ import annotations
 
@@ -13,7 +13,7 @@ def places_of(
     rows: Sequence[Sequence[Cell]],
     wrapped: Sequence[bool],
 ) -> List[Position]:
-    """Returns the places at which `text` begins, in order."""
+    """Returns the positions at which `text` begins, in order."""
     if isinstance(text, str):
         if not text:
             raise ValueError("the text to find is empty")
@@ -25,7 +25,7 @@ def places_of(
 def contents_with_places(
     rows: Sequence[Sequence[Cell]], wrapped: Sequence[bool]
 ) -> Tuple[str, List[Position]]:
-    """Returns the text of `Screen.contents`, and the place of each of its characters."""
+    """Returns the text of `Screen.contents`, and the position of each of its characters."""
     contents: List[str] = []
     places: List[Position] = []
     for row, cells in enumerate(rows):
@@ -42,7 +42,8 @@ def contents_with_places(
 
 
 def _written(cells: Sequence[Cell]) -> int:
-    """Returns the number of cells up to the last one with text or of a wide character."""
+    """Returns the number of cells up to and including the last one that has text or belongs to a
+    wide character."""
     for col in range(len(cells), 0, -1):
         if cells[col - 1].text or cells[col - 1].wide_continuation:
             return col

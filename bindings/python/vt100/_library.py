@@ -1,4 +1,4 @@
-"""The functions of the library, as vt100.h declares them."""
+"""The functions of the C library, as declared in vt100.h."""
 
 from __future__ import annotations
 
@@ -9,8 +9,8 @@ from typing import Any, Dict, List, SupportsIndex, Tuple
 
 from ._cells import Color, color_of
 
-#: The name of the shared object, beside this module or where the system finds it, if VT100_LIBRARY
-#: names none.
+#: The file name of the shared object, which is next to this module or where the system finds it;
+#: used if VT100_LIBRARY is not set.
 SONAME = "libvt100.so.1"
 
 MAX_U16 = 0xFFFF
@@ -30,18 +30,18 @@ _STATUSES = {
 
 
 class Error(Exception):
-    """A failure that is neither a failed allocation (`MemoryError`) nor an invalid argument
+    """An error that is neither a failed allocation (`MemoryError`) nor an invalid argument
     (`ValueError`)."""
 
 
 class Handle(ctypes.Structure):
-    """`vt100_handle`: one word that refers to an object of the library."""
+    """`vt100_handle`: one machine word that refers to an object of the library."""
 
     _fields_ = [("at", ctypes.c_void_p)]
 
 
 class RawColor(ctypes.Structure):
-    """`vt100_color`."""
+    """The C struct `vt100_color`."""
 
     _fields_ = [(name, ctypes.c_uint8) for name in ("kind", "red", "green", "blue")]
     kind: int
@@ -55,7 +55,7 @@ class RawColor(ctypes.Structure):
 
 
 class State(ctypes.Structure):
-    """`vt100_state`: all of a screen but its cells."""
+    """`vt100_state`: the properties of a screen other than its cells."""
 
     _fields_ = (
         [(name, ctypes.c_uint16) for name in ("rows", "cols", "cursor_row", "cursor_col")]
@@ -100,7 +100,7 @@ class State(ctypes.Structure):
 
 
 def _arguments() -> Dict[str, List[Any]]:
-    """The argument types of each function that returns a status."""
+    """Returns the argument types of each function that returns a status."""
     handle, size = ctypes.POINTER(Handle), ctypes.c_size_t
     u8, u16, u64 = ctypes.c_uint8, ctypes.c_uint16, ctypes.c_uint64
     length, data = ctypes.POINTER(size), ctypes.c_void_p
@@ -153,13 +153,13 @@ def _arguments() -> Dict[str, List[Any]]:
 
 
 def _default() -> str:
-    """Returns the path of the shared object beside this module, or else its name."""
+    """Returns the path of the shared object next to this module, or its name if it is not there."""
     beside = os.path.join(os.path.dirname(os.path.abspath(__file__)), SONAME)
     return beside if os.path.exists(beside) else SONAME
 
 
 def _open() -> ctypes.CDLL:
-    """Opens the shared object that VT100_LIBRARY names, or else the default one."""
+    """Opens the shared object at VT100_LIBRARY, or the default one if that is not set."""
     named = os.environ.get("VT100_LIBRARY")
     try:
         return ctypes.CDLL(named or _default())
@@ -195,12 +195,12 @@ def _load() -> ctypes.CDLL:
 
 library = _load()
 
-#: The version of the C interface that the library has, such as "1.1".
+#: The version of the C interface of the loaded library, such as "1.1".
 library_version: str = library.vt100_version().decode()
 
 
 def check(status: int) -> None:
-    """Raises the exception of a status, unless it is VT100_OK."""
+    """Raises the exception for a status other than VT100_OK."""
     if status == 0:
         return
     if status == OUT_OF_MEMORY:
@@ -211,10 +211,10 @@ def check(status: int) -> None:
 
 
 def in_range(name: str, value: SupportsIndex, low: int, high: int) -> int:
-    """Returns `value` as an int, so that ctypes never truncates it.
+    """Returns `value` as an int, so that ctypes doesn't truncate it.
 
-    Raises `ValueError` if it is less than `low` or more than `high`, and `TypeError` if it is no
-    integer.
+    Raises `ValueError` if it is less than `low` or greater than `high`, and `TypeError` if it is
+    not an integer.
     """
     number = operator.index(value)
     if not low <= number <= high:
@@ -223,5 +223,5 @@ def in_range(name: str, value: SupportsIndex, low: int, high: int) -> int:
 
 
 def size_in_range(rows: SupportsIndex, cols: SupportsIndex) -> Tuple[int, int]:
-    """Returns a size as ints; raises `ValueError` if no screen can have it."""
+    """Returns a size as ints. Raises `ValueError` if it is not a valid screen size."""
     return in_range("rows", rows, 1, MAX_U16), in_range("cols", cols, 1, MAX_U16)

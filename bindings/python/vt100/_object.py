@@ -1,4 +1,4 @@
-"""What the objects of the library have in common: a handle, a lock and a last text."""
+"""The base class of all objects of the library: a handle, a lock and a text."""
 
 from __future__ import annotations
 
@@ -11,14 +11,14 @@ from typing import Any, NoReturn, Optional, SupportsIndex, Type, TypeVar, Union
 
 from ._library import Handle, check, library
 
-#: What `process` takes: any object with a buffer of bytes.
+#: The type of the argument of `process`: any object that supports the buffer protocol.
 BytesLike = Union[bytes, bytearray, memoryview, "array.array[Any]", mmap.mmap]
 
 _Self = TypeVar("_Self", bound="Object")
 
 
 def as_bytes(data: BytesLike) -> bytes:
-    """Returns the bytes of a bytes-like object; raises `TypeError` for anything else."""
+    """Returns the bytes of a bytes-like object. Raises `TypeError` for any other object."""
     if isinstance(data, bytes):
         return data
     try:
@@ -29,8 +29,8 @@ def as_bytes(data: BytesLike) -> bytes:
 
 
 class Object:
-    """An object of the library. Its methods may be called from any thread; calls of one object wait
-    for each other."""
+    """An object of the library. Its methods may be called from several threads; calls wait for each
+    other."""
 
     _handle: Handle
     _lock: threading.RLock
@@ -47,7 +47,7 @@ class Object:
         library.vt100_free(self._at)
 
     def close(self) -> None:
-        """Frees the memory of the object. Every later call raises `Error`, except for `close`."""
+        """Frees the object. Afterward, all methods except `close` raise `Error`."""
         with self._lock:
             library.vt100_free(self._at)
 
@@ -76,14 +76,14 @@ class Object:
         return self._handle.at is None
 
     def _call(self, function: Any, *arguments: Any) -> None:
-        """Calls a function of the library with the handle and these arguments."""
+        """Calls a function of the library with the handle and the given arguments."""
         with self._lock:
             status = function(self._at, *arguments)
         if status:
             check(status)
 
     def _bytes(self, function: Any, *arguments: Any) -> bytes:
-        """Returns the text that a function of the library makes, as UTF-8."""
+        """Returns the text that a function of the library generates, as UTF-8."""
         length = ctypes.c_size_t()
         with self._lock:
             self._call(function, *arguments, ctypes.byref(length))
@@ -92,7 +92,7 @@ class Object:
         return room.raw
 
     def _text(self, function: Any, *arguments: Any) -> str:
-        """Returns the text that a function of the library makes."""
+        """Returns the text that a function of the library generates, as a string."""
         return self._bytes(function, *arguments).decode()
 
     def _process(self, data: bytes) -> None:

@@ -29,7 +29,7 @@ class HasState(Object):
 
     @property
     def size(self) -> Size:
-        """Rows and columns."""
+        """The number of rows and columns."""
         state = self._state
         return Size(state.rows, state.cols)
 
@@ -45,8 +45,8 @@ class HasState(Object):
 
     @property
     def cursor(self) -> Position:
-        """Row and column of the cursor. A column equal to the width is after the last one: the next
-        character wraps."""
+        """The position of the cursor. If the column equals the width, a wrap is pending: the next
+        character goes to the next row."""
         state = self._state
         return Position(state.cursor_row, state.cursor_col)
 
@@ -57,7 +57,7 @@ class HasState(Object):
 
     @property
     def cursor_style(self) -> CursorStyle:
-        """The shape of the cursor (DECSCUSR)."""
+        """The shape of the cursor, and whether it blinks (DECSCUSR)."""
         return CursorStyle(self._state.cursor_style)
 
     @property
@@ -82,17 +82,17 @@ class HasState(Object):
 
     @property
     def mouse_protocol_mode(self) -> MouseProtocolMode:
-        """Which mouse events the program asks for."""
+        """The mouse events that the program has requested."""
         return MouseProtocolMode(self._state.mouse_protocol_mode)
 
     @property
     def mouse_protocol_encoding(self) -> MouseProtocolEncoding:
-        """How mouse events are written to the program."""
+        """The encoding of mouse events that are sent to the program."""
         return MouseProtocolEncoding(self._state.mouse_protocol_encoding)
 
     @property
     def attributes(self) -> Attributes:
-        """What the next character is drawn with."""
+        """The attributes with which the next character is drawn."""
         state = self._state
         return Attributes(state.fgcolor.value(), state.bgcolor.value(), *FLAGS[state.flags][:5])
 
@@ -128,20 +128,20 @@ class HasState(Object):
 
     @property
     def inverse(self) -> bool:
-        """Whether the next character has its colors exchanged."""
+        """Whether the foreground and background colors of the next character are swapped."""
         return self.attributes.inverse
 
     @property
     def scrollback(self) -> int:
-        """By how many rows the screen is scrolled back."""
+        """The number of rows by which the display is scrolled back."""
         return self._state.scrollback
 
     @property
     def scrollback_len(self) -> int:
-        """How many rows of scrollback are kept. None are counted on the alternate screen."""
+        """The number of scrollback rows; 0 on the alternate screen."""
         return self._state.scrollback_len
 
     @property
     def scrollback_capacity(self) -> int:
-        """How many rows of scrollback are kept at most."""
+        """The maximum number of scrollback rows."""
         return self._state.scrollback_capacity

@@ -9,10 +9,11 @@ if TYPE_CHECKING:
 
 
 class Callbacks:
-    """What a program asks of its terminal beside drawing, and rows that scroll off the top.
+    """Callbacks for requests of a program other than drawing, for unsupported sequences, and for
+    rows that scroll off the top.
 
-    Derive a class and override the methods that you want; the others cost nothing. A parser keeps
-    one such object:
+    Derive a class and override the methods that you need; other events are not even recorded. Pass
+    an instance to the parser:
 
         class Bells(vt100.Callbacks):
             count = 0
@@ -22,15 +23,15 @@ class Callbacks:
 
         parser = vt100.Parser(24, 80, callbacks=Bells())
 
-    Callbacks run within `process`, in order, after the byte that completes the sequence and before
-    the next one is parsed. `screen` is the parser, which a callback may read and change, except by
-    `process`. An exception raised by a callback propagates from `process`: the bytes after the one
-    that invoked the callback are not parsed, and its further callbacks are not invoked.
+    Callbacks are invoked during `process`, in order, after the byte that completes the sequence and
+    before the next byte is parsed. `screen` is the parser. A callback may read and change it, but
+    must not call `process`. An exception raised by a callback propagates from `process`; the
+    remaining bytes are not parsed, and no further callbacks are invoked.
 
-    Strings that a program sends need not be UTF-8, so they are `bytes`.
+    Strings that a program sends are `bytes`, because they need not be UTF-8.
 
-    The events of one byte are kept until it is processed. If there is no memory for some of them,
-    their callbacks are not invoked, but `events_lost` is.
+    The events of a byte are recorded until the byte has been processed. If memory runs out for some
+    of them, `events_lost` is invoked instead of their callbacks.
     """
 
     def audible_bell(self, screen: Screen) -> None:
@@ -40,25 +41,27 @@ class Callbacks:
         """Handles a visual bell (ESC g)."""
 
     def resize(self, screen: Screen, rows: int, cols: int) -> None:
-        """Handles a request for another size (CSI 8 ; rows ; cols t). A number may be 0."""
+        """Handles a request to resize the terminal (CSI 8 ; rows ; cols t). Either number may be
+        0."""
 
     def set_window_icon_name(self, screen: Screen, icon_name: bytes) -> None:
-        """Handles a name for the icon of the window (OSC 0 and 1)."""
+        """Handles a new icon name of the window (OSC 0 and 1)."""
 
     def set_window_title(self, screen: Screen, title: bytes) -> None:
-        """Handles a title for the window (OSC 0 and 2)."""
+        """Handles a new title of the window (OSC 0 and 2)."""
 
     def copy_to_clipboard(self, screen: Screen, kind: bytes, data: bytes) -> None:
-        """Handles data for the clipboards that `kind` names, in base64 (OSC 52)."""
+        """Handles base64 data for the clipboards that `kind` names (OSC 52)."""
 
     def paste_from_clipboard(self, screen: Screen, kind: bytes) -> None:
-        """Handles a request for the data of the clipboards that `kind` names (OSC 52 with ?)."""
+        """Handles a request for the contents of the clipboards that `kind` names (OSC 52 with
+        ?)."""
 
     def unhandled_char(self, screen: Screen, char: str) -> None:
         """Handles a character that is not drawn, such as U+FFFD for invalid UTF-8."""
 
     def unhandled_control(self, screen: Screen, control: int) -> None:
-        """Handles a control character that the screen does not know."""
+        """Handles an unsupported control character."""
 
     def unhandled_escape(
         self,
@@ -67,8 +70,8 @@ class Callbacks:
         second_intermediate: Optional[int],
         final: int,
     ) -> None:
-        """Handles an escape sequence that the screen does not know: its intermediate bytes and
-        its final byte."""
+        """Handles an unsupported escape sequence, given by its intermediate bytes and its final
+        byte."""
 
     def unhandled_csi(
         self,
@@ -78,20 +81,21 @@ class Callbacks:
         params: List[List[int]],
         final: str,
     ) -> None:
-        """Handles a control sequence that the screen does not know: its marker and intermediate
-        bytes, its parameters, each with its subparameters, and its final character."""
+        """Handles an unsupported control sequence, given by its private marker and intermediate
+        bytes, its parameters with their subparameters, and its final character."""
 
     def unhandled_osc(self, screen: Screen, params: List[bytes]) -> None:
-        """Handles an operating system command that the screen does not know, split at its
-        semicolons."""
+        """Handles an unsupported operating system command, split at its semicolons."""
 
     def on_scroll(self, text: str, wrapped: bool, alternate_screen: bool) -> None:
-        """Handles a row that left the screen, or its scrollback, at the top and is not kept.
+        """Handles a row that scrolled off the top of the screen, or out of scrollback, and is not
+        kept.
 
-        `text` is its plain text, `wrapped` says whether the text continues on the next row, and
-        `alternate_screen` whether it was a row of the alternate screen. `Parser.set_size` may
-        invoke this, too.
+        `text` is the plain text of the row. `wrapped` is true if the text continues on the next
+        row, and `alternate_screen` is true if the row was on the alternate screen.
+        `Parser.set_size` may also invoke this callback.
         """
 
     def events_lost(self, screen: Screen) -> None:
-        """Handles the loss of events, after those whose callbacks have just been invoked."""
+        """Handles a loss of events. It is invoked after the callbacks of the events before the lost
+        ones."""

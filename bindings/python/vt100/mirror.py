@@ -11,19 +11,19 @@ from ._object import BytesLike, Object, as_bytes
 
 
 class Update(NamedTuple):
-    """The escape sequences for the terminal of a viewer, and the size that it must take first. The
-    size is None if the update draws only what has changed."""
+    """The escape sequences for a viewer's terminal, and the size that the terminal must have first.
+    The size is None if the update only draws what has changed."""
 
     text: str
     size: Optional[Size] = None
 
 
 class Mirror(Object):
-    """A terminal that viewers elsewhere watch.
+    """A terminal that is watched by viewers elsewhere.
 
-    The first update of a viewer draws the whole screen, and so does the first one after a change of
-    the size; every other update draws what has changed. A viewer may join at any time and ask for
-    updates as seldom as it likes.
+    A viewer's first update draws the whole screen, and so does its first update after a resize;
+    every other update draws what has changed since the previous one. A viewer may join at any time
+    and request updates as rarely as it likes.
     """
 
     def __init__(
@@ -45,7 +45,7 @@ class Mirror(Object):
         self._call(library.vt100_set_size, *size_in_range(rows, cols))
 
     def join(self) -> int:
-        """Adds a viewer and returns its number, which no other viewer ever has."""
+        """Adds a viewer and returns its number, which is never reused."""
         viewer = ctypes.c_uint64()
         self._call(library.vt100_join, ctypes.byref(viewer))
         return viewer.value
@@ -55,25 +55,27 @@ class Mirror(Object):
         self._call(library.vt100_leave, in_range("viewer", viewer, 0, MAX_U64))
 
     def update(self, viewer: SupportsIndex) -> Update:
-        """Returns what the terminal of a viewer must read to display the screen."""
+        """Returns the next update of a viewer, which makes its terminal display the screen."""
         return self._update(library.vt100_update, viewer)
 
     def update_scrolling(self, viewer: SupportsIndex) -> Update:
-        """Returns an update that is never longer than `update`; it may scroll rows first.
+        """Returns the next update of a viewer. It may move rows first and is never longer than that
+        of `update`.
 
-        After a screen with a glyph that does not reproduce itself when it is printed again (only
-        U+FE0F makes such), it is a full redraw, so that viewers heal.
+        If the screen of the viewer's last update had a glyph that does not reproduce itself when it
+        is printed (only glyphs with U+FE0F may not), the update is a full redraw, which corrects
+        the viewer's display.
         """
         return self._update(library.vt100_update_scrolling, viewer)
 
     def is_current(self, viewer: SupportsIndex) -> bool:
-        """Returns whether the last update of a viewer is known to be up to date, so that the next
-        one draws nothing, or redraws the screen if it is one of `update_scrolling` and the screen is
-        not steady.
+        """Returns whether a viewer is known to be up to date. Its next update then draws nothing,
+        or redraws the screen if the screen is not steady and the update is one of
+        `update_scrolling`.
 
-        Returns False for a viewer without an update since it joined or since the last change of the
-        size, for every viewer once `process` was called, even if the bytes changed nothing that is
-        displayed, and if there is no viewer of this number.
+        Returns False if the viewer has had no update since it joined or since the last resize, if
+        `process` was called since its last update (even if nothing displayed has changed), and if
+        there is no viewer with this number.
         """
         current = ctypes.c_uint8()
         number = in_range("viewer", viewer, 0, MAX_U64)

@@ -13,11 +13,11 @@ from .screen import Screen
 
 
 class Parser(Screen):
-    """A screen, and a parser that applies bytes to it.
+    """A screen with a parser that applies bytes to it.
 
-    `scrollback` is the number of rows that are kept after they scroll off the top. `callbacks` is
-    invoked for what is not drawn. Used in a `with` statement, the parser frees its memory at the
-    end.
+    `scrollback` is the maximum number of rows that are kept after they scroll off the top.
+    `callbacks` is notified of events other than drawing. In a `with` statement, the parser is freed
+    at the end.
     """
 
     _callbacks: Optional[Callbacks] = None
@@ -42,12 +42,12 @@ class Parser(Screen):
 
     @property
     def screen(self) -> Screen:
-        """The screen of the parser: the parser itself. `save` returns a copy."""
+        """The screen of the parser, which is the parser itself. `save` returns a copy."""
         return self
 
     @property
     def callbacks(self) -> Optional[Callbacks]:
-        """The callbacks that the parser was made with."""
+        """The callbacks passed to the constructor."""
         return self._callbacks
 
     def process(self, data: BytesLike) -> None:
@@ -77,16 +77,16 @@ class Parser(Screen):
 
     @property
     def pending_len(self) -> int:
-        """How many bytes of an unfinished operating system command are held: those after `ESC ]`
-        that were read, without control characters. A command has no limit but memory; processing CAN
-        (`b"\\x18"`) ends it."""
+        """The number of bytes that are held of an unfinished operating system command: those read
+        after `ESC ]`, not counting control characters. Only memory limits the length of a command;
+        processing CAN (`b"\\x18"`) ends it."""
         length = ctypes.c_size_t()
         self._call(library.vt100_pending_len, ctypes.byref(length))
         return length.value
 
     def set_size(self, rows: SupportsIndex, cols: SupportsIndex) -> None:
-        """Resizes the screen, and invokes `on_scroll` for rows that leave it and are not kept.
-        Called by a callback, it invokes none."""
+        """Resizes the screen, and invokes `on_scroll` for rows that scroll off and are not kept. If
+        it is called by a callback, it invokes no callbacks."""
         size = size_in_range(rows, cols)
         with self._lock:
             if self._is_reporting:
@@ -97,7 +97,7 @@ class Parser(Screen):
                 self._report()
 
     def _report(self) -> None:
-        """Clears the event log, and invokes the callbacks of the events that were in it."""
+        """Clears the event log, and invokes the callbacks for the events that were in it."""
         length, is_whole = ctypes.c_size_t(), ctypes.c_uint8()
         self._call(library.vt100_events, ctypes.byref(length), ctypes.byref(is_whole))
         if is_whole.value and not length.value:

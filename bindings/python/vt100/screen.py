@@ -27,14 +27,14 @@ _Index = SupportsIndex
 
 
 class Screen(HasState):
-    """A screen: that of a parser, or a copy made by `save`.
+    """A screen, which belongs to a parser or is a copy made by `save`.
 
-    `screen[row]` is a list of cells and `screen[row, col]` a cell; a negative number counts from
-    the end, and `IndexError` is raised for a place that does not exist.
+    `screen[row]` is a list of cells and `screen[row, col]` is a cell. Negative indices count from
+    the end, and `IndexError` is raised for an invalid position.
 
-    Two screens are equal if they display the same and have the same modes: size, cells, wrapped
-    rows, cursor and the attributes of the next character are compared, but not the rows that are
-    out of view.
+    Two screens are equal if they display the same content and have the same modes: their size,
+    cells, wrapped rows, cursor and attributes of the next character are compared, but not the rows
+    that are not displayed.
     """
 
     _seen: Optional[List[bytes]] = None
@@ -43,15 +43,15 @@ class Screen(HasState):
         raise TypeError("Screen() makes no screen: make a Parser, or save() one")
 
     def save(self) -> Screen:
-        """Returns a copy of the screen, which no parser changes."""
+        """Returns a copy of the screen that is independent of the parser."""
         copy = Screen.__new__(Screen)
         self._call(library.vt100_save, copy._at)
         return copy
 
     def shown_copy(self) -> Screen:
-        """Returns a screen of the same size that displays the same, without scrollback and without
-        the page that is not displayed; a whole copy if scrollback is displayed. It serves as `prev`
-        of `contents_diff` in less memory than `save`."""
+        """Returns a screen of the same size that displays the same content, without scrollback and
+        without the inactive page. If scrollback is displayed, it is a complete copy. It can serve
+        as `prev` of `contents_diff` and takes less memory than a copy made by `save`."""
         copy = Screen.__new__(Screen)
         self._call(library.vt100_shown_copy, copy._at)
         return copy
@@ -60,7 +60,7 @@ class Screen(HasState):
         return self.save()
 
     def swap(self, other: Screen) -> None:
-        """Exchanges the contents of two screens; a parser may display a saved screen again so."""
+        """Swaps the contents of two screens. This lets a parser display a saved screen again."""
         with self._and(other):
             self._call(library.vt100_swap, other._at)
 
@@ -69,18 +69,18 @@ class Screen(HasState):
         self._call(library.vt100_screen_set_size, *size_in_range(rows, cols))
 
     def set_scrollback(self, rows: _Index) -> None:
-        """Displays the screen scrolled back by `rows`, or by all rows that are kept if they are
-        fewer."""
+        """Sets the number of rows by which the display is scrolled back, at most the number of
+        scrollback rows."""
         self._call(library.vt100_set_scrollback, in_range("rows", rows, 0, MAX_SIZE))
 
     def clear_scrollback(self) -> None:
-        """Drops the scrollback."""
+        """Discards the scrollback."""
         self._call(library.vt100_clear_scrollback)
 
     # Cells
 
     def cell(self, row: _Index, col: _Index) -> Optional[Cell]:
-        """Returns the cell at a place, or None if there is no such cell."""
+        """Returns the cell at a position, or None if there is no such cell."""
         row, col = operator.index(row), operator.index(col)
         if not (0 <= row <= MAX_U16 and 0 <= col <= MAX_U16):
             return None
@@ -92,8 +92,8 @@ class Screen(HasState):
         return cell_of(record.raw)
 
     def cells(self, row: _Index) -> List[Cell]:
-        """Returns the cells of a displayed row, as many as the screen has columns. Faster than
-        `cell` for each of them."""
+        """Returns the cells of a displayed row, one for each column of the screen. Faster than
+        calling `cell` for each of them."""
         row = in_range("row", row, 0, MAX_U16)
         with self._lock:
             cols = self._state.cols
@@ -103,8 +103,8 @@ class Screen(HasState):
 
     @property
     def buffer(self) -> List[List[Cell]]:
-        """The cells of all displayed rows: `buffer[row][col]`. Later changes of the screen do not
-        change the list."""
+        """The cells of all displayed rows, as `buffer[row][col]`. The list is not affected by later
+        changes of the screen."""
         return [cells_of(records) for records in self._records()]
 
     @overload
@@ -139,15 +139,15 @@ class Screen(HasState):
         return wrapped.value == 1
 
     def is_steady(self) -> bool:
-        """Returns whether each displayed glyph, printed on a blank row, is the same glyph again, so
-        that a terminal that reads a redraw or a difference displays exactly this screen. A screen
-        without U+FE0F is steady."""
+        """Returns whether every displayed glyph reproduces itself when it is printed on a blank
+        row, so that a terminal that reads a redraw or a difference displays exactly this screen. A
+        screen without U+FE0F is steady."""
         steady = ctypes.c_uint8()
         self._call(library.vt100_is_steady, ctypes.byref(steady))
         return steady.value == 1
 
     def _records(self) -> List[bytes]:
-        """Returns the array of `vt100_cell` of each displayed row."""
+        """Returns the cells of each displayed row as an array of `vt100_cell`."""
         with self._lock:
             state = self._state
             room = CELL_SIZE * state.cols
@@ -165,8 +165,8 @@ class Screen(HasState):
             return [cells + bytes([self.row_wrapped(row)]) for row, cells in enumerate(records)]
 
     def dirty(self) -> Set[int]:
-        """Returns the displayed rows that have changed since the last call of this method, or all
-        rows at the first call and after a change of the size."""
+        """Returns the displayed rows that have changed since the last call to this method. The
+        first call, and the first one after a resize, returns all rows."""
         with self._lock:
             seen, self._seen = self._seen, self._rows_whole()
             if seen is None or len(seen) != len(self._seen):
@@ -177,8 +177,8 @@ class Screen(HasState):
 
     @property
     def display(self) -> List[str]:
-        """The text of each displayed row, with a blank for each cell that nothing was written to:
-        all columns of the row."""
+        """The text of each displayed row in all columns of the row, with a space for each cell that
+        nothing was written to."""
         return ["".join(cell.display for cell in cells) for cells in self.buffer]
 
     def contents(self) -> str:
@@ -189,7 +189,7 @@ class Screen(HasState):
     def contents_between(
         self, start_row: _Index, start_col: _Index, end_row: _Index, end_col: _Index
     ) -> str:
-        """Returns the plain text from one cell up to before another."""
+        """Returns the plain text from one cell up to but excluding another."""
         named = (
             ("start_row", start_row),
             ("start_col", start_col),
@@ -200,30 +200,31 @@ class Screen(HasState):
         return self._text(library.vt100_contents_between, *places)
 
     def find(self, text: Union[str, Pattern[str]]) -> List[Position]:
-        """Returns the places at which `text`, or a match of a compiled pattern, begins in
-        `contents`. Matches do not overlap. A text is found also if it continues on the next row
-        because the row is wrapped."""
+        """Returns the positions in `contents` at which `text`, or a match of a compiled pattern,
+        begins. Matches do not overlap. Text that continues on the next row of a wrapped row is
+        found, too."""
         with self._lock:
             cells = self.buffer
             wrapped = [self.row_wrapped(row) for row in range(len(cells))]
         return _find.places_of(text, cells, wrapped)
 
     def rows(self, start: _Index = 0, width: Optional[_Index] = None) -> List[str]:
-        """Returns the plain text of each row, `width` columns from `start` on, by default up to the
-        last column."""
+        """Returns the plain text of each row in `width` columns from `start` on, or up to the last
+        column by default."""
         return self._row_texts(library.vt100_rows, start, width)
 
     def rows_formatted(self, start: _Index = 0, width: Optional[_Index] = None) -> List[str]:
-        """Returns the escape sequences that draw each row onto a blank row of a terminal, with
-        default attributes and the cursor in column `start` of the row. A range must not cut a wide
-        character. `start` must be a column."""
+        """Returns the escape sequences that draw each row on a blank row of a terminal. The
+        terminal must have default attributes and its cursor in column `start` of the row. The range
+        must not split a wide character, and `start` must be a column of the screen."""
         return self._row_texts(library.vt100_rows_formatted, start, width)
 
     def rows_diff(
         self, prev: Screen, start: _Index = 0, width: Optional[_Index] = None
     ) -> List[str]:
         """Returns the escape sequences that turn each row of `prev`, a screen of the same size,
-        into that of this screen, with the cursor and the attributes as for `rows_formatted`."""
+        into that row of this screen. The cursor and the attributes must be as for
+        `rows_formatted`."""
         with self._and(prev) as other:
             return self._row_texts(library.vt100_rows_diff, start, width, other._at)
 
@@ -246,21 +247,22 @@ class Screen(HasState):
         return self._text(library.vt100_contents_formatted)
 
     def contents_formatted_reset(self) -> str:
-        """Returns the escape sequences of `contents_formatted` for terminals with any scroll region
-        and origin mode."""
+        """Returns the escape sequences that make a terminal of this size display this screen, with
+        any scroll region and origin mode."""
         return self._text(library.vt100_contents_formatted_reset)
 
     def contents_formatted_basic(self) -> str:
-        """Returns the text with its colors and attributes, and no other escape sequences."""
+        """Returns the text with its colors and attributes, and with no other escape sequences."""
         return self._text(library.vt100_contents_formatted_basic)
 
     def state_formatted(self) -> str:
-        """Returns `contents_formatted`, and the escape sequences that set the input modes."""
+        """Returns `contents_formatted` followed by the escape sequences that set the input
+        modes."""
         return self._text(library.vt100_state_formatted)
 
     def cursor_state_formatted(self) -> str:
         """Returns the escape sequences that set the cursor of a terminal that displays these rows
-        and draws with default attributes."""
+        and has default attributes."""
         return self._text(library.vt100_cursor_state_formatted)
 
     def attributes_formatted(self) -> str:
@@ -268,8 +270,8 @@ class Screen(HasState):
         return self._text(library.vt100_attributes_formatted)
 
     def input_mode_formatted(self) -> str:
-        """Returns the escape sequences that set the modes of keypad, cursor keys, bracketed paste,
-        mouse and cursor style."""
+        """Returns the escape sequences that set the input modes: keypad, cursor keys, bracketed
+        paste, mouse, and cursor style."""
         return self._text(library.vt100_input_mode_formatted)
 
     def contents_diff(self, prev: Screen) -> str:
@@ -278,17 +280,17 @@ class Screen(HasState):
         return self._diff(library.vt100_contents_diff, prev)
 
     def contents_diff_scrolling(self, prev: Screen) -> str:
-        """Returns a difference that is never longer than `contents_diff`; it may scroll rows
-        first."""
+        """Returns a difference that may move rows first and is never longer than
+        `contents_diff`."""
         return self._diff(library.vt100_contents_diff_scrolling, prev)
 
     def state_diff(self, prev: Screen) -> str:
-        """Returns `contents_diff`, and the escape sequences that change the input modes."""
+        """Returns `contents_diff` followed by the escape sequences that change the input modes."""
         return self._diff(library.vt100_state_diff, prev)
 
     def input_mode_diff(self, prev: Screen) -> str:
-        """Returns the escape sequences that turn the input modes of `prev`, a screen of any size,
-        into those of this screen."""
+        """Returns the escape sequences that turn the input modes of `prev` into those of this
+        screen. The screens may have different sizes."""
         return self._diff(library.vt100_input_mode_diff, prev)
 
     def _diff(self, function: Any, prev: Screen) -> str:
@@ -297,7 +299,7 @@ class Screen(HasState):
 
     @contextlib.contextmanager
     def _and(self, other: Screen) -> Iterator[Screen]:
-        """Locks two screens, always in the same order. Yields the other one, or a copy if both are
+        """Locks two screens, always in the same order. Yields `other`, or a copy of it if both are
         the same screen."""
         if not isinstance(other, Screen):
             raise TypeError(f"a Screen is required, not {type(other).__name__!r}")
@@ -307,7 +309,7 @@ class Screen(HasState):
         with first._lock, second._lock:
             yield other
 
-    # What Python asks of an object
+    # Special methods
 
     def __eq__(self, other: object) -> bool:
         if not isinstance(other, Screen):
@@ -333,5 +335,6 @@ class Screen(HasState):
         return f"<{name} {rows}x{cols}, cursor ({row}, {col}), {text!r}>"
 
 
-#: How many bytes of a `vt100_state` `==` compares: all but the three numbers about scrollback.
+#: The number of bytes of a `vt100_state` that `==` compares: all except the three numbers about
+#: scrollback.
 _COMPARED = ctypes.sizeof(State) - 3 * ctypes.sizeof(ctypes.c_size_t)

@@ -1,4 +1,4 @@
-"""Runs programs in a terminal, for tests of what they display.
+"""Runs programs in a terminal to test what they display.
 
     from vt100.testing import Terminal
 
@@ -10,7 +10,7 @@
             terminal.press("q")
             assert terminal.wait_end() == 0
 
-Needs pseudoterminals: POSIX systems only.
+Requires pseudoterminals, which only POSIX systems have.
 """
 
 from __future__ import annotations
@@ -34,13 +34,13 @@ from .screen import Screen
 
 __all__ = ["KEYS", "Predicate", "Terminal", "WaitFailed", "framed"]
 
-#: A text that the screen must contain, or a function of the screen whose result must be true.
+#: A string that the screen must contain, or a function of the screen that must return true.
 Predicate = Union[str, Callable[[Screen], object]]
 
 _Self = TypeVar("_Self", bound="Terminal")
 
-#: What a terminal of the type xterm-256color sends for a key, by the name that `Terminal.press`
-#: takes. The cursor keys are those of normal mode; application mode sends ESC O for ESC [.
+#: The bytes that a terminal of type xterm-256color sends for each key name that `Terminal.press`
+#: accepts. The cursor keys are those of normal mode; in application mode, ESC O replaces ESC [.
 KEYS: Dict[str, str] = {
     "enter": "\r",
     "tab": "\t",
@@ -67,7 +67,8 @@ _CURSOR_KEYS = ("up", "down", "right", "left", "home", "end")
 
 
 class WaitFailed(AssertionError):
-    """The screen did not become as wanted. The message has the screen; `screen` is a copy of it."""
+    """The screen did not satisfy the condition. The message contains the screen; `screen` is a copy
+    of it."""
 
     def __init__(self, message: str, screen: Screen) -> None:
         super().__init__(f"{message}\n{framed(screen)}")
@@ -88,9 +89,9 @@ def framed(screen: Screen) -> str:
 class Terminal:
     """A program that runs in a terminal.
 
-    `command` is the program with its arguments. `env` replaces the environment; TERM is set to
-    `term` in either case. `timeout` is how many seconds a wait takes at most, unless it names a
-    timeout of its own. `screen` is the terminal's parser, made with `scrollback` and `callbacks`.
+    `command` is the program and its arguments. `env` replaces the environment; TERM is always set
+    to `term`. `timeout` is the default limit of each wait in seconds. `screen` is the terminal's
+    parser, created with `scrollback` and `callbacks`.
     """
 
     def __init__(
@@ -150,7 +151,7 @@ class Terminal:
 
     def send(self, data: Union[str, bytes]) -> None:
         """Sends text to the program as if it were typed. Raises `WaitFailed` if the program has
-        ended, or does not read the text in time."""
+        ended or does not read the text in time."""
         rest = memoryview(data.encode() if isinstance(data, str) else data)
         deadline = self._deadline(None)
         while rest:
@@ -164,8 +165,8 @@ class Terminal:
                 rest = rest[os.write(self._file, rest[:256]) :]
 
     def press(self, *keys: str) -> None:
-        """Sends keys: characters, names of `KEYS`, or "ctrl-" and a letter. Cursor keys are sent in
-        the mode that the program has set."""
+        """Sends keys, which are characters, names in `KEYS`, or "ctrl-" followed by a letter.
+        Cursor keys are sent according to the mode that the program has set."""
         for key in keys:
             self.send(self._sent_by(key))
 
@@ -181,18 +182,18 @@ class Terminal:
         return KEYS[key]
 
     def resize(self, rows: int, cols: int) -> None:
-        """Resizes the terminal, which tells the program by SIGWINCH."""
+        """Resizes the terminal, which notifies the program with SIGWINCH."""
         self.screen.set_size(rows, cols)
         _set_window_size(self._file, rows, cols)
 
     # Waiting
 
     def wait_for(self, wanted: Predicate, timeout: Optional[float] = None) -> Screen:
-        """Processes output until the screen contains a text, or a predicate of it holds. Returns a
-        copy of that screen.
+        """Processes output until the screen contains a string or a predicate returns true. Returns
+        a copy of that screen.
 
-        Raises `WaitFailed` after `timeout` seconds, and when the program has ended and the
-        predicate does not hold after all of its output.
+        Raises `WaitFailed` after `timeout` seconds, or if the program has ended and the condition
+        is not satisfied after all of its output.
         """
         deadline = self._deadline(timeout)
         while not _holds(wanted, self.screen):
@@ -203,7 +204,7 @@ class Terminal:
         return self.screen.save()
 
     def wait_end(self, timeout: Optional[float] = None) -> int:
-        """Processes output until the program ends. Returns its exit status, or the negative number
+        """Processes output until the program ends. Returns its exit status, or the negated number
         of the signal that ended it. Raises `WaitFailed` after `timeout` seconds."""
         deadline = self._deadline(timeout)
         while self._has_output:
@@ -220,7 +221,7 @@ class Terminal:
         return time.monotonic() + (self.timeout if timeout is None else timeout)
 
     def _fail(self, doing: str, deadline: float) -> None:
-        """Raises `WaitFailed` with the reason why no more output was read."""
+        """Raises `WaitFailed` with the reason why there was no more output."""
         if self._has_output:
             reason = "no time is left"
         else:
@@ -230,7 +231,8 @@ class Terminal:
         raise WaitFailed(f"{doing}: {reason}", self.screen.save())
 
     def _read(self, seconds: float) -> bool:
-        """Processes output that comes within some seconds. Returns whether there was any."""
+        """Processes the output that arrives within the given number of seconds. Returns whether
+        there was any."""
         if not self._has_output:
             return False
         readable, _, _ = select.select([self._file], [], [], max(0.0, seconds))
@@ -242,7 +244,7 @@ class Terminal:
         return self._has_output
 
     def _output(self) -> bytes:
-        """Returns a chunk of output, empty at its end."""
+        """Returns a chunk of output; empty at the end of the output."""
         try:
             return os.read(self._file, 4096)
         except OSError as error:
@@ -251,7 +253,7 @@ class Terminal:
             return b""
 
     def close(self) -> None:
-        """Hangs up, and ends the program if it does not end by that. Can be called again."""
+        """Hangs up, and kills the program if that does not end it. May be called more than once."""
         if self._file >= 0:
             os.close(self._file)
             self._file, self._has_output = -1, False
@@ -277,5 +279,6 @@ def _set_window_size(file: int, rows: int, cols: int) -> None:
 
 
 def _take_terminal() -> None:
-    """Makes the terminal the controlling one of the program, in its own process."""
+    """Makes the terminal the controlling terminal of the program. Called in the program's own
+    process."""
     fcntl.ioctl(0, termios.TIOCSCTTY, 0)

@@ -1,24 +1,24 @@
-//! Captures: the text of rows with colors and attributes, in order as they scroll off a screen,
-//! followed by that of the rows still on it.
+//! Captures: the text of rows with colors and attributes. A capture contains the rows that scroll
+//! off a screen, in order, followed by the rows that are still on it.
 
 use crate::library::{self, Handle};
 use std::fmt;
 use std::iter::FusedIterator;
 use std::sync::{Mutex, PoisonError};
 
-/// The rows that [`Screen::write_contents_formatted_basic`] writes.
+/// The range of rows that [`Screen::write_contents_formatted_basic`] writes.
 ///
 /// [`Screen::write_contents_formatted_basic`]: crate::Screen::write_contents_formatted_basic
 #[derive(Debug)]
 pub enum BasicFormattedCaptureRange<'a> {
-    /// All rows, including scrollback, as the continuation of what was captured with this state.
+    /// All rows, including scrollback, continuing a capture from this state.
     Full(&'a mut BasicFormattedCaptureState),
 
     /// The displayed rows.
     Visible,
 }
 
-/// The state of a capture between its rows: the attributes in effect, and whether a newline is due.
+/// The state of a capture between two rows: the attributes in effect, and whether a newline is due.
 ///
 /// The default is the state of an empty capture.
 #[derive(Default)]
@@ -65,12 +65,12 @@ impl fmt::Debug for BasicFormattedCaptureState {
     }
 }
 
-/// A row that scrolled off a screen, as [`Callbacks::on_scroll`](crate::Callbacks::on_scroll) gets
-/// it.
+/// A row that scrolled off a screen, as passed to
+/// [`Callbacks::on_scroll`](crate::Callbacks::on_scroll).
 pub struct RowContents<'a> {
     parser: &'a Mutex<Handle>,
 
-    /// The number of the row among those that the parser keeps.
+    /// The index of the row among the rows that the parser has logged.
     index: usize,
 }
 
@@ -79,11 +79,11 @@ impl<'a> RowContents<'a> {
         Self { parser, index }
     }
 
-    /// Writes the row as the continuation of what was captured with this state.
+    /// Writes the row, continuing a capture from this state.
     ///
     /// # Errors
     ///
-    /// Returns the error of the writer. The state then is that after the row.
+    /// Returns an error if the writer fails. The state is then the one after the row.
     pub fn write_formatted_basic(
         &self,
         writer: &mut impl fmt::Write,
@@ -96,7 +96,7 @@ impl<'a> RowContents<'a> {
     }
 }
 
-/// An iterator over the plain text of a capture, made by [`basic_formatted_to_plain`].
+/// An iterator over the plain text of a capture, returned by [`basic_formatted_to_plain`].
 pub struct BasicFormattedToPlain<'a> {
     indexed: BasicFormattedToPlainIndexed<'a>,
 }
@@ -111,7 +111,7 @@ impl<'a> Iterator for BasicFormattedToPlain<'a> {
 
 impl FusedIterator for BasicFormattedToPlain<'_> {}
 
-/// An iterator over the plain text of a capture with positions, made by
+/// An iterator over the plain text of a capture with byte indices, returned by
 /// [`basic_formatted_to_plain_indexed`].
 pub struct BasicFormattedToPlainIndexed<'a> {
     capture: &'a str,
@@ -119,7 +119,7 @@ pub struct BasicFormattedToPlainIndexed<'a> {
 }
 
 impl<'a> Iterator for BasicFormattedToPlainIndexed<'a> {
-    /// The byte index at which a chunk begins, and the chunk.
+    /// The byte index of a chunk, and the chunk.
     type Item = (usize, &'a str);
 
     fn next(&mut self) -> Option<Self::Item> {
@@ -142,8 +142,8 @@ impl<'a> Iterator for BasicFormattedToPlainIndexed<'a> {
 
 impl FusedIterator for BasicFormattedToPlainIndexed<'_> {}
 
-/// Returns the text of a capture without its sequences, in chunks. If `capture` is no capture, the
-/// chunks are unspecified.
+/// Returns the text of a capture without its escape sequences, in chunks. If `capture` is not a
+/// capture, the chunks are unspecified.
 #[must_use]
 pub fn basic_formatted_to_plain(capture: &str) -> BasicFormattedToPlain<'_> {
     BasicFormattedToPlain {
@@ -151,7 +151,7 @@ pub fn basic_formatted_to_plain(capture: &str) -> BasicFormattedToPlain<'_> {
     }
 }
 
-/// Returns the text of a capture without its sequences, in chunks with their byte indices.
+/// Returns the text of a capture without its escape sequences, in chunks with their byte indices.
 ///
 /// ```
 /// # use vt100::capture::basic_formatted_to_plain_indexed;
@@ -165,7 +165,7 @@ pub fn basic_formatted_to_plain_indexed(capture: &str) -> BasicFormattedToPlainI
     BasicFormattedToPlainIndexed { capture, at: 0 }
 }
 
-/// An iterator over the rows of a capture, made by [`basic_formatted_rows`].
+/// An iterator over the rows of a capture, returned by [`basic_formatted_rows`].
 pub struct BasicFormattedRows<'a> {
     capture: Option<&'a str>,
     width: u16,
@@ -189,8 +189,8 @@ impl<'a> Iterator for BasicFormattedRows<'a> {
 
 impl FusedIterator for BasicFormattedRows<'_> {}
 
-/// Returns the rows that a capture has on a screen of this width, with their sequences and without
-/// the newlines between them. If `capture` is no capture, the rows are unspecified.
+/// Returns the rows of a capture on a screen of this width, with their escape sequences but without
+/// the newlines between them. If `capture` is not a capture, the rows are unspecified.
 #[must_use]
 pub fn basic_formatted_rows(capture: &str, screen_width: u16) -> BasicFormattedRows<'_> {
     BasicFormattedRows {
@@ -199,12 +199,13 @@ pub fn basic_formatted_rows(capture: &str, screen_width: u16) -> BasicFormattedR
     }
 }
 
-/// The number of bytes of a capture that the library looks at first.
+/// The number of bytes in the first prefix of a capture that is passed to the library.
 const FIRST_WINDOW: usize = 256;
 
-/// Returns what `find` finds in the shortest of some prefixes of `text`: the first has `first` bytes,
-/// and each other one twice as many. What is found in a prefix is what is found in the whole. The
-/// library looks at all bytes that it gets, so a long capture is not passed whole for each row.
+/// Returns the result of `find` for the shortest of several prefixes of `text` that gives one. The
+/// first prefix has `first` bytes, and each later one is twice as long. The result for a prefix
+/// must be that for the whole text. This avoids passing a long capture for each row to the library,
+/// which examines all bytes that it gets.
 fn in_windows<T>(text: &str, first: usize, find: impl Fn(&str) -> Option<T>) -> Option<T> {
     let mut len = first;
     while len < text.len() {

@@ -10,7 +10,7 @@ impl Cell {
         Self(cell)
     }
 
-    /// Returns the cell's text: a character with its combining characters, or nothing.
+    /// Returns the cell's text: a character with its combining characters, or the empty string.
     #[must_use]
     pub fn contents(&self) -> &str {
         let text = &self.0.text[..usize::from(self.0.len)];
@@ -23,7 +23,8 @@ impl Cell {
         self.0.len > 0
     }
 
-    /// Returns whether the cell's character is wide: it takes this cell and the next one.
+    /// Returns whether the cell's character is wide, which means that it takes this cell and the
+    /// next.
     #[must_use]
     pub fn is_wide(&self) -> bool {
         self.has(library::WIDE)
@@ -71,7 +72,7 @@ impl Cell {
         self.has(library::UNDERLINE)
     }
 
-    /// Returns whether the cell's foreground and background colors are exchanged.
+    /// Returns whether the cell's foreground and background colors are swapped.
     #[must_use]
     pub fn inverse(&self) -> bool {
         self.has(library::INVERSE)

@@ -1,19 +1,19 @@
-//! The cells of a screen that were asked for since its last change.
+//! A cache of the cells requested since the last change of a screen.
 
 use crate::{Cell, Screen};
 use std::sync::OnceLock;
 
-/// A cache of the cells of one screen, empty after each change.
+/// A cache of the cells of one screen, which is cleared by each change.
 ///
-/// The first cell that is asked for is fetched alone, and so is the first of each row, since many
-/// programs look at few cells after each change. The second request in a row fetches the row.
+/// The first cell requested from each row is fetched individually, since many programs look at only
+/// a few cells after each change. The second request for a row fetches the whole row.
 #[derive(Default)]
 pub struct Cells {
     first: OnceLock<(u16, Single)>,
     rows: OnceLock<Box<[Row]>>,
 }
 
-/// A cell that was fetched alone.
+/// A cell that was fetched individually.
 struct Single {
     col: u16,
     cell: Option<Cell>,
@@ -26,7 +26,7 @@ struct Row {
 }
 
 impl Cells {
-    /// Forgets all cells.
+    /// Clears the cache.
     pub fn clear(&mut self) {
         self.first.take();
         self.rows.take();
@@ -67,7 +67,8 @@ impl Single {
     }
 }
 
-/// Fetches all cells of a row. One of scrollback may have more or fewer than there are columns.
+/// Fetches all cells of a row. A scrollback row may have more or fewer cells than the screen has
+/// columns.
 fn fetch_row(screen: &Screen, row: u16) -> Box<[Cell]> {
     let state = *screen.state();
     let mut handle = screen.lock();

@@ -7,7 +7,7 @@ pub enum Color {
     #[default]
     Default,
 
-    /// A color of the palette, by its index.
+    /// A palette color, by its index.
     Idx(u8),
 
     /// A color by its red, green and blue components.

@@ -1,9 +1,9 @@
-//! The records of a parser's events.
+//! Decoding the records of a parser's events.
 
 use crate::callbacks::Callbacks;
 use crate::Screen;
 
-/// How many bytes a record has before its text.
+/// The size in bytes of a record without its text.
 const HEAD: usize = 17;
 
 /// An event, named after its callback.
@@ -21,11 +21,11 @@ pub enum Event<'a> {
     UnhandledCsi(Option<u8>, Option<u8>, Vec<Vec<u16>>, char),
     UnhandledOsc(Vec<&'a [u8]>),
 
-    /// A row left; whether it was one of the alternate screen.
+    /// A row scrolled off; `true` if it was on the alternate screen.
     OnScroll(bool),
 }
 
-/// The events of these records, in order.
+/// Returns the events of these records, in order.
 pub fn records(mut log: &[u8]) -> impl Iterator<Item = Event<'_>> {
     std::iter::from_fn(move || {
         if log.is_empty() {
@@ -64,7 +64,7 @@ impl<'a> Event<'a> {
         }
     }
 
-    /// Calls its callback, but for a row that left.
+    /// Invokes the event's callback, except for a row that scrolled off.
     pub fn tell(&self, callbacks: &mut impl Callbacks, screen: &mut Screen) {
         match self {
             Self::AudibleBell => callbacks.audible_bell(screen),
@@ -87,14 +87,14 @@ impl<'a> Event<'a> {
     }
 }
 
-/// The number of 4 bytes at a place.
+/// Returns the 4-byte number at an index.
 fn number_at(bytes: &[u8], at: usize) -> u32 {
     let mut number = [0; 4];
     number.copy_from_slice(&bytes[at..at + 4]);
     u32::from_le_bytes(number)
 }
 
-/// The length of 8 bytes at a place.
+/// Returns the 8-byte length at an index.
 fn length_at(bytes: &[u8], at: usize) -> usize {
     let mut length = [0; 8];
     length.copy_from_slice(&bytes[at..at + 8]);
@@ -105,7 +105,7 @@ fn small(number: u32) -> u16 {
     u16::try_from(number).expect("rows and columns have 2 bytes")
 }
 
-/// An intermediate byte; 256 stands for none.
+/// Returns an intermediate byte, or `None` for 256.
 fn byte(number: u32) -> Option<u8> {
     u8::try_from(number).ok()
 }
@@ -114,7 +114,7 @@ fn character(code: u32) -> char {
     char::from_u32(code).expect("a code is a character's")
 }
 
-/// Parts, each behind its length.
+/// Returns the parts in a text that stores each of them after its length.
 fn parts_of(mut text: &[u8]) -> Vec<&[u8]> {
     let mut parts = Vec::new();
     while !text.is_empty() {
@@ -125,7 +125,7 @@ fn parts_of(mut text: &[u8]) -> Vec<&[u8]> {
     parts
 }
 
-/// Groups of numbers of 2 bytes, each behind its count.
+/// Returns the groups of 2-byte numbers in a text that stores each group after its count.
 fn groups_of(mut text: &[u8]) -> Vec<Vec<u16>> {
     let mut groups = Vec::new();
     while !text.is_empty() {

@@ -1,9 +1,9 @@
-//! A headless terminal emulator: it processes what a program writes to its terminal, keeps the screen
-//! that a person would see, and returns it as text, as a redraw or as a difference.
+//! A headless terminal emulator. It processes what a program writes to its terminal, maintains the
+//! screen that a person would see, and returns it as text, as a redraw or as a difference.
 //!
-//! The items are those of the crate `vt100` 0.18.1, and in addition [`mirror`],
+//! The items are those of the crate `vt100` 0.18.1, with the addition of [`mirror`],
 //! [`Parser::pending_len`], [`Screen::contents_diff_scrolling`], [`Screen::is_steady`] and
-//! [`Screen::shown_copy`]. This crate calls a library that is formally verified.
+//! [`Screen::shown_copy`]. The crate wraps a library that is formally verified.
 //!
 //! # Synopsis
 //!
@@ -31,9 +31,9 @@
 //!
 //! # Memory
 //!
-//! If the library cannot allocate memory, a call panics and changes nothing; a parser that ran out
-//! of memory in [`Parser::process`] panics at the next [`Parser::process`], too. If Rust cannot
-//! allocate memory, for a string or for cells, the program aborts.
+//! If the library cannot allocate memory, a call panics and changes nothing. After
+//! [`Parser::process`] has panicked for this reason, each further call to it panics, too. If Rust
+//! cannot allocate memory for a string or for cells, the program aborts.
 
 #![warn(missing_docs)]
 #![deny(unsafe_code)]

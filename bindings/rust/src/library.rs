@@ -1,16 +1,16 @@
-//! The library, and safe calls of it. All unsafe code of this crate is here.
+//! The C library, and safe wrappers of its functions. All unsafe code of this crate is here.
 //!
-//! What is trusted: that these declarations are those of `vt100.h`, and the duties of that header.
-//! A [`Handle`] keeps the latter:
+//! Two things are trusted: these declarations match `vt100.h`, and calls follow the rules of that
+//! header. A [`Handle`] ensures the latter:
 //!
-//! - it is lent as `&mut` to each call, so that one call at a time uses it, and the two handles of
-//!   one call are two;
-//! - it is neither `Clone` nor `Copy`, and its address is private, so that no copy of it is used;
-//! - it gives its object back when it is dropped, once;
-//! - bytes are a slice's pointer and length; results are places of this module's own stack, or a
-//!   vector's room, and the length that is passed is that of the room.
+//! - It is borrowed as `&mut` by each call, so that only one call at a time uses it, and the two
+//!   handles of a call are different.
+//! - It is neither `Clone` nor `Copy`, and its pointer is private, so that no copy of it is used.
+//! - It frees its object exactly once, when it is dropped.
+//! - Bytes are passed as the pointer and length of a slice. Results are stored in local variables
+//!   of this module or in a vector, together with the length of that vector.
 
-/// Defines structs as the header lays them out.
+/// Defines structs with the layout of the header.
 macro_rules! structs {
     ($($(#[$meta:meta])* $name:ident { $($field:ident: $type:ty,)* })*) => {
         $($(#[$meta])*
@@ -21,13 +21,13 @@ macro_rules! structs {
 }
 
 structs! {
-    /// A colour: kind 0 the default one, 1 of the palette, 2 of three parts.
+    /// A color: kind 0 is the default, 1 a palette color, 2 an RGB color.
     Color { kind: u8, red: u8, green: u8, blue: u8, }
 
-    /// A cell; the text behind its length is 0.
+    /// A cell; the bytes of `text` after the first `len` are 0.
     Cell { text: [u8; 30], len: u8, flags: u8, fgcolor: Color, bgcolor: Color, }
 
-    /// What a screen is but for its cells.
+    /// The properties of a screen other than its cells.
     State {
         rows: u16, cols: u16, cursor_row: u16, cursor_col: u16,
         alternate_screen: u8, application_keypad: u8, application_cursor: u8, hide_cursor: u8,
@@ -45,11 +45,11 @@ pub const INVERSE: u8 = 16;
 pub const WIDE: u8 = 32;
 pub const WIDE_CONTINUATION: u8 = 64;
 
-/// What [`Handle::parser`] is told to keep no events by, and to keep all.
+/// Arguments of [`Handle::parser`]: log no events, and log all of them.
 pub const NO_EVENTS: u16 = 0;
 pub const ALL_EVENTS: u16 = ((1 << 13) - 1) | ROWS_WITHOUT_TEXT;
 
-/// Rows are read by [`Handle::capture_row`], so their records need no text.
+/// Rows are read with [`Handle::capture_row`], so their records need no text.
 const ROWS_WITHOUT_TEXT: u16 = 1 << 13;
 
 const OK: u8 = 0;
@@ -180,7 +180,7 @@ extern "C" {
     ) -> u8;
 }
 
-/// A text of one screen.
+/// A kind of text generated from one screen.
 #[derive(Clone, Copy)]
 pub struct Text(OfOne);
 
@@ -194,7 +194,7 @@ impl Text {
     pub const INPUT_MODE: Self = Self(vt100_input_mode_formatted);
 }
 
-/// A text of two screens.
+/// A kind of text generated from two screens.
 #[derive(Clone, Copy)]
 pub struct Difference(OfTwo);
 
@@ -205,7 +205,7 @@ impl Difference {
     pub const INPUT_MODE: Self = Self(vt100_input_mode_diff);
 }
 
-/// What a viewer of a mirror is told by.
+/// A kind of update for the viewers of a mirror.
 #[derive(Clone, Copy)]
 pub struct Updates(OfViewer);
 
@@ -214,7 +214,7 @@ impl Updates {
     pub const SCROLLING: Self = Self(vt100_update_scrolling);
 }
 
-/// A text of each row.
+/// A kind of text generated for each row.
 #[derive(Clone, Copy)]
 pub struct RowTexts(OfRows);
 
@@ -223,28 +223,28 @@ impl RowTexts {
     pub const FORMATTED: Self = Self(vt100_rows_formatted);
 }
 
-/// An object of the library, or none.
+/// A handle, which owns an object of the library or is empty.
 #[repr(C)]
 pub struct Handle {
     at: *mut u8,
 }
 
-// SAFETY: the header allows that a handle moves to another thread, and a `Handle` is the only one
-// of its object.
+// SAFETY: the header allows moving a handle to another thread, and a `Handle` is the only handle of
+// its object.
 unsafe impl Send for Handle {}
 
-// SAFETY: no function of a `Handle` takes `&self`, but for one that looks whether it is null.
+// SAFETY: no method of `Handle` takes `&self`, except one that only checks for a null pointer.
 unsafe impl Sync for Handle {}
 
 impl Drop for Handle {
     fn drop(&mut self) {
-        // SAFETY: the handle is empty, or the only one of its object.
+        // SAFETY: the handle is empty, or the only handle of its object.
         unsafe { vt100_free(self) }
     }
 }
 
 impl Default for Handle {
-    /// One that holds nothing.
+    /// Returns an empty handle.
     fn default() -> Self {
         Self {
             at: std::ptr::null_mut(),
@@ -252,7 +252,7 @@ impl Default for Handle {
     }
 }
 
-/// Panics unless a call went well.
+/// Panics if the status of a call is an error.
 #[track_caller]
 fn check(status: u8) {
     match status {
@@ -264,10 +264,11 @@ fn check(status: u8) {
     }
 }
 
-// Each call below is safe for the reasons at the top of this module.
+// The calls below are safe for the reasons given at the top of this module.
 impl Handle {
-    /// A parser with a fresh screen, whose log has no limit: it is cleared whenever
-    /// the parser stops, and one byte leaves no more rows than the screen has, or 65535 cells.
+    /// Creates a parser with a blank screen and an event log without a limit. The log is cleared
+    /// whenever the parser stops at an event, and a single byte scrolls off no more rows than the
+    /// screen has, or 65535 cells.
     pub fn parser(rows: u16, cols: u16, capacity: usize, wanted: u16) -> Self {
         let mut out = Self::default();
         check(unsafe { vt100_parser_new(rows, cols, capacity, wanted, &mut out) });
@@ -275,45 +276,46 @@ impl Handle {
         out
     }
 
-    /// A mirror with a fresh screen and no viewers.
+    /// Creates a mirror with a blank screen and no viewers.
     pub fn mirror(rows: u16, cols: u16, capacity: usize) -> Self {
         let mut out = Self::default();
         check(unsafe { vt100_mirror_new(rows, cols, capacity, &mut out) });
         out
     }
 
-    /// A capture that nothing was written to.
+    /// Creates an empty capture.
     pub fn capture() -> Self {
         let mut out = Self::default();
         check(unsafe { vt100_capture_new(&mut out) });
         out
     }
 
-    /// A saved screen of one cell.
+    /// Creates a saved screen of one cell.
     pub fn one_cell() -> Self {
         Self::parser(1, 1, 0, NO_EVENTS).save()
     }
 
-    /// Whether it holds nothing.
+    /// Returns whether the handle is empty.
     pub fn is_empty(&self) -> bool {
         self.at.is_null()
     }
 
-    /// A copy of a screen, or of a capture.
+    /// Returns a copy of the screen or of the capture.
     pub fn save(&mut self) -> Self {
         let mut out = Self::default();
         check(unsafe { vt100_save(self, &mut out) });
         out
     }
 
-    /// A screen that displays what this one displays, without scrollback and the other page.
+    /// Returns a screen that displays the same content, without scrollback and without the inactive
+    /// page.
     pub fn shown_copy(&mut self) -> Self {
         let mut out = Self::default();
         check(unsafe { vt100_shown_copy(self, &mut out) });
         out
     }
 
-    /// Exchanges the screens of two handles.
+    /// Swaps the screens of two handles.
     pub fn swap(&mut self, other: &mut Self) {
         check(unsafe { vt100_swap(self, other) });
     }
@@ -322,26 +324,27 @@ impl Handle {
         check(unsafe { vt100_process(self, bytes.as_ptr(), bytes.len()) });
     }
 
-    /// Reads up to and with the first byte that left an event, and answers how many bytes it read.
+    /// Parses bytes up to and including the first byte that logs an event. Returns the number of
+    /// bytes read.
     pub fn process_until(&mut self, bytes: &[u8]) -> usize {
         let mut used = 0;
         check(unsafe { vt100_process_until(self, bytes.as_ptr(), bytes.len(), &mut used) });
         used
     }
 
-    /// How many bytes of an unfinished command a parser holds.
+    /// Returns the number of bytes that a parser holds of an unfinished operating system command.
     pub fn pending_len(&mut self) -> usize {
         let mut len = 0;
         check(unsafe { vt100_pending_len(self, &mut len) });
         len
     }
 
-    /// Another size of a parser, which keeps events of rows that leave.
+    /// Resizes a parser, which logs events for rows that scroll off.
     pub fn set_size(&mut self, rows: u16, cols: u16) {
         check(unsafe { vt100_set_size(self, rows, cols) });
     }
 
-    /// Another size, telling nobody.
+    /// Resizes the screen without logging events.
     pub fn screen_set_size(&mut self, rows: u16, cols: u16) {
         check(unsafe { vt100_screen_set_size(self, rows, cols) });
     }
@@ -360,7 +363,7 @@ impl Handle {
         state
     }
 
-    /// The cell at a place, if there is one.
+    /// Returns the cell at a position, if there is one.
     pub fn cell(&mut self, row: u16, col: u16) -> Option<Cell> {
         let mut cell = Cell::default();
         match unsafe { vt100_get_cell(self, row, col, &mut cell) } {
@@ -372,14 +375,14 @@ impl Handle {
         }
     }
 
-    /// The cells of a row of a screen of `cols` columns.
+    /// Returns the cells of a row, for a screen of `cols` columns.
     pub fn cells(&mut self, row: u16, cols: u16) -> Vec<Cell> {
         let mut cells = vec![Cell::default(); usize::from(cols)];
         check(unsafe { vt100_get_cells(self, row, cells.as_mut_ptr(), cells.len()) });
         cells
     }
 
-    /// Whether the text of a row goes on; not where there is no such row.
+    /// Returns whether a row is wrapped; `false` if there is no such row.
     pub fn row_wrapped(&mut self, row: u16) -> bool {
         let mut wrapped = 0;
         match unsafe { vt100_row_wrapped(self, row, &mut wrapped) } {
@@ -409,7 +412,7 @@ impl Handle {
         self.copied(len)
     }
 
-    /// The difference from another screen, or `None` if it is of another size.
+    /// Returns the difference from another screen, or `None` if the sizes differ.
     pub fn difference(&mut self, prev: &mut Self, difference: Difference) -> Option<String> {
         let mut len = 0;
         match unsafe { (difference.0)(self, prev, &mut len) } {
@@ -421,7 +424,7 @@ impl Handle {
         }
     }
 
-    /// The text of each of so many rows, all that are shown.
+    /// Returns the text of each displayed row; `rows` must be the number of rows.
     pub fn rows(&mut self, texts: RowTexts, start: u16, width: u16, rows: u16) -> Vec<String> {
         let mut ends = vec![0; usize::from(rows)];
         let mut len = 0;
@@ -430,8 +433,8 @@ impl Handle {
         cut(&self.copied(len), &ends)
     }
 
-    /// What turns each row of another screen into that of this one, or `None` if it is of another
-    /// size.
+    /// Returns the escape sequences that turn each row of another screen into that row of this one,
+    /// or `None` if the sizes differ.
     pub fn rows_diff(
         &mut self,
         prev: &mut Self,
@@ -451,21 +454,22 @@ impl Handle {
         }
     }
 
-    /// The text of a screen behind what a capture has.
+    /// Appends a screen to a capture, and returns the appended text.
     pub fn capture_screen(&mut self, capture: &mut Self) -> String {
         let mut len = 0;
         check(unsafe { vt100_capture_screen(self, capture, &mut len) });
         capture.copied(len)
     }
 
-    /// The text of a row that left a parser's screen behind what a capture has.
+    /// Appends a row that scrolled off a parser's screen to a capture, and returns the appended
+    /// text.
     pub fn capture_row(&mut self, index: usize, capture: &mut Self) -> String {
         let mut len = 0;
         check(unsafe { vt100_capture_row(self, index, capture, &mut len) });
         capture.copied(len)
     }
 
-    /// The records of a parser's events; panics where one is missing.
+    /// Returns the records of a parser's events. Panics if an event was lost.
     pub fn events(&mut self) -> Vec<u8> {
         let (mut len, mut is_whole) = (0, 0);
         check(unsafe { vt100_events(self, &mut len, &mut is_whole) });
@@ -480,14 +484,14 @@ impl Handle {
         check(unsafe { vt100_clear_events(self) });
     }
 
-    /// The number of a new viewer of a mirror.
+    /// Adds a viewer to a mirror, and returns its number.
     pub fn join(&mut self) -> u64 {
         let mut viewer = 0;
         check(unsafe { vt100_join(self, &mut viewer) });
         viewer
     }
 
-    /// Forgets a viewer, and answers whether there was one.
+    /// Removes a viewer, and returns whether there was one.
     pub fn leave(&mut self, viewer: u64) -> bool {
         match unsafe { vt100_leave(self, viewer) } {
             BAD_ARGUMENT => false,
@@ -498,15 +502,15 @@ impl Handle {
         }
     }
 
-    /// Whether a viewer's last update is known to be up to date.
+    /// Returns whether a viewer is known to be up to date.
     pub fn is_current(&mut self, viewer: u64) -> bool {
         let mut current = 0;
         check(unsafe { vt100_mirror_is_current(self, viewer, &mut current) });
         current == 1
     }
 
-    /// What a viewer has to read, with the size that its terminal takes first, rows and columns,
-    /// both 0 where it keeps its own; or `None` where there is no such viewer.
+    /// Returns the update that a viewer must read, with the rows and columns that its terminal must
+    /// have first, both 0 if it keeps its size; or `None` if there is no such viewer.
     pub fn update(&mut self, updates: Updates, viewer: u64) -> Option<((u16, u16), String)> {
         let (mut rows, mut cols, mut len) = (0, 0, 0);
         match unsafe { (updates.0)(self, viewer, &mut rows, &mut cols, &mut len) } {
@@ -518,10 +522,10 @@ impl Handle {
         }
     }
 
-    /// The text that was made last, of this length.
+    /// Returns a copy of the handle's text, which has this length.
     fn copied(&mut self, len: usize) -> String {
         let mut text = Vec::with_capacity(len);
-        // SAFETY: there is room for `len` bytes, and of these so many are written as are answered.
+        // SAFETY: there is room for `len` bytes, and the returned number of bytes was written.
         unsafe {
             let copied = vt100_copy(self, text.as_mut_ptr(), len);
             text.set_len(copied.min(len));
@@ -530,7 +534,7 @@ impl Handle {
     }
 }
 
-/// The texts that end at these places of one text.
+/// Splits a text into texts that end at these positions.
 fn cut(text: &str, ends: &[usize]) -> Vec<String> {
     let mut start = 0;
     let mut texts = Vec::with_capacity(ends.len());
@@ -541,8 +545,8 @@ fn cut(text: &str, ends: &[usize]) -> Vec<String> {
     texts
 }
 
-/// Where the next piece of a capture that is no sequence begins and ends, the length of the text
-/// where there is none.
+/// Returns the start and end of the next piece of a capture without escape sequences; both are the
+/// length of the text if there is none.
 pub fn next_plain(text: &str) -> (usize, usize) {
     let (mut start, mut end) = (0, 0);
     let (bytes, len) = (text.as_ptr(), text.len());
@@ -550,7 +554,7 @@ pub fn next_plain(text: &str) -> (usize, usize) {
     (start, end)
 }
 
-/// Where the first row of a capture ends, and where the next one begins, if there is one.
+/// Returns the end of the first row of a capture, and the start of the next one, if there is one.
 pub fn next_row(text: &str, width: u16) -> (usize, Option<usize>) {
     let (mut end, mut next) = (0, 0);
     let (bytes, len) = (text.as_ptr(), text.len());

@@ -7,7 +7,7 @@ use std::sync::{Mutex, PoisonError};
 /// An update for the terminal of a viewer.
 #[derive(Clone, Debug, PartialEq, Eq)]
 pub enum Update {
-    /// The whole screen: the viewer's terminal is resized, and then processes the text.
+    /// The whole screen: the viewer's terminal must be resized and then process the text.
     Full {
         /// The number of rows of the viewer's terminal.
         rows: NonZeroU16,
@@ -30,10 +30,10 @@ impl Update {
     }
 }
 
-/// A terminal that keeps, for each of its viewers, the screen of the last update.
+/// A terminal that remembers, for each of its viewers, the screen of the last update.
 ///
-/// A viewer's first update redraws the screen, and so does the first one after a resize; each other
-/// one is the difference. A viewer may join late and fall behind.
+/// A viewer's first update redraws the screen, and so does its first update after a resize; every
+/// other update is a difference. A viewer may join late and fall behind.
 ///
 /// ```
 /// use std::num::NonZeroU16;
@@ -54,8 +54,8 @@ pub struct Mirror {
 }
 
 impl Mirror {
-    /// Creates a mirror without viewers, whose screen is blank and keeps at most
-    /// `scrollback_capacity` rows of scrollback.
+    /// Creates a mirror without viewers. Its screen is blank and keeps at most
+    /// `scrollback_capacity` scrollback rows.
     #[must_use]
     pub fn new(rows: NonZeroU16, cols: NonZeroU16, scrollback_capacity: usize) -> Self {
         Self {
@@ -79,12 +79,12 @@ impl Mirror {
         self.handle().set_size(rows.get(), cols.get());
     }
 
-    /// Adds a viewer, and returns its number, which is never reused.
+    /// Adds a viewer and returns its number, which is never reused.
     pub fn join(&mut self) -> u64 {
         self.handle().join()
     }
 
-    /// Removes a viewer. Returns whether there was one of this number.
+    /// Removes a viewer. Returns whether there was a viewer with this number.
     pub fn leave(&mut self, viewer: u64) -> bool {
         self.handle().leave(viewer)
     }
@@ -94,24 +94,24 @@ impl Mirror {
         self.next(Updates::DRAWN, viewer)
     }
 
-    /// Returns the next update of a viewer, or `None` if there is no viewer of this number. A
+    /// Returns the next update of a viewer, or `None` if there is no viewer with this number. A
     /// difference may move rows first, and is never longer than that of [`update`](Self::update). A
-    /// viewer may get either kind from one update to the next.
+    /// viewer may alternate between both kinds of updates.
     ///
-    /// After a screen with a glyph that does not reproduce itself when it is printed again (only
-    /// U+FE0F makes such), the update is a full one, so that a viewer that was displayed wrong is
-    /// right again.
+    /// If the screen of the viewer's last update had a glyph that does not reproduce itself when it
+    /// is printed (only glyphs with U+FE0F may not), the update is a full one, which corrects the
+    /// viewer's display.
     pub fn update_scrolling(&mut self, viewer: u64) -> Option<Update> {
         self.next(Updates::SCROLLING, viewer)
     }
 
-    /// Returns whether the last update of a viewer is known to be up to date, so that its next one
-    /// is an empty difference, or a full update if it is one of
-    /// [`update_scrolling`](Self::update_scrolling) and the screen is not steady.
+    /// Returns whether a viewer is known to be up to date. Its next update is then an empty
+    /// difference, or a full update if the screen is not steady and it is requested with
+    /// [`update_scrolling`](Self::update_scrolling).
     ///
-    /// Returns `false` for a viewer without an update since it joined or since the last resize, for
-    /// every viewer once [`process`](Self::process) was called, even if the bytes changed nothing
-    /// that is displayed, and if there is no viewer of this number.
+    /// Returns `false` if the viewer has had no update since it joined or since the last resize, if
+    /// [`process`](Self::process) was called since its last update (even if nothing displayed has
+    /// changed), and if there is no viewer with this number.
     #[must_use]
     pub fn is_current(&self, viewer: u64) -> bool {
         let mut handle = self.handle.lock().unwrap_or_else(PoisonError::into_inner);

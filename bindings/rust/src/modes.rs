@@ -1,4 +1,4 @@
-/// The mouse events that a program has asked for.
+/// The mouse events that a program has requested.
 #[derive(Copy, Clone, Debug, Eq, PartialEq, Default)]
 pub enum MouseProtocolMode {
     /// No events.

@@ -6,15 +6,16 @@ use crate::Screen;
 use std::num::NonZeroU16;
 use std::sync::{Mutex, PoisonError};
 
-/// A terminal: it processes what a program writes, and keeps the screen.
+/// A terminal that processes what a program writes and maintains the screen.
 pub struct Parser<CB: Callbacks = ()> {
-    /// Behind this stands the library's parser with the screen in it while they are together, else
-    /// the screen alone. They are parted when the screen is lent as `&mut`, since then it may be
-    /// exchanged for another one.
+    /// Normally, the handle of the library's parser, which contains the screen. While the two are
+    /// separate, it holds the screen alone. They are separated when the screen is borrowed as
+    /// `&mut`, because it may then be swapped with a different screen.
     screen: Screen,
 
-    /// While they are together a screen of one cell, or nothing if they were never parted; else the
-    /// library's parser, with a screen of one cell in it.
+    /// Normally, a screen of one cell, or nothing if the screen and the parser were never
+    /// separated. While they are separate, it is the library's parser, which then contains a screen
+    /// of one cell.
     rest: Mutex<Handle>,
 
     is_together: bool,
@@ -35,8 +36,8 @@ impl Parser {
         None => unreachable!(),
     };
 
-    /// Creates a parser whose screen is blank and keeps at most `scrollback_capacity` rows of
-    /// scrollback.
+    /// Creates a parser whose screen is blank and keeps at most `scrollback_capacity` scrollback
+    /// rows.
     #[must_use]
     pub fn new(rows: NonZeroU16, cols: NonZeroU16, scrollback_capacity: usize) -> Self {
         Self::with_events(rows, cols, scrollback_capacity, (), false)
@@ -44,7 +45,7 @@ impl Parser {
 }
 
 impl<CB: Callbacks> Parser<CB> {
-    /// Creates a parser as [`new`](Parser::new) does, with callbacks.
+    /// Creates a parser with callbacks; otherwise as [`new`](Parser::new).
     pub fn new_with_callbacks(
         rows: NonZeroU16,
         cols: NonZeroU16,
@@ -72,8 +73,9 @@ impl<CB: Callbacks> Parser<CB> {
         }
     }
 
-    /// Reads bytes, in any pieces: a sequence or a character may go on in the next call. Each
-    /// callback is called behind the byte that makes the call, before the next one is read.
+    /// Parses bytes and applies them to the screen, invoking callbacks as sequences complete. Input
+    /// may be split anywhere: an incomplete character or sequence continues with the next call.
+    /// Each callback is invoked after the byte that causes it and before the next byte is parsed.
     pub fn process(&mut self, bytes: &[u8]) {
         self.join();
         if !self.has_events {
@@ -91,12 +93,13 @@ impl<CB: Callbacks> Parser<CB> {
         }
     }
 
-    /// Returns how many bytes of an unfinished operating system command the parser holds: those after
-    /// `\x1b]` that were read, without control characters; 0 if no such command is unfinished. Not in
-    /// the crate `vt100`.
+    /// Returns the number of bytes that the parser holds of an unfinished operating system command:
+    /// those read after `\x1b]`, not counting control characters. Returns 0 if no command is
+    /// unfinished. Not in the crate `vt100`.
     ///
-    /// A command has no limit but memory. To end one at a limit, process CAN: what was read of it is
-    /// dispatched, and then [`unhandled_control`](Callbacks::unhandled_control) is called for CAN.
+    /// Only memory limits the length of a command. To end one at a limit of your own, process CAN:
+    /// the part that was read is dispatched, and then
+    /// [`unhandled_control`](Callbacks::unhandled_control) is called for CAN.
     ///
     /// ```
     /// let mut parser = vt100::Parser::default();
@@ -120,11 +123,11 @@ impl<CB: Callbacks> Parser<CB> {
 
     /// Resizes the terminal.
     ///
-    /// If it becomes lower, rows below the cursor are removed first; then rows at the top go into
-    /// scrollback, and [`on_scroll`](Callbacks::on_scroll) is called for those that are not kept.
-    /// If it becomes higher, rows come back from scrollback, with blank rows for those that are no
-    /// longer kept; rows that are still missing are added as blank rows at the bottom. Rows are cut
-    /// or filled up to the new width.
+    /// If the height shrinks, rows below the cursor are removed first. Then rows at the top move
+    /// into scrollback, and [`on_scroll`](Callbacks::on_scroll) is called for those that are not
+    /// kept. If the height grows, rows come back from scrollback, with blank rows for those that
+    /// are no longer kept, and any rows still missing are added as blank rows at the bottom. Rows
+    /// are cut off or extended to the new width.
     pub fn set_size(&mut self, rows: NonZeroU16, cols: NonZeroU16) {
         self.join();
         if self.has_events {
@@ -142,7 +145,7 @@ impl<CB: Callbacks> Parser<CB> {
         &self.screen
     }
 
-    /// Returns the screen, to change it or to replace it.
+    /// Returns the screen, to be changed or replaced.
     #[must_use]
     pub fn screen_mut(&mut self) -> &mut Screen {
         self.part();
@@ -154,18 +157,18 @@ impl<CB: Callbacks> Parser<CB> {
         &self.callbacks
     }
 
-    /// Returns the callbacks, to change them.
+    /// Returns the callbacks, to be changed.
     pub fn callbacks_mut(&mut self) -> &mut CB {
         &mut self.callbacks
     }
 
-    /// Returns the screen and the callbacks, to change them.
+    /// Returns the screen and the callbacks, to be changed.
     pub fn screen_and_callbacks_mut(&mut self) -> (&mut Screen, &mut CB) {
         self.part();
         (&mut self.screen, &mut self.callbacks)
     }
 
-    /// Calls the callbacks of the events that are kept, and forgets these.
+    /// Invokes the callbacks for the logged events, and clears the log.
     fn tell(&mut self) {
         let log = self.screen.unchanged().events();
         if log.is_empty() {
@@ -205,8 +208,8 @@ impl<CB: Callbacks> Parser<CB> {
         }
     }
 
-    /// Exchanges the screens of both handles, and then the handles: the screen stays where it is,
-    /// and the parser is the other one's.
+    /// Swaps the screens of the two handles, and then the handles. The screen thus stays in its
+    /// handle, but the parser moves to the other one.
     fn exchange(&mut self) {
         let handle = self.screen.unchanged();
         let rest = self.rest.get_mut().unwrap_or_else(PoisonError::into_inner);
@@ -220,7 +223,7 @@ impl<CB: Callbacks> Parser<CB> {
 }
 
 impl Default for Parser {
-    /// Creates a parser of 24 rows and 80 columns that keeps no scrollback.
+    /// Creates a parser with 24 rows and 80 columns that keeps no scrollback.
     fn default() -> Self {
         Self::new(Self::DEFAULT_ROWS, Self::DEFAULT_COLS, 0)
     }

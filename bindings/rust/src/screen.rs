@@ -4,16 +4,16 @@ use crate::{Cell, Color, CursorStyle, MouseProtocolEncoding, MouseProtocolMode};
 use std::num::NonZeroU16;
 use std::sync::{Mutex, MutexGuard, OnceLock, PoisonError};
 
-/// A terminal screen: that of a parser, or a copy of one.
+/// A terminal screen, which belongs to a parser or is a copy.
 ///
-/// Rows and columns count from 0. Cells and strings are those of the displayed rows, which include
-/// rows of scrollback after [`set_scrollback`](Self::set_scrollback).
+/// Rows and columns are 0-based. Cells and strings are those of the displayed rows, which include
+/// scrollback rows after a call to [`set_scrollback`](Self::set_scrollback).
 pub struct Screen {
-    /// A parser or a saved screen of the library. Each call of the library needs exclusive access,
+    /// A parser or a saved screen of the library. Each call to the library needs exclusive access,
     /// even one that only reads.
     handle: Mutex<Handle>,
 
-    /// The state, if it was asked for since the last change.
+    /// The state, if it was requested since the last change.
     state: OnceLock<State>,
     cells: Cells,
 }
@@ -27,7 +27,7 @@ impl Screen {
         }
     }
 
-    /// The handle, unlocked.
+    /// Returns the handle without locking it.
     pub(crate) fn handle(&self) -> &Mutex<Handle> {
         &self.handle
     }
@@ -61,7 +61,7 @@ impl Screen {
         self.changed().screen_set_size(rows.get(), cols.get());
     }
 
-    /// Returns the number of rows and of columns.
+    /// Returns the number of rows and columns.
     #[must_use]
     pub fn size(&self) -> (NonZeroU16, NonZeroU16) {
         let state = self.state();
@@ -69,37 +69,37 @@ impl Screen {
         (number(state.rows), number(state.cols))
     }
 
-    /// Returns the number of rows of scrollback.
+    /// Returns the number of scrollback rows.
     #[must_use]
     pub fn scrollback_len(&self) -> usize {
         self.state().scrollback_len
     }
 
-    /// Returns the maximum number of rows of scrollback.
+    /// Returns the maximum number of scrollback rows.
     #[must_use]
     pub fn scrollback_capacity(&self) -> usize {
         self.state().scrollback_capacity
     }
 
-    /// Scrolls the display back by `rows` rows, or by all rows of scrollback if there are fewer; 0
-    /// displays none of them.
+    /// Sets the number of rows by which the display is scrolled back, at most the number of
+    /// scrollback rows; 0 displays none of them.
     pub fn set_scrollback(&mut self, rows: usize) {
         self.changed().set_scrollback(rows);
     }
 
-    /// Removes all rows of scrollback, invoking no callbacks.
+    /// Removes all scrollback rows, invoking no callbacks.
     pub fn clear_scrollback(&mut self) {
         self.changed().clear_scrollback();
     }
 
-    /// Returns by how many rows the display is scrolled back.
+    /// Returns the number of rows by which the display is scrolled back.
     #[must_use]
     pub fn scrollback(&self) -> usize {
         self.state().scrollback
     }
 
-    /// Returns the row and the column of the cursor. The column is the number of columns if the
-    /// cursor is past the last one, after a character was printed there.
+    /// Returns the row and column of the cursor. The column equals the number of columns if a wrap
+    /// is pending, after a character was printed in the last column.
     #[must_use]
     pub fn cursor_position(&self) -> (u16, u16) {
         let state = self.state();
@@ -148,7 +148,7 @@ impl Screen {
         self.state().bracketed_paste == 1
     }
 
-    /// Returns which mouse events the program has asked for.
+    /// Returns the mouse events that the program has requested.
     #[must_use]
     pub fn mouse_protocol_mode(&self) -> MouseProtocolMode {
         MouseProtocolMode::of(self.state().mouse_protocol_mode)
@@ -202,14 +202,14 @@ impl Screen {
         self.has(library::UNDERLINE)
     }
 
-    /// Returns whether the next character's foreground and background colors are exchanged.
+    /// Returns whether the foreground and background colors of the next character are swapped.
     #[must_use]
     pub fn inverse(&self) -> bool {
         self.has(library::INVERSE)
     }
 
-    /// Returns whether the screen is steady: each displayed glyph, printed on a blank row, is the
-    /// same glyph again.
+    /// Returns whether the screen is steady: every displayed glyph reproduces itself when it is
+    /// printed on a blank row.
     ///
     /// A terminal that reads a redraw or a difference of a steady screen displays exactly this
     /// screen. A screen without U+FE0F is steady. Not in the crate `vt100`.
@@ -218,11 +218,11 @@ impl Screen {
         self.lock().is_steady()
     }
 
-    /// Returns a screen of the same size that displays the same, without scrollback and without the
-    /// page that is not displayed; a clone if scrollback is displayed.
+    /// Returns a screen of the same size that displays the same content, without scrollback and
+    /// without the inactive page. If scrollback is displayed, it is a clone.
     ///
-    /// It serves as `prev` of [`contents_diff`](Self::contents_diff) in less memory than a clone.
-    /// Not in the crate `vt100`.
+    /// The copy can serve as `prev` of [`contents_diff`](Self::contents_diff) and takes less memory
+    /// than a clone. Not in the crate `vt100`.
     ///
     /// ```
     /// let mut parser = vt100::Parser::default();

@@ -1,4 +1,4 @@
-//! The strings of a screen: its text, redraws and differences.
+//! The text of a screen, and its redraws and differences as strings.
 
 use crate::capture::BasicFormattedCaptureRange;
 use crate::library::{Difference, Handle, RowTexts, Text};
@@ -6,14 +6,14 @@ use crate::Screen;
 use std::fmt;
 
 impl Screen {
-    /// Returns the plain text of the displayed rows. A newline separates rows, unless the first of
-    /// them is wrapped.
+    /// Returns the plain text of the displayed rows. A newline separates two rows, unless the first
+    /// of them is wrapped.
     #[must_use]
     pub fn contents(&self) -> String {
         self.lock().text(Text::CONTENTS)
     }
 
-    /// Returns the plain text of each displayed row, of `width` columns from column `start` on.
+    /// Returns the plain text of each displayed row in `width` columns from column `start` on.
     pub fn rows(&self, start: u16, width: u16) -> impl Iterator<Item = String> + '_ {
         let rows = self.state().rows;
         self.lock()
@@ -21,11 +21,12 @@ impl Screen {
             .into_iter()
     }
 
-    /// Returns the plain text from one position up to, but not including, a second one.
+    /// Returns the plain text from one position up to but excluding another.
     ///
     /// # Panics
     ///
-    /// If `start_col` is greater than the number of columns, and the range has several rows.
+    /// Panics if `start_col` is greater than the number of columns and the range has more than one
+    /// row.
     #[must_use]
     pub fn contents_between(
         &self,
@@ -61,19 +62,19 @@ impl Screen {
         self.lock().text(Text::FORMATTED)
     }
 
-    /// Returns the text with the sequences of its colors and attributes, and no other sequences. Each
-    /// row ends in a newline, unless it is wrapped or the last one.
+    /// Returns the text with its colors and attributes, and with no other escape sequences. Each
+    /// row ends with a newline, unless it is wrapped or is the last one.
     #[must_use]
     pub fn contents_formatted_basic(&self) -> String {
         self.lock().text(Text::BASIC)
     }
 
     /// Writes rows in the form of [`contents_formatted_basic`](Self::contents_formatted_basic): the
-    /// displayed ones, or all rows as the continuation of a capture.
+    /// displayed rows, or all rows as the continuation of a capture.
     ///
     /// # Errors
     ///
-    /// Returns the error of the writer.
+    /// Returns an error if the writer fails.
     pub fn write_contents_formatted_basic(
         &self,
         writer: &mut impl fmt::Write,
@@ -86,8 +87,8 @@ impl Screen {
         writer.write_str(&text)
     }
 
-    /// Returns the escape sequences that draw each row, of `width` columns from column `start` on.
-    /// The cursor must be where the row is to begin; where it is afterwards is unspecified.
+    /// Returns the escape sequences that draw each row in `width` columns from column `start` on.
+    /// The cursor must be where the row begins; its final position is unspecified.
     pub fn rows_formatted(&self, start: u16, width: u16) -> impl Iterator<Item = String> + '_ {
         let (rows, cols) = (self.state().rows, self.state().cols);
         let texts = if start < cols {
@@ -99,14 +100,14 @@ impl Screen {
     }
 
     /// Returns the escape sequences that turn the display of `prev` into the display of `self`. If
-    /// the sizes differ, it is the redraw.
+    /// the sizes differ, this is the redraw.
     #[must_use]
     pub fn contents_diff(&self, prev: &Self) -> String {
         self.difference(prev, Difference::CONTENTS)
             .unwrap_or_else(|| self.contents_formatted())
     }
 
-    /// Returns a difference from `prev` that may move rows first, and is never longer than
+    /// Returns a difference from `prev` that may move rows first and is never longer than
     /// [`contents_diff`](Self::contents_diff). Not in the crate `vt100`.
     #[must_use]
     pub fn contents_diff_scrolling(&self, prev: &Self) -> String {
@@ -114,9 +115,10 @@ impl Screen {
             .unwrap_or_else(|| self.contents_formatted())
     }
 
-    /// Returns the escape sequences that turn each row of `prev` into that of `self`, of `width`
-    /// columns from column `start` on. The cursor must be where the row begins; where it is
-    /// afterwards is unspecified. If the sizes differ, they redraw each row that both screens have.
+    /// Returns the escape sequences that turn each row of `prev` into that row of `self`, in
+    /// `width` columns from column `start` on. The cursor must be where the row begins; its final
+    /// position is unspecified. If the sizes differ, the sequences redraw each row that both
+    /// screens have.
     pub fn rows_diff<'a>(
         &'a self,
         prev: &'a Self,
@@ -139,7 +141,7 @@ impl Screen {
     }
 
     /// Returns the escape sequences that set the input modes: application keypad and cursor keys,
-    /// bracketed paste, mouse and the style of the cursor.
+    /// bracketed paste, mouse, and cursor style.
     #[must_use]
     pub fn input_mode_formatted(&self) -> String {
         self.lock().text(Text::INPUT_MODE)
@@ -152,15 +154,15 @@ impl Screen {
             .unwrap_or_else(|| self.input_mode_formatted())
     }
 
-    /// Returns the escape sequences that set the attributes of the next character. A redraw contains
-    /// them.
+    /// Returns the escape sequences that set the attributes of the next character. They are part of
+    /// a redraw.
     #[must_use]
     pub fn attributes_formatted(&self) -> String {
         self.lock().text(Text::ATTRIBUTES)
     }
 
-    /// Returns the escape sequences that set the cursor. A redraw contains them. They may draw cells
-    /// again, and so change the attributes of the next character.
+    /// Returns the escape sequences that set the cursor. They are part of a redraw. They may draw
+    /// cells again, and so change the attributes of the next character.
     #[must_use]
     pub fn cursor_state_formatted(&self) -> String {
         self.lock().text(Text::CURSOR_STATE)
@@ -170,8 +172,8 @@ impl Screen {
         self.with_both(prev, |handle, prev| handle.difference(prev, difference))
     }
 
-    /// Passes both handles to `f`, locked in the order of their addresses, so that two threads cannot
-    /// deadlock. If both screens are one, the second handle is that of a copy.
+    /// Passes both handles to `f`, locked in the order of their addresses, so that two threads
+    /// cannot deadlock. If both screens are the same, the second handle is that of a copy.
     fn with_both<T>(&self, prev: &Self, f: impl FnOnce(&mut Handle, &mut Handle) -> T) -> T {
         let (one, other): (*const Self, *const Self) = (self, prev);
         if one == other {

@@ -1,4 +1,4 @@
--- The results of the calls that parse bytes, and the parsers they leave.
+-- The effects of the calls that parse bytes: their results, and the parser after them.
 use Rattle.std.specs.Prelude.{◌≡◌, ◌≢◌, ◌↔◌, ◌<◌, ◌≤◌, ℕ, true, false, List, Err, Ok, length, take, IfErr, IfOk, IsErr}
 use Rattle.std.specs.IoError.{error_kind}
 use Rattle.std.specs.declared.io.Error as io
@@ -10,8 +10,8 @@ use Rattle.vt100.specs.Parser.{CallsByLast, IsHarmless, Parsing, Ran, Stopped, S
 use Rattle.vt100.specs.Pieces.{Processes, processing}
 use Rattle.vt_screen.specs.Run.{CallRelation}
 
--- A call of `process`: all bytes are read, or those before a byte or step whose allocation fails, after which the
--- parser reads nothing more.
+-- The effect of `process`. It reads all bytes, or stops at the first byte or step whose allocation fails; the parser
+-- then reads nothing more.
 pub record ParserProcesses {S : Type 0} (does : CallRelation S)
     (old : Parsing S) (bytes : List ℕ) (answer : Result (Unit {0}) Error) (new : Parsing S) : Type 0 where
   pub ran : IfOk answer (λ _. Ran does old bytes new)
@@ -23,9 +23,9 @@ pub record ParserProcesses {S : Type 0} (does : CallRelation S)
   pub harmless : old.is_failed ≡ false → IsHarmless does old bytes → answer ≡ Ok tt
   pub quiet : Processes old (processing bytes answer) new
 
--- A call of `process_unit`: the first `count` bytes are read, of which only the last has events if a callback is
--- invoked; or the allocation for the byte at `count` fails, no byte before it has an event, and the parser reads
--- nothing more.
+-- The effect of `process_unit`. On success, the first `count` bytes are read, and if a callback was invoked, only the
+-- last of them has events. If an allocation fails, it is the one for the byte at index `count`; the bytes before it
+-- have no events, and the parser reads nothing more.
 pub record ParserReadsUnit {S : Type 0} (does : CallRelation S) (old : Parsing S) (bytes : List ℕ) (count : ℕ)
     (answer : Result (Unit {0}) Error) (new : Parsing S) : Type 0 where
   pub some : IfOk answer (λ _. 0 < count)
@@ -38,7 +38,7 @@ pub record ParserReadsUnit {S : Type 0} (does : CallRelation S) (old : Parsing S
   pub no_number : IfErr answer (λ error. error ≢ NoNumber)
   pub for_good : new.is_failed ≡ true ↔ IsErr answer
 
--- A call of `write` on a parser as an `io::Write`: all bytes are read, or the error is of the kind `OutOfMemory` or
+-- The effect of `io::Write::write` on a parser. It reads all bytes, or returns an error of kind `OutOfMemory` or
 -- `Other`.
 pub record ParserWrites (old : Parsing (Unit {0})) (bytes : List ℕ) (answer : Result ℕ io.Error)
     (new : Parsing (Unit {0})) : Type 0 where

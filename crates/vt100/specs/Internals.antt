@@ -1,4 +1,4 @@
--- Auxiliary definitions that only the contracts of private functions cite.
+-- Auxiliary definitions that are cited only by the contracts of private functions.
 use Rattle.std.specs.Prelude.{◌≡◌, ℕ, ◌<◌, ◌≤◌, Bool, true, false, List, Option, Some, None, IfErr, IfOk, IsErr, length}
 use Rattle.std.specs.Prelude.{replicate, take}
 use Rattle.std.specs.List.{FoldsTo}
@@ -15,15 +15,15 @@ use Rattle.vt_screen.specs.Run.{CallRelation, Breaks, Performs, Refuses, State, 
 use Rattle.vt100.specs.Parser.{Parsing, Ran, Stopped, StoppedAt}
 use Rattle.vt100.specs.declared.sequence.Sequence.{Sequence}
 
--- The steps are taken one after the other.
+-- Taking all of `steps` in order turns the callbacks `old` and the screen `before` into `new` and `after`.
 abbrev pub Does : {S : Type 0} → CallRelation S → S → ScreenValue → List Step → S → ScreenValue → Type 0
 Does does old before steps new after = FoldsTo (Takes does) (state old before) steps (state new after)
 
--- Some of the steps are taken, and the allocation of the next one fails.
+-- A prefix of `steps` is taken, and the allocation of the next step fails.
 abbrev pub Stops : {S : Type 0} → CallRelation S → S → ScreenValue → List Step → S → ScreenValue → Type 0
 Stops does old before steps new after = StopsIn (Takes does) Refuses (state old before) steps (state new after)
 
--- A call that takes all of the steps, or stops at one of them because its allocation fails.
+-- The effect of a call that takes all of `steps`, or stops at the first one whose allocation fails.
 pub record DoesOrStops {S : Type 0} (does : CallRelation S)
     (old : S) (before : ScreenValue) (steps : List Step) (new : S) (after : ScreenValue)
     (result : Result (Unit {0}) Error) : Type 0 where
@@ -31,8 +31,8 @@ pub record DoesOrStops {S : Type 0} (does : CallRelation S)
   pub stopped : IsErr result → Stops does old before steps new after
   pub memory : OnlyOutOfMemory result
 
--- A call that takes a step as many times as it returns, which is at most `left`, or stops within `left` of them because
--- an allocation fails.
+-- The effect of a call that takes `step` between one and `left` times and returns how many times, or stops when an
+-- allocation fails.
 pub record RepeatsOrStops {S : Type 0} (does : CallRelation S)
     (old : S) (before : ScreenValue) (left : ℕ) (step : Step) (new : S) (after : ScreenValue)
     (result : Result ℕ Error) : Type 0 where
@@ -42,15 +42,15 @@ pub record RepeatsOrStops {S : Type 0} (does : CallRelation S)
   pub stopped : IsErr result → Stops does old before (replicate left step) new after
   pub memory : OnlyOutOfMemory result
 
--- A call that performs all of the events, or stops in one of them because an allocation fails.
+-- The effect of a call that performs all of `events`, or stops within one of them when an allocation fails.
 pub record PerformsOrBreaks {S : Type 0} (does : CallRelation S)
     (old : State S) (events : List Event) (new : State S) (result : Result (Unit {0}) Error) : Type 0 where
   pub done : IfOk result (λ _. FoldsTo (Performs does) old events new)
   pub stopped : IsErr result → StopsIn (Performs does) (Breaks does) old events new
   pub memory : OnlyOutOfMemory result
 
--- A call that reads as many of the bytes as it returns, or stops, with an error that counts the bytes before the one
--- whose allocation fails.
+-- The effect of a call that reads a prefix of `bytes` and returns its length, or stops at a byte whose allocation
+-- fails and returns the number of bytes before it as the error.
 pub record ReadsOrStops {S : Type 0} (does : CallRelation S)
     (old : Parsing S) (bytes : List ℕ) (new : Parsing S) (result : Result ℕ ℕ) : Type 0 where
   pub inside : IfOk result (λ count. count ≤ length bytes)
@@ -58,12 +58,12 @@ pub record ReadsOrStops {S : Type 0} (does : CallRelation S)
   pub stopped : IsErr result → Stopped does old bytes new
   pub where_stopped : IfErr result (λ count. StoppedAt does old bytes count new)
 
--- The call of `unhandled_csi` that reports a control sequence.
+-- The `unhandled_csi` call that reports a control sequence.
 abbrev pub report_of : Sequence → CallValue
 report_of sequence =
     UnhandledCsi sequence.first sequence.second sequence.parameters.now.groups sequence.byte
 
--- Whether a step invokes no callbacks, allocates nothing, and scrolls no row off the page.
+-- Whether a step invokes no callbacks, allocates nothing, and scrolls no rows off the page.
 abbrev pub is_own : Step → Bool
 is_own (CallBack call) = false
 is_own (Print c) = false
@@ -74,7 +74,7 @@ is_own EnterAlternate = false
 is_own EnterFresh = false
 is_own _ = true
 
--- A call that takes the step of the page, if there is one, and returns whether there is.
+-- The effect of a call that takes a step of the page, if there is one, and returns whether there is one.
 abbrev pub MadeIf : Option PageStep → Bool → ScreenValue → ScreenValue → Type 0
 MadeIf (Some step) made old new = (made ≡ true) × (new ≡ display_after (OnPage step) old)
 MadeIf None made old new = (made ≡ false) × (new ≡ old)

@@ -1,4 +1,4 @@
--- Bytes that are read without callbacks or allocations, in any list of calls of `process`.
+-- Bytes that are parsed without callbacks or allocations, however they are split into calls to `process`.
 use Rattle.std.specs.Prelude.{◌≡◌, ℕ, false, List, [], ◌∷◌, ◌++◌, Ok, Some}
 use Rattle.std.specs.List.{AllByRecursion}
 use Rattle.std.specs.declared.result.Result.{Result}
@@ -14,7 +14,7 @@ use Rattle.vt_screen.specs.Screen.{IsScreen, ScreenValue, above_page}
 use Rattle.vt_screen.specs.Shown.{IsPlain, KeepsRest, shown}
 use Rattle.vt100.specs.Parser.{Parsing}
 
--- A call of `process`: its bytes and its result.
+-- A call to `process`: its bytes and its result.
 pub record Processing : Type 0 where
   pub bytes : List ℕ
   pub answer : Result (Unit {0}) Error
@@ -25,14 +25,14 @@ processing bytes answer = record { bytes = bytes; answer = answer }
 abbrev pub IsFine : Processing → Type 0
 IsFine call = call.answer ≡ Ok tt
 
--- A parser that has become what reading makes of its terminal, with its callbacks unchanged.
+-- The parser `new` is `old` after its terminal became `after`, with its callbacks unchanged.
 pub record HasRead {S : Type 0} (old : Parsing S) (after : Terminal) (new : Parsing S) : Type 0 where
   pub is_failed : new.is_failed ≡ false
   pub scanner : StandsFor new.scanner after.scan
   pub screen : new.screen ≡ after.screen
   pub callbacks : new.callbacks ≡ old.callbacks
 
--- What a call of `process` does if reading its bytes invokes no callbacks and allocates nothing: it returns Ok, and the
+-- The effect of a call to `process` whose bytes invoke no callbacks and allocate nothing: it returns `Ok`, and all
 -- bytes are read.
 abbrev pub Processes : {S : Type 0} → Parsing S → Processing → Parsing S → Type 0
 Processes old call new =
@@ -40,32 +40,34 @@ Processes old call new =
     → StandsFor old.scanner state → read (terminal state old.screen) call.bytes ≡ Some after
     → IsFine call × HasRead old after new
 
--- The concatenated bytes of a list of calls.
+-- The concatenated bytes of a list of calls to `process`.
 abbrev pub bytes_in : List Processing → List ℕ
 bytes_in [] = []
 bytes_in (call ∷ calls) = call.bytes ++ bytes_in calls
 
--- A parser that has not failed, is in ground state, and has a plain screen.
+-- The parser has not failed, is in ground state, and has a plain screen.
 pub record IsPlainParser {S : Type 0} (parser : Parsing S) : Type 0 where
   pub is_failed : parser.is_failed ≡ false
   pub scanner : StandsFor parser.scanner start
   pub screen : IsPlain parser.screen
 
--- A plain parser that displays the screen `last`; the rest of its own screen and its callbacks are unchanged.
+-- The parser `new` is plain and displays what the screen `last` displays. The rest of its screen and its callbacks
+-- are the same as in `old`.
 pub record ShowsLast {S : Type 0} (old : Parsing S) (last : ScreenValue) (new : Parsing S) : Type 0 where
   pub plain : IsPlainParser new
   pub shows : shown new.screen ≡ shown last
   pub rest : KeepsRest old.screen new.screen
   pub callbacks : new.callbacks ≡ old.callbacks
 
--- A parser in ground state that displays no scrollback; its scroll region and origin mode may be any.
+-- The parser is in ground state, and its screen displays no scrollback. Its scroll region and origin mode are
+-- arbitrary.
 pub record IsUnscrolledParser {S : Type 0} (parser : Parsing S) : Type 0 where
   pub sound : IsScreen parser.screen
   pub scanner : StandsFor parser.scanner start
   pub offset : (above_page parser.screen).offset ≡ 0
 
--- A plain parser whose other page, input modes, cursor style and size are unchanged; of its callbacks only `on_scroll`
--- was invoked, for rows that scrolled off the top.
+-- The parser `new` is plain, and its inactive page, input modes, cursor style and size are the same as in `old`. The
+-- only callback invoked was `on_scroll`, for rows that scrolled off the top.
 pub record IsPlainAgain {S : Type 0} (does : CallRelation S) (old new : Parsing S) : Type 0 where
   pub plain : IsPlainParser new
   pub aside : KeepsAside old.screen new.screen

@@ -1,5 +1,5 @@
--- Calls of a parser between which its screen is scrolled back and forth: the callbacks they invoke, and the one text of
--- what is reported and captured.
+-- Lists of calls to a parser that also change which scrollback rows are displayed: the callbacks they invoke, and the
+-- single text formed by all reported and captured rows.
 use Rattle.std.specs.Prelude.{◌≡◌, ℕ, ◌<◌, ◌^◌, Bool, true, List, [], ◌∷◌, ◌++◌}
 use Rattle.vt_rows.specs.Basic.{Written, unwritten}
 use Rattle.vt_scan.specs.Automaton.{State, start}
@@ -13,24 +13,23 @@ use Rattle.vt_screen.specs.CallsOfRun.{LeavesScreen, calls_in, screen_in}
 use Rattle.vt_screen.specs.Run.{CallRelation}
 use Rattle.vt100.specs.Parser.{Parsing, Ran}
 
--- A call of `Parser::process` or of `Screen::set_scrollback`.
+-- A call to `Parser::process` or `Screen::set_scrollback`.
 pub data ParserCall : Type 0 where
   Process : (bytes : List ℕ) → ParserCall
   SetScrollback : (rows : ℕ) → ParserCall
 
--- What a call of a parser that returns Ok does.
+-- The effect of a call to a parser that returns `Ok`.
 abbrev pub MakesCall : {S : Type 0} → CallRelation S → Parsing S → ParserCall → Parsing S → Type 0
 MakesCall does old (Process bytes) new = Ran does old bytes new
 MakesCall does old (SetScrollback rows) new = new ≡ record old { screen = scrolled_back rows old.screen }
 
--- The concatenated bytes of the calls of `process` in a list.
+-- The concatenated bytes of the `process` calls in a list.
 abbrev pub bytes_of_calls : List ParserCall → List ℕ
 bytes_of_calls [] = []
 bytes_of_calls (Process bytes ∷ calls) = bytes ++ bytes_of_calls calls
 bytes_of_calls (SetScrollback rows ∷ calls) = bytes_of_calls calls
 
--- The calls that callbacks receive in a list of calls of a parser, and the screen after it, if callbacks leave the
--- screen alone.
+-- The callbacks invoked by a list of calls to a parser, in order, if callbacks leave the screen unchanged.
 abbrev pub calls_by : State → ScreenValue → List ParserCall → List CallValue
 calls_by scan screen [] = []
 calls_by scan screen (Process bytes ∷ calls) =
@@ -42,7 +41,7 @@ screen_by scan screen [] = screen
 screen_by scan screen (Process bytes ∷ calls) = screen_by (run scan bytes).state (screen_in scan screen bytes) calls
 screen_by scan screen (SetScrollback rows ∷ calls) = screen_by scan (scrolled_back rows screen) calls
 
--- A fresh parser of this size and scrollback capacity.
+-- The parser is fresh and has the given size and scrollback capacity.
 pub record IsFreshParser {S : Type 0} (rows cols capacity : ℕ) (parser : Parsing S) : Type 0 where
   pub has_rows : 0 < rows
   pub few_rows : rows < 2 ^ 16
@@ -51,15 +50,15 @@ pub record IsFreshParser {S : Type 0} (rows cols capacity : ℕ) (parser : Parsi
   pub ground : StandsFor parser.scanner start
   pub shown : parser.screen ≡ fresh_screen rows cols capacity
 
--- The text of everything that bytes write on a main page of this size: the rows that scroll off its top, and then those
--- of the page.
+-- The text of everything that `bytes` write to a main page of `rows` rows and `cols` columns: the rows that scroll
+-- off its top, followed by the rows of the page.
 abbrev pub whole_text : (rows cols : ℕ) → List ℕ → List ℕ
 whole_text rows cols bytes =
     let fresh = fresh_screen rows cols 0 in
     basic_texts unwritten (sent_off_in start fresh bytes ++ (screen_in start fresh bytes).page.rows)
 
--- Callbacks that append each reported row of the main page to their text, with one capture state; their text is whole
--- unless their sink refused a part of it.
+-- The callbacks append each reported row of the main page to their text, using a single capture state. Their text is
+-- complete unless their sink rejected a part of it.
 pub record IsRecorder {S : Type 0} (does : CallRelation S)
     (text_of : S → List ℕ) (state_of : S → Written) (is_whole : S → Bool) : Type 0 where
   pub leaves : LeavesScreen does

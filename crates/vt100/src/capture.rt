@@ -1,5 +1,5 @@
-//! The text of rows with SGR as the only escape sequences (captures), and the
-//! types to read it.
+//! Captures (the text of rows with SGR as the only escape sequences) and the
+//! types for reading them.
 
 pub use vt_rows::capture::{
     BasicFormattedRows, BasicFormattedToPlain, BasicFormattedToPlainIndexed, basic_formatted_rows,

@@ -18,13 +18,13 @@ use vt_scan::Parameters;
 use vt_screen::screen::{controls, scrolling};
 use vt_screen::{Callbacks, Screen};
 
-/// Applies a control sequence to the screen and invokes the callbacks it calls
-/// for.
+/// Applies a control sequence to the screen and invokes the callbacks that it
+/// calls for.
 ///
 /// # Errors
 ///
-/// `Error::OutOfMemory` if an allocation fails; the steps before the failing
-/// one stay applied.
+/// Returns `Error::OutOfMemory` if an allocation fails. The steps before the
+/// failing one remain in effect.
 #[inline(always)]
 #[tactic(auto, using(crate::proofs::Dispatching::by_intermediates))]
 pub fn perform<CB: Callbacks>(
@@ -57,8 +57,8 @@ pub fn perform<CB: Callbacks>(
 ///
 /// # Errors
 ///
-/// `Error::OutOfMemory` if an allocation fails; the steps before the failing
-/// one stay applied.
+/// Returns `Error::OutOfMemory` if an allocation fails. The steps before the
+/// failing one remain in effect.
 #[inline(always)]
 fn unmarked<CB: Callbacks>(
     screen: &mut Screen,
@@ -81,12 +81,12 @@ fn unmarked<CB: Callbacks>(
 }
 
 /// Performs a control sequence without a private marker or an intermediate
-/// byte, dispatching on its final byte.
+/// byte, by dispatching on its final byte.
 ///
 /// # Errors
 ///
-/// `Error::OutOfMemory` if an allocation fails; the steps before the failing
-/// one stay applied.
+/// Returns `Error::OutOfMemory` if an allocation fails. The steps before the
+/// failing one remain in effect.
 #[inline(never)]
 #[tactic(auto, using(crate::proofs::Dispatching::by_counts))]
 fn unmarked_by_table<CB: Callbacks>(
@@ -113,15 +113,15 @@ fn unmarked_by_table<CB: Callbacks>(
     scrolling(screen, callbacks, sequence, count)
 }
 
-/// Performs SU or REP, which may scroll rows off the page, or any other control
-/// sequence without a marker.
+/// Performs SU, REP, or any other control sequence without a private marker
+/// that [`counted`] doesn't handle. SU and REP may scroll rows off the page.
 ///
-/// `count` is the first parameter, with a default of 1.
+/// `count` is the first parameter, which defaults to 1.
 ///
 /// # Errors
 ///
-/// `Error::OutOfMemory` if an allocation fails; the steps before the failing
-/// one stay applied.
+/// Returns `Error::OutOfMemory` if an allocation fails. The steps before the
+/// failing one remain in effect.
 #[inline(always)]
 #[tactic(auto, using(crate::proofs::Stepping::tested_refusal), unfolding(vt_screen::specs::Controls::scrolling_steps))]
 fn scrolling<CB: Callbacks>(
@@ -152,9 +152,9 @@ fn scrolling<CB: Callbacks>(
     }
 }
 
-/// Performs a control sequence whose only parameter is a count of at least 1.
-/// Returns whether `byte` is the final byte of such a sequence; if not, the
-/// screen is unchanged.
+/// Performs the control sequence with the final byte `byte` if its only
+/// parameter is a count, which must be at least 1. Otherwise returns false and
+/// leaves the screen unchanged.
 #[inline(always)]
 #[tactic(auto, using(crate::proofs::Stepping::tested_steps), unfolding(vt_screen::specs::Controls::counted_step))]
 fn counted(screen: &mut Screen, byte: u8, count: u16) -> bool
@@ -181,10 +181,10 @@ fn counted(screen: &mut Screen, byte: u8, count: u16) -> bool
     true
 }
 
-/// Performs HVP, ED, EL, DECSTBM or a window manipulation, or reports an
-/// unknown control sequence.
+/// Performs HVP, ED, EL, DECSTBM or a window operation, or reports an unknown
+/// control sequence.
 ///
-/// [`unmarked`] has handled CUP and SGR before.
+/// CUP and SGR never reach this function, because [`unmarked`] handles them.
 #[inline(always)]
 #[tactic(auto, using(crate::proofs::Stepping::tested_steps), unfolding(vt_screen::specs::Controls::other_steps))]
 fn other<CB: Callbacks>(screen: &mut Screen, callbacks: &mut CB, sequence: Sequence<'_>)
@@ -206,7 +206,7 @@ fn other<CB: Callbacks>(screen: &mut Screen, callbacks: &mut CB, sequence: Seque
     }
 }
 
-/// Performs CUP. Its row and column count from 1, and each defaults to 1.
+/// Performs CUP or HVP. The row and column are 1-based and default to 1.
 #[inline(always)]
 fn move_to(screen: &mut Screen, parameters: &Parameters)
     ensures { screen.new
@@ -219,8 +219,8 @@ fn move_to(screen: &mut Screen, parameters: &Parameters)
     controls::cup(screen, row - 1, col - 1);
 }
 
-/// Performs DECSTBM. Its rows count from 1; the second defaults to the last
-/// row.
+/// Performs DECSTBM. The rows are 1-based; the top defaults to 1, and the
+/// bottom to the last row.
 fn set_region(screen: &mut Screen, parameters: &Parameters)
     ensures { screen.new
         ≡ display_after (step.OnPage (page.SetRegion (number_or 1 0 parameters.now.groups - 1)
@@ -264,8 +264,9 @@ fn erase_row<CB: Callbacks>(screen: &mut Screen, callbacks: &mut CB, sequence: S
     }
 }
 
-/// Performs a window manipulation (CSI `t`): `8` invokes [`Callbacks::resize`]
-/// with the requested size, and all others are reported.
+/// Performs a window operation (xterm, `CSI t`). Operation 8 invokes
+/// [`Callbacks::resize`] with the requested size; all others are reported as
+/// unhandled.
 #[tactic(auto, using(crate::proofs::Stepping::tested_steps), unfolding(vt_screen::specs::Controls::window_steps))]
 fn window<CB: Callbacks>(screen: &mut Screen, callbacks: &mut CB, sequence: Sequence<'_>)
     requires { report_of sequence ≡ UnhandledCsi None None sequence.parameters.now.groups 0x74 }
@@ -283,8 +284,8 @@ fn window<CB: Callbacks>(screen: &mut Screen, callbacks: &mut CB, sequence: Sequ
     callbacks.resize(screen, (rows, cols));
 }
 
-/// Returns the first number of group `i`, or the screen's own size `own` if
-/// there is no such group.
+/// Returns the first number of group `i`, or `own` (the screen's current size)
+/// if there is no such group.
 fn number_or_own(own: u16, parameters: &Parameters, i: usize) -> u16
     ensures { result ≡ size_or own i parameters.now.groups }
 {
@@ -298,8 +299,8 @@ fn number_or_own(own: u16, parameters: &Parameters, i: usize) -> u16
 ///
 /// # Errors
 ///
-/// `Error::OutOfMemory` if an allocation fails; the steps before the failing
-/// one stay applied.
+/// Returns `Error::OutOfMemory` if an allocation fails. The steps before the
+/// failing one remain in effect.
 #[inline(never)]
 #[tactic(auto, using(crate::proofs::Stepping::tested_steps), unfolding(vt_screen::specs::Controls::intermediate_steps))]
 fn with_intermediate<CB: Callbacks>(
@@ -325,8 +326,8 @@ fn with_intermediate<CB: Callbacks>(
 ///
 /// # Errors
 ///
-/// `Error::OutOfMemory` if an allocation fails; the steps before the failing
-/// one stay applied.
+/// Returns `Error::OutOfMemory` if an allocation fails. The steps before the
+/// failing one remain in effect.
 #[tactic(auto, using(crate::proofs::Stepping::tested_steps), unfolding(vt_screen::specs::Controls::private_steps))]
 fn private<CB: Callbacks>(
     screen: &mut Screen,
@@ -348,7 +349,7 @@ fn private<CB: Callbacks>(
     Ok(())
 }
 
-/// Performs a control sequence with a space as its intermediate byte, such as
+/// Performs a control sequence whose intermediate byte is a space, such as
 /// DECSCUSR.
 #[tactic(auto, using(crate::proofs::Stepping::tested_steps), unfolding(vt_screen::specs::Controls::space_steps))]
 fn spaced<CB: Callbacks>(screen: &mut Screen, callbacks: &mut CB, sequence: Sequence<'_>)
@@ -372,8 +373,8 @@ fn spaced<CB: Callbacks>(screen: &mut Screen, callbacks: &mut CB, sequence: Sequ
     }
 }
 
-/// Returns the cursor style that DECSCUSR gives this number, or `None` if it is
-/// unknown.
+/// Returns the cursor style that `number` selects in DECSCUSR, or `None` if the
+/// number is unknown.
 #[tactic(auto, using(crate::proofs::Stepping::tested_steps), unfolding(vt_screen::specs::Controls::style_of))]
 fn style(number: u16) -> Option<CursorStyle>
     ensures { result ≡ style_of number }

@@ -1,4 +1,4 @@
-//! Laws about lists of calls. These functions do nothing when run; their
+//! Laws about sequences of calls. These functions do nothing when called; their
 //! clauses state what is proved.
 
 ghost use Rattle.std.specs.List.{AllByRecursion, FoldsTo};
@@ -24,17 +24,19 @@ ghost use Rattle.vt_screen.specs.CallsOfRun.{CalledOnSomeScreen, LeavesScreen, c
 
 use vt_screen::Callbacks;
 
-/// States that input may be split anywhere: one call of `process` on all bytes
-/// and several calls on consecutive chunks of them allow the same runs, with
-/// the same callbacks in the same order.
+/// States that input may be split anywhere. One call to `process` on all the
+/// bytes and several calls on consecutive chunks allow the same runs, with the
+/// same callbacks in the same order.
 ///
-/// - `two`, `list`: what calls on the chunks do, one call on the whole may do.
-/// - `parted`, `parted_list`: what one call on the whole does, calls on the
-///   chunks may do, with the same final state. With two chunks, the parser
-///   between them has not failed.
+/// - `two`, `list`: anything that calls on the chunks do, one call on the whole
+///   input may also do.
+/// - `parted`, `parted_list`: anything that one call on the whole input does,
+///   calls on the chunks may also do, with the same final state. With two
+///   chunks, the parser has not failed between them.
 ///
-/// They hold for parsers whose scanner stands for at least one state. Every
-/// parser's does, by the clause `stands` of `Parser::screen`.
+/// The last two assume that the parser's scanner represents at least one state
+/// of the automaton. By the clause `stands` of `Parser::screen`, every parser's
+/// scanner does.
 pub fn pieces<CB: Callbacks>()
     ensures two { (p q r : Parsing CB) (a b : List ℕ) →
         Ran CB.does p a q → Ran CB.does q b r → Ran CB.does p (a ++ b) r }
@@ -51,10 +53,12 @@ pub fn pieces<CB: Callbacks>()
 /// States that processing bytes never changes the size of the screen, provided
 /// that the callbacks leave the screen alone.
 ///
-/// `ran` is about runs that reached their end, `stopped` about runs that ended
-/// because they were out of memory, and `nobody` says that callbacks that do
-/// nothing leave the screen alone. The premises hold for every parser, by the
-/// clauses of `Screen::size` and `Parser::screen`.
+/// - `ran`: this holds for runs that reach the end of the input.
+/// - `stopped`: this holds for runs that stop because memory runs out.
+/// - `nobody`: callbacks that do nothing leave the screen alone.
+///
+/// By the clauses of `Screen::size` and `Parser::screen`, the premises about
+/// the screen and the scanner hold for every parser.
 pub fn sizes<CB: Callbacks>()
     ensures ran { (p q : Parsing CB) (bytes : List ℕ) → LeavesScreen CB.does →
         IsScreen p.screen → ∥ ((state : State) × StandsFor p.scanner state) ∥₁ →
@@ -66,12 +70,13 @@ pub fn sizes<CB: Callbacks>()
 {}
 
 /// States that a new parser has the requested size and scrollback capacity and
-/// is plain: it has not failed, is in ground state, its scroll region is the
+/// is plain: it has not failed and is in ground state, its scroll region is the
 /// whole page, origin mode is off, and no scrollback is displayed.
 ///
-/// The premises of `fresh` and `plain` hold for every parser that
-/// `Parser::new`, `Parser::default` and `Parser::new_with_callbacks` return, by
-/// their clauses `ground` and `shown` and the clause `whole` of `Screen::size`.
+/// The premises of `fresh` and `plain` hold for every parser that is returned
+/// by `Parser::new`, `Parser::default` or `Parser::new_with_callbacks`. They
+/// follow from the clauses `ground` and `shown` of these functions and the
+/// clause `whole` of `Screen::size`.
 pub fn fresh_parsers<CB: Callbacks>()
     ensures fresh { (rows cols capacity : ℕ) (p : Parsing CB) → IsScreen p.screen → StandsFor p.scanner start
         → p ≡ parsing p.scanner (fresh_screen rows cols capacity) p.callbacks
@@ -84,9 +89,9 @@ pub fn fresh_parsers<CB: Callbacks>()
         → p.screen.page.width ≡ cols }
 {}
 
-/// States that a resized parser has the new size and is plain if it was plain
-/// before. The premise that the resize succeeded is the clause `ok` of
-/// `Parser::set_size`.
+/// States that a resized parser has the new size, and that it is plain if it
+/// was plain before. The clause `ok` of `Parser::set_size` provides the premise
+/// that the resize succeeded.
 pub fn resized_parsers<CB: Callbacks>()
     ensures plain { (rows cols : ℕ) (p q : Parsing CB) → 0 < rows
         → q ≡ record p { screen = resized rows cols p.screen; callbacks = q.callbacks }
@@ -99,13 +104,14 @@ pub fn resized_parsers<CB: Callbacks>()
         → q.screen.page.width ≡ cols }
 {}
 
-/// States that bytes whose reading invokes no callbacks and allocates nothing
-/// have the same effect in every run over them, whatever the callbacks are.
+/// States that input whose parsing invokes no callbacks and allocates nothing
+/// has the same effect in every run, whatever the callbacks are.
 ///
-/// - `ran`: a parser that has not failed after the run is the one that reading
-///   the bytes makes of it.
-/// - `made`: calls of `process` on chunks of the bytes make the same parser.
-/// - `harmless`: no such run can be out of memory, so `process` returns `Ok`.
+/// - `ran`: if the parser has not failed after the run, it is in the state that
+///   reading the bytes produces.
+/// - `made`: calls to `process` on chunks of the bytes produce the same state.
+/// - `harmless`: such a run never runs out of memory, so `process` returns
+///   `Ok`.
 pub fn quiet_runs<CB: Callbacks>()
     ensures ran { (p q : Parsing CB) (bytes : List ℕ) (state : State) (after : Terminal)
         → StandsFor p.scanner state → read (terminal state p.screen) bytes ≡ Some after
@@ -119,25 +125,24 @@ pub fn quiet_runs<CB: Callbacks>()
         → IsHarmless CB.does p bytes }
 {}
 
-/// States that bytes whose reading invokes no callbacks and allocates nothing
-/// may come in any chunks, empty ones included: each call of `process` returns
-/// `Ok`, and in the end the parser is the one that reading all the bytes makes
-/// of it, with its callbacks unchanged.
+/// States that input whose parsing invokes no callbacks and allocates nothing
+/// may be split into any chunks, including empty ones. Each call to `process`
+/// returns `Ok`. The final state of the parser is the one that reading all the
+/// bytes at once produces, with its callbacks unchanged.
 ///
-/// That each single call does so with its own slice is the clause `quiet` of
-/// `Parser::process`.
+/// The clause `quiet` of `Parser::process` states this for a single call.
 pub fn quiet_pieces<CB: Callbacks>()
     ensures { (p q : Parsing CB) → (calls : List Processing) → (state : State) → (after : Terminal) →
         p.is_failed ≡ false → StandsFor p.scanner state → read (terminal state p.screen) (bytes_in calls) ≡ Some after →
         FoldsTo Processes p calls q → AllByRecursion IsFine calls × HasRead p after q }
 {}
 
-/// States that a full redraw followed by any chain of differences, each against
-/// the screen before it, makes a plain terminal display the last screen. The
-/// bytes may come in any chunks, and the screens must be steady and of the
+/// States that a full redraw followed by any chain of differences, each from
+/// the previous screen, makes a plain terminal display the last screen. The
+/// bytes may be split into any chunks. The screens must be steady and have the
 /// terminal's size.
 ///
-/// Each call of `process` returns `Ok`; callbacks, scrollback, the other page
+/// Each call to `process` returns `Ok`. Callbacks, scrollback, the other page
 /// and the modes are unchanged.
 pub fn chain<CB: Callbacks>()
     ensures shows { (self : ScreenValue) → (nexts : List ScreenValue) → (p q : Parsing CB) →
@@ -146,21 +151,24 @@ pub fn chain<CB: Callbacks>()
         FoldsTo Processes p calls q → AllByRecursion IsFine calls × ShowsLast p (last_screen self nexts) q }
 {}
 
-/// States that a plain terminal is plain again after it has read a redraw or a
-/// difference of any screen, steady or not.
+/// States that a plain terminal is plain again after it has read a redraw of
+/// any screen or a difference to any screen, even if that screen is not steady.
 ///
-/// - `kept` is about output that keeps plain terminals plain, as that of
-///   `contents_formatted`, `contents_diff`, `contents_diff_scrolling` and
-///   `cursor_state_formatted` does by their clause `again`.
-/// - `made` is about output that makes any terminal plain that displays no
-///   scrollback, as that of `contents_formatted_reset` does.
+/// - `kept`: this holds for output that keeps plain terminals plain. By its
+///   clause `again`, each of `contents_formatted`, `contents_diff`,
+///   `contents_diff_scrolling` and `cursor_state_formatted` returns such
+///   output.
+/// - `made`: this holds for output that makes any terminal plain, provided that
+///   the terminal displays no scrollback. By its clause `again`,
+///   `contents_formatted_reset` returns such output.
 ///
-/// The output may come in any chunks. Whatever the callbacks are, only
-/// `on_scroll` is invoked, for rows that scroll off the top; the other page,
-/// the input modes, the cursor style and the size are unchanged. So the next
-/// redraw of a steady screen displays that screen, whatever was drawn before.
+/// The output may be split into any chunks. Whatever the callbacks are, only
+/// `on_scroll` is invoked, for rows that scroll off the top. The other page,
+/// the input modes, the cursor style and the size are unchanged. Therefore the
+/// next redraw of a steady screen displays that screen, whatever was drawn
+/// before.
 ///
-/// The premise that the parser has not failed holds after calls of `process`
+/// The premise that the parser has not failed holds after calls to `process`
 /// that returned `Ok`.
 pub fn again<CB: Callbacks>()
     ensures kept { (p q : Parsing CB) (chunks : List (List ℕ)) → KeepsPlain (pieces_joined chunks) →
@@ -169,33 +177,35 @@ pub fn again<CB: Callbacks>()
         IsUnscrolledParser p → FoldsTo (Ran CB.does) p chunks q → q.is_failed ≡ false → IsPlainAgain CB.does p q }
 {}
 
-/// States that a recording has one text, whatever the scrollback capacity: the
-/// captured text of the rows for which `on_scroll` was called with `false`,
-/// followed by that of `BasicFormattedCaptureRange::Full`, with one capture
-/// state for both.
+/// States that a recording has the same text whatever the scrollback capacity
+/// is. The text is a capture of the rows for which `on_scroll` was called with
+/// `false`, followed by a capture of `BasicFormattedCaptureRange::Full` that
+/// continues from the same capture state.
 ///
-/// It holds for a fresh parser and any list of calls of `process` and
+/// This holds for a fresh parser and any sequence of calls to `process` and
 /// `Screen::set_scrollback` that ends on the main page.
 ///
-/// - `called`: callbacks that leave the screen alone receive the calls of the
-///   model, each once and in order.
-/// - `text`: the text is that of all rows that the bytes scroll off the top of
-///   the main page, and then of the page itself. So it is `one` text for every
-///   capacity, however the bytes are split and wherever the screen was scrolled
-///   back in between.
-/// - `recorded`: callbacks that keep a text and its capture state have written
-///   this text once a full capture is appended to it, if their sink accepted
+/// - `called`: callbacks that leave the screen alone receive exactly the calls
+///   that the model predicts, each once and in order.
+/// - `text`: the text consists of all rows that the bytes scroll off the top of
+///   the main page, followed by the page itself.
+/// - `one`: the text is therefore the same for every capacity, however the
+///   bytes are split and however far the screen is scrolled back in between.
+/// - `recorded`: callbacks that keep a text and its capture state hold this
+///   text once a full capture is appended, provided that their sink accepted
 ///   everything.
-/// - `kept`, about one call of `process` on any parser: the rows reported with
-///   `false`, followed by scrollback after the call, are scrollback before the
-///   call followed by the rows that scrolled off the top of the main page, if
-///   no wrapped row of scrollback was shorter than the screen.
-/// - `apart`: these rows, and the screen after the call without its scrollback,
-///   depend neither on the capacity nor on the scrollback; two parsers whose
-///   screens differ only in these agree on them.
+/// - `kept`: for one call to `process` on any parser, the rows reported with
+///   `false`, followed by the scrollback after the call, match the scrollback
+///   before the call followed by the rows that scrolled off the top of the main
+///   page. This assumes that no wrapped row of scrollback was narrower than the
+///   screen.
+/// - `apart`: the rows that scroll off, and everything on the screen after the
+///   call except its scrollback, depend on neither the capacity nor the
+///   contents of scrollback. Two parsers whose screens differ only in their
+///   scrollback agree on both.
 ///
-/// The premises are that each call returned `Ok`, that no RIS is among the
-/// bytes, and that the callbacks leave the screen alone.
+/// The premises are that each call returned `Ok`, that the bytes contain no
+/// RIS, and that the callbacks leave the screen alone.
 pub fn one_text<CB: Callbacks>()
     ensures called { (p q : Parsing CB) (calls : List ParserCall) (scan : State) → LeavesScreen CB.does →
         StandsFor p.scanner scan → FoldsTo (MakesCall CB.does) p calls q →

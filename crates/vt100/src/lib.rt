@@ -1,5 +1,5 @@
-//! A terminal in memory: it parses the bytes that a program writes, and keeps
-//! the screen that a person would see.
+//! An in-memory terminal emulator: it parses the bytes that a program writes
+//! and maintains the screen that a user would see.
 //!
 //! ```text
 //! use std::num::NonZeroU16;
@@ -27,9 +27,9 @@
 //! }
 //! ```
 //!
-//! It prints that `R` is red, then a redraw of the screen for any terminal of
-//! its size, and then the update for a terminal that displays the screen as it
-//! was before.
+//! The example prints that `R` is red, then a redraw of the screen for any
+//! terminal of the same size, and finally an update for a terminal that still
+//! displays the earlier screen.
 #![tactic(auto)]
 
 pub mod capture;

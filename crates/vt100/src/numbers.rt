@@ -1,4 +1,4 @@
-//! The parameters of a control sequence and its intermediate bytes.
+//! Access to the parameters and intermediate bytes of a control sequence.
 
 ghost use Rattle.std.specs.Prelude.{◌≡◌, ◌<◌};
 ghost use Rattle.vt_screen.specs.Controls.{intermediate_at, number_or};

@@ -1,4 +1,4 @@
-//! The parser, which owns a screen and callbacks and applies bytes to them.
+//! The parser, which owns a screen and callbacks and parses input into them.
 
 ghost use Rattle.std.specs.Borrow.{sem, Lends, LendsBoth};
 ghost use Rattle.std.specs.Prelude.{◌≡◌, ◌<◌, IfOk, IsErr, OnErr, OnOk, false, length};
@@ -21,9 +21,9 @@ use vt_scan::Scanner;
 use vt_screen::screen::{new_screen, resizing};
 use vt_screen::{Callbacks, Screen};
 
-/// A terminal in memory. It parses the bytes that a program writes, keeps the
-/// screen that a person would see, and reports everything that is not
-/// displayed, such as titles and bells, to its callbacks.
+/// An in-memory terminal emulator. It parses the bytes that a program writes,
+/// maintains the screen that a user would see, and passes everything that is
+/// not displayed, such as titles and bells, to its callbacks.
 #[derive(Drop)]
 pub struct Parser<CB: Callbacks = ()> {
     scanner: Scanner,
@@ -50,12 +50,12 @@ impl Parser {
 
     /// Creates a parser with a blank screen and no callbacks.
     ///
-    /// Rows that scroll off the top are kept in scrollback, at most the last
-    /// `scrollback_capacity` of them.
+    /// Scrollback keeps the last `scrollback_capacity` rows that scroll off the
+    /// top.
     ///
     /// # Errors
     ///
-    /// `Error::OutOfMemory` if the screen cannot be allocated.
+    /// Returns `Error::OutOfMemory` if the screen cannot be allocated.
     ///
     /// # Examples
     ///
@@ -79,12 +79,12 @@ impl Parser {
         Parser::new_with_callbacks(alloc, rows, cols, scrollback_capacity, ())
     }
 
-    /// Creates a parser of 24 rows and 80 columns, without scrollback or
+    /// Creates a parser with 24 rows and 80 columns, without scrollback or
     /// callbacks.
     ///
     /// # Errors
     ///
-    /// `Error::OutOfMemory` if the screen cannot be allocated.
+    /// Returns `Error::OutOfMemory` if the screen cannot be allocated.
     pub fn default(alloc: Global) -> Result<Parser, Error>
         ensures ground { IfOk result (λ parser. StandsFor parser.scanner start) }
         ensures memory { OnlyOutOfMemory result }
@@ -99,14 +99,14 @@ impl Parser {
 impl<CB: Callbacks> Parser<CB> {
     /// Creates a parser with a blank screen and the given callbacks.
     ///
-    /// Rows that scroll off the top are kept in scrollback, at most the last
-    /// `scrollback_capacity` of them; older ones are reported to
-    /// [`Callbacks::on_scroll`].
+    /// Scrollback keeps the last `scrollback_capacity` rows that scroll off the
+    /// top. Older rows are passed to [`Callbacks::on_scroll`] as they are
+    /// dropped.
     ///
     /// # Errors
     ///
-    /// `Error::OutOfMemory` if the screen cannot be allocated; the callbacks
-    /// are dropped.
+    /// Returns `Error::OutOfMemory` if the screen cannot be allocated. The
+    /// callbacks are then dropped.
     pub fn new_with_callbacks(
         alloc: Global,
         rows: NonZeroU16,
@@ -138,17 +138,17 @@ impl<CB: Callbacks> Parser<CB> {
     ///
     /// # Errors
     ///
-    /// `Error::OutOfMemory` if an allocation fails. The steps before the
-    /// failing one stay applied; the failing one has changed nothing and
-    /// invoked no callbacks. From then on the parser reads nothing and returns
+    /// Returns `Error::OutOfMemory` if an allocation fails. The steps before
+    /// the failing one remain in effect; the failing step changes nothing and
+    /// invokes no callbacks. From then on, the parser reads nothing and returns
     /// `Error::Failed`, but its screen can still be read.
     ///
     /// Memory is allocated only for the text of operating system commands, for
     /// rows that move into scrollback, and for the first switch to the
-    /// alternate page. By the clause `quiet`, bytes whose reading needs none
-    /// and invokes no callbacks, such as a redraw on a plain terminal (in
-    /// ground state, with the full scroll region, origin mode off and no
-    /// scrollback displayed), are read without an error.
+    /// alternate page. By the clause `quiet`, input that needs no allocation
+    /// and invokes no callbacks is always read without an error. An example is
+    /// a redraw on a plain terminal (in ground state, with the full scroll
+    /// region, origin mode off and no scrollback displayed).
     ///
     /// # Examples
     ///
@@ -180,18 +180,19 @@ impl<CB: Callbacks> Parser<CB> {
         }
     }
 
-    /// Parses the longest prefix of `bytes` of which only the last byte can
-    /// invoke callbacks, and returns its length in bytes.
+    /// Parses one unit of `bytes`, in which only the last byte can invoke
+    /// callbacks, and returns its length in bytes.
     ///
-    /// The prefix is text that fits on the cursor's row, one character, a
-    /// control function, a sequence or its beginning, or bytes of a string. The
-    /// C library parses by this function so that it can stop at the byte that
+    /// A unit is a run of text that fits on the cursor's row, one character, a
+    /// control function, a complete or partial sequence, or bytes of a string.
+    /// The C library uses this function so that it can stop at the byte that
     /// invoked a callback.
     ///
     /// # Errors
     ///
-    /// Those of [`process`](Parser::process), with the number of bytes before
-    /// the one whose allocation fails.
+    /// Returns the errors of [`process`](Parser::process), along with the
+    /// number of bytes read before the byte that required the failed
+    /// allocation.
     #[inline(always)]
     pub fn process_unit(&mut self, bytes: &[u8]) -> (usize, Result<(), Error>)
         requires { 0 < length bytes.now }
@@ -210,15 +211,17 @@ impl<CB: Callbacks> Parser<CB> {
         }
     }
 
-    /// Returns how many bytes of an unfinished operating system command the
-    /// parser holds: those after `\x1b]` that have been read, without control
-    /// functions. It is 0 if no such command is unfinished. Nothing else that is
-    /// unfinished takes memory: strings such as DCS are dropped as they are read,
-    /// and of any other sequence a fixed amount is kept.
+    /// Returns the number of bytes that the parser holds of an unfinished
+    /// operating system command: the bytes read after `\x1b]`, not counting
+    /// control functions. It is 0 if no such command is in progress.
     ///
-    /// A command has no limit but memory. To end one at a limit, write CAN:
-    /// what there is of it is dispatched, and then `unhandled_control` is
-    /// invoked for the CAN.
+    /// No other unfinished input takes memory: strings such as DCS are
+    /// discarded as they are read, and only a fixed amount of any other
+    /// sequence is kept.
+    ///
+    /// The length of a command is limited only by memory. To enforce a limit,
+    /// pass CAN (`\x18`) to the parser: it dispatches the part of the command
+    /// that has been read and then invokes `unhandled_control` for the CAN.
     ///
     /// ```text
     /// parser.process(b"\x1b]2;a title that does not end")?;
@@ -236,17 +239,18 @@ impl<CB: Callbacks> Parser<CB> {
         self.scanner.pending_len()
     }
 
-    /// Resizes both pages of the screen, as [`Screen::set_size`] does, and
-    /// reports to [`Callbacks::on_scroll`] the rows that scroll off the top of
-    /// a page and are not kept: first those of the main page, then those of the
-    /// alternate page, older rows first.
+    /// Resizes both pages of the screen, as [`Screen::set_size`] does. Rows
+    /// that scroll off the top of a page and are not kept are passed to
+    /// [`Callbacks::on_scroll`]: first the rows of the main page, then the rows
+    /// of the alternate page, oldest first.
     ///
-    /// A parser that ran out of memory can be resized, too.
+    /// A parser that has run out of memory can still be resized.
     ///
     /// # Errors
     ///
-    /// `Error::OutOfMemory` if an allocation fails; nothing has changed and no
-    /// callbacks were invoked. A resize to the present size cannot fail.
+    /// Returns `Error::OutOfMemory` if an allocation fails. On error, nothing
+    /// is changed and no callbacks are invoked. A resize to the current size
+    /// cannot fail.
     pub fn set_size(&mut self, rows: NonZeroU16, cols: NonZeroU16) -> Result<(), Error>
         ensures ok { OnOk result (self.new
             ≡ record self.old
@@ -261,21 +265,21 @@ impl<CB: Callbacks> Parser<CB> {
         Ok(())
     }
 
-    /// Returns the screen.
+    /// Returns a reference to the screen.
     ///
-    /// The clause `stands` says that the parser's scanner stands for at least
-    /// one state of the automaton, as every parser's does.
+    /// The clause `stands` states that the parser's scanner represents at least
+    /// one state of the automaton.
     #[inline]
     pub fn screen(&self) -> &Screen
         ensures value { result.now ≡ self.now.screen }
         ensures stands { ∥ ((state : State) × StandsFor self.now.scanner state) ∥₁ }
     {
-        // Only for the proof: a scanner stands for some state at any time.
+        // Only for the proof: a scanner always represents some state.
         self.scanner.stands();
         &self.screen
     }
 
-    /// Returns the screen, mutably.
+    /// Returns a mutable reference to the screen.
     #[inline]
     pub fn screen_mut(&mut self) -> &mut Screen
         ensures* writes_back { sem 𝓛 (Lends (parser_row CB.row ⟦<CB as Callbacks>⟧)
@@ -285,7 +289,7 @@ impl<CB: Callbacks> Parser<CB> {
         &mut self.screen
     }
 
-    /// Returns the callbacks.
+    /// Returns a reference to the callbacks.
     #[inline]
     pub fn callbacks(&self) -> &CB
         ensures { result.now ≡ self.now.callbacks }
@@ -293,7 +297,7 @@ impl<CB: Callbacks> Parser<CB> {
         &self.callbacks
     }
 
-    /// Returns the callbacks, mutably.
+    /// Returns a mutable reference to the callbacks.
     #[inline]
     pub fn callbacks_mut(&mut self) -> &mut CB
         ensures* writes_back { sem 𝓛 (Lends (parser_row CB.row ⟦<CB as Callbacks>⟧)
@@ -303,8 +307,9 @@ impl<CB: Callbacks> Parser<CB> {
         &mut self.callbacks
     }
 
-    /// Returns the screen and the callbacks, both mutably. The rest of the
-    /// parser is unaffected, including whether it has failed.
+    /// Returns mutable references to the screen and the callbacks. Changes made
+    /// through them do not affect the rest of the parser, including whether it
+    /// has failed.
     #[inline]
     pub fn screen_and_callbacks_mut(&mut self) -> (&mut Screen, &mut CB)
         ensures* writes_back { sem 𝓛 (LendsBoth (parser_row CB.row ⟦<CB as Callbacks>⟧) screen_row CB.row

@@ -1,4 +1,5 @@
-//! What the scanner's events do to the screen, and which callbacks they invoke.
+//! Applies the scanner's events to the screen and invokes the callbacks for
+//! them.
 
 ghost use Rattle.std.specs.Prelude.{◌≡◌, ◌==◌, ◌&&◌, ◌||◌, [], false, nat_le};
 ghost use Rattle.vt100.specs.Internals.{Does, DoesOrStops};
@@ -17,8 +18,8 @@ use vt_screen::{Callbacks, Screen};
 ///
 /// # Errors
 ///
-/// `Error::OutOfMemory` if an allocation fails; the steps before the failing
-/// one stay applied.
+/// Returns `Error::OutOfMemory` if an allocation fails. The steps before the
+/// failing one remain in effect.
 #[inline(always)]
 pub fn perform<CB: Callbacks>(
     screen: &mut Screen,
@@ -44,13 +45,13 @@ pub fn perform<CB: Callbacks>(
     }
 }
 
-/// Performs the control sequence that the scanner has collected and that `byte`
-/// ends.
+/// Performs the control sequence that the scanner has collected, with the final
+/// byte `byte`.
 ///
 /// # Errors
 ///
-/// `Error::OutOfMemory` if an allocation fails; the steps before the failing
-/// one stay applied.
+/// Returns `Error::OutOfMemory` if an allocation fails. The steps before the
+/// failing one remain in effect.
 #[inline(always)]
 pub fn control_sequence<CB: Callbacks>(
     screen: &mut Screen,
@@ -70,8 +71,8 @@ pub fn control_sequence<CB: Callbacks>(
     )
 }
 
-/// Performs the escape sequence that `byte` ends, with the intermediate bytes
-/// that the scanner has collected.
+/// Performs the escape sequence with the final byte `byte` and the intermediate
+/// bytes that the scanner has collected.
 #[inline(always)]
 pub fn escape_sequence<CB: Callbacks>(
     screen: &mut Screen,
@@ -85,8 +86,8 @@ pub fn escape_sequence<CB: Callbacks>(
     escape(screen, callbacks, scanner.intermediates(), byte);
 }
 
-/// Performs the operating system command that the scanner has collected, after
-/// splitting it into its parts.
+/// Splits the operating system command that the scanner has collected into its
+/// parts and performs it.
 #[inline(never)]
 fn command<CB: Callbacks>(screen: &mut Screen, callbacks: &mut CB, scanner: &Scanner)
     ensures { Performs CB.does (state callbacks.old screen.old)
@@ -95,13 +96,13 @@ fn command<CB: Callbacks>(screen: &mut Screen, callbacks: &mut CB, scanner: &Sca
     osc::perform(screen, callbacks, scanner.parts().as_slice());
 }
 
-/// Prints a character, or reports it if it is a C1 control or stands for
-/// malformed UTF-8.
+/// Prints a character, or reports it if it is a C1 control or U+FFFD, which
+/// stands for malformed UTF-8.
 ///
 /// # Errors
 ///
-/// `Error::OutOfMemory` if a row that scrolls off the top cannot be kept; the
-/// screen is unchanged.
+/// Returns `Error::OutOfMemory` if there is not enough memory to keep a row
+/// that scrolls off the top. On error, the screen is unchanged.
 #[inline(always)]
 #[tactic(auto, using(crate::proofs::Stepping::called_or_refused), unfolding(vt_screen::specs::Controls::character_steps))]
 pub fn print<CB: Callbacks>(
@@ -120,15 +121,16 @@ pub fn print<CB: Callbacks>(
     Ok(())
 }
 
-/// Prints or reports a character as [`print`] does, for the places that few
-/// characters reach.
+/// Prints or reports a character, as [`print`] does, on code paths that few
+/// characters take.
 ///
-/// It is never inlined: inlined there, it makes the loop over bytes slower.
+/// It is never inlined, because inlining it would slow down the loop over the
+/// input bytes.
 ///
 /// # Errors
 ///
-/// `Error::OutOfMemory` if a row that scrolls off the top cannot be kept; the
-/// screen is unchanged.
+/// Returns `Error::OutOfMemory` if there is not enough memory to keep a row
+/// that scrolls off the top. On error, the screen is unchanged.
 #[inline(never)]
 pub fn print_apart<CB: Callbacks>(
     screen: &mut Screen,
@@ -141,8 +143,9 @@ pub fn print_apart<CB: Callbacks>(
     print(screen, callbacks, character)
 }
 
-/// Returns whether a character is reported instead of printed: U+0080 to
-/// U+009F, and U+FFFD, which stands for malformed UTF-8.
+/// Returns whether a character is reported instead of printed, which is the
+/// case for U+0080 to U+009F (the C1 controls) and for U+FFFD, which stands for
+/// malformed UTF-8.
 #[inline]
 #[tactic(auto, using(crate::proofs::Stepping::tested_steps))]
 fn is_reported(character: char) -> bool
@@ -151,12 +154,12 @@ fn is_reported(character: char) -> bool
     matches!(character, '\u{80}'..='\u{9f}' | '\u{fffd}')
 }
 
-/// Performs a control function of one byte (C0).
+/// Performs a single-byte control function (C0).
 ///
 /// # Errors
 ///
-/// `Error::OutOfMemory` if a row that scrolls off the top cannot be kept; the
-/// screen is unchanged.
+/// Returns `Error::OutOfMemory` if there is not enough memory to keep a row
+/// that scrolls off the top. On error, the screen is unchanged.
 #[inline]
 #[tactic(auto, using(crate::proofs::Stepping::tested_refusal, crate::proofs::Deciding::control_feeds))]
 pub fn execute<CB: Callbacks>(
@@ -175,7 +178,7 @@ pub fn execute<CB: Callbacks>(
     Ok(())
 }
 
-/// Performs a control function of one byte other than LF, VT and FF.
+/// Performs a single-byte control function other than LF, VT or FF.
 #[tactic(auto, using(crate::proofs::Stepping::tested_steps), unfolding(vt_screen::specs::Controls::control_steps))]
 fn execute_other<CB: Callbacks>(screen: &mut Screen, callbacks: &mut CB, byte: u8)
     requires { (nat_le 0x0A byte && nat_le byte 0x0C) ≡ false }
@@ -191,7 +194,8 @@ fn execute_other<CB: Callbacks>(screen: &mut Screen, callbacks: &mut CB, byte: u
     }
 }
 
-/// Performs an escape sequence with the given intermediate bytes.
+/// Performs the escape sequence with the given intermediate bytes and final
+/// byte.
 #[tactic(auto, using(crate::proofs::Stepping::steps_called), unfolding(vt_screen::specs::Controls::escape_steps))]
 fn escape<CB: Callbacks>(screen: &mut Screen, callbacks: &mut CB, intermediates: &[u8], byte: u8)
     ensures { Does CB.does callbacks.old screen.old (escape_steps intermediates.now byte) callbacks.new screen.new }
@@ -205,7 +209,8 @@ fn escape<CB: Callbacks>(screen: &mut Screen, callbacks: &mut CB, intermediates:
     callbacks.unhandled_escape(screen, first, second, byte);
 }
 
-/// Performs an escape sequence without intermediate bytes.
+/// Performs the escape sequence with the given final byte and no intermediate
+/// bytes.
 #[tactic(auto, using(crate::proofs::Stepping::tested_steps), unfolding(vt_screen::specs::Controls::escape_steps))]
 fn lone_escape<CB: Callbacks>(screen: &mut Screen, callbacks: &mut CB, byte: u8)
     ensures { Does CB.does callbacks.old screen.old (escape_steps [] byte) callbacks.new screen.new }

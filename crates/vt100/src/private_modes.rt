@@ -12,13 +12,13 @@ use vt_cells::{Error, MouseProtocolEncoding, MouseProtocolMode};
 use vt_screen::screen::{controls, pages};
 use vt_screen::{Callbacks, Screen};
 
-/// Sets or resets each private mode that a sequence names, and reports each
-/// group that names none.
+/// Sets (if `on` is true) or resets each private mode that a sequence names,
+/// and reports each parameter group that names no known mode.
 ///
 /// # Errors
 ///
-/// `Error::OutOfMemory` if the alternate page cannot be allocated; the modes
-/// before that one stay set.
+/// Returns `Error::OutOfMemory` if the alternate page cannot be allocated. The
+/// modes handled before that one stay set or reset.
 pub fn perform<CB: Callbacks>(
     screen: &mut Screen,
     callbacks: &mut CB,
@@ -41,13 +41,13 @@ pub fn perform<CB: Callbacks>(
     Ok(())
 }
 
-/// Sets or resets the private mode that one group of parameters names, or
-/// reports the group if it isn't a single number.
+/// Sets (if `on` is true) or resets the private mode that a parameter group
+/// names, or reports the group if it isn't a single number.
 ///
 /// # Errors
 ///
-/// `Error::OutOfMemory` if the alternate page cannot be allocated; the screen
-/// is unchanged.
+/// Returns `Error::OutOfMemory` if the alternate page cannot be allocated. On
+/// error, the screen is unchanged.
 #[tactic(auto, using(crate::proofs::Stepping::called, crate::proofs::Remaining::groups_met))]
 fn perform_group<CB: Callbacks>(
     screen: &mut Screen,
@@ -66,12 +66,13 @@ fn perform_group<CB: Callbacks>(
     set_mode(screen, callbacks, on, sequence, group[0])
 }
 
-/// Sets or resets the private mode with this number, or reports an unknown one.
+/// Sets (if `on` is true) or resets the private mode with the given number, or
+/// reports an unknown mode.
 ///
 /// # Errors
 ///
-/// `Error::OutOfMemory` if the alternate page cannot be allocated; the screen
-/// is unchanged.
+/// Returns `Error::OutOfMemory` if the alternate page cannot be allocated. On
+/// error, the screen is unchanged.
 #[tactic(auto, using(crate::proofs::Stepping::pages_exchanged), unfolding(vt_screen::specs::Controls::mode_step))]
 fn set_mode<CB: Callbacks>(
     screen: &mut Screen,
@@ -91,8 +92,8 @@ fn set_mode<CB: Callbacks>(
     Ok(())
 }
 
-/// Sets or resets a private mode other than 47 and 1049, which switch pages, or
-/// reports an unknown one.
+/// Sets (if `on` is true) or resets a private mode other than 47 and 1049,
+/// which switch pages. Reports an unknown mode.
 #[tactic(auto, using(crate::proofs::Stepping::tested_steps), unfolding(vt_screen::specs::Controls::mode_step))]
 fn set_other_mode<CB: Callbacks>(
     screen: &mut Screen,
@@ -121,13 +122,13 @@ fn set_other_mode<CB: Callbacks>(
     }
 }
 
-/// Performs mode 47: switches to the alternate page with its contents, or back
-/// to the main page.
+/// Sets or resets mode 47: switches to the alternate page without clearing it
+/// if `on` is true, and back to the main page otherwise.
 ///
 /// # Errors
 ///
-/// `Error::OutOfMemory` if the alternate page cannot be allocated; the screen
-/// is unchanged.
+/// Returns `Error::OutOfMemory` if the alternate page cannot be allocated. On
+/// error, the screen is unchanged.
 fn show_alternate(screen: &mut Screen, on: bool) -> Result<(), Error>
     ensures ok { OnOk result (screen.new ≡ display_after (alternate_step on) screen.old) }
     ensures err { OnErr result (screen.new ≡ screen.old) }
@@ -141,13 +142,14 @@ fn show_alternate(screen: &mut Screen, on: bool) -> Result<(), Error>
     Ok(())
 }
 
-/// Performs mode 1049: saves the cursor and switches to a cleared alternate
-/// page, or switches back to the main page and restores the cursor.
+/// Sets or resets mode 1049: if `on` is true, saves the cursor and switches to
+/// the alternate page, clearing it; otherwise switches back to the main page
+/// and restores the cursor.
 ///
 /// # Errors
 ///
-/// `Error::OutOfMemory` if the alternate page cannot be allocated; the screen
-/// is unchanged.
+/// Returns `Error::OutOfMemory` if the alternate page cannot be allocated. On
+/// error, the screen is unchanged.
 fn show_fresh_alternate(screen: &mut Screen, on: bool) -> Result<(), Error>
     ensures ok { OnOk result (screen.new ≡ display_after (fresh_alternate_step on) screen.old) }
     ensures err { OnErr result (screen.new ≡ screen.old) }
@@ -161,8 +163,9 @@ fn show_fresh_alternate(screen: &mut Screen, on: bool) -> Result<(), Error>
     Ok(())
 }
 
-/// Sets the mouse mode to `mode`, or resets it: to no reports if `mode` is the
-/// active one, otherwise it is unchanged.
+/// Sets the mouse mode to `mode` if `on` is true. Otherwise turns mouse
+/// reporting off if `mode` is the active mode, and changes nothing if it is
+/// not.
 fn set_mouse_mode(screen: &mut Screen, on: bool, mode: MouseProtocolMode)
     ensures { screen.new ≡ display_after (mouse_step on mode) screen.old }
 {
@@ -173,8 +176,9 @@ fn set_mouse_mode(screen: &mut Screen, on: bool, mode: MouseProtocolMode)
     controls::clear_mouse_mode(screen, mode);
 }
 
-/// Sets the mouse encoding to `encoding`, or resets it: to the default if
-/// `encoding` is the active one, otherwise it is unchanged.
+/// Sets the mouse encoding to `encoding` if `on` is true. Otherwise restores
+/// the default encoding if `encoding` is the active one, and changes nothing if
+/// it is not.
 fn set_mouse_encoding(screen: &mut Screen, on: bool, encoding: MouseProtocolEncoding)
     ensures { screen.new ≡ display_after (encoding_step on encoding) screen.old }
 {

@@ -1,4 +1,4 @@
-//! The loop that reads bytes and applies their events.
+//! The loop that parses bytes and applies the resulting events.
 
 ghost use Rattle.std.specs.Prelude.{◌<◌, IfOk, IsErr, length, map, option_to_list, slice_index_or};
 ghost use Rattle.vt_cells.specs.Refusals.{OnlyOutOfMemory};
@@ -13,15 +13,16 @@ use vt_scan::{Event, Events, Scanner};
 use vt_screen::screen::printing;
 use vt_screen::{Callbacks, Screen};
 
-/// The largest number of wide characters that are printed as one edit.
+/// The maximum number of wide characters printed in one edit.
 const WIDE_RUN: usize = 64;
 
-/// Parses `bytes` and applies their events to the screen and the callbacks.
+/// Parses `bytes`, applies the resulting events to the screen, and invokes
+/// callbacks.
 ///
 /// # Errors
 ///
-/// `Error::OutOfMemory` if an allocation fails; the steps before the failing
-/// one stay applied.
+/// Returns `Error::OutOfMemory` if an allocation fails. The steps before the
+/// failing one remain in effect.
 pub fn process<CB: Callbacks>(
     scanner: &mut Scanner,
     screen: &mut Screen,
@@ -44,14 +45,15 @@ pub fn process<CB: Callbacks>(
     Ok(())
 }
 
-/// Parses and applies the first unit of `bytes`: a run of plain characters that
-/// fits on the cursor's row, a control function of one byte, a sequence as far
-/// as it is present, bytes of a string, or else one character or byte. Returns
-/// its length in bytes.
+/// Parses and applies the first unit of `bytes`, and returns its length in
+/// bytes. A unit is a run of printable ASCII or wide characters that fits on
+/// the cursor's row, a single-byte control function, a complete or partial
+/// sequence, bytes of a string, or otherwise one character or byte.
 ///
 /// # Errors
 ///
-/// The number of bytes before the one whose allocation fails.
+/// If an allocation fails, returns the number of bytes read before the byte
+/// that required it.
 #[inline(always)]
 pub fn process_some<CB: Callbacks>(
     scanner: &mut Scanner,
@@ -85,13 +87,14 @@ pub fn process_some<CB: Callbacks>(
     process_rest(scanner, screen, callbacks, bytes)
 }
 
-/// Parses and applies a sequence at the start of `bytes`, or the part of it
-/// that is present. Returns its length in bytes, which is 0 if the bytes start
-/// with something else.
+/// Parses and applies the sequence at the start of `bytes`, or the part of it
+/// that is present. Returns the number of bytes read, which is 0 if `bytes`
+/// doesn't start with a sequence.
 ///
 /// # Errors
 ///
-/// The number of bytes before the one whose allocation fails.
+/// If an allocation fails, returns the number of bytes read before the byte
+/// that required it.
 #[inline(always)]
 fn process_sequence<CB: Callbacks>(
     scanner: &mut Scanner,
@@ -114,11 +117,12 @@ fn process_sequence<CB: Callbacks>(
 }
 
 /// Parses the first byte if it ends a control sequence or an escape sequence,
-/// and performs that sequence. Returns how many bytes were read, 0 or 1.
+/// and performs that sequence. Returns the number of bytes read, 0 or 1.
 ///
 /// # Errors
 ///
-/// The number of bytes before the one whose allocation fails.
+/// If an allocation fails, returns the number of bytes read before the byte
+/// that required it.
 #[inline(always)]
 fn end_sequence<CB: Callbacks>(
     scanner: &mut Scanner,
@@ -144,13 +148,14 @@ fn end_sequence<CB: Callbacks>(
     Ok(0)
 }
 
-/// Parses and applies the complete character of several bytes at the start of
-/// `bytes`, or, if there is none, what [`process_rest`] parses. Returns its
+/// Parses and applies the complete multi-byte character at the start of
+/// `bytes`, or what [`process_rest`] parses if there is none, and returns its
 /// length in bytes.
 ///
 /// # Errors
 ///
-/// The number of bytes before the one whose allocation fails.
+/// If an allocation fails, returns the number of bytes read before the byte
+/// that required it.
 #[inline(always)]
 fn process_one<CB: Callbacks>(
     scanner: &mut Scanner,
@@ -173,12 +178,13 @@ fn process_one<CB: Callbacks>(
     process_rest(scanner, screen, callbacks, bytes)
 }
 
-/// Parses and applies the bytes of a string at the start of `bytes`, or, if there
-/// is none, one byte. Returns the number of bytes.
+/// Parses and applies the bytes of a string at the start of `bytes`, or one
+/// byte if there are none, and returns the number of bytes read.
 ///
 /// # Errors
 ///
-/// The number of bytes before the one whose allocation fails.
+/// If an allocation fails, returns the number of bytes read before the byte
+/// that required it.
 #[inline(always)]
 fn process_rest<CB: Callbacks>(
     scanner: &mut Scanner,
@@ -214,14 +220,15 @@ fn process_rest<CB: Callbacks>(
     }
 }
 
-/// Prints the plain characters at the start of `bytes` that fit on the cursor's
-/// row, or one if the cursor is at the row's end, which may scroll. Returns the
-/// number of characters printed.
+/// Prints the printable ASCII characters at the start of `bytes`, stopping at
+/// the end of the cursor's row, and returns how many were printed. If the
+/// cursor is already past the last column, prints one character, which may
+/// scroll the screen.
 ///
 /// # Errors
 ///
-/// The number of bytes before the one whose allocation fails, if the row that
-/// scrolls off the top cannot be kept.
+/// Returns the number of bytes read before the byte that caused the scrolling,
+/// if there is not enough memory to keep the row that scrolls off the top.
 #[inline]
 fn print_some<CB: Callbacks>(
     scanner: &Scanner,
@@ -249,12 +256,13 @@ fn print_some<CB: Callbacks>(
 }
 
 /// Parses and applies the first unit of `bytes`, whose first byte is at least
-/// 0x80: a run of wide characters, or else what [`process_one`] reads. Returns
-/// its length in bytes.
+/// 0x80, and returns its length in bytes. The unit is a run of wide characters,
+/// or otherwise the unit that [`process_one`] reads.
 ///
 /// # Errors
 ///
-/// The number of bytes before the one whose allocation fails.
+/// If an allocation fails, returns the number of bytes read before the byte
+/// that required it.
 #[inline(always)]
 fn process_high<CB: Callbacks>(
     scanner: &mut Scanner,
@@ -275,9 +283,9 @@ fn process_high<CB: Callbacks>(
     process_one(scanner, screen, callbacks, bytes)
 }
 
-/// Prints the run of wide characters of three bytes each at the start of
-/// `bytes`, up to the end of the cursor's row. Returns the number of bytes
-/// read, which is 0 if the bytes start with a different character.
+/// Prints the run of three-byte wide characters at the start of `bytes`,
+/// stopping at the end of the cursor's row. Returns the number of bytes read,
+/// which is 0 if `bytes` starts with anything else.
 #[inline(always)]
 fn print_wide<CB: Callbacks>(
     scanner: &Scanner,
@@ -295,11 +303,11 @@ fn print_wide<CB: Callbacks>(
     print_wide_run(scanner, screen, callbacks, bytes)
 }
 
-/// Prints a run of wide characters for [`print_wide`], which has only looked at
-/// the first byte.
+/// Prints a run of wide characters for [`print_wide`], which has examined only
+/// the first byte. Returns the number of bytes read.
 ///
-/// It is never inlined, so that its buffer takes no stack space while there are
-/// no wide characters. Returns the number of bytes read.
+/// It is never inlined, so that its buffer takes up stack space only when there
+/// are wide characters.
 #[inline(never)]
 fn print_wide_run<CB: Callbacks>(
     scanner: &Scanner,
@@ -314,8 +322,8 @@ fn print_wide_run<CB: Callbacks>(
     print_wide_some(scanner, screen, callbacks, bytes, &mut text)
 }
 
-/// Prints a run of wide characters, at most as many as the buffer `text` has
-/// room for. Returns the number of bytes read.
+/// Prints a run of wide characters, at most as many as fit in the buffer
+/// `text`. Returns the number of bytes read.
 #[inline(always)]
 fn print_wide_some<CB: Callbacks>(
     scanner: &Scanner,
@@ -340,8 +348,8 @@ fn print_wide_some<CB: Callbacks>(
 ///
 /// # Errors
 ///
-/// `Error::OutOfMemory` if an allocation fails; the steps before the failing
-/// one stay applied.
+/// Returns `Error::OutOfMemory` if an allocation fails. The steps before the
+/// failing one remain in effect.
 #[inline(always)]
 #[tactic(auto, using(vt_rows::proofs::Folds::folds_then, crate::proofs::Running::stops_later))]
 fn perform_each<CB: Callbacks>(
@@ -362,8 +370,8 @@ fn perform_each<CB: Callbacks>(
 ///
 /// # Errors
 ///
-/// `Error::OutOfMemory` if an allocation fails; the steps before the failing
-/// one stay applied.
+/// Returns `Error::OutOfMemory` if an allocation fails. The steps before the
+/// failing one remain in effect.
 #[inline(always)]
 fn perform_some<CB: Callbacks>(
     screen: &mut Screen,

@@ -10,16 +10,16 @@ use vt_cells::Error;
 use vt_screen::screen::printing;
 use vt_screen::{Callbacks, Screen};
 
-/// The largest number of characters that are printed as one edit.
+/// The maximum number of characters printed in one edit.
 const TEXT_ROOM: usize = 64;
 
-/// Performs REP: prints the last printed character `count` more times, or
+/// Performs REP: prints the last printed character `count` more times, or does
 /// nothing if there is none.
 ///
 /// # Errors
 ///
-/// `Error::OutOfMemory` if a row that scrolls off the top cannot be kept; the
-/// characters before stay printed.
+/// Returns `Error::OutOfMemory` if there is not enough memory to keep a row
+/// that scrolls off the top. The characters printed before that remain.
 pub fn repeat<CB: Callbacks>(
     screen: &mut Screen,
     callbacks: &mut CB,
@@ -40,13 +40,13 @@ pub fn repeat<CB: Callbacks>(
     Ok(())
 }
 
-/// Prints a character of printable ASCII `count` times, as many at once as fit
-/// on the cursor's row.
+/// Prints a printable ASCII character `count` times, in batches that fit on the
+/// cursor's row.
 ///
 /// # Errors
 ///
-/// `Error::OutOfMemory` if a row that scrolls off the top cannot be kept; the
-/// characters before stay printed.
+/// Returns `Error::OutOfMemory` if there is not enough memory to keep a row
+/// that scrolls off the top. The characters printed before that remain.
 fn repeat_ascii<CB: Callbacks>(
     screen: &mut Screen,
     callbacks: &mut CB,
@@ -66,13 +66,14 @@ fn repeat_ascii<CB: Callbacks>(
     Ok(())
 }
 
-/// Prints as many repetitions as fit on the cursor's row, or one if the cursor
-/// is at its end, which may scroll. Returns the number printed.
+/// Prints a printable ASCII character up to `left` times, stopping at the end
+/// of the cursor's row, and returns how many were printed. If the cursor is
+/// already past the last column, prints one, which may scroll the screen.
 ///
 /// # Errors
 ///
-/// `Error::OutOfMemory` if a row that scrolls off the top cannot be kept; the
-/// screen is unchanged.
+/// Returns `Error::OutOfMemory` if there is not enough memory to keep a row
+/// that scrolls off the top. On error, the screen is unchanged.
 #[inline]
 fn repeat_some<CB: Callbacks>(
     screen: &mut Screen,
@@ -95,8 +96,8 @@ fn repeat_some<CB: Callbacks>(
     Ok(count)
 }
 
-/// Prints a character `count` times as one edit. The cursor's row must have
-/// room for all of them.
+/// Prints a printable ASCII character `count` times in one edit. All of them
+/// must fit on the cursor's row.
 #[inline]
 fn repeat_in_row(screen: &mut Screen, byte: u8, count: u16)
     requires low { 0x20 ≤ byte }
@@ -110,13 +111,12 @@ fn repeat_in_row(screen: &mut Screen, byte: u8, count: u16)
     printing::print_text(screen, &text[..usize::from(count)]);
 }
 
-/// Prints a character outside of printable ASCII `count` times, one after the
-/// other.
+/// Prints a character that is not printable ASCII `count` times, one at a time.
 ///
 /// # Errors
 ///
-/// `Error::OutOfMemory` if a row that scrolls off the top cannot be kept; the
-/// characters before stay printed.
+/// Returns `Error::OutOfMemory` if there is not enough memory to keep a row
+/// that scrolls off the top. The characters printed before that remain.
 fn repeat_other<CB: Callbacks>(
     screen: &mut Screen,
     callbacks: &mut CB,

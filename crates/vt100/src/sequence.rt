@@ -1,12 +1,12 @@
-//! A control sequence in the form in which it is passed to callbacks.
+//! Control sequences in the form in which they are passed to callbacks.
 
 ghost use Rattle.vt100.specs.Internals.{report_of};
 
 use vt_scan::Parameters;
 use vt_screen::{Callbacks, Screen};
 
-/// A control sequence: its private marker and intermediate bytes as far as they
-/// are kept, its groups of parameters and its final byte.
+/// A control sequence: the first two of its private marker and intermediate
+/// bytes, its parameter groups and its final byte.
 #[derive(Clone, Copy)]
 pub struct Sequence<'a> {
     /// The private marker or the first intermediate byte, if there is one.
@@ -15,7 +15,7 @@ pub struct Sequence<'a> {
     /// The intermediate byte after `first`, if there is one.
     pub second: Option<u8>,
 
-    /// The groups of parameters.
+    /// The parameter groups.
     pub parameters: &'a Parameters,
 
     /// The final byte.
@@ -23,10 +23,11 @@ pub struct Sequence<'a> {
 }
 
 impl<'a> Sequence<'a> {
-    /// Reports the sequence to the callbacks as unhandled, in full or in part.
+    /// Reports to the callbacks that the sequence, or a part of it, is
+    /// unhandled.
     ///
-    /// It is never inlined, because it builds a table of the groups, which no
-    /// other path needs.
+    /// It is never inlined, because it builds a table of the groups that no
+    /// other code path needs.
     #[inline(never)]
     pub fn report<CB: Callbacks>(self, screen: &mut Screen, callbacks: &mut CB)
         ensures { CB.does (report_of self.entry) callbacks.old screen.old callbacks.new screen.new }

@@ -24,8 +24,8 @@ pub fn perform<CB: Callbacks>(screen: &mut Screen, callbacks: &mut CB, parameter
     }
 }
 
-/// Applies the settings of an SGR sequence in which each group is a single
-/// number.
+/// Applies the settings of an SGR sequence in which each parameter group is a
+/// single number.
 #[inline(always)]
 fn set_by_numbers<CB: Callbacks>(
     screen: &mut Screen,
@@ -46,7 +46,7 @@ fn set_by_numbers<CB: Callbacks>(
     }
 }
 
-/// Applies the settings of an SGR sequence with groups of any lengths.
+/// Applies the settings of an SGR sequence with parameter groups of any length.
 #[inline(never)]
 fn set_by_groups<CB: Callbacks>(screen: &mut Screen, callbacks: &mut CB, parameters: &Parameters)
     ensures { Does CB.does callbacks.old screen.old
@@ -60,7 +60,8 @@ fn set_by_groups<CB: Callbacks>(screen: &mut Screen, callbacks: &mut CB, paramet
     }
 }
 
-/// Applies one setting of an SGR sequence, or reports an unknown one.
+/// Applies one setting of an SGR sequence, or reports the sequence if the
+/// setting is unknown.
 #[inline(always)]
 #[tactic(auto, using(crate::proofs::Stepping::called, crate::proofs::Stepping::stepping))]
 fn apply<CB: Callbacks>(
@@ -79,7 +80,8 @@ fn apply<CB: Callbacks>(
     }
 }
 
-/// Reports the SGR sequence to the callbacks because a group of it is unknown.
+/// Reports an SGR sequence to the callbacks because one of its groups is
+/// unknown.
 #[inline(never)]
 fn report<CB: Callbacks>(screen: &mut Screen, callbacks: &mut CB, parameters: &Parameters)
     ensures { CB.does (UnhandledCsi None None parameters.now.groups 0x6D)

@@ -1,4 +1,4 @@
-//! `io::Write` for a parser.
+//! The implementation of `io::Write` for a parser.
 
 ghost use Rattle.std.specs.Io.{WritesAtMost};
 ghost use Rattle.std.specs.Io.KnownBytes.{WriteAppends};
@@ -15,12 +15,13 @@ impl Write for Parser<()> {
     ///
     /// # Errors
     ///
-    /// An error of kind `OutOfMemory` if an allocation fails, and of kind
-    /// `Other` from then on.
+    /// Returns an error of kind `OutOfMemory` if an allocation fails, and an
+    /// error of kind `Other` on every later call.
     ///
-    /// Bytes whose reading invokes no callbacks and allocates nothing are
-    /// written without an error: `process` reads them so by its clause `quiet`,
-    /// and `write` by `harmless` and [`quiet_runs`](crate::laws::quiet_runs).
+    /// Input whose parsing invokes no callbacks and allocates nothing never
+    /// causes an error. For `process`, its clause `quiet` says this; for
+    /// `write`, it follows from the clause `harmless` of
+    /// [`quiet_runs`](crate::laws::quiet_runs).
     fn write(&mut self, buf: &[u8]) -> io::Result<usize>
         ensures bound { WritesAtMost result buf.now }
         ensures bytes { WriteAppends None None result buf.now }
@@ -32,7 +33,7 @@ impl Write for Parser<()> {
         }
     }
 
-    /// Does nothing, since no byte is held back.
+    /// Does nothing, since `write` parses all bytes immediately.
     fn flush(&mut self) -> io::Result<()>
         ensures done { result ≡ Ok tt }
         ensures same { self.new ≡ self.old }

@@ -1,41 +1,43 @@
--- The effect of a call on what a handle holds.
+-- The effects of calls on the objects that handles hold.
 use Rattle.std.specs.Prelude.{◌≡◌, ◌==◌, ◌&&◌, ℕ, Bool, true, false, [], Option, Some, None, not, string_bytes}
 use Rattle.vt100_c.specs.Status.{ok, out_of_memory, no_object, in_use}
 use Rattle.vt100_c.specs.declared.object.Object.{Object}
 use Rattle.vt100_c.specs.declared.object.Source.{Source}
 
--- One of two statements, chosen by a test.
+-- `Yes` if the test is true, otherwise `No`.
 abbrev pub Either : Bool → Type 0 → Type 0 → Type 0
 Either true Yes No = Yes
 Either false Yes No = No
 
--- Whether a screen may have these numbers of rows and columns.
+-- Whether a screen can have this many rows and columns.
 abbrev pub is_size : (rows cols : ℕ) → Bool
 is_size rows cols = not (rows == 0) && not (cols == 0)
 
--- The effect of a call on the value that a handle holds, whose text is unchanged; for an empty handle, the status says
--- so and the handle stays empty.
+-- The effect of a call on the value that a handle holds; the stored text is unchanged. For an empty handle, the
+-- status is `no_object` and the handle stays empty.
 abbrev pub OnSource : (Source → ℕ → Source → Type 0) → Option Object → ℕ → Option Object → Type 0
 OnSource Does None status new = (status ≡ no_object) × (new ≡ None)
 OnSource Does (Some old) status (Some new) = Does old.source status new.source × (new.text ≡ old.text)
 OnSource Does (Some old) status None = ⊥
 
--- A value with an empty text is put into an empty handle; or an allocation fails, and the handle stays empty.
+-- An empty handle gets a value with an empty text, or an allocation fails and the handle stays empty.
 abbrev pub Fills : (Source → Type 0) → ℕ → Option Object → Type 0
 Fills Is status (Some new) = (status ≡ ok) × Is new.source × (string_bytes new.text ≡ [])
 Fills Is status None = status ≡ out_of_memory
 
--- A call fails with this status, and the value is unchanged.
+-- The call fails with the status `reason`, and the value is unchanged.
 abbrev pub Refuses : (reason : ℕ) → Source → ℕ → Source → Type 0
 Refuses reason old status new = (status ≡ reason) × (new ≡ old)
 
--- The effect of a call on the object that a handle holds; an empty handle stays empty.
+-- The effect of a call on the object that a handle holds. For an empty handle, the status is `no_object` and the
+-- handle stays empty.
 abbrev pub OnObject : (Object → ℕ → Object → Type 0) → Option Object → ℕ → Option Object → Type 0
 OnObject Does None status new = (status ≡ no_object) × (new ≡ None)
 OnObject Does (Some old) status (Some new) = Does old status new
 OnObject Does (Some old) status None = ⊥
 
--- A value is created in an empty handle; a handle that isn't empty is unchanged.
+-- A value is created in an empty handle. A handle that already holds an object is unchanged, and the status is
+-- `in_use`.
 abbrev pub MakesOne : (Source → Type 0) → Option Object → ℕ → Option Object → Type 0
 MakesOne Is (Some old) status new = (status ≡ in_use) × (new ≡ Some old)
 MakesOne Is None status new = Fills Is status new

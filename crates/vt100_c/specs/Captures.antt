@@ -1,9 +1,9 @@
--- Where the pieces and rows of a capture begin and end.
+-- The byte positions at which the pieces and rows of a capture begin and end.
 use Rattle.std.specs.Prelude.{◌≡◌, ◌+◌, ◌-◌, ◌^◌, ◌==◌, ℕ, List, [], ◌∷◌, IsUtf8, get_or, if◌then◌else◌}
 use Rattle.std.specs.Str.{IsCharBoundary}
 use Rattle.vt_rows.specs.Pieces.{Piece, piece_end}
 
--- The bytes are UTF-8, and a character begins at this place or the text ends there.
+-- The bytes are UTF-8, and `at` is a character boundary or the end of the text.
 abbrev pub IsPlace : List ℕ → ℕ → Type 0
 IsPlace text at = IsUtf8 text × IsCharBoundary text at
 
@@ -11,16 +11,17 @@ IsPlace text at = IsUtf8 text × IsCharBoundary text at
 abbrev pub behind_line_end : List ℕ → ℕ → ℕ
 behind_line_end text end = if get_or text end 0 == 10 then end + 1 else end
 
--- Where the first piece of the text from byte `at` on begins and ends; both are `stop` if there is none.
+-- The first piece of the text from byte `at` on begins at `start` and ends at `end`; both are `stop` if there is no
+-- such piece.
 abbrev pub IsFirstPiece : (stop at : ℕ) → List Piece → (start end : ℕ) → Type 0
 IsFirstPiece stop at [] start end = (start ≡ stop) × (end ≡ stop)
 IsFirstPiece stop at (piece ∷ pieces) start end = (start ≡ at + piece.0) × (end ≡ at + piece_end piece)
 
--- The number that stands for no place after the last row.
+-- The number that is returned instead of a position after the last row.
 abbrev pub no_place : ℕ
 no_place = 2 ^ 64 - 1
 
--- Where the first row of the text from byte `at` on ends, and where the next one begins.
+-- The first row of the text from byte `at` on ends at `end`, and the row after it begins at `next`.
 abbrev pub IsFirstRow : (at : ℕ) → List Piece → (end next : ℕ) → Type 0
 IsFirstRow at [] end next = ⊥
 IsFirstRow at (row ∷ []) end next = (end ≡ at + piece_end row) × (next ≡ no_place)

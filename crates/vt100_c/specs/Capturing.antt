@@ -1,4 +1,4 @@
--- Rows that are appended to a capture.
+-- Appending rows to a capture.
 use Rattle.std.specs.Prelude.{◌≡◌, ◌<◌, ℕ, List, nat_lt, length, Option, Some, None, if◌then◌else◌}
 use Rattle.std.specs.List.{slice_get}
 use Rattle.vt_rows.specs.Basic.{Written}
@@ -12,7 +12,7 @@ use Rattle.vt100_c.specs.declared.object.Object.{Object}
 use Rattle.vt100_c.specs.declared.object.Source.{Source}
 use Rattle.vt100_c.specs.declared.object.Source.TheVariants.{Parser, Screen, Mirror, Capture}
 
--- The state of a capture, if the value is one.
+-- The capture state, if the value is a capture.
 abbrev pub state_in : Source → Option Written
 state_in (Parser parser) = None
 state_in (Screen screen) = None
@@ -21,26 +21,26 @@ state_in (Capture written) = Some written
 
 -- ---- a value with a capture
 
--- The status of a call on a value and a capture, where `due` is that of the value.
+-- The status of a call on a value and a capture. The status `due` applies if both exist.
 abbrev pub due_behind : {A : Type 0} → (A → ℕ) → Option A → Option Written → ℕ
 due_behind due None state = wrong_kind
 due_behind due (Some value) None = wrong_kind
 due_behind due (Some value) (Some state) = due value
 
--- The value and the capture exist, and a statement holds for both.
+-- The value and the capture exist, and `Holds` holds for them.
 abbrev pub OnCapture : {A : Type 0} → Option A → Option Written → (A → Written → Type 0) → Type 0
 OnCapture None state Holds = ⊥
 OnCapture (Some value) None Holds = ⊥
 OnCapture (Some value) (Some state) Holds = Holds value state
 
--- ---- two handles, of which the first one's value is given by `of`
+-- ---- two handles; `of` selects the value in the first
 
 abbrev pub due_at_capture : {A : Type 0} → (Source → Option A) → (A → ℕ) → Option Object → Option Object → ℕ
 due_at_capture of due None capture = no_object
 due_at_capture of due (Some object) None = no_object
 due_at_capture of due (Some object) (Some capture) = due_behind due (of object.source) (state_in capture.source)
 
--- The status of a call on a handle and a capture that was taken out of its own handle.
+-- The status of a call on a handle and on a capture that was moved out of its own handle.
 abbrev pub due_beside_capture : {A : Type 0} → (Source → Option A) → (A → ℕ) → Option Object → Object → ℕ
 due_beside_capture of due None capture = bad_argument
 due_beside_capture of due (Some object) capture = due_behind due (of object.source) (state_in capture.source)
@@ -51,29 +51,29 @@ HoldAtCapture of None capture Holds = ⊥
 HoldAtCapture of (Some object) None Holds = ⊥
 HoldAtCapture of (Some object) (Some capture) Holds = OnCapture (of object.source) (state_in capture.source) Holds
 
--- A handle holds a capture in this state, with this text.
+-- The handle holds a capture with the state `state` and the text `written`.
 pub record HoldsCapture (written : List ℕ) (state : Written) (held : Option Object) : Type 0 where
   pub text : text_at held ≡ written
   pub source : source_at held ≡ Some (Capture state)
 
--- ---- the rows of a screen, and a reported row
+-- ---- the rows of a screen, and reported rows
 
 abbrev pub any_screen_is_due : ScreenValue → ℕ
 any_screen_is_due screen = ok
 
--- The rows of a screen have text when appended to a capture.
+-- Appending the rows of the screen to a capture adds at least one byte.
 abbrev pub HaveText : ScreenValue → Written → Type 0
 HaveText screen state = 0 < length (basic_texts state (all_rows screen))
 
--- The status for a row index: whether a log has such a row.
+-- The status of a call with the index of a reported row: `ok` if the log has such a row.
 abbrev pub has_reported : ℕ → Logged → ℕ
 has_reported index log = if nat_lt index (length log.rows) then ok else bad_argument
 
--- The row exists, and a statement holds for it.
+-- The row exists, and `Holds` holds for it.
 abbrev pub OnRow : Option RowValue → (RowValue → Type 0) → Type 0
 OnRow None Holds = ⊥
 OnRow (Some row) Holds = Holds row
 
--- A log has a row with this index, and a statement holds for it and a capture state.
+-- The log has a row with this index, and `Holds` holds for the row and the capture state.
 abbrev pub OnReported : ℕ → (RowValue → Written → Type 0) → Logged → Written → Type 0
 OnReported index Holds log state = OnRow (slice_get log.rows index) (λ row. Holds row state)

@@ -1,5 +1,5 @@
--- The status of a call by what handles hold, which is `ok` if only an allocation can fail; and statements about their
--- screens.
+-- The status that a call returns, depending on what its handles hold; it is `ok` if the call can fail only by running
+-- out of memory. Also, statements about the screens of handles.
 use Rattle.std.specs.Prelude.{◌≡◌, ◌⊎◌, ◌==◌, ◌&&◌, ℕ, nat_lt, nat_le, length, List, []}
 use Rattle.std.specs.Prelude.{Bool, Option, Some, None, Result, Ok, Err, IfErr, OnErr, if◌then◌else◌, string_bytes}
 use Rattle.vt_grid.specs.Page.{Page}
@@ -15,7 +15,7 @@ abbrev pub source_at : Option Object → Option Source
 source_at None = None
 source_at (Some object) = Some object.source
 
--- The last text of a handle; empty if it holds nothing.
+-- The text stored in a handle; empty if the handle holds nothing.
 abbrev pub text_at : Option Object → List ℕ
 text_at None = []
 text_at (Some object) = string_bytes object.text
@@ -26,36 +26,38 @@ abbrev pub due_on : (ScreenValue → ℕ) → Option ScreenValue → ℕ
 due_on due None = wrong_kind
 due_on due (Some screen) = due screen
 
--- The status of a call on a handle, where `due` is that of its screen.
+-- The status of a call on a handle; if the handle has a screen, it is the status `due` of that screen.
 abbrev pub due_at : (ScreenValue → ℕ) → Option Object → ℕ
 due_at due None = no_object
 due_at due (Some object) = due_on due (screen_in object.source)
 
--- The status for any screen.
+-- The status `ok`, which every screen gets.
 abbrev pub any_screen : ScreenValue → ℕ
 any_screen screen = ok
 
--- The status for a row index: whether that row is displayed.
+-- The status of a call with the index of a displayed row: `ok` if there is such a row.
 abbrev pub has_row : ℕ → ScreenValue → ℕ
 has_row row screen = if nat_lt row (length screen.page.rows) then ok else bad_argument
 
--- The status for a row index and a number of places: whether that row is displayed and its cells fit.
+-- The status of a call that stores the cells of a displayed row: `ok` if there is such a row and `room` is enough for
+-- all of its cells.
 abbrev pub has_row_and_room : (row room : ℕ) → ScreenValue → ℕ
 has_row_and_room row room screen = if nat_le screen.page.width room then has_row row screen else bad_argument
 
--- The status for a row and a column: whether there is such a cell; a row of scrollback may have more columns than the
--- screen.
+-- The status of a call with the position of a displayed cell: `ok` if there is such a cell. A scrollback row may have
+-- more columns than the screen.
 abbrev pub has_cell : (row col : ℕ) → ScreenValue → ℕ
 has_cell row col screen =
     if nat_lt row (length screen.page.rows) && nat_lt col (length (visible_row screen row).cells) then ok
     else bad_argument
 
--- The status for a range: whether it begins on the screen, if it has more than one row.
+-- The status of a call with a range of positions: `ok` if the range starts within the screen's columns or doesn't
+-- extend past its first row.
 abbrev pub has_start : (start_row start_col end_row : ℕ) → ScreenValue → ℕ
 has_start start_row start_col end_row screen =
     if nat_lt start_row end_row && nat_lt screen.page.width start_col then bad_argument else ok
 
--- There is a screen, and a statement holds for it.
+-- There is a screen, and `Holds` holds for it.
 abbrev pub OnScreen : Option ScreenValue → (ScreenValue → Type 0) → Type 0
 OnScreen None Holds = ⊥
 OnScreen (Some screen) Holds = Holds screen
@@ -76,23 +78,23 @@ due_at_both due None prev = no_object
 due_at_both due (Some object) None = no_object
 due_at_both due (Some object) (Some prev) = due_on_both due (screen_in object.source) (screen_in prev.source)
 
--- The status of a call on a screen and the handle of another one.
+-- The status of a call on a screen and on the handle of a second screen.
 abbrev pub due_beside : (ScreenValue → ScreenValue → ℕ) → Option ScreenValue → Option Object → ℕ
 due_beside due screen None = bad_argument
 due_beside due screen (Some prev) = due_on_both due screen (screen_in prev.source)
 
--- The status for any two screens.
+-- The status `ok`, which every pair of screens gets.
 abbrev pub any_screens : ScreenValue → ScreenValue → ℕ
 any_screens screen prev = ok
 
 abbrev pub same_size : Page → Page → Bool
 same_size page other = (length page.rows == length other.rows) && (page.width == other.width)
 
--- The status for two screens that must have one size.
+-- The status of a call on two screens: `ok` if they have the same size.
 abbrev pub of_one_size : ScreenValue → ScreenValue → ℕ
 of_one_size screen prev = if same_size screen.page prev.page then ok else other_size
 
--- There are two screens, and a statement holds for both.
+-- There are two screens, and `Holds` holds for them.
 abbrev pub OnBoth : Option ScreenValue → Option ScreenValue → (ScreenValue → ScreenValue → Type 0) → Type 0
 OnBoth None prev Holds = ⊥
 OnBoth (Some screen) None Holds = ⊥
@@ -105,16 +107,17 @@ HoldBoth (Some object) (Some prev) Holds = OnBoth (screen_in object.source) (scr
 
 -- ---- the status that is returned
 
--- The status is the one that is due, or says that an allocation failed if nothing else prevents the call.
+-- The status equals `due`. If `due` is `ok`, the status may also be `out_of_memory`.
 abbrev pub IsAnswer : (due status : ℕ) → Type 0
 IsAnswer due status = (status ≡ due) ⊎ ((due ≡ ok) × (status ≡ out_of_memory))
 
--- The status of a result.
+-- The status that a result stands for: `ok`, or its error.
 abbrev pub status_in : {A : Type 0} → Result A ℕ → ℕ
 status_in (Ok value) = ok
 status_in (Err status) = status
 
--- A result with the status that is due, whose error is never `ok`; after an error, `Stays` holds.
+-- The result has the status `due` or reports a failed allocation. Its error is never `ok`, and after an error,
+-- `Stays` holds.
 pub record AnswersOrStays {A : Type 0} (due : ℕ) (result : Result A ℕ) (Stays : Type 0) : Type 0 where
   pub answer : IsAnswer due (status_in result)
   pub refused : IfErr result (λ status. ¬ (status ≡ ok))

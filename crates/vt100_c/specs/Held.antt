@@ -1,4 +1,4 @@
--- What a handle owns: nothing, if it is null, or a block of the C library's heap with an object in it.
+-- What a handle owns: nothing if it is null, otherwise a block on the C library's heap that contains an object.
 use Rattle.std.specs.Prelude.{Option, Some, None}
 use Rattle.std.specs.Global.{Global}
 use Rattle.std_alloc.specs.Box.Ownership.{box_owns}
@@ -9,11 +9,11 @@ use base.Fml.{Fml, feq}
 use denote.RawPtr.{Ptr, null_ptr}
 use mir.Syntax.{Ty}
 
--- The C library's heap.
+-- The heap of the C library, managed by `malloc` and `free`.
 abbrev pub heap : Global
 heap = record { memory = record { seal = tt } }
 
--- The right to free a block of the heap.
+-- The permission to free a block of the heap.
 abbrev pub may_free : Ty → Ptr → Fml
 may_free = ghosts.dealloc_token heap
 

@@ -1,17 +1,17 @@
--- What is kept of a text that a call makes.
+-- The text that a call generates and stores.
 use Rattle.std.specs.Prelude.{◌≡◌, ℕ, length, Option}
 use Rattle.vt100_c.specs.Due.{text_at}
 use Rattle.vt100_c.specs.Status.{ok}
 use Rattle.vt100_c.specs.declared.object.Object.{Object}
 
--- The text that was made is kept with the object of a handle, and its length is stored; if the call fails, both are
--- unchanged.
+-- The generated text is stored in the handle, and its length is stored in the caller's variable. If the call fails,
+-- both are unchanged.
 pub record KeepsText (old : Option Object) (status : ℕ) (new : Option Object) (before after : ℕ) : Type 0 where
   pub len : status ≡ ok → after ≡ length (text_at new)
   pub refused : ¬ (status ≡ ok) → new ≡ old
   pub refused_len : ¬ (status ≡ ok) → after ≡ before
 
--- The text that was made is kept with the first handle, and the object of the second handle is unchanged.
+-- The generated text is stored in the first handle, and the object of the second handle is unchanged.
 pub record KeepsBoth (old other : Option Object) (status : ℕ) (new other' : Option Object) (before after : ℕ) :
     Type 0 where
   pub same : other' ≡ other

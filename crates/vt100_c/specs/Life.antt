@@ -1,4 +1,4 @@
--- Creating, saving and exchanging the objects of handles.
+-- Creating, saving and swapping the objects of handles.
 use Rattle.std.specs.Prelude.{◌≡◌, ℕ, Option, Some, None, unwrap_or}
 use Rattle.vt100.specs.Parser.{parsing}
 use Rattle.vt100_c.specs.Calls.{Either, Fills, is_size}
@@ -14,7 +14,7 @@ use Rattle.vt_scan.specs.Scanner.{StandsFor}
 use Rattle.vt_screen.specs.Screen.{ScreenValue, fresh_screen}
 use Rattle.vt_screen.specs.Shown.{shown}
 
--- A parser that has read nothing, with a fresh screen and an empty log.
+-- The value is a parser that has read nothing, with a blank screen and an empty log.
 abbrev pub IsNewParser : (rows cols capacity wanted : ℕ) → Source → Type 0
 IsNewParser rows cols capacity wanted (Parser parser) =
     StandsFor parser.scanner start
@@ -23,76 +23,80 @@ IsNewParser rows cols capacity wanted (Screen screen) = ⊥
 IsNewParser rows cols capacity wanted (Mirror mirror) = ⊥
 IsNewParser rows cols capacity wanted (Capture written) = ⊥
 
--- A value of this size is created in an empty handle; the handle is unchanged if it isn't empty or the size is no size.
+-- A value of this size is created in an empty handle. If the handle already holds an object or the size is invalid,
+-- the handle is unchanged.
 abbrev pub Makes : (rows cols : ℕ) → (Source → Type 0) → Option Object → ℕ → Option Object → Type 0
 Makes rows cols Is (Some old) status new = (status ≡ in_use) × (new ≡ Some old)
 Makes rows cols Is None status new =
     Either (is_size rows cols) (Fills Is status new) ((status ≡ bad_argument) × (new ≡ None))
 
--- The copy of a value that is saved: its screen, or a copy of a capture; a mirror has none.
+-- The saved copy of a value: its screen, or a copy of a capture. A mirror cannot be saved.
 abbrev pub saved_from : Source → Option Source
 saved_from (Parser parser) = Some (Screen parser.screen)
 saved_from (Screen screen) = Some (Screen screen)
 saved_from (Mirror mirror) = None
 saved_from (Capture written) = Some (Capture written)
 
--- The saved copy is put into an empty handle.
+-- The saved copy is stored in an empty handle; if there is no copy, the status is `wrong_kind`.
 abbrev pub SavesAs : Option Source → ℕ → Option Object → Type 0
 SavesAs None status new = (status ≡ wrong_kind) × (new ≡ None)
 SavesAs (Some copy) status new = Fills (λ source. source ≡ copy) status new
 
--- The copy of what a handle holds is put into an empty handle; the other handle is unchanged if it isn't empty.
+-- A copy of what the first handle holds is stored in the second handle. If the second handle already holds an object,
+-- it is unchanged.
 abbrev pub Saves : Option Object → (old : Option Object) → ℕ → (new : Option Object) → Type 0
 Saves None old status new = (status ≡ no_object) × (new ≡ old)
 Saves (Some object) (Some old) status new = (status ≡ in_use) × (new ≡ Some old)
 Saves (Some object) None status new = SavesAs (saved_from object.source) status new
 
--- The status if no copy is made: there is nothing to save, or an allocation failed.
+-- The status if no copy is made: `wrong_kind` if there is nothing to save, otherwise `out_of_memory`.
 abbrev pub refusal_of : Option Source → ℕ
 refusal_of None = wrong_kind
 refusal_of (Some copy) = out_of_memory
 
--- The value is a saved screen that looks the same as this screen and has its size.
+-- The value is a saved screen that displays the same content as `screen` and has the same size.
 abbrev pub IsShownCopy : ScreenValue → Source → Type 0
 IsShownCopy screen (Parser parser) = ⊥
 IsShownCopy screen (Screen copy) = (shown copy ≡ shown screen) × SameSize copy.page screen.page
 IsShownCopy screen (Mirror mirror) = ⊥
 IsShownCopy screen (Capture written) = ⊥
 
--- A copy of what is displayed is stored in an empty handle.
+-- A copy of what the screen displays is stored in an empty handle.
 abbrev pub SavesShownAs : Option ScreenValue → ℕ → Option Object → Type 0
 SavesShownAs None status new = (status ≡ wrong_kind) × (new ≡ None)
 SavesShownAs (Some screen) status new = Fills (IsShownCopy screen) status new
 
--- A copy of what the held screen displays is stored in another handle, which is unchanged if it isn't empty.
+-- A copy of what the first handle's screen displays is stored in the second handle. If the second handle already
+-- holds an object, it is unchanged.
 abbrev pub SavesShown : Option Object → (old : Option Object) → ℕ → (new : Option Object) → Type 0
 SavesShown None old status new = (status ≡ no_object) × (new ≡ old)
 SavesShown (Some object) (Some old) status new = (status ≡ in_use) × (new ≡ Some old)
 SavesShown (Some object) None status new = SavesShownAs (screen_in object.source) status new
 
--- The status if there is no such copy: there is no screen, or the allocation failed.
+-- The status if no copy of a displayed screen is made: `wrong_kind` if there is no screen, otherwise `out_of_memory`.
 abbrev pub refusal_on : Option ScreenValue → ℕ
 refusal_on None = wrong_kind
 refusal_on (Some screen) = out_of_memory
 
--- A value with the screen of another one, if that has a screen.
+-- The value with its screen replaced by `other`, if that is a screen.
 abbrev pub with_other : Option ScreenValue → Source → Source
 with_other other (Parser parser) = Parser (record parser { screen = unwrap_or other parser.screen })
 with_other other (Screen screen) = Screen (unwrap_or other screen)
 with_other other (Mirror mirror) = Mirror mirror
 with_other other (Capture written) = Capture written
 
--- The status of exchanging screens, which both values must have.
+-- The status of swapping two screens: `ok` if both values have one.
 abbrev pub swap_status : Option ScreenValue → Option ScreenValue → ℕ
 swap_status (Some own) (Some other) = ok
 swap_status (Some own) None = wrong_kind
 swap_status None other = wrong_kind
 
--- An object with the screen of another one, and its own text.
+-- The object with its screen replaced by `other`, if that is a screen, and with its text unchanged.
 abbrev pub held_with_other : Option ScreenValue → Object → Object
 held_with_other other object = record object { source = with_other other object.source }
 
--- The screens of two handles are exchanged, and no text changes; both are unchanged if one is empty.
+-- The screens of two handles are swapped, and their texts are unchanged. If either handle is empty, both are
+-- unchanged.
 abbrev pub Swaps : (old old' : Option Object) → ℕ → (new new' : Option Object) → Type 0
 Swaps None old' status new new' = (status ≡ no_object) × (new ≡ None) × (new' ≡ old')
 Swaps (Some old) None status new new' = (status ≡ no_object) × (new ≡ Some old) × (new' ≡ None)

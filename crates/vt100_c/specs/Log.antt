@@ -1,4 +1,4 @@
--- The log of what a handle holds, which only a parser has.
+-- The log of a handle; only a parser has one.
 use Rattle.std.specs.Prelude.{◌≡◌, ℕ, List, [], Option, Some, None}
 use Rattle.vt100_c.specs.Records.{Logged, bit_of, emptied, nothing_logged}
 use Rattle.vt100_c.specs.Status.{ok, no_object, wrong_kind}
@@ -16,7 +16,7 @@ abbrev pub log_at : Option Object → Option Logged
 log_at None = None
 log_at (Some object) = log_in object.source
 
--- The status of a call on a log.
+-- The status of a call on a log: `ok` if there is one.
 abbrev pub due_to : Option Logged → ℕ
 due_to None = wrong_kind
 due_to (Some log) = ok
@@ -25,17 +25,17 @@ abbrev pub due_to_log : Option Object → ℕ
 due_to_log None = no_object
 due_to_log (Some object) = due_to (log_in object.source)
 
--- The records of a log; none if there is no log.
+-- The records of a log; empty if there is no log.
 abbrev pub records_of : Option Logged → List ℕ
 records_of None = []
 records_of (Some log) = log.records
 
--- 1 if a log has no missing record, otherwise 0.
+-- 1 if there is a log with no missing records, otherwise 0.
 abbrev pub whole_of : Option Logged → ℕ
 whole_of None = 0
 whole_of (Some log) = bit_of log.is_whole
 
--- A value whose log is cleared, if it has one.
+-- The value with its log cleared, if it has one.
 abbrev pub with_emptied : Source → Source
 with_emptied (Parser parser) = Parser (record parser { callbacks = emptied parser.callbacks })
 with_emptied (Screen screen) = Screen screen
@@ -45,7 +45,7 @@ with_emptied (Capture written) = Capture written
 abbrev pub Empties : Source → ℕ → Source → Type 0
 Empties old status new = (status ≡ due_to (log_in old)) × (new ≡ with_emptied old)
 
--- A value whose log is cleared and has a new limit, if it has one.
+-- The value with its log cleared and given a new limit, if it has one.
 abbrev pub with_limit : (bytes : ℕ) → Source → Source
 with_limit bytes (Parser parser) =
     Parser (record parser { callbacks = nothing_logged parser.callbacks.wanted bytes })

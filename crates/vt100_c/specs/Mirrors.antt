@@ -1,4 +1,4 @@
--- The results of a mirror's calls, as C gets them.
+-- The results of calls to a mirror, as C receives them.
 use Rattle.std.specs.Prelude.{◌≡◌, ℕ, Bool, List, Option, Some, None, Result, Ok, Err, string_bytes, string_len}
 use Rattle.std.specs.Prelude.{if◌then◌else◌}
 use Rattle.vt_cells.specs.declared.error.Error.{Error}
@@ -8,21 +8,21 @@ use Rattle.vt_mirror.specs.declared.update.Update.{Update}
 use Rattle.vt_mirror.specs.declared.update.Update.TheVariants.{Diff, Full}
 use Rattle.vt100_c.specs.Status.{ok, bad_argument, status_of}
 
--- ---- viewers join and leave
+-- ---- joining and leaving
 
--- A number is stored, or an error is returned and the place for the number is unchanged.
+-- On success, the number is stored. On error, the variable for it is unchanged.
 abbrev pub GivesNumber : Result ℕ Error → (status before after : ℕ) → Type 0
 GivesNumber (Ok number) status before after = (status ≡ ok) × (after ≡ number)
 GivesNumber (Err error) status before after = (status ≡ status_of error) × (after ≡ before)
 
--- A viewer joins a mirror.
+-- A viewer joins the mirror, and its number is stored.
 pub record Joins (status before after : ℕ) (old new : MirrorValue) : Type 0 where
   pub answer : Result ℕ Error
   pub parser : new.parser ≡ old.parser
   pub call : JoinsMirror old.viewers answer new.viewers
   pub gives : GivesNumber answer status before after
 
--- A viewer leaves a mirror; it is a bad argument if there is no viewer with this number.
+-- A viewer leaves the mirror; if there is no viewer with this number, the status is `bad_argument`.
 pub record LeavesIt (viewer status : ℕ) (old new : MirrorValue) : Type 0 where
   pub answer : Bool
   pub parser : new.parser ≡ old.parser
@@ -31,7 +31,7 @@ pub record LeavesIt (viewer status : ℕ) (old new : MirrorValue) : Type 0 where
 
 -- ---- updates
 
--- The numbers that an update stores: the size of a full one, and the length of the text.
+-- The numbers that an update stores: the size of the screen for a full redraw, and the length of the text.
 pub record UpdateNumbers : Type 0 where
   pub rows : ℕ
   pub cols : ℕ
@@ -40,14 +40,14 @@ pub record UpdateNumbers : Type 0 where
 abbrev pub numbers : (rows cols len : ℕ) → UpdateNumbers
 numbers rows cols len = record { rows = rows; cols = cols; len = len }
 
--- The numbers after an update: a difference has no size, and without an update they are unchanged.
+-- The numbers stored after an update. A difference stores the size 0 by 0, and without an update they are unchanged.
 abbrev pub numbers_after : Result (Option Update) Error → UpdateNumbers → UpdateNumbers
 numbers_after (Ok (Some (Full rows cols text))) before = numbers rows cols (string_len text)
 numbers_after (Ok (Some (Diff text))) before = numbers 0 0 (string_len text)
 numbers_after (Ok None) before = before
 numbers_after (Err error) before = before
 
--- The text that is kept after an update.
+-- The stored text after an update; unchanged if there is no update.
 abbrev pub text_after : Result (Option Update) Error → List ℕ → List ℕ
 text_after (Ok (Some (Full rows cols text))) before = string_bytes text
 text_after (Ok (Some (Diff text))) before = string_bytes text
@@ -59,7 +59,7 @@ status_after (Ok (Some update)) = ok
 status_after (Ok None) = bad_argument
 status_after (Err error) = status_of error
 
--- An update is requested: its text is kept, and its numbers are stored.
+-- The effect of requesting an update: its text and its numbers are stored.
 pub record Updates (kind : Kind) (viewer status : ℕ) (text text' : List ℕ) (before after : UpdateNumbers)
     (old new : MirrorValue) : Type 0 where
   pub answer : Result (Option Update) Error

@@ -1,4 +1,4 @@
--- The number of bytes that a parser keeps of an unfinished command.
+-- The number of bytes that a parser holds of an unfinished operating system command.
 use Rattle.std.specs.Prelude.{◌≡◌, ℕ, Option, Some, None, length}
 use Rattle.vt_scan.specs.Automaton.{State}
 use Rattle.vt_scan.specs.Scanner.{StandsFor, unfinished_command}
@@ -16,27 +16,27 @@ parser_in (Screen screen) = None
 parser_in (Mirror mirror) = None
 parser_in (Capture written) = None
 
--- The status of a call that needs a parser.
+-- The status of a call that requires a parser: `ok` if there is one.
 abbrev pub due_to : Option (Parsing Logged) → ℕ
 due_to None = wrong_kind
 due_to (Some parser) = ok
 
--- The status of such a call on a handle that holds this object, or nothing.
+-- The status of a call that requires a parser, for a handle that holds this object or is empty.
 abbrev pub due_to_parser : Option Object → ℕ
 due_to_parser None = no_object
 due_to_parser (Some object) = due_to (parser_in object.source)
 
--- There is a parser, and `Holds` is true of it.
+-- There is a parser, and `Holds` holds for it.
 abbrev pub OnParser : Option (Parsing Logged) → (Parsing Logged → Type 0) → Type 0
 OnParser None Holds = ⊥
 OnParser (Some parser) Holds = Holds parser
 
--- A handle holds a parser, and `Holds` is true of it.
+-- The handle holds a parser, and `Holds` holds for it.
 abbrev pub HoldsParser : Option Object → (Parsing Logged → Type 0) → Type 0
 HoldsParser None Holds = ⊥
 HoldsParser (Some object) Holds = OnParser (parser_in object.source) Holds
 
--- In every state that the scanner may represent, `len` bytes of an unfinished command have been read.
+-- In every state that the scanner can be in, `len` bytes of an unfinished command have been read.
 abbrev pub ArePending : (len : ℕ) → Parsing Logged → Type 0
 ArePending len parser =
     (state : State) → StandsFor parser.scanner state → len ≡ length (unfinished_command state.kind state.collected)

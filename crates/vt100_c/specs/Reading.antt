@@ -1,4 +1,4 @@
--- What a parser or a mirror does with bytes.
+-- Parsing bytes with a parser or a mirror.
 use Rattle.std.specs.Prelude.{◌≡◌, ◌⊎◌, ◌==◌, ◌&&◌, ◌||◌, ◌+◌, ◌<◌, ◌≤◌, ◌-◌, ◌/◌, ◌%◌, ℕ, Bool, true, false, List}
 use Rattle.std.specs.Prelude.{length, take, drop, nat_lt, not, slice_index_or}
 use Rattle.vt_mirror.specs.Calls.{MirrorProcesses}
@@ -19,8 +19,8 @@ use Rattle.vt100_c.specs.declared.object.Source.TheVariants.{Parser, Screen, Mir
 use Rattle.vt_cells.specs.declared.error.Error.{Error}
 use Rattle.std.specs.declared.result.Result.{Result}
 
--- A parser reads bytes as by `Parser::process`: all of them; or up to a byte whose allocation fails, after which it has
--- failed; or none, if it had failed before.
+-- A parser reads bytes as `Parser::process` does: it reads all of them, or stops at a byte whose allocation fails,
+-- after which the parser has failed. A parser that had failed before reads nothing.
 pub record ReadsParser (old : Parsing Logged) (bytes : List ℕ) (status : ℕ) (new : Parsing Logged) : Type 0 where
   pub ran : status ≡ ok → Ran Logs old bytes new
   pub stopped : status ≡ out_of_memory → Stopped Logs old bytes new
@@ -31,13 +31,13 @@ pub record ReadsParser (old : Parsing Logged) (bytes : List ℕ) (status : ℕ) 
   pub fails : ¬ (status ≡ ok) → new.is_failed ≡ true
   pub harmless : old.is_failed ≡ false → IsHarmless Logs old bytes → status ≡ ok
 
--- A mirror reads bytes as by `Mirror::process`.
+-- A mirror reads bytes as `Mirror::process` does.
 pub record ReadsMirror (old : MirrorValue) (bytes : List ℕ) (status : ℕ) (new : MirrorValue) : Type 0 where
   pub answer : Result (Unit {0}) Error
   pub call : MirrorProcesses old bytes answer new
   pub status_is : status ≡ answered answer
 
--- Bytes are read by a parser or a mirror; other values are of the wrong kind.
+-- Bytes are read by a parser or a mirror; for other values, the status is `wrong_kind`.
 abbrev pub Reads : List ℕ → Source → ℕ → Source → Type 0
 Reads bytes (Parser old) status (Parser new) = ReadsParser old bytes status new
 Reads bytes (Mirror old) status (Mirror new) = ReadsMirror old bytes status new
@@ -47,28 +47,28 @@ Reads bytes old status new = ⊥
 
 -- ---- reading up to an event
 
--- The number of bytes of rows after which reading stops.
+-- The number of bytes of row data after which reading stops.
 abbrev pub batch : ℕ
 batch = 65536
 
--- Whether this many bytes of records are those of this many rows without texts, and of nothing else.
+-- Whether `bytes` bytes of records are exactly the records of `rows` rows without text.
 abbrev pub are_bare_rows : (bytes rows : ℕ) → Bool
 are_bare_rows bytes rows = (bytes / 17 == rows) && (bytes % 17 == 0)
 
--- Whether reading continues: since the mark the log got only rows without texts, which take less than a batch, it has
--- not reached its limit, and it has lost nothing.
+-- Whether reading continues: since `mark`, the log has recorded only rows without text, these rows take less than a
+-- batch, and the log has neither reached its limit nor lost a record.
 abbrev pub is_quiet : Mark → Logged → Bool
 is_quiet mark log =
     are_bare_rows (length log.records - mark.len) (length log.rows - mark.rows)
     && (nat_lt (mark.room - log.room) batch
     && ((not (log.room == 0) || mark.room == 0) && (log.is_whole || not mark.is_whole)))
 
--- The mark of a log in its present state.
+-- The mark of a log's current state.
 abbrev pub mark_of : Logged → Mark
 mark_of log = record { len = length log.records; rows = length log.rows; room = log.room; is_whole = log.is_whole }
 
--- All bytes are read, and none leaves an event at which reading stops; a parser that had failed before reads all bytes
--- only if there are none.
+-- All bytes are read, and none of them records an event at which reading stops. For a parser that had failed before,
+-- this holds only if there are no bytes.
 pub record ReadsAll (mark : Mark) (old : Parsing Logged) (bytes : List ℕ) (used status : ℕ) (new : Parsing Logged) :
     Type 0 where
   pub status_is : status ≡ ok
@@ -78,7 +78,8 @@ pub record ReadsAll (mark : Mark) (old : Parsing Logged) (bytes : List ℕ) (use
   pub still : new.is_failed ≡ old.is_failed
   pub nothing : old.is_failed ≡ true → (used ≡ 0) × (new ≡ old)
 
--- Callbacks and screen between bytes that leave no event and the bytes after them, from a state of the scanner.
+-- Parsing the bytes `before` from the scanner state `start` reaches a point at which reading continues, and parsing
+-- the bytes `after` from there leads to `new`.
 pub record IsQuietBetween (mark : Mark) (old : Parsing Logged) (before after : List ℕ) (new : Parsing Logged)
     (start : State) : Type 0 where
   pub between : screen.State Logged
@@ -86,7 +87,8 @@ pub record IsQuietBetween (mark : Mark) (old : Parsing Logged) (before after : L
   pub quiet : is_quiet mark between.callbacks ≡ true
   pub then : FoldsTo (Performs Logs) between (scan.run (scan.run start before).state after).events (stage new)
 
--- Some bytes leave no event at which reading stops; the next one leaves or loses one, and is the last that is read.
+-- A prefix of the bytes records no event at which reading stops. The next byte records or loses such an event and is
+-- the last one that is read.
 pub record ReadsEvent (mark : Mark) (old : Parsing Logged) (bytes : List ℕ) (used status : ℕ) (new : Parsing Logged) :
     Type 0 where
   pub count : ℕ
@@ -100,8 +102,8 @@ pub record ReadsEvent (mark : Mark) (old : Parsing Logged) (bytes : List ℕ) (u
   pub sound : old.is_failed ≡ false
   pub goes_on : new.is_failed ≡ false
 
--- Callbacks and screen between bytes that leave no event and the byte after them, whose allocation fails, from a state
--- of the scanner.
+-- Parsing the first `used` bytes from the scanner state `start` reaches a point at which reading continues, and the
+-- allocation for the next byte fails.
 pub record IsQuietBefore (mark : Mark) (old : Parsing Logged) (bytes : List ℕ) (used : ℕ) (new : Parsing Logged)
     (start : State) : Type 0 where
   pub between : screen.State Logged
@@ -109,8 +111,8 @@ pub record IsQuietBefore (mark : Mark) (old : Parsing Logged) (bytes : List ℕ)
   pub quiet : is_quiet mark between.callbacks ≡ true
   pub refused : IsRefused Logs between (scan.run start (take used bytes)).state (slice_index_or bytes used 0) (stage new)
 
--- Some bytes leave no event at which reading stops, and the next one is not read: its allocation fails, or the parser
--- had failed before.
+-- The first `used` bytes record no event at which reading stops, and the next byte is not read because its allocation
+-- fails or the parser had failed before.
 pub record StopsUnread (mark : Mark) (old : Parsing Logged) (bytes : List ℕ) (used status : ℕ) (new : Parsing Logged) :
     Type 0 where
   pub inside : used < length bytes
@@ -119,10 +121,10 @@ pub record StopsUnread (mark : Mark) (old : Parsing Logged) (bytes : List ℕ) (
   pub failed_before : old.is_failed ≡ true → (status ≡ failed) × (used ≡ 0) × (new ≡ old)
   pub fails : new.is_failed ≡ true
 
--- ---- units of bytes
+-- ---- reading unit by unit
 
--- `count` bytes are read, of which only the last has events if an event is left; or the byte after them is not read,
--- and they have no event.
+-- On success, `count` bytes are read, and if an event was recorded, only the last of them has events. Otherwise, the
+-- byte after them is not read, and they have no events.
 pub record ReadsUnit (old : Parsing Logged) (bytes : List ℕ) (count status : ℕ) (new : Parsing Logged) : Type 0 where
   pub some : status ≡ ok → 0 < count
   pub inside : count ≤ length bytes
@@ -133,17 +135,17 @@ pub record ReadsUnit (old : Parsing Logged) (bytes : List ℕ) (count status : �
   pub failed_before : ¬ (status ≡ ok) → old.is_failed ≡ true → (status ≡ failed) × (count ≡ 0) × (new ≡ old)
   pub fails : ¬ (status ≡ ok) → new.is_failed ≡ true
 
--- Bytes are read until the log has, since a mark, an event at which reading stops.
+-- Bytes are read until the log has recorded, since `mark`, an event at which reading stops.
 abbrev pub ReadsFrom : Mark → List ℕ → (used : ℕ) → Parsing Logged → ℕ → Parsing Logged → Type 0
 ReadsFrom mark bytes used old status new =
     ReadsAll mark old bytes used status new
     ⊎ (ReadsEvent mark old bytes used status new ⊎ StopsUnread mark old bytes used status new)
 
--- Bytes are read until the log has, since the beginning, an event at which reading stops.
+-- Bytes are read until the call has recorded an event at which reading stops.
 abbrev pub ReadsUntil : List ℕ → (used : ℕ) → Parsing Logged → ℕ → Parsing Logged → Type 0
 ReadsUntil bytes used old status new = ReadsFrom (mark_of old.callbacks) bytes used old status new
 
--- A parser reads bytes up to an event; other values are of the wrong kind.
+-- A parser reads bytes up to an event; for other values, the status is `wrong_kind`.
 abbrev pub ReadsUntilEvent : List ℕ → (used : ℕ) → Source → ℕ → Source → Type 0
 ReadsUntilEvent bytes used (Parser old) status (Parser new) = ReadsUntil bytes used old status new
 ReadsUntilEvent bytes used (Screen old) status new = Refuses wrong_kind (Screen old) status new × (used ≡ 0)

@@ -1,5 +1,5 @@
--- The record of a call, as C reads it: its kind in one byte, two numbers of four bytes each, the length of its text in
--- eight bytes, and the text. Numbers have their low byte first.
+-- The binary record of a callback's call, as C reads it: the kind in one byte, two numbers of four bytes each, the
+-- length of the text in eight bytes, and the text. All numbers are little-endian.
 use Rattle.std.specs.Prelude.{◌≡◌, ◌⊎◌, ◌==◌, ◌&&◌, ◌<◌, ◌-◌, ◌*◌, ◌/◌, ◌%◌, ◌^◌, ℕ, Bool, true, false}
 use Rattle.std.specs.Prelude.{List, [], ◌∷◌, ◌++◌, length, min, Option, Some, None}
 use Rattle.std.specs.Int.{w16, w32, w64, to_le_bytes}
@@ -28,7 +28,7 @@ kind_of (UnhandledCsi first second groups byte) = 10
 kind_of (UnhandledOsc parts) = 11
 kind_of (OnScroll row alternate) = 12
 
--- The number of an optional byte, which is 256 for none.
+-- The number that encodes an optional byte: 256 if there is none.
 abbrev pub number_of : Option ℕ → ℕ
 number_of None = 256
 number_of (Some byte) = byte
@@ -67,15 +67,15 @@ second_of (UnhandledCsi first second groups byte) = number_of second
 second_of (UnhandledOsc parts) = 0
 second_of (OnScroll row alternate) = bit_of row.wrapped
 
--- Bytes after their length.
+-- The bytes, preceded by their length.
 abbrev pub part_of : List ℕ → List ℕ
 part_of bytes = to_le_bytes w64 (length bytes) ++ bytes
 
--- Numbers after how many they are.
+-- The numbers, preceded by their count.
 abbrev pub group_of : List ℕ → List ℕ
 group_of numbers = to_le_bytes w64 (length numbers) ++ flat_map (to_le_bytes w16) numbers
 
--- The plain text of a row, or none if rows are recorded without it.
+-- The plain text of a row; empty if rows are recorded without text.
 abbrev pub row_text : (bare : Bool) → RowValue → List ℕ
 row_text true row = []
 row_text false row = plain_text 0 (length row.cells) row.cells
@@ -104,8 +104,8 @@ record_of bare call = record_with (kind_of call) (first_of call) (second_of call
 
 -- ---- the log
 
--- A log: the kinds that are wanted, its limit in bytes, how many of these are left, the records, the rows that they
--- report, and whether no record is missing.
+-- A log: the requested kinds of calls, its limit in bytes, how many of these bytes are left, the records, the rows
+-- they report, and whether no record is missing.
 pub record Logged : Type 0 where
   pub wanted : ℕ
   pub limit : ℕ
@@ -114,22 +114,22 @@ pub record Logged : Type 0 where
   pub rows : List RowValue
   pub is_whole : Bool
 
--- Whether the bit of a kind is set in a number.
+-- Whether the bit for `kind` is set in `wanted`.
 abbrev pub is_wanted : ℕ → ℕ → Bool
 is_wanted wanted kind = wanted / 2 ^ kind % 2 == 1
 
--- The bit of `wanted` by which rows are recorded without their texts.
+-- The number of the bit in `wanted` that requests rows without text.
 abbrev pub without_text : ℕ
 without_text = 13
 
 abbrev pub is_bare : Logged → Bool
 is_bare log = is_wanted log.wanted without_text
 
--- Whether a call must be kept: it is wanted, and no call was lost before it.
+-- Whether a call must be recorded: its kind is requested, and no call was lost before it.
 abbrev pub is_due : CallValue → Logged → Bool
 is_due call log = log.is_whole && is_wanted log.wanted (kind_of call)
 
--- The number of bytes that the cells of a call's copied row take, at most the greatest number of a word.
+-- The number of bytes that the cells of a call's copied row take, saturating at the maximum of a 64-bit word.
 abbrev pub cells_size : CallValue → ℕ
 cells_size AudibleBell = 0
 cells_size VisualBell = 0
@@ -145,7 +145,7 @@ cells_size (UnhandledCsi first second groups byte) = 0
 cells_size (UnhandledOsc parts) = 0
 cells_size (OnScroll row alternate) = min (length (trimmed_row row).cells * 40) (2 ^ 64 - 1)
 
--- Rows followed by the row that a call reports, without the default blanks at its end.
+-- The rows, followed by the row that a call reports without its trailing default blanks.
 abbrev pub rows_with : CallValue → List RowValue → List RowValue
 rows_with AudibleBell rows = rows
 rows_with VisualBell rows = rows
@@ -161,7 +161,7 @@ rows_with (UnhandledCsi first second groups byte) rows = rows
 rows_with (UnhandledOsc parts) rows = rows
 rows_with (OnScroll row alternate) rows = rows ++ trimmed_row row ∷ []
 
--- A log with the record of a call appended.
+-- The log with the record of a call appended.
 abbrev pub with_record : CallValue → Logged → Logged
 with_record call log =
     record log {
@@ -170,11 +170,11 @@ with_record call log =
       room = log.room - length (record_of (is_bare log) call) - cells_size call;
     }
 
--- A log that has lost a record.
+-- The log after losing a record.
 abbrev pub with_loss : Logged → Logged
 with_loss log = record log { is_whole = false }
 
--- An empty log with a limit, in which no record is missing.
+-- An empty log with the given limit and no missing records.
 abbrev pub nothing_logged : (wanted limit : ℕ) → Logged
 nothing_logged wanted limit =
     record { wanted = wanted; limit = limit; room = limit; records = []; rows = []; is_whole = true }
@@ -186,14 +186,14 @@ emptied log = nothing_logged log.wanted log.limit
 abbrev pub default_limit : ℕ
 default_limit = 1048576
 
--- A call that must be kept has its record appended; or it is lost, because its allocation failed or the log had reached
--- its limit, and then the log is not whole, and nothing is added until it is cleared; any other call leaves the log
--- unchanged.
+-- A call that must be recorded is appended to the log, or it is lost because its allocation failed or the log had
+-- reached its limit. After a loss, the log is incomplete and nothing is added until it is cleared. Any other call
+-- leaves the log unchanged.
 pub record LogsIt (call : CallValue) (old new : Logged) : Type 0 where
   pub kept : is_due call old ≡ true → 0 < old.room → (new ≡ with_record call old) ⊎ (new ≡ with_loss old)
   pub full : is_due call old ≡ true → old.room ≡ 0 → new ≡ with_loss old
   pub stays : is_due call old ≡ false → new ≡ old
 
--- A call is logged, and the screen is unchanged.
+-- The call is logged, and the screen is unchanged.
 abbrev pub Logs : CallValue → Logged → ScreenValue → Logged → ScreenValue → Type 0
 Logs call old before new after = (after ≡ before) × LogsIt call old new

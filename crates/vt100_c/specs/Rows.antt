@@ -1,4 +1,4 @@
--- The texts of rows, in sequence.
+-- The concatenated texts of rows, and the position at which each ends.
 use Rattle.std.specs.Prelude.{◌≡◌, ◌+◌, ◌<◌, ◌≤◌, ℕ, List, [], ◌∷◌, ◌++◌, drop, length, take, nat_le, nat_lt}
 use Rattle.std.specs.Prelude.{Option, Some, None, if◌then◌else◌}
 use Rattle.std.specs.List.{concat}
@@ -10,12 +10,12 @@ use Rattle.vt100_c.specs.Sources.{screen_in}
 use Rattle.vt100_c.specs.Status.{ok, bad_argument, other_size}
 use Rattle.vt100_c.specs.declared.object.Object.{Object}
 
--- Where each text of a sequence ends that begins at a place.
+-- The end of each text in a concatenation that begins at position `at`.
 abbrev pub ends_from : ℕ → List (List ℕ) → List ℕ
 ends_from at [] = []
 ends_from at (text ∷ texts) = (at + length text) ∷ ends_from (at + length text) texts
 
--- The first texts of a list are joined, with their ends, and the others are left.
+-- The first `count` texts of `all` are concatenated, their ends are stored, and the texts `left` remain.
 pub record IsJoined (all left : List (List ℕ)) (count : ℕ) (joined ends : List ℕ) : Type 0 where
   pub done : List (List ℕ)
   pub parts : all ≡ done ++ left
@@ -23,58 +23,59 @@ pub record IsJoined (all left : List (List ℕ)) (count : ℕ) (joined ends : Li
   pub text : joined ≡ concat done
   pub ends_are : take count ends ≡ ends_from 0 done
 
--- The status for the rows of a screen: whether there is a place for the end of each.
+-- The status of a call that stores the end of each row: `ok` if `room` is enough for all rows of the screen.
 abbrev pub has_places : (room : ℕ) → ScreenValue → ℕ
 has_places room screen = if nat_le (length screen.page.rows) room then ok else bad_argument
 
--- The status for a range of columns: whether it begins at one and there is a place for the end of each row.
+-- The status of a call with a range of columns: `ok` if `start` is a column of the screen and `room` is enough for
+-- the end of each row.
 abbrev pub has_range : (start room : ℕ) → ScreenValue → ℕ
 has_range start room screen = if nat_lt start screen.page.width then has_places room screen else bad_argument
 
--- The status for a range of columns of two screens, which must have one size.
+-- The status of a call with a range of columns of two screens, which must have the same size.
 abbrev pub have_range : (start room : ℕ) → ScreenValue → ScreenValue → ℕ
 have_range start room screen prev = if same_size screen.page prev.page then has_range start room screen else other_size
 
--- The plain texts of a screen's rows, in `width` columns from `start` on.
+-- The plain texts of the displayed rows, limited to `width` columns from `start` on.
 abbrev pub plain_rows : (start width : ℕ) → ScreenValue → List (List ℕ)
 plain_rows start width screen = row_texts start (start + width) (visible_rows screen)
 
--- The first numbers are where the texts of a sequence end.
+-- The first `count` numbers are the ends of the concatenated texts.
 abbrev pub AreEnds : (count : ℕ) → List ℕ → List (List ℕ) → Type 0
 AreEnds count ends texts = take count ends ≡ ends_from 0 texts
 
--- Texts are joined, and the first numbers are where they end.
+-- The texts are concatenated, and the first `count` numbers are their ends.
 pub record JoinsTexts (count : ℕ) (texts : List (List ℕ)) (joined ends : List ℕ) : Type 0 where
   pub text : joined ≡ concat texts
   pub ends_are : AreEnds count ends texts
 
--- The texts of a screen's rows are joined and their ends are stored; further numbers are unchanged.
+-- The texts of the screen's rows are concatenated, and their ends are stored; the numbers after them are unchanged.
 pub record GivesRows (screen : ScreenValue) (texts : List (List ℕ)) (joined before after : List ℕ) : Type 0 where
   pub rows : JoinsTexts (length screen.page.rows) texts joined after
   pub rest : drop (length screen.page.rows) after ≡ drop (length screen.page.rows) before
 
--- A range of columns begins at one, and there is a place for the end of each row.
+-- The column `start` is on the screen, and `room` is enough for the end of each row.
 pub record FitRows (start room : ℕ) (screen : ScreenValue) : Type 0 where
   pub column : start < screen.page.width
   pub places : length screen.page.rows ≤ room
 
--- There is a screen, and one in another handle, and a statement holds for both.
+-- There is a screen, the other handle has one too, and `Holds` holds for both.
 abbrev pub HoldBeside : Option ScreenValue → Option Object → (ScreenValue → ScreenValue → Type 0) → Type 0
 HoldBeside screen None Holds = ⊥
 HoldBeside screen (Some prev) Holds = OnBoth screen (screen_in prev.source) Holds
 
--- ---- the effect of a call on what handles hold
+-- ---- the effects of calls on handles
 
--- The texts of the rows of a handle's screen are made and their ends are stored; the screen is unchanged, and so are
--- the numbers if the call fails.
+-- The texts of the rows of the handle's screen are generated and their ends are stored. The screen is unchanged, and
+-- if the call fails, so are the numbers.
 pub record MakesRows (texts : ScreenValue → List (List ℕ)) (old : Option Object) (status : ℕ) (new : Option Object)
     (before after : List ℕ) : Type 0 where
   pub source : source_at new ≡ source_at old
   pub made : status ≡ ok → HoldsScreen old (λ screen. GivesRows screen (texts screen) (text_at new) before after)
   pub refused : ¬ (status ≡ ok) → after ≡ before
 
--- The outputs that turn the rows of another handle's screen into those of a handle's screen are made and their ends are
--- stored.
+-- For each row, the output that turns the row of the other handle's screen into that of this handle's screen is
+-- generated, and the ends of these outputs are stored.
 pub record ChangesRows (start width : ℕ) (old prev : Option Object) (status : ℕ) (new : Option Object)
     (before after : List ℕ) : Type 0 where
   pub source : source_at new ≡ source_at old

@@ -1,4 +1,4 @@
--- What is displayed, as C reads it: colours, cells and states.
+-- The display as C reads it: colours, cells and states.
 use Rattle.std.specs.Prelude.{◌≡◌, ◌⊎◌, ◌+◌, ◌<◌, ℕ, Bool, List, [], ◌∷◌, length, slice_index_or, if◌then◌else◌}
 use Rattle.vt_cells.specs.Attrs.{Attrs, is_bold, is_dim}
 use Rattle.vt_cells.specs.Cell.{CellValue, attrs_of, default_blank, is_right_half, is_wide, text_of}
@@ -24,20 +24,20 @@ color_for_c color.Default = record { kind = 0; red = 0; green = 0; blue = 0 }
 color_for_c (color.Idx index) = record { kind = 1; red = index; green = 0; blue = 0 }
 color_for_c (color.Rgb red green blue) = record { kind = 2; red = red; green = green; blue = blue }
 
--- A value if a test holds, and 0 if not.
+-- The value if the test holds, and 0 otherwise.
 abbrev pub bit : ℕ → Bool → ℕ
 bit value is = if is then value else 0
 
--- The number is 1 if `Holds` is true, and 0 if not.
+-- The number is 1 if `Holds` holds, and 0 otherwise.
 abbrev pub IsBitFor : Type 0 → ℕ → Type 0
 IsBitFor Holds out = ((out ≡ 1) × Holds) ⊎ ((out ≡ 0) × ¬ Holds)
 
--- The flags of a style, from the lowest bit on: bold, dim, italic, underlined, inverse.
+-- The flags of a style, starting at the lowest bit: bold, dim, italic, underlined, inverse.
 abbrev pub style_flags : Attrs → ℕ
 style_flags attrs =
     bit 1 (is_bold attrs) + bit 2 (is_dim attrs) + bit 4 attrs.italic + bit 8 attrs.underline + bit 16 attrs.inverse
 
--- The flags of a cell: its style, whether it is wide, and whether it is a continuation cell.
+-- The flags of a cell: the flags of its style, and whether it is wide or a continuation cell.
 abbrev pub cell_flags : CellValue → ℕ
 cell_flags cell = style_flags (attrs_of cell) + bit 32 (is_wide cell) + bit 64 (is_right_half cell)
 
@@ -51,15 +51,15 @@ cell_for_c cell = record {
   bgcolor = color_for_c (attrs_of cell).bgcolor;
 }
 
--- The displayed cell at a row and column; a default blank if there is none.
+-- The displayed cell at a row and column; a default blank if there is no such cell.
 abbrev pub shown_cell : (row col : ℕ) → ScreenValue → CellValue
 shown_cell row col screen = at (visible_row screen row).cells col
 
--- The cell at an index of a list; past its end a default blank.
+-- The cell at an index of a list; a default blank past its end.
 abbrev pub cell_in : List VtCell → ℕ → VtCell
 cell_in cells k = slice_index_or cells k (cell_for_c default_blank)
 
--- The first cells are those of a displayed row, as many as the screen has columns.
+-- The first cells are the cells of a displayed row, one for each column of the screen.
 abbrev pub IsRowForC : ℕ → ScreenValue → List VtCell → Type 0
 IsRowForC row screen cells = (col : ℕ) → col < screen.page.width
     → cell_in cells col ≡ cell_for_c (shown_cell row col screen)

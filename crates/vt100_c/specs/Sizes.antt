@@ -1,4 +1,4 @@
--- What a value does when it is resized, and with its scrollback.
+-- Resizing a value, and changing its scrollback.
 use Rattle.std.specs.Prelude.{◌≡◌, ℕ, false, length, zero, suc}
 use Rattle.std.specs.List.{FoldsTo}
 use Rattle.std.specs.declared.result.Result.{Result}
@@ -17,13 +17,15 @@ use Rattle.vt100_c.specs.Status.{bad_argument, ok, wrong_kind, answered}
 use Rattle.vt100_c.specs.declared.object.Source.{Source}
 use Rattle.vt100_c.specs.declared.object.Source.TheVariants.{Parser, Screen, Mirror, Capture}
 
--- What holds if the call succeeded (status 0), and if an allocation failed (status 1).
+-- The condition that holds after a call: `Done` if it succeeded (status 0), `Refused` if an allocation failed (status
+-- 1).
 abbrev pub Outcome : (status : ℕ) → (Done Refused : Type 0) → Type 0
 Outcome zero Done Refused = Done
 Outcome (suc zero) Done Refused = Refused
 Outcome (suc (suc status)) Done Refused = ⊥
 
--- A parser's screen is resized, and events are kept for the rows that scroll off; the other events are unchanged.
+-- The parser's screen is resized, and the rows that scroll off are recorded in its log. The rest of the parser is
+-- unchanged.
 pub record HasResized (rows cols : ℕ) (old new : Parsing Logged) : Type 0 where
   pub screen : new ≡ record old { screen = resized rows cols old.screen; callbacks = new.callbacks }
   pub called : FoldsTo (CalledOnAnyScreen Logs) old.callbacks (calls_resized rows cols old.screen) new.callbacks
@@ -36,13 +38,13 @@ abbrev pub ResizesScreen : (rows cols : ℕ) → ScreenValue → ℕ → ScreenV
 ResizesScreen rows cols old status new =
     Outcome status (new ≡ resized rows cols old) ((new ≡ old) × (has_size rows cols old ≡ false))
 
--- A mirror is resized as by `Mirror::set_size`.
+-- A mirror is resized as `Mirror::set_size` does.
 pub record ResizesMirror (rows cols : ℕ) (old : MirrorValue) (status : ℕ) (new : MirrorValue) : Type 0 where
   pub answer : Result (Unit {0}) Error
   pub call : Resizes old rows cols answer new
   pub status_is : status ≡ answered answer
 
--- A parser, a saved screen or a mirror is resized; a capture is of the wrong kind.
+-- A parser, a saved screen or a mirror is resized; for a capture, the status is `wrong_kind`.
 abbrev pub ResizesSource : (rows cols : ℕ) → Source → ℕ → Source → Type 0
 ResizesSource rows cols (Parser old) status (Parser new) = ResizesParser rows cols old status new
 ResizesSource rows cols (Screen old) status (Screen new) = ResizesScreen rows cols old status new
@@ -50,15 +52,15 @@ ResizesSource rows cols (Mirror old) status (Mirror new) = ResizesMirror rows co
 ResizesSource rows cols (Capture old) status new = Refuses wrong_kind (Capture old) status new
 ResizesSource rows cols old status new = ⊥
 
--- A value is resized; 0 rows or 0 columns is a bad argument.
+-- A value is resized; for 0 rows or 0 columns, the status is `bad_argument`.
 abbrev pub SetsSize : (rows cols : ℕ) → Source → ℕ → Source → Type 0
 SetsSize rows cols old status new =
     Either (is_size rows cols) (ResizesSource rows cols old status new) (Refuses bad_argument old status new)
 
--- ---- the screen without events
+-- ---- resizing and scrolling without events
 
--- A call on the screen of a parser, which is otherwise unchanged, or on a saved screen; other values are of the wrong
--- kind.
+-- The effect of a call on the screen of a parser, which is otherwise unchanged, or on a saved screen. For other
+-- values, the status is `wrong_kind`.
 abbrev pub OnScreen : (ScreenValue → ℕ → ScreenValue → Type 0) → Source → ℕ → Source → Type 0
 OnScreen Does (Parser old) status (Parser new) =
     Does old.screen status new.screen × (new ≡ record old { screen = new.screen })
@@ -71,8 +73,8 @@ abbrev pub SetsScreenSize : (rows cols : ℕ) → Source → ℕ → Source → 
 SetsScreenSize rows cols old status new =
     Either (is_size rows cols) (OnScreen (ResizesScreen rows cols) old status new) (Refuses bad_argument old status new)
 
--- The display isn't scrolled back because an allocation failed, which can only happen if a row that would be displayed
--- must be extended.
+-- The displayed rows are unchanged because an allocation failed. This can happen only if a row that would be
+-- displayed must be extended.
 pub record HasNotScrolledBack (rows : ℕ) (old new : ScreenValue) : Type 0 where
   pub same : new ≡ old
   pub main : old.is_alternate ≡ false
@@ -81,6 +83,6 @@ pub record HasNotScrolledBack (rows : ℕ) (old new : ScreenValue) : Type 0 wher
 abbrev pub ScrollsBack : (rows : ℕ) → ScreenValue → ℕ → ScreenValue → Type 0
 ScrollsBack rows old status new = Outcome status (new ≡ scrolled_back rows old) (HasNotScrolledBack rows old new)
 
--- Scrollback is erased, without an allocation.
+-- Scrollback is erased, without allocating.
 abbrev pub Clears : ScreenValue → ℕ → ScreenValue → Type 0
 Clears old status new = (status ≡ ok) × (new ≡ screen_after EraseScrollback old)

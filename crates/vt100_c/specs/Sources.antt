@@ -1,4 +1,4 @@
--- The kind of a value that a handle holds, and its screen.
+-- The values that handles hold: their kinds and their screens.
 use Rattle.std.specs.Prelude.{ℕ, Option, Some, None}
 use Rattle.vt100_c.specs.declared.object.Object.{Object}
 use Rattle.vt100_c.specs.declared.object.Source.{Source}
@@ -20,14 +20,14 @@ mirror_in (Screen screen) = None
 mirror_in (Mirror mirror) = Some mirror
 mirror_in (Capture written) = None
 
--- The number of a value's kind.
+-- The number that C reads for a value's kind.
 abbrev pub kind_of : Source → ℕ
 kind_of (Parser parser) = 1
 kind_of (Screen screen) = 2
 kind_of (Mirror mirror) = 3
 kind_of (Capture written) = 4
 
--- The number of the kind of what a handle holds; 0 if it is empty.
+-- The number that C reads for the kind of a handle's value; 0 if the handle is empty.
 abbrev pub kind_held : Option Object → ℕ
 kind_held None = 0
 kind_held (Some object) = kind_of object.source

@@ -30,13 +30,13 @@ in_use = 7
 abbrev pub no_number : ℕ
 no_number = 8
 
--- The status of an error.
+-- The status that is returned for an error.
 abbrev pub status_of : Error → ℕ
 status_of OutOfMemory = 1
 status_of Failed = 2
 status_of NoNumber = 8
 
--- The status of a result without a value.
+-- The status that a result without a value stands for.
 abbrev pub answered : Result (Unit {0}) Error → ℕ
 answered (Ok done) = 0
 answered (Err error) = status_of error

@@ -1,4 +1,4 @@
--- The text or output that each call makes.
+-- The text or output that each call generates.
 use Rattle.std.specs.Prelude.{◌≡◌, ◌<◌, ◌≤◌, ℕ, List, Option, length}
 use Rattle.vt_cells.specs.Op.{bytes_of_all}
 use Rattle.vt_redraw.specs.Moved.{IsScrolling}
@@ -33,14 +33,14 @@ text_of text.CursorState screen = bytes_of_all (cursor_state (shown screen))
 text_of text.Attributes screen = attributes_text screen.attrs
 text_of text.InputMode screen = input_text screen.modes
 
--- The status for a text of a screen.
+-- The status of a call that generates a text of a screen.
 abbrev pub due_for : Text → ScreenValue → ℕ
 due_for (text.Between start_row start_col end_row end_col) screen = has_start start_row start_col end_row screen
 due_for _ screen = any_screen screen
 
 -- ---- two screens
 
--- A difference that may move rows first, and is never longer than one that doesn't.
+-- The text is a difference that may move rows first and is never longer than one that moves none.
 pub record IsScrollingDiff (screen prev : ScreenValue) (text : List ℕ) : Type 0 where
   pub draws : IsScrolling (shown screen) (shown prev) text
   pub shorter : length text ≤ length (bytes_of_all (difference (shown screen) (shown prev)))
@@ -51,20 +51,20 @@ IsDifference between.Scrolling screen prev text = IsScrollingDiff screen prev te
 IsDifference between.State screen prev text = text ≡ state_change prev screen
 IsDifference between.InputMode screen prev text = text ≡ input_change prev.modes screen.modes
 
--- The status for a difference of two screens.
+-- The status of a call that generates the difference between two screens.
 abbrev pub due_for_both : Difference → ScreenValue → ScreenValue → ℕ
 due_for_both between.InputMode screen prev = any_screens screen prev
 due_for_both _ screen prev = of_one_size screen prev
 
 -- ---- texts whose allocation may fail
 
--- The text between two positions isn't empty; nothing is said of other texts.
+-- The text between two positions is not empty; for other texts, this requires nothing.
 abbrev pub HasText : Text → ScreenValue → Type 0
 HasText (text.Between start_row start_col end_row end_col) screen =
     0 < length (between_of start_row start_col end_row end_col screen)
 HasText _ screen = Unit {0}
 
--- The output isn't empty, and the screens display different things.
+-- The output isn't empty, and the screens display different content.
 abbrev pub HasChange : (text : List ℕ) → ScreenValue → ScreenValue → Type 0
 HasChange text screen prev = (0 < length text) × ¬ (shown screen ≡ shown prev)
 
@@ -75,15 +75,16 @@ HasDifference between.InputMode screen prev =
     (0 < length (input_change prev.modes screen.modes)) × ¬ (screen.modes ≡ prev.modes)
 HasDifference _ screen prev = HasChange (bytes_of_all (difference (shown screen) (shown prev))) screen prev
 
--- ---- the effect of a call on what handles hold
+-- ---- the effects of calls on handles
 
--- This text of a handle's screen is made; the screen is unchanged.
+-- The text that `name` selects is generated from the handle's screen, which is unchanged.
 pub record MakesText (name : Text) (old : Option Object) (status : ℕ) (new : Option Object) : Type 0 where
   pub source : source_at new ≡ source_at old
   pub some : status ≡ out_of_memory → HoldsScreen old (HasText name)
   pub made : status ≡ ok → HoldsScreen old (λ screen. text_at new ≡ text_of name screen)
 
--- This difference from another handle's screen is made; the screen is unchanged.
+-- The difference that `name` selects is generated, from the screen of the handle `prev` to that of the handle `old`.
+-- The screen of `old` is unchanged.
 pub record MakesDifference (name : Difference) (old prev : Option Object) (status : ℕ) (new : Option Object) :
     Type 0 where
   pub source : source_at new ≡ source_at old

@@ -1,4 +1,4 @@
--- Calls on the viewers of a mirror that a handle holds.
+-- Calls for the viewers of a mirror that a handle holds.
 use Rattle.std.specs.Prelude.{◌≡◌, ◌⊎◌, ℕ, List, Option, Some, None, string_bytes}
 use Rattle.vt_mirror.specs.Calls.{Kind}
 use Rattle.vt_mirror.specs.Mirror.{MirrorValue}
@@ -16,7 +16,7 @@ use Rattle.vt100_c.specs.declared.object.Object.{Object}
 use Rattle.vt100_c.specs.declared.object.Source.{Source}
 use Rattle.vt100_c.specs.declared.object.Source.TheVariants.{Parser, Screen, Mirror, Capture}
 
--- A mirror that has read nothing, with a fresh screen and no viewers.
+-- The value is a mirror that has read nothing, with a blank screen and no viewers.
 abbrev pub IsNewMirror : (rows cols capacity : ℕ) → Source → Type 0
 IsNewMirror rows cols capacity (Mirror mirror) =
     StandsFor mirror.parser.scanner start
@@ -26,7 +26,7 @@ IsNewMirror rows cols capacity (Parser parser) = ⊥
 IsNewMirror rows cols capacity (Screen screen) = ⊥
 IsNewMirror rows cols capacity (Capture written) = ⊥
 
--- A viewer joins a mirror; other values are of the wrong kind.
+-- A viewer joins a mirror; for other values, the status is `wrong_kind`.
 abbrev pub JoinsSource : (before after : ℕ) → Source → ℕ → Source → Type 0
 JoinsSource before after (Mirror old) status (Mirror new) = Joins status before after old new
 JoinsSource before after (Mirror old) status (Parser new) = ⊥
@@ -36,7 +36,7 @@ JoinsSource before after (Parser old) status new = Refuses wrong_kind (Parser ol
 JoinsSource before after (Screen old) status new = Refuses wrong_kind (Screen old) status new
 JoinsSource before after (Capture old) status new = Refuses wrong_kind (Capture old) status new
 
--- A viewer leaves a mirror; other values are of the wrong kind.
+-- A viewer leaves a mirror; for other values, the status is `wrong_kind`.
 abbrev pub LeavesSource : (viewer : ℕ) → Source → ℕ → Source → Type 0
 LeavesSource viewer (Mirror old) status (Mirror new) = LeavesIt viewer status old new
 LeavesSource viewer (Mirror old) status (Parser new) = ⊥
@@ -46,7 +46,7 @@ LeavesSource viewer (Parser old) status new = Refuses wrong_kind (Parser old) st
 LeavesSource viewer (Screen old) status new = Refuses wrong_kind (Screen old) status new
 LeavesSource viewer (Capture old) status new = Refuses wrong_kind (Capture old) status new
 
--- A viewer of a mirror is updated, and the text that is kept is replaced; other values are of the wrong kind.
+-- A viewer of a mirror gets an update, and the stored text is replaced; for other values, the status is `wrong_kind`.
 abbrev pub UpdatesSource : Kind → (viewer : ℕ) → (before after : UpdateNumbers) → (text text' : List ℕ) →
     Source → ℕ → Source → Type 0
 UpdatesSource kind viewer before after text text' (Mirror old) status (Mirror new) =
@@ -67,7 +67,7 @@ UpdatesObject kind viewer before after old status new =
 
 -- ---- Whether a viewer is up to date
 
--- The status of a call that needs a mirror.
+-- The status of a call that requires a mirror: `ok` if there is one.
 abbrev pub due_to : Option MirrorValue → ℕ
 due_to None = wrong_kind
 due_to (Some mirror) = ok
@@ -76,7 +76,7 @@ abbrev pub due_to_mirror : Option Object → ℕ
 due_to_mirror None = no_object
 due_to_mirror (Some object) = due_to (mirror_in object.source)
 
--- There is a mirror, and `Holds` is true of it.
+-- There is a mirror, and `Holds` holds for it.
 abbrev pub OnMirror : Option MirrorValue → (MirrorValue → Type 0) → Type 0
 OnMirror None Holds = ⊥
 OnMirror (Some mirror) Holds = Holds mirror
@@ -85,7 +85,7 @@ abbrev pub HoldsMirror : Option Object → (MirrorValue → Type 0) → Type 0
 HoldsMirror None Holds = ⊥
 HoldsMirror (Some object) Holds = OnMirror (mirror_in object.source) Holds
 
--- The number is 1 only if the screen noted for the viewer is the mirror's, and otherwise 0.
+-- The number is 0 or 1. It is 1 only if the screen recorded for the viewer is the mirror's screen.
 abbrev pub TellsCurrent : (viewer : ℕ) → (out : ℕ) → MirrorValue → Type 0
 TellsCurrent viewer out mirror =
     ((out ≡ 1) × (note_of mirror.viewers viewer ≡ Some mirror.parser.screen)) ⊎ (out ≡ 0)

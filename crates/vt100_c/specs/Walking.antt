@@ -1,32 +1,34 @@
--- Calls that read a capture from its beginning to its end, each from where the one before it ended.
+-- Sequences of calls that read a capture from beginning to end, each from where the previous one ended.
 use Rattle.std.specs.Prelude.{◌≡◌, ◌≢◌, ◌<◌, ◌+◌, ℕ, List, [], ◌∷◌, drop, length, map}
 use Rattle.vt_rows.specs.CaptureRows.{AreRowsOf}
 use Rattle.vt_rows.specs.Pieces.{ArePiecesOf, Piece, piece_end}
 use Rattle.vt100_c.specs.Captures.{IsFirstPiece, IsFirstRow, IsPlace, no_place}
 
--- Where a slice of the text from byte `at` on begins and ends in the whole text.
+-- The start and end in the whole text of a slice of the text from byte `at` on.
 abbrev pub place_from : ℕ → Piece → ℕ × ℕ
 place_from at piece = (at + piece.0, at + piece_end piece)
 
--- The places that `vt100_next_plain` stores: where the first piece from byte `at` on begins and ends.
+-- The positions that `vt100_next_plain` stores: the first piece from byte `at` on begins at `start` and ends at
+-- `end`.
 abbrev pub FindsPlain : List ℕ → (at start end : ℕ) → Type 0
 FindsPlain text at start end =
     (pieces : List Piece) × ArePiecesOf (drop at text) pieces × IsFirstPiece (length text) at pieces start end
 
--- Calls of `vt100_next_plain` that return OK and find pieces at these places, the first from byte `at` on and each
--- further one from the end of the piece before it; and one more that finds none.
+-- A sequence of calls to `vt100_next_plain` that return OK and find pieces at these positions. The first call starts
+-- at byte `at`, each later one at the end of the previous piece, and a final call finds none.
 abbrev pub FindAllPlain : List ℕ → ℕ → List (ℕ × ℕ) → Type 0
 FindAllPlain text at [] = FindsPlain text at (length text) (length text)
 FindAllPlain text at (place ∷ places) =
     (place.0 < length text) × FindsPlain text at place.0 place.1 × FindAllPlain text place.1 places
 
--- The places that `vt100_next_row` stores: where the row at byte `at` ends, and where the next one begins.
+-- The positions that `vt100_next_row` stores: the row at byte `at` ends at `end`, and the row after it begins at
+-- `next`.
 abbrev pub FindsRow : List ℕ → (width at end next : ℕ) → Type 0
 FindsRow text width at end next =
     (rows : List Piece) × AreRowsOf width (drop at text) rows × IsFirstRow at rows end next
 
--- Calls of `vt100_next_row` that return OK and find rows at these places, the first at byte `at` and each further one
--- where the call before it says; the last one finds no next row.
+-- A sequence of calls to `vt100_next_row` that return OK and find rows at these positions. The first call starts at
+-- byte `at`, each later one at the position that the previous call returned, and the last one finds no further row.
 abbrev pub FindAllRows : List ℕ → (width at : ℕ) → List (ℕ × ℕ) → Type 0
 FindAllRows text width at [] = ⊥
 FindAllRows text width at (place ∷ []) = (place.0 ≡ at) × IsPlace text at × FindsRow text width at place.1 no_place
@@ -34,13 +36,13 @@ FindAllRows text width at (place ∷ next ∷ places) =
     (place.0 ≡ at) × IsPlace text at × (next.0 ≢ no_place) × FindsRow text width at place.1 next.0
     × FindAllRows text width next.0 (next ∷ places)
 
--- The places of all pieces of a capture, in order.
+-- The positions are the start and end of each piece of a capture, in order.
 pub record ArePlacesOfPieces (text : List ℕ) (places : List (ℕ × ℕ)) : Type 0 where
   pub pieces : List Piece
   pub are : ArePiecesOf text pieces
   pub at : map (place_from 0) pieces ≡ places
 
--- The places of all rows of a capture, in order.
+-- The positions are the start and end of each row of a capture, in order.
 pub record ArePlacesOfRows (text : List ℕ) (width : ℕ) (places : List (ℕ × ℕ)) : Type 0 where
   pub rows : List Piece
   pub are : AreRowsOf width text rows

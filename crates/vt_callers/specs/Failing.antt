@@ -1,4 +1,4 @@
--- The reasons why a call that works on a terminal fails.
+-- The reasons for which a call that works on a terminal can fail.
 use Rattle.std.specs.Prelude.{◌≡◌, ◌⊎◌, ◌<◌, true, Some}
 use Rattle.vt_cells.specs.declared.error.Error.{Error}
 use Rattle.vt_cells.specs.declared.error.Error.TheVariants.{Failed, NoNumber, OutOfMemory}
@@ -8,18 +8,19 @@ use Rattle.vt_mirror.specs.Mirror.{MirrorValue}
 use Rattle.vt_mirror.specs.declared.update.Update.{Update}
 use Rattle.vt_mirror.specs.declared.update.Update.TheVariants.{Diff, Full}
 
--- An allocation fails, or the terminal failed before.
+-- An allocation failed, or the terminal had failed before.
 abbrev pub IsFailure : {S : Type 0} → (terminal : Parsing S) → (error : Error) → Type 0
 IsFailure terminal error = (error ≡ OutOfMemory) ⊎ ((error ≡ Failed) × (terminal.is_failed ≡ true))
 
--- An allocation fails, the mirror or the terminal failed before, or the largest viewer number is already assigned.
+-- An allocation failed, the mirror or the terminal had failed before, or the largest viewer number was already
+-- assigned.
 abbrev pub IsLateFailure : {S : Type 0} → (mirror : MirrorValue) → (terminal : Parsing S) → (error : Error) → Type 0
 IsLateFailure mirror terminal error =
     (error ≡ OutOfMemory)
     ⊎ (((error ≡ Failed) × ((mirror.parser.is_failed ≡ true) ⊎ (terminal.is_failed ≡ true)))
     ⊎ ((error ≡ NoNumber) × (mirror.viewers.last ≡ Some greatest)))
 
--- An update that a terminal can apply: a full one has at least one row and one column.
+-- The terminal can apply the update: a full redraw has at least one row and one column.
 abbrev pub HasSides : Update → Type 0
 HasSides (Diff text) = Unit {0}
 HasSides (Full rows cols text) = (0 < rows) × (0 < cols)

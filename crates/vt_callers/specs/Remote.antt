@@ -1,4 +1,4 @@
--- A terminal that is kept equal to a screen.
+-- A remote terminal that is kept equal to a screen.
 use Rattle.std.specs.Prelude.{◌≡◌, ℕ, List, ◌∷◌, ◌++◌, true}
 use Rattle.std.specs.List.{AllByRecursion, FoldsTo}
 use Rattle.vt_cells.specs.Op.{bytes_of_all}
@@ -15,32 +15,32 @@ pub record ShowsScreen {S : Type 0} (screen : ScreenValue) (remote : Parsing S) 
   pub plain : IsPlainParser remote
   pub shows : shown remote.screen ≡ shown screen
 
--- ---- Aids of proofs, which only private functions cite
+-- ---- Auxiliary definitions for proofs, cited only by private functions
 
--- Calls that succeeded passed these bytes to the terminal, which failed only if it had failed before.
+-- The terminal received `bytes` through calls to `process`, and failed only if it had failed before.
 pub record HasTaken {S : Type 0} (bytes : List ℕ) (old new : Parsing S) : Type 0 where
   pub calls : List Processing
   pub whole : bytes_in calls ≡ bytes
   pub folds : FoldsTo Processes old calls new
   pub fails : new.is_failed ≡ true → old.is_failed ≡ true
 
--- A prefix of a text was taken, and `rest` is left of it.
+-- The terminal received a prefix of `text`, and `rest` is the remaining part.
 pub record IsCut {S : Type 0} (text rest : List ℕ) (old new : Parsing S) : Type 0 where
   pub front : List ℕ
   pub whole : front ++ rest ≡ text
   pub takes : HasTaken front old new
 
--- The screen is valid, so that it can be sent.
+-- The screen is valid and can therefore be sent.
 pub record IsWhole (screen : ScreenValue) : Type 0 where
   pub sound : IsScreen screen
   pub colored : IsColored screen
 
--- The difference of a screen from the one before was taken.
+-- The terminal received the difference from `prev` to `screen`.
 pub record SendsNext {S : Type 0} (screen prev : ScreenValue) (old new : Parsing S) : Type 0 where
   pub whole : IsWhole screen
   pub takes : HasTaken (bytes_of_all (difference (shown screen) (shown prev))) old new
 
--- The redraw of a screen was taken, and then the differences of the further ones.
+-- The terminal received the redraw of `first`, followed by the difference to each screen in `nexts`, in order.
 pub record HasFollowed {S : Type 0} (first : ScreenValue) (nexts : List ScreenValue) (prev : ScreenValue)
     (old new : Parsing S) : Type 0 where
   pub whole : AllByRecursion IsWhole (first ∷ nexts)

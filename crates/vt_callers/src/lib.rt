@@ -1,5 +1,5 @@
-//! Proved callers of the terminal: small functions, one for each use, whose contracts state what a
-//! user of it wants.
+//! Callers of the terminal with proved contracts: one small function for each use, whose contract
+//! states what a user of the terminal wants.
 #![tactic(auto)]
 
 pub mod mirroring;

@@ -15,12 +15,14 @@ use std::num::NonZeroU16;
 use vt_mirror::{Mirror, Update, laws};
 use vt100::{Callbacks, Error, Parser};
 
-/// Feeds `output` to a mirror without earlier viewers, adds a viewer, and passes its first update
-/// to `terminal`. Returns the viewer's number, which is the next free one.
+/// Feeds `output` to a mirror, adds a viewer, and passes the viewer's first update to `terminal`.
+/// Returns the viewer's number, which is the next unused one.
 ///
-/// If the terminal was plain (in ground state, with full scroll region, origin mode off and no
-/// scrollback displayed) and the mirror's display is steady (every visible glyph reproduces itself
-/// when printed), the terminal then displays the same as the mirror, whatever its size was.
+/// A terminal is plain if it is in ground state, with the full scroll region, origin mode off and
+/// no scrollback displayed. A display is steady if every visible glyph reproduces itself when
+/// printed. If no viewer had joined the mirror before, the terminal was plain and the mirror's
+/// display is steady, the terminal then has the same display as the mirror, whatever its size was
+/// before.
 ///
 /// # Errors
 ///
@@ -51,12 +53,12 @@ pub fn show_late<CB: Callbacks>(
     Ok(viewer)
 }
 
-/// Applies an update to a terminal: the size first, if it is a full update, and then the text.
+/// Applies an update to a terminal: first the size, if it is a full update, and then the text.
 ///
 /// # Errors
 ///
 /// Returns [`Error::OutOfMemory`] if an allocation fails, and [`Error::Failed`] if the terminal
-/// failed before or if a full update has no rows or no columns, which no mirror returns.
+/// failed before or if a full update has no rows or no columns (no mirror returns such an update).
 pub fn take_update<CB: Callbacks>(terminal: &mut Parser<CB>, update: &Update) -> Result<(), Error>
     ensures takes { OnOk result (TakesUpdate update.now terminal.old terminal.new) }
     ensures only { HasSides update.now → IfErr result (IsFailure terminal.old) }
@@ -70,7 +72,7 @@ pub fn take_update<CB: Callbacks>(terminal: &mut Parser<CB>, update: &Update) ->
     }
 }
 
-/// Resizes a terminal. Fails if a side is 0, which no mirror has.
+/// Resizes a terminal. Fails if `rows` or `cols` is 0, which no mirror's update has.
 fn take_size<CB: Callbacks>(terminal: &mut Parser<CB>, rows: u16, cols: u16) -> Result<(), Error>
     ensures takes { OnOk result (TakesSize rows cols terminal.old terminal.new) }
     ensures only { 0 < rows → 0 < cols → OnlyOutOfMemory result }
@@ -84,7 +86,7 @@ fn take_size<CB: Callbacks>(terminal: &mut Parser<CB>, rows: u16, cols: u16) -> 
     terminal.set_size(rows, cols)
 }
 
-/// Passes a text to a terminal in one call.
+/// Passes a string to a terminal in one call to `process`.
 fn read_text<CB: Callbacks>(terminal: &mut Parser<CB>, text: &str) -> Result<(), Error>
     ensures reads { OnOk result (ReadsText text.now terminal.old terminal.new) }
     ensures only { IfErr result (IsFailure terminal.old) }

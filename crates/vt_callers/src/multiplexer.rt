@@ -1,4 +1,5 @@
-//! A multiplexer: a remote terminal is kept equal to a screen by one redraw and then differences.
+//! A multiplexer, which keeps a remote terminal in sync with a screen by one redraw followed by
+//! differences.
 
 ghost use Rattle.std.specs.List.{AllByRecursion};
 ghost use Rattle.std.specs.Prelude.{◌≡◌, ◌∷◌, IfErr, OnOk, Ok, false};
@@ -13,11 +14,12 @@ ghost use Rattle.vt_screen.specs.Shown.{shown};
 
 use vt100::{Callbacks, Error, Parser, Screen, laws};
 
-/// Sends a complete redraw to a remote terminal of the screen's size.
+/// Sends a complete redraw of the screen to a remote terminal of the same size.
 ///
-/// If the remote terminal is plain (in ground state, with full scroll region, origin mode off and
-/// no scrollback displayed) and the display of the screen is steady (every visible glyph reproduces
-/// itself when printed), it then displays the same as the screen.
+/// A terminal is plain if it is in ground state, with the full scroll region, origin mode off and
+/// no scrollback displayed. A display is steady if every visible glyph reproduces itself when
+/// printed. If the remote terminal is plain and the display of the screen is steady, the terminal
+/// then has the same display as the screen.
 ///
 /// # Errors
 ///
@@ -39,7 +41,7 @@ pub fn send_redraw<CB: Callbacks>(screen: &Screen, remote: &mut Parser<CB>) -> R
 /// Sends the difference from `prev`, a screen of the same size, to a remote terminal.
 ///
 /// If the remote terminal is plain and displays what `prev` displays, and the display of the screen
-/// is steady, it then displays the same as the screen.
+/// is steady, the terminal then has the same display as the screen.
 ///
 /// # Errors
 ///
@@ -65,8 +67,8 @@ pub fn send_difference<CB: Callbacks>(
 /// Sends a complete redraw of one screen, and then the difference to a second screen of the same
 /// size.
 ///
-/// If the remote terminal is plain and both displays are steady, it then displays the same as the
-/// second screen, whatever it displayed at first.
+/// If the remote terminal is plain and both displays are steady, the terminal then has the same
+/// display as the second screen, whatever it displayed at first.
 ///
 /// # Errors
 ///
@@ -88,8 +90,8 @@ pub fn send_both<CB: Callbacks>(
     Ok(())
 }
 
-/// Sends a complete redraw, as [`send_redraw`] does, over a connection that splits it: into chunks
-/// of at most the given sizes, and a last chunk with the rest.
+/// Sends a complete redraw, as [`send_redraw`] does, over a connection that splits it into chunks
+/// of at most the given sizes and a final chunk with the rest.
 ///
 /// # Errors
 ///
@@ -111,8 +113,8 @@ pub fn send_redraw_cut<CB: Callbacks>(
     Ok(())
 }
 
-/// Sends the difference from `prev`, as [`send_difference`] does, over a connection that splits it:
-/// into chunks of at most the given sizes, and a last chunk with the rest.
+/// Sends the difference from `prev`, as [`send_difference`] does, over a connection that splits it
+/// into chunks of at most the given sizes and a final chunk with the rest.
 ///
 /// # Errors
 ///
@@ -136,7 +138,7 @@ pub fn send_difference_cut<CB: Callbacks>(
     Ok(())
 }
 
-/// Sends a text in chunks of at most the given sizes, and a last chunk with the rest. A text that
+/// Sends a string in chunks of at most the given sizes and a final chunk with the rest. Output that
 /// is parsed without callbacks or allocations has the same effect however it is split.
 fn send_cut<CB: Callbacks>(
     text: &[u8],
@@ -157,11 +159,11 @@ fn send_cut<CB: Callbacks>(
     Ok(())
 }
 
-/// Sends a redraw of the first screen to a remote terminal of its size, and then the difference of
-/// each further screen from the one before.
+/// Sends a redraw of the first screen to a remote terminal of the same size and then, for each
+/// later screen, the difference from the previous one.
 ///
-/// If the remote terminal was plain and the display of each screen is steady, it then displays the
-/// same as the last one.
+/// If the remote terminal was plain and the display of each screen is steady, the terminal then has
+/// the same display as the last screen.
 ///
 /// # Errors
 ///
@@ -192,7 +194,7 @@ pub fn follow<CB: Callbacks>(
     Ok(())
 }
 
-/// Sends the difference of a screen from the one before.
+/// Sends the difference between a screen and the previous one.
 fn send_next<CB: Callbacks>(
     screen: &Screen,
     prev: &Screen,

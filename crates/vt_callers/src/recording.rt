@@ -1,5 +1,5 @@
-//! A recorder: all that was displayed as one text, the rows as they scrolled off and then the
-//! screen.
+//! A recorder, which returns everything that was displayed as one text: the rows that scrolled off,
+//! followed by the screen.
 
 ghost use Rattle.std.specs.Prelude.{◌≡◌, ◌++◌, false, true, IfOk, string_bytes};
 ghost use Rattle.vt100.specs.Streams.{whole_text};
@@ -16,7 +16,7 @@ use vt_notes::Recorder;
 use vt100::{Error, Parser};
 
 /// Returns the text of everything that `output` writes on the main page of a terminal of this size:
-/// the rows that scroll off the top, and then the displayed ones. The capacity of scrollback makes
+/// the rows that scroll off the top, followed by the displayed rows. The scrollback capacity makes
 /// no difference.
 ///
 /// The contract assumes that the output ends on the main page and contains no RIS.
@@ -43,12 +43,14 @@ pub fn record(
     // Only for the proof: a call on a screen makes its invariant available.
     parser.screen().size();
     parser.process(output)?;
-    // Only for the proof: a value in the tail expression makes the callee's clauses available.
+    // Only for the proof: naming the result before returning it makes the callee's clauses
+    // available.
     let text = finish(alloc, &mut parser)?;
     Ok(text)
 }
 
-/// Returns what a recorder has written, followed by the rows that its parser keeps and displays.
+/// Returns the text that the parser's recorder has written, followed by the rows of the parser's
+/// scrollback and page.
 fn finish(alloc: Global, parser: &mut Parser<Recorder>) -> Result<String, Error>
     ensures whole { IfOk result (λ text. parser.old.callbacks.is_whole ≡ true) }
     ensures text { IfOk result (λ text. string_bytes text

@@ -1,4 +1,5 @@
-//! Tests of a program's screen: what is displayed where after its output was parsed.
+//! Tests of a program's display: what appears where on the screen after the program's output has
+//! been parsed.
 
 ghost use Rattle.std.specs.Prelude.{◌≡◌, ◌↔◌, false, map, true, IfOk, OnOk};
 ghost use Rattle.vt100.specs.Parser.{Ran, pieces_joined, quietly};
@@ -13,7 +14,7 @@ use std::alloc::Global;
 use std::num::NonZeroU16;
 use vt100::{Error, Parser, Screen, laws};
 
-/// Returns whether the displayed cell at a row and a column has this text.
+/// Returns whether the displayed cell at a row and column has the text `text`.
 pub fn cell_shows(screen: &Screen, row: u16, column: u16, text: &str) -> bool
     ensures { result ≡ true ↔ HasText screen.now row column text.now }
 {
@@ -23,8 +24,8 @@ pub fn cell_shows(screen: &Screen, row: u16, column: u16, text: &str) -> bool
     }
 }
 
-/// Returns whether a displayed row has this text, over all columns of the screen and without blanks
-/// at its end.
+/// Returns whether the text of a displayed row, within the screen's columns and not counting blanks
+/// at its end, is `text`.
 ///
 /// # Errors
 ///
@@ -38,7 +39,7 @@ pub fn row_shows(screen: &Screen, row: u16, text: &str) -> Result<bool, Error>
     Ok(shown.as_str() == text)
 }
 
-/// Returns whether the text of the display is `text`.
+/// Returns whether the text of the whole display is `text`.
 ///
 /// # Errors
 ///
@@ -70,7 +71,8 @@ pub fn output_shows(
     laws::one_text::<()>();
     let mut parser = Parser::new(alloc, rows, cols, 0)?;
     parser.process(output)?;
-    // Only for the proof: a value in the tail expression makes the callee's clauses available.
+    // Only for the proof: naming the result before returning it makes the callee's clauses
+    // available.
     let holds = screen_shows(parser.screen(), text)?;
     Ok(holds)
 }
@@ -95,12 +97,14 @@ pub fn pieces_show(
     laws::one_text::<()>();
     let mut parser = Parser::new(alloc, rows, cols, 0)?;
     read_pieces(&mut parser, pieces)?;
-    // Only for the proof: a value in the tail expression makes the callee's clauses available.
+    // Only for the proof: naming the result before returning it makes the callee's clauses
+    // available.
     let holds = screen_shows(parser.screen(), text)?;
     Ok(holds)
 }
 
-/// Passes chunks to a terminal one by one, which is a run over all their bytes.
+/// Passes chunks to a terminal one by one, which has the same effect as a single run over all their
+/// bytes.
 fn read_pieces(parser: &mut Parser, pieces: &[&[u8]]) -> Result<(), Error>
     requires { parser.old.is_failed ≡ false }
     ensures ran { OnOk result

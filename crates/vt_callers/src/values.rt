@@ -1,4 +1,4 @@
-//! Small values: a copy is equal to the original, and neither a copy nor a default can fail.
+//! Small values, for which a copy equals the original and neither a copy nor a default can fail.
 
 ghost use Rattle.std.specs.Prelude.{◌≡◌};
 ghost use Rattle.vt_cells.specs.declared.color.Color.{Color};
@@ -17,7 +17,7 @@ pub fn same_cell(cell: &Cell) -> Cell
     cell.clone().unwrap()
 }
 
-/// Returns a copy of a capture's state.
+/// Returns a copy of a capture state.
 pub fn same_state(state: &BasicFormattedCaptureState) -> BasicFormattedCaptureState
     ensures { result ≡ state.now }
 {
@@ -31,7 +31,7 @@ pub fn same_color(color: &Color) -> Color
     color.clone().unwrap()
 }
 
-/// Returns a copy of a mouse reporting mode.
+/// Returns a copy of a mouse mode.
 pub fn same_mouse_mode(mode: &MouseProtocolMode) -> MouseProtocolMode
     ensures { result ≡ mode.now }
 {
@@ -52,7 +52,7 @@ pub fn same_cursor_style(style: &CursorStyle) -> CursorStyle
     style.clone().unwrap()
 }
 
-/// Returns the state of a capture that has no rows yet.
+/// Returns the state of a capture without any rows.
 pub fn first_state() -> BasicFormattedCaptureState
     ensures { result ≡ unwritten }
 {
@@ -66,14 +66,14 @@ pub fn own_color() -> Color
     Color::default()
 }
 
-/// Returns the mouse reporting mode that reports nothing.
+/// Returns the mouse mode in which no events are reported.
 pub fn no_mouse_mode() -> MouseProtocolMode
     ensures { result ≡ MouseProtocolMode.None }
 {
     MouseProtocolMode::default()
 }
 
-/// Returns the default mouse encoding, in bytes.
+/// Returns the default mouse encoding.
 pub fn first_mouse_encoding() -> MouseProtocolEncoding
     ensures { result ≡ MouseProtocolEncoding.Default }
 {

@@ -25,7 +25,7 @@ default_attrs = record {
   inverse = false;
 }
 
--- Both intensities are equal.
+-- The two intensities are equal.
 abbrev pub same_intensity : Intensity → Intensity → Bool
 same_intensity Normal Normal = true
 same_intensity Bold Bold = true
@@ -40,26 +40,27 @@ is_bold attrs = same_intensity attrs.intensity Bold
 abbrev pub is_dim : Attrs → Bool
 is_dim attrs = same_intensity attrs.intensity Dim
 
--- Both colours are equal.
+-- The two colours are equal.
 unfoldable pub same_color : Color → Color → Bool
 same_color color.Default color.Default = true
 same_color (color.Idx i) (color.Idx j) = i == j
 same_color (color.Rgb r g b) (color.Rgb s h c) = (r == s) && ((g == h) && (b == c))
 same_color _ _ = false
 
--- Both truth values are equal.
+-- The two Boolean values are equal.
 abbrev pub same_bool : Bool → Bool → Bool
 same_bool true b = b
 same_bool false b = not b
 
--- Both sets of attributes are equal in all six components.
+-- The two sets of attributes are equal in all six components.
 unfoldable pub same_attrs : Attrs → Attrs → Bool
 same_attrs a b =
     same_color a.fgcolor b.fgcolor && (same_color a.bgcolor b.bgcolor && (same_intensity a.intensity b.intensity
     && (same_bool a.italic b.italic && (same_bool a.underline b.underline && same_bool a.inverse b.inverse))))
 
--- The attributes `attrs` after a reader applies the SGR change from `was` to `new`: the defaults if `new` is the
--- default, otherwise each component that differs between `was` and `new` is replaced by that of `new`.
+-- The attributes of a reader that had `attrs` and applies the SGR change from `was` to `new`. If `new` is the
+-- default, all attributes become the default; otherwise each component that differs between `was` and `new` is
+-- replaced by the component of `new`.
 unfoldable pub changed_attrs : Attrs → Attrs → Attrs → Attrs
 changed_attrs was new attrs =
     if same_attrs was new then attrs

@@ -1,4 +1,4 @@
--- How attributes keep their six components in one word; for models, private contracts and proofs only.
+-- The packing of six attributes into one word; for models, private contracts and proofs only.
 use Rattle.std.specs.Prelude.{◌≡◌, ℕ, ◌+◌, ◌*◌, ◌/◌, ◌%◌, ◌<◌, ◌==◌, ◌&&◌, Bool, zero, suc}
 use Rattle.std.specs.Prelude.{if◌then◌else◌}
 use Rattle.std.proofs.Common.{arith, ◌∙◌}
@@ -8,13 +8,14 @@ use Rattle.vt_cells.specs.declared.attrs.Intensity.TheVariants.{Normal, Bold, Di
 use Rattle.vt_cells.specs.declared.color.Color.{Color}
 use Rattle.vt_cells.specs.declared.color.Color.TheVariants.{Default, Idx, Rgb}
 
--- The colour of a given kind (0 default, 1 palette, 2 and above RGB) with up to three components.
+-- The colour of this kind (0 default, 1 palette, 2 and above RGB) with up to three components.
 abbrev pub unpacked : (kind first second third : ℕ) → Color
 unpacked zero first second third = Default
 unpacked (suc zero) first second third = Idx first
 unpacked (suc (suc kind)) first second third = Rgb first second third
 
--- A colour packed into a number: its kind in the two low bits and three components of eight bits above them.
+-- A colour packed into a number: its kind in the two low bits, and up to three components of eight bits each above
+-- them.
 abbrev pub color_bits : Color → ℕ
 color_bits Default = 0
 color_bits (Idx i) = 1 + 4 * i
@@ -24,24 +25,24 @@ color_bits (Rgb r g b) = 2 + 4 * (r + 256 * (g + 256 * b))
 abbrev pub color_of : ℕ → Color
 color_of bits = unpacked (bits % 4) (bits / 4 % 256) (bits / 4 / 256 % 256) (bits / 4 / 256 / 256 % 256)
 
--- The number is a packed colour, which has 26 bits.
+-- The number is a valid packed colour, which takes 26 bits.
 pub record IsColorBits (bits : ℕ) : Type 0 where
   pub small : bits < 67108864
   pub back : color_bits (color_of bits) ≡ bits
 
--- The style of attributes: everything but the colours.
+-- A style: all attributes except the colours.
 pub record StyleValue : Type 0 where
   pub intensity : Intensity
   pub italic : Bool
   pub underline : Bool
   pub inverse : Bool
 
--- The style of attributes, without their colours.
+-- The style part of attributes, without their colours.
 abbrev pub style_of_attrs : Attrs → StyleValue
 style_of_attrs attrs =
     record { intensity = attrs.intensity; italic = attrs.italic; underline = attrs.underline; inverse = attrs.inverse }
 
--- Both styles are equal.
+-- The two styles are equal.
 unfoldable pub same_style : StyleValue → StyleValue → Bool
 same_style a b =
     same_intensity a.intensity b.intensity
@@ -59,7 +60,7 @@ intensity_bits Normal = 0
 intensity_bits Bold = 1
 intensity_bits Dim = 2
 
--- The style that the five low bits of a number stand for: two bits for the intensity and one for each switch.
+-- The style that the five low bits of a number stand for: two bits for the intensity and one for each flag.
 abbrev pub style_of : ℕ → StyleValue
 style_of bits = record {
   intensity = intensity_of (bits % 4);
@@ -74,7 +75,7 @@ style_bits style =
     intensity_bits style.intensity + (if style.italic then 4 else 0)
     + (if style.underline then 8 else 0) + (if style.inverse then 16 else 0)
 
--- The attributes with a style and two colours in packed form.
+-- The attributes that consist of a style and two colours, all in packed form.
 abbrev pub attrs_of_bits : (style fgcolor bgcolor : ℕ) → Attrs
 attrs_of_bits style fgcolor bgcolor = record {
   fgcolor = color_of fgcolor;
@@ -89,7 +90,7 @@ attrs_of_bits style fgcolor bgcolor = record {
 abbrev pub attrs_of_word : ℕ → Attrs
 attrs_of_word word = attrs_of_bits (word % 32) (word / 32 % 67108864) (word / 32 / 67108864)
 
--- The word that holds a style and two colours in packed form.
+-- The word that holds a style and two colours, all in packed form.
 abbrev pub word_of : (style fgcolor bgcolor : ℕ) → ℕ
 word_of style fgcolor bgcolor = style + 32 * (fgcolor + 67108864 * bgcolor)
 
@@ -97,13 +98,13 @@ word_of style fgcolor bgcolor = style + 32 * (fgcolor + 67108864 * bgcolor)
 abbrev pub attrs_word : Attrs → ℕ
 attrs_word attrs = word_of (style_bits (style_of_attrs attrs)) (color_bits attrs.fgcolor) (color_bits attrs.bgcolor)
 
--- The word is one that attributes are packed into.
+-- The word is a valid packing of attributes.
 pub record IsAttrsWord (word : ℕ) : Type 0 where
   pub style : style_bits (style_of (word % 32)) ≡ word % 32
   pub fgcolor : IsColorBits (word / 32 % 67108864)
   pub bgcolor : IsColorBits (word / 32 / 67108864)
 
--- Unpacking and packing a valid word of attributes gives the same word.
+-- Unpacking a valid word of attributes and packing it again gives the same word.
 pub word_back : (word : ℕ) → IsAttrsWord word → attrs_word (attrs_of_word word) ≡ word
 word_back word h =
     (λ i. word_of (h.style i) (h.fgcolor.back i) (h.bgcolor.back i)) ∙ omega arith

@@ -1,12 +1,12 @@
--- The contents of a buffer in front of a sink; for private contracts and proofs only.
+-- The contents of a buffer that collects text for a sink; for private contracts and proofs only.
 use Rattle.std.specs.Prelude.{◌≡◌, ℕ, ◌≤◌, List, ◌++◌, length, IsUtf8}
 
--- The invariant of a buffer: its length and the bytes in use, which are UTF-8 and at most 128.
+-- The invariant of a buffer: the bytes in use are UTF-8, and there are `len` of them, at most 128.
 pub record IsBuffer (len : ℕ) (text : List ℕ) : Type 0 where
   pub bounded : len ≤ 128
   pub measured : length text ≡ len
   pub utf8 : IsUtf8 text
 
--- The text that was written, followed by what is still in the buffer.
+-- The text that was written, followed by the text that is still in the buffer.
 unfoldable pub gathered : List ℕ → List ℕ → List ℕ
 gathered text buffer = text ++ buffer

@@ -1,25 +1,25 @@
--- Cells: a blank, a glyph, or the continuation cell (right half) of the wide glyph before it.
+-- Cells. A cell is a blank, a glyph, or the continuation cell (right half) of the wide glyph before it.
 use Rattle.std.specs.Prelude.{ℕ, ◌==◌, Bool, true, false, List, [], ◌∷◌, length, bytes_eq, ◌&&◌, if◌then◌else◌}
 use Rattle.vt_cells.specs.Attrs.{default_attrs, same_bool, same_attrs, Attrs}
 use Rattle.vt_cells.specs.Glyph.{IsGlyphText, marked_text}
 
--- A cell: a blank with attributes; a glyph with its text in UTF-8, wide (two columns) or narrow, with attributes; or
--- the continuation cell of a wide glyph.
+-- A cell: a blank with attributes; a glyph with its UTF-8 text, wide (two columns) or narrow, and attributes; or the
+-- continuation cell of a wide glyph.
 pub data CellValue : Type 0 where
   blank : Attrs → CellValue
   glyph : (text : List ℕ) → (wide : Bool) → Attrs → CellValue
   right_half : CellValue
 
--- A blank with default attributes.
+-- The blank with default attributes.
 abbrev pub default_blank : CellValue
 default_blank = blank default_attrs
 
--- The cell with this text, width, continuation flag and attributes: a blank if the text is empty.
+-- The cell with this text, width, continuation flag and attributes. It is a blank if the text is empty.
 abbrev pub cell_of : List ℕ → Bool → Bool → Attrs → CellValue
 cell_of text wide right attrs =
     if right then right_half else if length text == 0 then blank attrs else glyph text wide attrs
 
--- The cell is a wide glyph, which is the first of two columns.
+-- The cell is a wide glyph, which takes this column and the next.
 abbrev pub is_wide : CellValue → Bool
 is_wide (glyph text wide attrs) = wide
 is_wide _ = false
@@ -55,26 +55,27 @@ attrs_of (blank attrs) = attrs
 attrs_of (glyph text wide attrs) = attrs
 attrs_of right_half = default_attrs
 
--- Both cells are equal: the same kind with the same text, width and attributes.
+-- The two cells are equal: they have the same kind, text, width and attributes.
 unfoldable pub same_cell : CellValue → CellValue → Bool
 same_cell (blank a) (blank b) = same_attrs a b
 same_cell (glyph s v a) (glyph t w b) = bytes_eq s t && (same_bool v w && same_attrs a b)
 same_cell right_half right_half = true
 same_cell _ _ = false
 
--- A cell with a combining character added: a blank first becomes the glyph of a space with the same attributes.
+-- The cell after a combining character is added to it. A blank first becomes the glyph of a space with the same
+-- attributes.
 abbrev pub marked : ℕ → CellValue → CellValue
 marked mark (blank attrs) = glyph (marked_text (0x20 ∷ []) mark) false attrs
 marked mark (glyph text wide attrs) = glyph (marked_text text mark) wide attrs
 marked mark right_half = right_half
 
--- A cell whose glyph is made wide or narrow; any other cell is unchanged.
+-- The cell with its glyph made wide or narrow; any other cell is unchanged.
 abbrev pub widened : Bool → CellValue → CellValue
 widened wide (glyph text was attrs) = glyph text wide attrs
 widened wide (blank attrs) = blank attrs
 widened wide right_half = right_half
 
--- A cell with different attributes; a continuation cell is unchanged.
+-- The cell with its attributes replaced; a continuation cell is unchanged.
 abbrev pub redrawn : Attrs → CellValue → CellValue
 redrawn attrs (blank was) = blank attrs
 redrawn attrs (glyph text wide was) = glyph text wide attrs

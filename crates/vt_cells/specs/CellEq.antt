@@ -1,5 +1,4 @@
--- The test that `==` on cells computes, in the form for which the standard library has its laws; it equals
--- `same_cell`.
+-- The test that `==` computes for cells, in the form that the standard library has laws for; it equals `same_cell`.
 use Rattle.std.specs.Prelude.{ℕ, Bool, nat_eq, bytes_eq, if◌then◌else◌}
 use mathlib.Core.Bool.{beq}
 use Rattle.std.specs.Ordering.{on, eq_of_both}
@@ -13,31 +12,31 @@ use Rattle.vt_cells.specs.contracts.color.ColorPartialEq.TheImpl as colors
 use Rattle.vt_cells.specs.contracts.color.ColorEq.TheImpl.Laws.{laws-law as color_laws}
 use Rattle.vt_cells.specs.Attrs.{Attrs}
 
--- The test that `==` on attributes computes.
+-- The test that `==` computes for attributes.
 abbrev pub attrs_eq : Attrs → Attrs → Bool
 attrs_eq =
     eq_of_both (on (λ a. a.fgcolor) (colors.ghosts).eq) (eq_of_both (on (λ a. a.bgcolor) (colors.ghosts).eq)
     (eq_of_both (on (λ a. a.intensity) (intensity.ghosts).eq) (eq_of_both (on (λ a. a.italic) beq)
     (eq_of_both (on (λ a. a.underline) beq) (on (λ a. a.inverse) beq)))))
 
--- The test that `==` on attributes computes is an equivalence.
+-- The test that `==` computes for attributes is an equivalence relation.
 pub attrs_eq_equiv : IsEquivalence attrs_eq
 attrs_eq_equiv =
     and_equiv (on_equiv (λ a. a.fgcolor) color_laws) (and_equiv (on_equiv (λ a. a.bgcolor) color_laws)
     (and_equiv (on_equiv (λ a. a.intensity) intensity_laws) (and_equiv (on_equiv (λ a. a.italic) bool_eq_equiv)
     (and_equiv (on_equiv (λ a. a.underline) bool_eq_equiv) (on_equiv (λ a. a.inverse) bool_eq_equiv)))))
 
--- A number for each kind of cell.
+-- A distinct number for each kind of cell.
 abbrev pub kind_of : CellValue → ℕ
 kind_of (blank attrs) = 0
 kind_of (glyph text wide attrs) = if wide then 2 else 1
 kind_of right_half = 3
 
--- The test that `==` on cells computes.
+-- The test that `==` computes for cells.
 abbrev pub cell_eq : CellValue → CellValue → Bool
 cell_eq = eq_of_both (on kind_of nat_eq) (eq_of_both (on text_of bytes_eq) (on attrs_of attrs_eq))
 
--- The test that `==` on cells computes is an equivalence.
+-- The test that `==` computes for cells is an equivalence relation.
 pub cell_eq_equiv : IsEquivalence cell_eq
 cell_eq_equiv =
     and_equiv (on_equiv kind_of nat_eq_equiv)

@@ -1,4 +1,4 @@
--- How a cell keeps its value in its fields; for its model, private contracts and proofs only.
+-- The representation of a cell's value in its fields; for its model, private contracts and proofs only.
 use Rattle.std.specs.Prelude.{◌≡◌, ℕ, ◌+◌, ◌-◌, ◌*◌, ◌/◌, ◌%◌, ◌==◌, ◌&&◌, ◌<◌, ◌≤◌, Bool, true}
 use Rattle.std.specs.Prelude.{◌++◌, replicate, slice_index, take}
 use Rattle.std.specs.Prelude.{false, List, [], ◌∷◌, length, if◌then◌else◌, IsUtf8}
@@ -11,7 +11,7 @@ use Rattle.vt_cells.specs.Cell.{CellValue, blank, glyph, right_half, cell_of, is
 use Rattle.vt_cells.specs.Cell.{is_wide, text_of, attrs_of, IsCell}
 use Rattle.vt_cells.specs.Glyph.{mark_limit}
 
--- The size of a cell's text array in bytes: `mark_limit` and one character of four bytes.
+-- The size of a cell's text array in bytes: room for `mark_limit` bytes and one more character of four bytes.
 abbrev pub text_room : ℕ
 text_room = mark_limit + 4
 
@@ -22,7 +22,7 @@ pub record ShapeValue : Type 0 where
   pub wide : Bool
   pub right_half : Bool
 
--- Both shapes are equal.
+-- The two shapes are equal.
 unfoldable pub same_shape : ShapeValue → ShapeValue → Bool
 same_shape a b = (a.len == b.len) && (same_bool a.wide b.wide && same_bool a.right_half b.right_half)
 
@@ -34,7 +34,7 @@ blank_shape = record { len = 0; wide = false; right_half = false }
 abbrev pub shape_of_cell : CellValue → ShapeValue
 shape_of_cell cell = record { len = length (text_of cell); wide = is_wide cell; right_half = is_right_half cell }
 
--- The shape that a byte stands for: five bits of length, and one bit for each flag.
+-- The shape that a byte stands for: five bits for the length and one bit for each flag.
 abbrev pub shape_of : ℕ → ShapeValue
 shape_of bits = record { len = bits % 32; wide = bits / 32 % 2 == 1; right_half = bits / 64 == 1 }
 
@@ -46,12 +46,12 @@ shape_bits shape = shape.len + (if shape.wide then 32 else 0) + (if shape.right_
 abbrev pub half_shape : ShapeValue
 half_shape = record { len = 0; wide = false; right_half = true }
 
--- The head of a cell: everything but the bytes of its text.
+-- The head of a cell: everything except the bytes of its text.
 pub record HeadValue : Type 0 where
   pub attrs : Attrs
   pub shape : ShapeValue
 
--- Both heads are equal.
+-- The two heads are equal.
 unfoldable pub same_head : HeadValue → HeadValue → Bool
 same_head a b = same_shape a.shape b.shape && same_attrs a.attrs b.attrs
 
@@ -59,7 +59,7 @@ same_head a b = same_shape a.shape b.shape && same_attrs a.attrs b.attrs
 abbrev pub head_of_cell : CellValue → HeadValue
 head_of_cell cell = record { attrs = attrs_of cell; shape = shape_of_cell cell }
 
--- The head that a word stands for: seven bits of shape below the packed attributes.
+-- The head that a word stands for: the shape in the low seven bits, and the packed attributes above it.
 abbrev pub head_of : ℕ → HeadValue
 head_of word = record { attrs = attrs_of_word (word / 128); shape = shape_of (word % 128) }
 
@@ -67,16 +67,16 @@ head_of word = record { attrs = attrs_of_word (word / 128); shape = shape_of (wo
 abbrev pub head_word : HeadValue → ℕ
 head_word head = shape_bits head.shape + 128 * attrs_word head.attrs
 
--- The word is one that a head is packed into.
+-- The word is a valid packing of a head.
 pub record IsHead (word : ℕ) : Type 0 where
   pub shape : shape_bits (shape_of (word % 128)) ≡ word % 128
   pub attrs : IsAttrsWord (word / 128)
 
--- Unpacking and packing the word of a head gives the same word.
+-- Unpacking the word of a head and packing it again gives the same word.
 pub head_back : (word : ℕ) → IsHead word → head_word (head_of word) ≡ word
 head_back word h = (λ i. h.shape i + 128 * word_back (word / 128) h.attrs i) ∙ omega arith
 
--- The invariant of a cell's fields: its length, text, flags and attributes.
+-- The invariant that relates a cell's fields: its length, text, flags and attributes.
 pub record IsKept (len : ℕ) (text : List ℕ) (wide right : Bool) (attrs : Attrs) : Type 0 where
   pub bounded : len ≤ text_room
   pub measured : length text ≡ len
@@ -87,18 +87,18 @@ pub record IsKept (len : ℕ) (text : List ℕ) (wide right : Bool) (attrs : Att
   pub wide_text : wide ≡ true → 0 < len
   pub sound : IsCell (cell_of text wide right attrs)
 
--- The invariant of a cell's stored form: valid fields, and zeros in the array after the text.
+-- The invariant of a stored cell: valid fields, and zeros in the array after the text.
 pub record IsStored (head : HeadValue) (contents : List ℕ) : Type 0 where
   pub kept : IsKept head.shape.len (take head.shape.len contents) head.shape.wide head.shape.right_half head.attrs
   pub room : length contents ≡ text_room
   pub zeros : (k : ℕ) → head.shape.len ≤ k → slice_index contents k ≡ 0
 
--- The cell that a head and a text array stand for.
+-- The cell represented by a head and a text array.
 abbrev pub cell_of_parts : HeadValue → List ℕ → CellValue
 cell_of_parts head contents =
     cell_of (take head.shape.len contents) head.shape.wide head.shape.right_half head.attrs
 
--- A text followed by zeros, up to the size of the array.
+-- The text, padded with zeros to the size of the array.
 abbrev pub padded : List ℕ → List ℕ
 padded text = text ++ replicate (text_room - length text) 0
 
@@ -106,18 +106,18 @@ padded text = text ++ replicate (text_room - length text) 0
 unfoldable pub front : List ℕ → List ℕ
 front text = take 8 (padded text)
 
--- An array with zeros after its first `len` bytes is those bytes, padded.
+-- An array whose bytes after the first `len` are zero equals those `len` bytes, padded.
 pub padded_back : (len : ℕ) (contents : List ℕ) → length contents ≡ text_room → len ≤ text_room
     → ((k : ℕ) → len ≤ k → slice_index contents k ≡ 0) → padded (take len contents) ≡ contents
 padded_back len contents room bounded zeros =
     same_number_lists _ _ (grind (arith, common_steps)) (λ k lt. grind (arith, common_steps, zeros k))
 
--- A cell with a text that is not empty, and that is no continuation cell, is a glyph.
+-- A cell that has text and is not a continuation cell is a glyph.
 pub cell_of-text : (text : List ℕ) (wide : Bool) (attrs : Attrs) →
     1 ≤ length text → cell_of text wide false attrs ≡ glyph text wide attrs
 cell_of-text text wide attrs low = grind (arith, nat_tests)
 
--- The cell of valid fields has the head that the fields describe.
+-- A cell built from valid fields has the head that the fields describe.
 pub cell_head : (len : ℕ) (text : List ℕ) (wide right : Bool) (attrs : Attrs) → IsKept len text wide right attrs
     → head_of_cell (cell_of text wide right attrs)
     ≡ record { attrs = attrs; shape = record { len = len; wide = wide; right_half = right } }
@@ -132,7 +132,7 @@ cell_head len (b ∷ text) wide false attrs kept =
     rw (cell_of-text (b ∷ text) wide attrs (omega arith))
     (λ i. record { attrs = attrs; shape = record { len = kept.measured i; wide = wide; right_half = false } })
 
--- The cell of valid fields has the text of the fields.
+-- A cell built from valid fields has the text of the fields.
 pub cell_text : (len : ℕ) (text : List ℕ) (wide right : Bool) (attrs : Attrs) → IsKept len text wide right attrs
     → text_of (cell_of text wide right attrs) ≡ text
 cell_text len [] wide true attrs kept = refl
@@ -140,19 +140,19 @@ cell_text len (b ∷ text) wide true attrs kept = absurd (omega (arith, kept.mea
 cell_text len [] wide false attrs kept = refl
 cell_text len (b ∷ text) wide false attrs kept = rw (cell_of-text (b ∷ text) wide attrs (omega arith)) refl
 
--- The cell of a valid stored form has the stored head.
+-- A cell built from a valid head and text array has that head.
 pub stored_head : (head : HeadValue) (contents : List ℕ) → IsStored head contents
     → head_of_cell (cell_of_parts head contents) ≡ head
 stored_head head contents h = cell_head _ _ _ _ _ h.kept
 
--- The padded text of the cell of a valid stored form is the stored array.
+-- The padded text of a cell built from a valid head and text array is that array.
 pub stored_contents : (head : HeadValue) (contents : List ℕ) → IsStored head contents
     → padded (text_of (cell_of_parts head contents)) ≡ contents
 stored_contents head contents h =
     (λ i. padded (cell_text _ _ _ _ _ h.kept i))
     ∙ padded_back head.shape.len contents h.room h.kept.bounded h.zeros
 
--- A cell in which a blank becomes the glyph of a space; any other cell is unchanged.
+-- The cell, or the glyph of a space if the cell is a blank.
 abbrev pub spaced : CellValue → CellValue
 spaced (blank attrs) = glyph (0x20 ∷ []) false attrs
 spaced (glyph text wide attrs) = glyph text wide attrs

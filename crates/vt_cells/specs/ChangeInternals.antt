@@ -1,29 +1,29 @@
--- The text of an SGR change while it is written; for private contracts and proofs only.
+-- The text of an SGR change while it is being written; for private contracts and proofs only.
 use Rattle.std.specs.Prelude.{◌≡◌, ℕ, ◌+◌, List, [], ◌∷◌, ◌++◌, decimal, flat_map, length}
 use Rattle.std.specs.Prelude.{if◌then◌else◌, IsAscii}
 use Rattle.vt_cells.specs.Attrs.{Attrs, same_bool, same_intensity}
 use Rattle.vt_cells.specs.Op.{intensity_number, part}
 
--- The text is ASCII and fills an array of 64 bytes from `start` to its end.
+-- The text is ASCII and fills an array of 64 bytes from index `start` to its end.
 pub record IsEnd (start : ℕ) (text : List ℕ) : Type 0 where
   pub measured : start + length text ≡ 64
   pub ascii : IsAscii text
 
--- A number in decimal after a separator `;`.
+-- A number in decimal, preceded by the separator `;`.
 abbrev pub separated : ℕ → List ℕ
 separated n = 0x3B ∷ decimal n
 
--- Numbers in decimal, each after a separator `;`.
+-- Numbers in decimal, each preceded by the separator `;`.
 abbrev pub separated_all : List ℕ → List ℕ
 separated_all ns = flat_map separated ns
 
--- A text without its first byte, unless that is its only byte.
+-- The text without its first byte, unless that is its only byte.
 abbrev pub without_separator : List ℕ → List ℕ
 without_separator [] = []
 without_separator (x ∷ []) = x ∷ []
 without_separator (x ∷ y ∷ rest) = y ∷ rest
 
--- The SGR parameters of a change of style, that is, of everything but the colours.
+-- The SGR parameters of a change of style, that is, of all attributes except the colours.
 abbrev pub style_part : Attrs → Attrs → List ℕ
 style_part was new =
     part (same_intensity was.intensity new.intensity) (intensity_number new.intensity ∷ [])

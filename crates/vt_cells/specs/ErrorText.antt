@@ -1,9 +1,9 @@
--- The text that `{}` displays for an error.
+-- The error messages that `Display` writes.
 use Rattle.std.specs.Prelude.{ℕ, List, codes}
 use Rattle.vt_cells.specs.declared.error.Error.{Error}
 use Rattle.vt_cells.specs.declared.error.Error.TheVariants.{OutOfMemory, Failed, NoNumber}
 
--- The text that is displayed for an error.
+-- The text that `{}` displays for an error.
 abbrev pub error_text : Error → List ℕ
 error_text OutOfMemory = codes "out of memory"
 error_text Failed = codes "parser failed"

@@ -1,17 +1,17 @@
--- Texts of glyphs: one character that takes columns, followed by combining characters.
+-- The texts of glyphs: one character that takes columns, followed by combining characters.
 use Rattle.std.specs.Prelude.{◌≡◌, ◌≢◌, ℕ, Bool, true, false, ◌==◌, nat_lt, min, List, [], ◌∷◌}
 use Rattle.std.specs.Prelude.{◌++◌, length, Option, Some, None, chars, if◌then◌else◌}
 use Rattle.std.specs.List.{list_any, AllByRecursion}
 use Rattle.std.specs.Char.{encode_utf8, IsScalar}
 use Rattle.unicode_width.specs.Width.{char_width, str_width}
 
--- The columns that character `c` takes if `unicode_width` returns the given width: at most 2, and 1 from U+0100 on if
--- it returns none (UAX #11).
+-- The number of columns that the character `c` takes if `unicode_width` returns this width: at most 2, and 1 from
+-- U+0100 on if it returns none (UAX #11).
 abbrev pub columns_or : ℕ → Option ℕ → Option ℕ
 columns_or c (Some width) = Some (min width 2)
 columns_or c None = if nat_lt c 0x100 then None else Some 1
 
--- The columns that a character takes, none for a control character.
+-- The number of columns that a character takes; `None` for a control character.
 unfoldable pub columns_of : ℕ → Option ℕ
 columns_of c = columns_or c (char_width false c)
 
@@ -19,19 +19,19 @@ columns_of c = columns_or c (char_width false c)
 abbrev pub is_selector : ℕ → Bool
 is_selector c = c == 0xFE0F
 
--- A text takes more than one column.
+-- The text takes more than one column.
 unfoldable pub is_wide_text : List ℕ → Bool
 is_wide_text text = nat_lt 1 (str_width false (chars text))
 
--- The length of a text in bytes at which its cell stops accepting combining characters.
+-- The text length in bytes from which a cell accepts no more combining characters.
 abbrev pub mark_limit : ℕ
 mark_limit = 26
 
--- A text is short enough for one more combining character.
+-- The text is short enough for one more combining character.
 abbrev pub has_room : List ℕ → Bool
 has_room text = nat_lt (length text) mark_limit
 
--- A text with a combining character added, if there is room.
+-- The text with a combining character appended, if there is room.
 abbrev pub marked_text : List ℕ → ℕ → List ℕ
 marked_text text mark = if has_room text then text ++ encode_utf8 mark else text
 
@@ -39,16 +39,16 @@ marked_text text mark = if has_room text then text ++ encode_utf8 mark else text
 abbrev pub IsMark : ℕ → Type 0
 IsMark c = IsScalar c × (columns_of c ≡ Some 0)
 
--- The text `whole` is `text` followed by combining characters, each added while there was room.
+-- The text `whole` is `text` followed by combining characters, each of which was appended while there was room.
 abbrev pub Joins : List ℕ → List ℕ → List ℕ → Type 0
 Joins text [] whole = text ≡ whole
 Joins text (mark ∷ marks) whole = (has_room text ≡ true) × Joins (text ++ encode_utf8 mark) marks whole
 
--- The number of columns of a glyph, wide or narrow.
+-- The number of columns of a wide or narrow glyph.
 abbrev pub glyph_columns : Bool → ℕ
 glyph_columns wide = if wide then 2 else 1
 
--- The text is that of a glyph: a first character that takes columns, then combining characters.
+-- The text is a valid glyph text: a first character that takes columns, followed by combining characters.
 pub record IsGlyphText (text : List ℕ) (wide : Bool) : Type 0 where
   pub first : ℕ
   pub marks : List ℕ
@@ -58,5 +58,5 @@ pub record IsGlyphText (text : List ℕ) (wide : Bool) : Type 0 where
   pub reported : first ≢ 0xFFFD
   pub are_marks : AllByRecursion IsMark marks
   pub spelled : Joins (encode_utf8 first) marks text
-  -- The width of the first character decides, unless U+FE0F is among the combining characters.
+  -- Without U+FE0F among the combining characters, the width is that of the first character.
   pub width : list_any is_selector marks ≡ false → columns_of first ≡ Some (glyph_columns wide)

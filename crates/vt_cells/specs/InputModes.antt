@@ -1,4 +1,4 @@
--- The sequences that set input modes and the cursor style.
+-- The escape sequences that set input modes and the cursor style.
 use Rattle.std.specs.Prelude.{ℕ, Bool, true, false, List, [], ◌∷◌, codes, if◌then◌else◌}
 use Rattle.vt_cells.specs.Op.{csi}
 use Rattle.vt_cells.specs.declared.modes.CursorStyle.{CursorStyle}
@@ -8,16 +8,16 @@ use Rattle.vt_cells.specs.declared.modes.MouseProtocolEncoding.TheVariants as en
 use Rattle.vt_cells.specs.declared.modes.MouseProtocolMode.{MouseProtocolMode}
 use Rattle.vt_cells.specs.declared.modes.MouseProtocolMode.TheVariants as mouse
 
--- The sequence for application keypad mode (DECKPAM), or for numeric mode (DECKPNM).
+-- The sequence that selects application keypad mode (DECKPAM) or numeric keypad mode (DECKPNM).
 abbrev pub keypad_text : Bool → List ℕ
 keypad_text true = 0x1B ∷ codes "="
 keypad_text false = 0x1B ∷ codes ">"
 
--- The sequence that sets a private mode, given by its digits (DECSET).
+-- The sequence that sets a private mode, given by its decimal digits (DECSET).
 abbrev pub mode_set : List ℕ → List ℕ
 mode_set digits = csi (0x3F ∷ digits) 0x68
 
--- The sequence that resets a private mode, given by its digits (DECRST).
+-- The sequence that resets a private mode, given by its decimal digits (DECRST).
 abbrev pub mode_reset : List ℕ → List ℕ
 mode_reset digits = csi (0x3F ∷ digits) 0x6C
 
@@ -29,7 +29,7 @@ application_cursor_text on = if on then mode_set (codes "1") else mode_reset (co
 abbrev pub bracketed_paste_text : Bool → List ℕ
 bracketed_paste_text on = if on then mode_set (codes "2004") else mode_reset (codes "2004")
 
--- The number of xterm's private mode for a mouse reporting mode; empty for none.
+-- The decimal digits of xterm's private mode for a mouse reporting mode; empty for `None`.
 abbrev pub mouse_mode_digits : MouseProtocolMode → List ℕ
 mouse_mode_digits mouse.None = []
 mouse_mode_digits mouse.Press = codes "9"
@@ -37,8 +37,8 @@ mouse_mode_digits mouse.PressRelease = codes "1000"
 mouse_mode_digits mouse.ButtonMotion = codes "1002"
 mouse_mode_digits mouse.AnyMotion = codes "1003"
 
--- The sequence from one mouse reporting mode to another: empty if they are equal, the reset of the old mode if the
--- new one is none, otherwise the new mode is set.
+-- The sequence that changes the mouse reporting mode. It is empty if the two modes are equal, resets the old mode if
+-- the new one is `None`, and sets the new mode otherwise.
 abbrev pub mouse_mode_change : MouseProtocolMode → MouseProtocolMode → List ℕ
 mouse_mode_change mouse.None mouse.None = []
 mouse_mode_change mouse.Press mouse.Press = []
@@ -48,14 +48,14 @@ mouse_mode_change mouse.AnyMotion mouse.AnyMotion = []
 mouse_mode_change was mouse.None = mode_reset (mouse_mode_digits was)
 mouse_mode_change was new = mode_set (mouse_mode_digits new)
 
--- The number of xterm's private mode for an encoding of mouse events; empty for the default.
+-- The decimal digits of xterm's private mode for an encoding of mouse events; empty for the default.
 abbrev pub mouse_encoding_digits : MouseProtocolEncoding → List ℕ
 mouse_encoding_digits encoding.Default = []
 mouse_encoding_digits encoding.Utf8 = codes "1005"
 mouse_encoding_digits encoding.Sgr = codes "1006"
 
--- The sequence from one mouse encoding to another: empty if they are equal, the reset of the old encoding if the new
--- one is the default, otherwise the new encoding is set.
+-- The sequence that changes the mouse encoding. It is empty if the two encodings are equal, resets the old encoding
+-- if the new one is the default, and sets the new encoding otherwise.
 abbrev pub mouse_encoding_change : MouseProtocolEncoding → MouseProtocolEncoding → List ℕ
 mouse_encoding_change encoding.Default encoding.Default = []
 mouse_encoding_change encoding.Utf8 encoding.Utf8 = []
@@ -63,7 +63,7 @@ mouse_encoding_change encoding.Sgr encoding.Sgr = []
 mouse_encoding_change was encoding.Default = mode_reset (mouse_encoding_digits was)
 mouse_encoding_change was new = mode_set (mouse_encoding_digits new)
 
--- The parameter of DECSCUSR for a cursor style.
+-- The DECSCUSR parameter, as an ASCII digit, for a cursor style.
 abbrev pub cursor_style_digit : CursorStyle → ℕ
 cursor_style_digit style.Default = 0x30
 cursor_style_digit style.BlinkBlock = 0x31
@@ -77,7 +77,7 @@ cursor_style_digit style.SteadyVerticalBar = 0x36
 abbrev pub cursor_style_text : CursorStyle → List ℕ
 cursor_style_text new = csi (cursor_style_digit new ∷ 0x20 ∷ []) 0x71
 
--- The sequence from one cursor style to another: empty if they are equal.
+-- The sequence that changes the cursor style; empty if the two styles are equal.
 abbrev pub cursor_style_change : CursorStyle → CursorStyle → List ℕ
 cursor_style_change style.Default style.Default = []
 cursor_style_change style.BlinkBlock style.BlinkBlock = []

@@ -1,4 +1,4 @@
--- The operations that a redraw consists of, and the exact bytes of each.
+-- The operations that make up a redraw, and the exact bytes of each.
 use Rattle.std.specs.Prelude.{ℕ, zero, suc, ◌+◌, ◌-◌, ◌^◌, ◌<◌, ◌&&◌, ◌==◌, nat_lt, Bool}
 use Rattle.std.specs.Prelude.{true, false, List, [], ◌∷◌, ◌++◌, decimal, if◌then◌else◌}
 use Rattle.std.specs.List.{flat_map}
@@ -24,26 +24,26 @@ pub data Op : Type 0 where
   EraseBelow : Op
   -- Erases from the cursor to the end of its row.
   EraseRest : Op
-  -- Erases this number of columns from the cursor on.
+  -- Erases this many columns, starting at the cursor.
   EraseChars : (count : ℕ) → Op
   SaveCursor : Op
   RestoreCursor : Op
   -- Changes the attributes from the first set to the second.
   ChangeAttrs : (was new : Attrs) → Op
-  -- Prints characters, given in UTF-8.
+  -- Prints characters, encoded in UTF-8.
   Print : (text : List ℕ) → Op
 
--- A control sequence of ECMA-48: CSI, parameters and a final byte.
+-- An ECMA-48 control sequence: CSI, parameters and a final byte.
 abbrev pub csi : List ℕ → ℕ → List ℕ
 csi parameters final = 0x1B ∷ 0x5B ∷ (parameters ++ final ∷ [])
 
--- A control sequence with a count: empty for 0, and without a parameter for 1.
+-- A control sequence with a count. It is empty if the count is 0, and has no parameter if the count is 1.
 abbrev pub counted : ℕ → ℕ → List ℕ
 counted zero final = []
 counted (suc zero) final = csi [] final
 counted (suc (suc n)) final = csi (decimal (suc (suc n))) final
 
--- The parameters of CUP for a position counted from 0: row and column counted from 1, or none for the home position.
+-- The CUP parameters for a 0-based position: the 1-based row and column, or none for the home position.
 abbrev pub place : ℕ → ℕ → List ℕ
 place zero zero = []
 place row col = decimal (row + 1) ++ 0x3B ∷ decimal (col + 1)
@@ -54,16 +54,16 @@ joined [] = []
 joined (n ∷ []) = decimal n
 joined (n ∷ m ∷ ns) = decimal n ++ 0x3B ∷ joined (m ∷ ns)
 
--- The SGR parameters of a foreground colour: one number for the first 16 palette colours, and xterm's long forms for
--- the others.
+-- The SGR parameters of a foreground colour: one number for the first 16 palette colours, and xterm's long form for
+-- other colours.
 unfoldable pub foreground_numbers : Color → List ℕ
 foreground_numbers Default = 39 ∷ []
 foreground_numbers (Idx i) =
     if nat_lt i 8 then (30 + i) ∷ [] else if nat_lt i 16 then (82 + i) ∷ [] else 38 ∷ 5 ∷ i ∷ []
 foreground_numbers (Rgb r g b) = 38 ∷ 2 ∷ r ∷ g ∷ b ∷ []
 
--- The SGR parameters of a background colour: one number for the first 16 palette colours, and xterm's long forms for
--- the others.
+-- The SGR parameters of a background colour: one number for the first 16 palette colours, and xterm's long form for
+-- other colours.
 unfoldable pub background_numbers : Color → List ℕ
 background_numbers Default = 49 ∷ []
 background_numbers (Idx i) =
@@ -76,11 +76,12 @@ intensity_number Normal = 22
 intensity_number Bold = 1
 intensity_number Dim = 2
 
--- The parameters of one component of a change: none if it stays.
+-- The SGR parameters for one component of the attributes; none if it is unchanged.
 abbrev pub part : Bool → List ℕ → List ℕ
 part same numbers = if same then [] else numbers
 
--- The SGR parameters of all components that differ, in the order colours, intensity, italics, underline, inverse.
+-- The SGR parameters of all components that differ, in this order: foreground, background, intensity, italics,
+-- underline, inverse.
 unfoldable pub change_numbers : Attrs → Attrs → List ℕ
 change_numbers was new =
     part (same_color was.fgcolor new.fgcolor) (foreground_numbers new.fgcolor)
@@ -90,8 +91,8 @@ change_numbers was new =
     ++ (part (same_bool was.underline new.underline) ((if new.underline then 4 else 24) ∷ [])
     ++ part (same_bool was.inverse new.inverse) ((if new.inverse then 7 else 27) ∷ [])))))
 
--- The SGR sequence from one set of attributes to another: empty if they are equal, and without parameters if the new
--- ones are the default.
+-- The SGR sequence that changes one set of attributes to another. It is empty if they are equal, and has no
+-- parameters if the new attributes are the default.
 unfoldable pub change_text : Attrs → Attrs → List ℕ
 change_text was new =
     if same_attrs was new then []
@@ -120,8 +121,8 @@ bytes_of (Print text) = text
 abbrev pub bytes_of_all : List Op → List ℕ
 bytes_of_all ops = flat_map bytes_of ops
 
--- The operations that move the cursor from one position to another: CR and LF to the first column of the next row,
--- CUF to the right within a row, none if the positions are equal, and CUP otherwise.
+-- The operations that move the cursor from one position to another: CR and LF to reach the first column of the next
+-- row, CUF to move right within a row, none if the positions are equal, and CUP otherwise.
 abbrev pub moving : (from_row from_col to_row to_col : ℕ) → List Op
 moving from_row from_col to_row to_col =
     if (to_row == from_row + 1) && (to_col == 0) then NextRow ∷ []
@@ -139,8 +140,7 @@ FitsColor (Rgb r g b) = (r < 256) × ((g < 256) × (b < 256))
 abbrev pub FitsAttrs : Attrs → Type 0
 FitsAttrs attrs = FitsColor attrs.fgcolor × FitsColor attrs.bgcolor
 
--- The numbers of the operation fit the types of a program: 16 bits for rows, columns and counts, and bytes for
--- colours.
+-- The operation's numbers fit in their types: rows, columns and counts in 16 bits, and colour components in bytes.
 abbrev pub FitsOp : Op → Type 0
 FitsOp (MoveTo row col) = (row < 2 ^ 16) × (col < 2 ^ 16)
 FitsOp (MoveRight count) = count < 2 ^ 16

@@ -1,4 +1,4 @@
--- The errors that a failed call may return.
+-- The errors that a call can return.
 use Rattle.std.specs.Prelude.{◌≡◌, IfErr}
 use Rattle.std.specs.declared.result.Result.{Result}
 use Rattle.vt_cells.specs.declared.error.Error.{Error}

@@ -1,5 +1,5 @@
--- The rows of a page as one list of cells, ordered by place, and a table with the place and the wrapped flag of each
--- row.
+-- The rows of a page as one list of cells, divided into places for one row each, and a table that holds the place and
+-- the wrapped flag of each row.
 use Rattle.std.specs.Prelude.{◌≡◌, ℕ, ◌+◌, ◌*◌, ◌<◌, false, List, length, map, slice_index_or}
 use Rattle.std.specs.List.{slice_range, range_with_len}
 use Rattle.vt_cells.specs.Cell.{CellValue}
@@ -7,27 +7,27 @@ use Rattle.vt_rows.specs.Row.{RowValue}
 use Rattle.vt_grid.specs.declared.flat.Line.{Line}
 use Rattle.vt_grid.specs.declared.flat.Flat.{Flat}
 
--- The cells at a place.
+-- The cells at a place, which holds one row.
 abbrev pub cells_at : ℕ → List CellValue → ℕ → List CellValue
 cells_at width cells place = slice_range cells (place * width) (place * width + width)
 
--- The row that an entry of the table stands for.
+-- The row that a table entry stands for.
 abbrev pub row_in : ℕ → List CellValue → Line → RowValue
 row_in width cells line = record { cells = cells_at width cells line.place; wrapped = line.wrapped }
 
--- The rows, from the top.
+-- The rows of the table, from top to bottom.
 unfoldable pub rows_in : ℕ → List CellValue → List Line → List RowValue
 rows_in width cells lines = map (row_in width cells) lines
 
--- The default entry, for a row that the table does not have.
+-- The default entry, used for a row that is not in the table.
 abbrev pub no_line : Line
 no_line = record { place = 0; wrapped = false }
 
--- The entry of a row.
+-- The table entry of a row.
 abbrev pub line_at : List Line → ℕ → Line
 line_at lines r = slice_index_or lines r no_line
 
--- The table has as many places as rows, and each row has a place of its own.
+-- There are as many places as rows, and each row has its own place.
 pub record IsTable (width : ℕ) (cells : List CellValue) (lines : List Line) : Type 0 where
   pub filled : length cells ≡ length lines * width
   pub inside : (r : ℕ) → r < length lines → (line_at lines r).place < length lines
@@ -42,6 +42,6 @@ rows_of flat = rows_in flat.width flat.cells.items flat.lines.items
 abbrev pub IsFlat : Flat → Type 0
 IsFlat flat = IsTable flat.width flat.cells.items flat.lines.items
 
--- The table of n rows in which row k is at place k, and no row is wrapped.
+-- The table of `n` rows in which row `k` is at place `k` and no row is wrapped.
 abbrev pub in_order : ℕ → List Line
 in_order n = map (λ place. record { place = place; wrapped = false }) (range_with_len 0 n)

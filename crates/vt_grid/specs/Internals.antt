@@ -1,4 +1,4 @@
--- What the fields of a grid stand for together; for its model and private contracts only.
+-- How the fields of a grid represent its value; for its model and private contracts only.
 use Rattle.std.specs.Prelude.{◌≡◌, ℕ, ◌+◌, ◌-◌, ◌<◌, ◌&&◌, nat_le, nat_lt, Bool, true, false, List}
 use Rattle.std.specs.Prelude.{[], length, slice_index_or, Some, zero, if◌then◌else◌}
 use Rattle.std.specs.Char.{encode_utf8}
@@ -12,7 +12,7 @@ use Rattle.vt_grid.specs.Printing.{lacks_room, carries, glyph_put, room_made}
 use Rattle.vt_grid.specs.Outgoing.{fed_out, left_by}
 use Rattle.vt_grid.specs.PageRows.{PageRowsValue}
 
--- The page with these rows, cursor, saved cursor, scroll region and origin modes.
+-- The page with these rows, cursors, scroll region and origin modes.
 abbrev pub page_of : PageRowsValue → Pos → Pos → ℕ → ℕ → Bool → Bool → Page
 page_of page_rows pos saved_pos top bottom origin saved_origin = record {
   rows = page_rows.rows;
@@ -27,39 +27,39 @@ page_of page_rows pos saved_pos top bottom origin saved_origin = record {
   width = page_rows.width;
 }
 
--- The page is valid and has this many rows and columns.
+-- The page is valid and has `rows` rows and `cols` columns.
 pub record IsSized (rows cols : ℕ) (page : Page) : Type 0 where
   pub sound : IsPage page
   pub height : rows ≡ length page.rows
   pub width : cols ≡ page.width
 
--- A row made blank, in its own width.
+-- The row blanked, with its width unchanged.
 abbrev pub cleared_row : Attrs → RowValue → RowValue
 cleared_row attrs row = blank_row attrs (length row.cells)
 
--- The place of a combining character: a cell at column k that is no continuation cell, and is directly before the
--- cursor unless it is wide.
+-- A combining character printed at `column` goes to the cell at column `k`. That cell is not a continuation cell, and
+-- unless it is wide, it is directly before the cursor.
 pub record IsMarkPlace (cells : List CellValue) (column k : ℕ) : Type 0 where
   pub inside : k < length cells
   pub shown : is_right_half (at cells k) ≡ false
   pub narrow : is_wide (at cells k) ≡ false → k + 1 ≡ column
   pub wide : is_wide (at cells k) ≡ true → k + 1 < length cells
 
--- The state after U+FE0F was added to the glyph at column k.
+-- U+FE0F was added to the glyph at column `k`, whose width may now change.
 pub record IsSelected (page : Page) (k : ℕ) : Type 0 where
   pub place : IsMarkPlace (cursor_row page).cells page.column k
   pub drawn : is_blank (at (cursor_row page).cells k) ≡ false
   pub either : (wide : Bool) → IsCell (widened wide (at (cursor_row page).cells k))
 
--- The rows that scroll off when room is made for this many columns.
+-- The rows that scroll off when the cursor wraps for lack of room for this many columns.
 abbrev pub room_out : ℕ → Page → List RowValue
 room_out columns page = if lacks_room columns page then fed_out page else []
 
--- The rows that scroll off when a glyph of two columns is printed; none on a page of one column.
+-- The rows that scroll off when a wide glyph is printed; none on a page with one column.
 abbrev pub wide_out : Page → List RowValue
 wide_out page = if nat_lt 1 page.width then room_out 2 page else []
 
--- The page after a glyph of two columns is printed; unchanged if it has one column.
+-- The page after a wide glyph is printed; unchanged if the page has one column.
 abbrev pub wide_printed : ℕ → Attrs → Page → Page
 wide_printed c attrs page =
     if nat_lt 1 page.width then glyph_put (encode_utf8 c) true attrs (room_made 2 page) else page
@@ -68,7 +68,7 @@ wide_printed c attrs page =
 abbrev pub mark_out : ℕ → Attrs → Page → List RowValue
 mark_out mark attrs page = if carries mark page then fed_out (left_by (Some zero) attrs page) else []
 
--- Row k of a page, blank before, after the newest `up` rows of scrollback moved into its first rows.
+-- Row `k` of a blank page after the newest `up` rows of scrollback were moved into its first rows.
 abbrev pub given_back : (up : ℕ) → (above : List RowValue) →
     (blank : RowValue) → (k : ℕ) → (d : RowValue) → RowValue
 given_back up above blank k d =
@@ -76,7 +76,7 @@ given_back up above blank k d =
     then resized_row (length blank.cells) (slice_index_or above (length above + k - up) d)
     else blank
 
--- Row k of a page, blank before, after the rows of another page from `down` on moved into its rows from `up` on.
+-- Row `k` of a blank page after the rows of another page, from row `down` on, were moved into it, from row `up` on.
 abbrev pub taken_over : (down up : ℕ) → (rows : List RowValue) →
     (blank : RowValue) → (k : ℕ) → (d : RowValue) → RowValue
 taken_over down up rows blank k d =
@@ -84,7 +84,7 @@ taken_over down up rows blank k d =
     then resized_row (length blank.cells) (slice_index_or rows (down + (k - up)) d)
     else blank
 
--- Row k of a resized page, blank before: one of the newest rows of scrollback, or one of the old page.
+-- Row `k` of a blank page after a resize moved rows into it: a scrollback row, a row of the old page, or a blank row.
 abbrev pub refilled : (down up : ℕ) → (above rows : List RowValue) →
     (blank : RowValue) → (k : ℕ) → (d : RowValue) → RowValue
 refilled down up above rows blank k d =

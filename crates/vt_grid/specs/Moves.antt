@@ -6,20 +6,21 @@ use Rattle.vt_grid.specs.Page.{Page, scrolled_up}
 abbrev pub carriage_return : Page → Page
 carriage_return page = record page { column = 0 }
 
--- The page after the cursor moves left by n columns, at most to the first one (CUB, BS).
+-- The page after the cursor moves left by `n` columns, stopping at the first column (CUB, BS).
 abbrev pub moved_left : ℕ → Page → Page
 moved_left n page = record page { column = page.column - n }
 
--- The page after the cursor moves right by n columns, at most to the last one, even from a pending wrap (CUF).
+-- The page after the cursor moves right by `n` columns, stopping at the last column; a pending wrap is cancelled
+-- (CUF).
 abbrev pub moved_right : ℕ → Page → Page
 moved_right n page = record page { column = min (page.column + n) (page.width - 1) }
 
--- The row of the page that a row of CUP stands for: in origin mode it counts from the region's top and is limited to
--- the region.
+-- The row of the page that a 0-based CUP row addresses, stopping at the last row. In origin mode, it is relative to
+-- the top of the scroll region and stops at its bottom.
 abbrev pub target_row : ℕ → Page → ℕ
 target_row r page = if page.origin then min (page.top + r) page.bottom else min r (length page.rows - 1)
 
--- The page after the cursor moves to a row and a column, counted from 0 and limited to the last ones (CUP).
+-- The page after the cursor moves to a 0-based row and column, each limited to the last one (CUP).
 abbrev pub moved_to : ℕ → ℕ → Page → Page
 moved_to r c page = record page { row = target_row r page; column = min c (page.width - 1) }
 
@@ -27,16 +28,16 @@ moved_to r c page = record page { row = target_row r page; column = min c (page.
 abbrev pub at_bottom : Page → Bool
 at_bottom page = page.row == page.bottom
 
--- The page after a line feed: at the region's bottom the region scrolls up by one row, otherwise the cursor moves
--- down, at most to the last row.
+-- The page after a line feed. At the bottom of the scroll region, the region scrolls up by one row; elsewhere the
+-- cursor moves down, stopping at the last row.
 unfoldable pub line_feed : Page → Page
 line_feed page =
     if at_bottom page then scrolled_up 1 page
     else if nat_lt (page.row + 1) (length page.rows) then record page { row = page.row + 1 }
     else page
 
--- A line feed scrolls a row off the top of the page: the cursor is at the region's bottom, and the region begins at
--- the top.
+-- A line feed would scroll a row off the top of the page: the cursor is at the bottom of the scroll region, and the
+-- region begins at the top.
 abbrev pub feeds_out : Page → Bool
 feeds_out page = if at_bottom page then page.top == 0 else false
 
@@ -44,6 +45,6 @@ feeds_out page = if at_bottom page then page.top == 0 else false
 abbrev pub cursor_saved : Page → Page
 cursor_saved page = record page { saved_row = page.row; saved_column = page.column; saved_origin = page.origin }
 
--- The page after the cursor and origin mode are restored as they were saved (DECRC).
+-- The page after the saved cursor and origin mode are restored (DECRC).
 abbrev pub cursor_restored : Page → Page
 cursor_restored page = record page { row = page.saved_row; column = page.saved_column; origin = page.saved_origin }

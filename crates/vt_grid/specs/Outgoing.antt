@@ -1,4 +1,4 @@
--- The rows that scroll off the top of a page: only a region that begins there loses rows when it scrolls up.
+-- The rows that scroll off the top of a page. Rows scroll off only if the scroll region begins at the top.
 use Rattle.std.specs.Prelude.{ℕ, ◌+◌, ◌==◌, List, [], take, min, Option, Some, zero, if◌then◌else◌}
 use Rattle.vt_cells.specs.Attrs.{Attrs}
 use Rattle.vt_cells.specs.Glyph.{columns_of}
@@ -7,19 +7,20 @@ use Rattle.vt_grid.specs.Page.{Page}
 use Rattle.vt_grid.specs.Moves.{feeds_out}
 use Rattle.vt_grid.specs.Printing.{mark_column, lifted_page, pushes}
 
--- The rows that scroll off when the region scrolls up by n rows, at most by its height.
+-- The rows that scroll off when the scroll region scrolls up by `n` rows, or by its height if that is less.
 abbrev pub scrolled_out : ℕ → Page → List RowValue
 scrolled_out n page = if page.top == 0 then take (min n (page.bottom + 1)) page.rows else []
 
--- The rows that scroll off at a line feed.
+-- The rows that scroll off the page at a line feed.
 abbrev pub fed_out : Page → List RowValue
 fed_out page = if feeds_out page then take 1 page.rows else []
 
--- The page that a character leaves when it continues on the next row: U+FE0F takes the glyph before it along.
+-- The page just before a character wraps to the next row. U+FE0F takes the glyph before the cursor along, which
+-- leaves a blank.
 abbrev pub left_by : Option ℕ → Attrs → Page → Page
 left_by (Some zero) attrs page = lifted_page (mark_column page) attrs page
 left_by _ attrs page = page
 
--- The rows that scroll off when a character is printed.
+-- The rows that scroll off the page when a character is printed.
 abbrev pub printed_out : ℕ → Attrs → Page → List RowValue
 printed_out c attrs page = if pushes c page then take 1 (left_by (columns_of c) attrs page).rows else []

@@ -1,5 +1,5 @@
--- A page: rows of one width, a cursor, a scroll region, origin mode, and what was saved (VT510 manual: DECSC,
--- DECSTBM, DECOM).
+-- A page: rows of the same width, a cursor, a scroll region, origin mode, and the saved cursor and origin mode (VT510
+-- manual: DECSC, DECSTBM, DECOM).
 use Rattle.std.specs.Prelude.{◌≡◌, ℕ, ◌+◌, ◌-◌, ◌<◌, ◌≤◌, ◌^◌, ◌⊎◌, nat_le, ◌&&◌, Bool, false, List}
 use Rattle.std.specs.Prelude.{length, replicate, map, slice_index_or, slice_set, All, if◌then◌else◌}
 use Rattle.std.specs.List.{range_with_len}
@@ -8,7 +8,7 @@ use Rattle.vt_cells.specs.Cell.{CellValue}
 use Rattle.vt_rows.specs.Cells.{at}
 use Rattle.vt_rows.specs.Row.{RowValue, IsRow, blank_row}
 
--- The value of a page.
+-- A page of a screen.
 pub record Page : Type 0 where
   pub rows : List RowValue
   -- The cursor. If its column equals the width, a wrap is pending.
@@ -17,7 +17,7 @@ pub record Page : Type 0 where
   -- The saved cursor.
   pub saved_row : ℕ
   pub saved_column : ℕ
-  -- The first and the last row of the scroll region.
+  -- The first and last rows of the scroll region.
   pub top : ℕ
   pub bottom : ℕ
   pub origin : Bool
@@ -36,11 +36,11 @@ row_at page r = row_or page.width page.rows r
 abbrev pub cell_at : Page → ℕ → ℕ → CellValue
 cell_at page r c = at (row_at page r).cells c
 
--- The row that the cursor is in.
+-- The row that contains the cursor.
 abbrev pub cursor_row : Page → RowValue
 cursor_row page = row_at page page.row
 
--- The page with row r replaced.
+-- The page with row `r` replaced.
 abbrev pub with_row : ℕ → RowValue → Page → Page
 with_row r row page = record page { rows = slice_set page.rows r row }
 
@@ -62,17 +62,17 @@ pub record IsPage (page : Page) : Type 0 where
   pub rows : All (IsRow page.width) page.rows
   pub last : (row_at page (length page.rows - 1)).wrapped ≡ false
 
--- The page is plain: its scroll region is all of it, and origin mode is off.
+-- The page is plain: its scroll region is the whole page, and origin mode is off.
 pub record IsPlainPage (page : Page) : Type 0 where
   pub whole : IsWhole page
   pub origin : page.origin ≡ false
 
--- Both pages have the same size.
+-- The two pages have the same size.
 pub record SameSize (page other : Page) : Type 0 where
   pub width : page.width ≡ other.width
   pub height : length page.rows ≡ length other.rows
 
--- A new page: default blanks, the cursor at the top left, and the whole page as scroll region.
+-- A new page: all cells are default blanks, the cursor is at the top left, and the scroll region is the whole page.
 abbrev pub blank_page : ℕ → ℕ → Page
 blank_page height width = record {
   rows = replicate height (blank_row default_attrs width);
@@ -87,26 +87,26 @@ blank_page height width = record {
   width = width;
 }
 
--- ---- Rows that move: row r comes from row `source r`, and is blank past the end
+-- ---- Moves of rows: row `r` was row `source r`, or is blank if that is past the end
 
--- The n rows given by a function of the row.
+-- A list of `n` rows, in which row `k` is `f k`.
 abbrev pub by_row : ℕ → (ℕ → RowValue) → List RowValue
 by_row n f = map f (range_with_len 0 n)
 
--- The rows after a move of rows.
+-- The rows after they move: row `r` becomes the former row `source r`.
 unfoldable pub moved_rows : ℕ → (ℕ → ℕ) → List RowValue → List RowValue
 moved_rows width source rows = by_row (length rows) (λ r. row_or width rows (source r))
 
--- The source of row r when the rows from top to bottom move up by n; `past`, a row past the end, for a row that comes
--- in.
+-- The former index of row `r` after rows `top` to `bottom` move up by `n`. It is `past`, an index past the end, for a
+-- blank row that scrolls in.
 abbrev pub up_source : ℕ → ℕ → ℕ → ℕ → ℕ → ℕ
 up_source past top bottom n r =
     if nat_le top r && nat_le r bottom then (if nat_le (r + n) bottom then r + n else past) else r
 
--- The rows after those from top to bottom move up by n; blank rows come in.
+-- The rows after rows `top` to `bottom` move up by `n`; blank rows scroll in at the bottom.
 abbrev pub rows_up : ℕ → ℕ → ℕ → ℕ → List RowValue → List RowValue
 rows_up width top bottom n rows = moved_rows width (up_source (length rows) top bottom n) rows
 
--- The page after its region scrolls up by n rows (SU).
+-- The page after its scroll region scrolls up by `n` rows (SU).
 abbrev pub scrolled_up : ℕ → Page → Page
 scrolled_up n page = record page { rows = rows_up page.width page.top page.bottom n page.rows }

@@ -1,4 +1,4 @@
--- The rows of a page without its cursor: edits of one row, and changes of the order of rows.
+-- The rows of a page without its cursor: edits of single rows, and moves of rows.
 use Rattle.std.specs.Prelude.{◌≡◌, ℕ, ◌≤◌, List, length, slice_set, replicate, All, Bool, Option, Some, None}
 use Rattle.vt_cells.specs.Attrs.{default_attrs}
 use Rattle.vt_cells.specs.Cell.{CellValue}
@@ -6,22 +6,22 @@ use Rattle.vt_rows.specs.Row.{RowValue, IsRow, blank_row, with_cells}
 use Rattle.vt_grid.specs.Page.{row_or, rows_up}
 use Rattle.vt_grid.specs.Shifts.{rows_down}
 
--- The value of the rows of a page: the rows, and their width.
+-- The rows of a page, and their width.
 pub record PageRowsValue : Type 0 where
   pub rows : List RowValue
   pub width : ℕ
 
--- The page has at least this many rows, and each is as wide as the page.
+-- The page has at least `count` rows, and each of them is as wide as the page.
 pub record HasRows (count : ℕ) (page_rows : PageRowsValue) : Type 0 where
   pub inside : count ≤ length page_rows.rows
   pub sound : All (IsRow page_rows.width) page_rows.rows
 
--- The page has this width, and as many rows as must scroll off it.
+-- The page has `cols` columns, and at least the `count` rows that must scroll off it.
 pub record CanLetRowsGo (count cols : ℕ) (page_rows : PageRowsValue) : Type 0 where
   pub rows : HasRows count page_rows
   pub width : cols ≡ page_rows.width
 
--- The rows of a page of default blanks.
+-- The rows of a new page, filled with default blanks.
 abbrev pub blank_page_rows : ℕ → ℕ → PageRowsValue
 blank_page_rows height width = record { rows = replicate height (blank_row default_attrs width); width = width }
 
@@ -29,26 +29,26 @@ blank_page_rows height width = record { rows = replicate height (blank_row defau
 abbrev pub page_row : PageRowsValue → ℕ → RowValue
 page_row page_rows r = row_or page_rows.width page_rows.rows r
 
--- The rows of a page with row r replaced.
+-- The rows of a page with row `r` replaced.
 abbrev pub with_page_row : ℕ → RowValue → PageRowsValue → PageRowsValue
 with_page_row r row page_rows = record page_rows { rows = slice_set page_rows.rows r row }
 
--- The rows of a page with the cells of row r replaced, as by a print or an erase.
+-- The rows of a page with the cells of row `r` replaced, as when text is printed or erased.
 abbrev pub with_row_cells : ℕ → List CellValue → PageRowsValue → PageRowsValue
 with_row_cells r cells page_rows = with_page_row r (with_cells (page_row page_rows r) cells) page_rows
 
--- The rows of a page with the wrapped flag of row r, if there is one, set to `goes_on`.
+-- The rows of a page with the wrapped flag of row `r`, if there is one, set to `goes_on`.
 abbrev pub with_page_row_flag : Option ℕ → Bool → PageRowsValue → PageRowsValue
 with_page_row_flag (Some r) goes_on page_rows =
     with_page_row r (record (page_row page_rows r) { wrapped = goes_on }) page_rows
 with_page_row_flag None goes_on page_rows = page_rows
 
--- The rows of a page after those from top to bottom move up by n.
+-- The rows of a page after rows `top` to `bottom` move up by `n`.
 abbrev pub page_rows_up : (top bottom n : ℕ) → PageRowsValue → PageRowsValue
 page_rows_up top bottom n page_rows =
     record page_rows { rows = rows_up page_rows.width top bottom n page_rows.rows }
 
--- The rows of a page after those from top to bottom move down by n.
+-- The rows of a page after rows `top` to `bottom` move down by `n`.
 abbrev pub page_rows_down : (top bottom n : ℕ) → PageRowsValue → PageRowsValue
 page_rows_down top bottom n page_rows =
     record page_rows { rows = rows_down page_rows.width top bottom n page_rows.rows }

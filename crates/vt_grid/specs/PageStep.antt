@@ -1,4 +1,4 @@
--- The steps of a page that scroll no row off its top, and what each does to the page.
+-- The steps of a page that scroll no row off its top, and their effects.
 use Rattle.std.specs.Prelude.{ℕ, Bool}
 use Rattle.vt_cells.specs.Attrs.{Attrs}
 use Rattle.vt_grid.specs.Page.{Page}
@@ -39,7 +39,7 @@ pub data PageStep : Type 0 where
   DeleteLines : (count : ℕ) → PageStep
   ScrollDown : (count : ℕ) → PageStep
 
--- The page after a step. Erased cells become blanks with attributes `attrs`.
+-- The page after a step. Erased cells become blanks with the attributes `attrs`.
 abbrev pub page_after : Attrs → PageStep → Page → Page
 page_after attrs CarriageReturn page = carriage_return page
 page_after attrs ReverseIndex page = reverse_index page

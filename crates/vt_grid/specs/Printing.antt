@@ -1,5 +1,5 @@
--- Printing a character: its width decides whether the cursor wraps first, and what becomes of the cells beside it
--- (VT510 manual, DECAWM set).
+-- Printing a character. Its width determines whether the cursor wraps first and how adjacent cells change (VT510
+-- manual, DECAWM set).
 use Rattle.std.specs.Prelude.{ℕ, ◌+◌, ◌-◌, ◌==◌, ◌&&◌, nat_lt, not, Bool, true, false, List}
 use Rattle.std.specs.Prelude.{length, Option, Some, None, zero, suc, if◌then◌else◌}
 use Rattle.std.specs.Char.{encode_utf8}
@@ -15,42 +15,42 @@ use Rattle.vt_grid.specs.Moves.{line_feed, at_bottom, feeds_out}
 abbrev pub with_cursor_cells : List CellValue → Page → Page
 with_cursor_cells cells page = with_row page.row (with_cells (cursor_row page) cells) page
 
--- The page with the wrapped flag of row r set to `goes_on`.
+-- The page with the wrapped flag of row `r` set to `goes_on`.
 abbrev pub flagged : ℕ → Bool → Page → Page
 flagged r goes_on page = with_row r (record (row_at page r) { wrapped = goes_on }) page
 
--- The row that a wrap leaves, by its index afterward: one less if the region scrolls, and none in a region of one
--- row.
+-- The row that the cursor leaves in a wrap, by its index after the wrap: one less if the scroll region scrolls, and
+-- none if the region has one row.
 abbrev pub left_row : Page → Option ℕ
 left_row page =
     if at_bottom page then (if page.row == page.top then None else Some (page.row - 1))
     else Some page.row
 
--- The cursor moves to a different row at a line feed, or the region scrolls.
+-- A line feed moves the cursor to a different row or scrolls the scroll region.
 abbrev pub goes_down : Page → Bool
 goes_down page = if at_bottom page then true else nat_lt (page.row + 1) (length page.rows)
 
--- The page in which the wrapped flag of the row that a wrap left, if there is one, is `goes_on`.
+-- The page with the wrapped flag of the row left by a wrap, if there is one, set to `goes_on`.
 abbrev pub flagged_left : Option ℕ → Bool → Page → Page
 flagged_left (Some r) goes_on page = flagged r goes_on page
 flagged_left None goes_on page = page
 
--- The page after a wrap: a line feed to column 0. The row that was left is wrapped exactly if its last cell was not a
--- blank and the cursor is now on the row below it.
+-- The page after a wrap, which is a line feed to column 0. The row that was left is marked as wrapped exactly if its
+-- last cell was not blank and the cursor is now on the row below it.
 unfoldable pub wrapped_page : Page → Page
 wrapped_page page =
     record (flagged_left (left_row page) (goes_down page && not (ends_blank (cursor_row page).cells)) (line_feed page))
     { column = 0 }
 
--- There is no room for this many columns at the cursor.
+-- There are fewer than this many columns left at the cursor.
 abbrev pub lacks_room : ℕ → Page → Bool
 lacks_room columns page = nat_lt (page.width - columns) page.column
 
--- The page after a wrap if there is no room for this many columns.
+-- The page after a wrap if this many columns don't fit at the cursor; otherwise unchanged.
 unfoldable pub room_made : ℕ → Page → Page
 room_made columns page = if lacks_room columns page then wrapped_page page else page
 
--- The page after a glyph is put at the cursor, which moves past it.
+-- The page after a glyph is put at the cursor, which then moves past it.
 abbrev pub glyph_put : List ℕ → Bool → Attrs → Page → Page
 glyph_put text false attrs page =
     record (with_cursor_cells (put_narrow page.column text attrs (cursor_row page).cells) page)
@@ -59,23 +59,24 @@ glyph_put text true attrs page =
     record (with_cursor_cells (put_wide page.column text attrs (cursor_row page).cells) page)
     { column = page.column + 2 }
 
--- The column of the glyph before the cursor: its first column, if it is wide.
+-- The first column of the glyph before the cursor.
 abbrev pub mark_column : Page → ℕ
 mark_column page =
     if is_right_half (at (cursor_row page).cells (page.column - 1)) then page.column - 2 else page.column - 1
 
--- The cell has room for a combining character; a blank counts as a space.
+-- The cell has room for another combining character; a blank is treated as a space.
 abbrev pub takes_mark : CellValue → Bool
 takes_mark cell = if is_blank cell then true else has_room (text_of cell)
 
--- U+FE0F makes the narrow glyph before a pending wrap wide, so that it must move to the next row.
+-- The combining character is U+FE0F and turns the narrow glyph in the last column into a wide one while a wrap is
+-- pending, so that the glyph must move to the next row.
 unfoldable pub carries : ℕ → Page → Bool
 carries mark page =
     let cell = at (cursor_row page).cells (mark_column page) in
     (is_selector mark && (takes_mark cell && not (is_wide cell)))
     && (is_wide_text (text_of (marked mark cell)) && (nat_lt 1 page.width && (page.column == page.width)))
 
--- A character that takes this many columns makes the cursor wrap.
+-- Printing a character that takes this many columns makes the cursor wrap.
 abbrev pub wraps_for : Option ℕ → ℕ → Page → Bool
 wraps_for None c page = false
 wraps_for (Some zero) c page = if page.column == 0 then false else carries c page
@@ -86,36 +87,38 @@ wraps_for (Some (suc (suc n))) c page = nat_lt 1 page.width && lacks_room 2 page
 abbrev pub wraps : ℕ → Page → Bool
 wraps c page = wraps_for (columns_of c) c page
 
--- Printing the character scrolls a row off the page.
+-- Printing the character scrolls a row off the top of the page.
 abbrev pub pushes : ℕ → Page → Bool
 pushes c page = wraps c page && feeds_out page
 
--- The page with the glyph at column k of the cursor's row removed, leaving a blank.
+-- The page with the glyph at column `k` of the cursor's row replaced with a blank.
 abbrev pub lifted_page : ℕ → Attrs → Page → Page
 lifted_page k attrs page = with_cursor_cells (erased k 1 attrs (cursor_row page).cells) page
 
--- The page with a combining character added to the cell at column k of the cursor's row, which keeps its width.
+-- The page with a combining character added to the cell at column `k` of the cursor's row. The width of the cell is
+-- unchanged.
 abbrev pub mark_put : ℕ → ℕ → Page → Page
 mark_put k mark page = with_cursor_cells (marked_at k mark (cursor_row page).cells) page
 
--- The page after the glyph before a pending wrap, which U+FE0F makes wide, is removed and put on the next row with
--- the combining character.
+-- The page after U+FE0F makes the glyph in the last column wide while a wrap is pending. The glyph is removed and put
+-- on the next row, together with the combining character.
 unfoldable pub carried : ℕ → Attrs → Page → Page
 carried mark attrs page =
     let k = mark_column page in
     glyph_put (text_of (marked mark (at (cursor_row page).cells k)))
     true attrs (wrapped_page (lifted_page k attrs page))
 
--- The page after the glyph at column k, to which U+FE0F was added, is made wide in place.
+-- The page after the glyph at column `k`, to which U+FE0F was added, becomes wide in place.
 unfoldable pub made_wide : ℕ → Attrs → Page → Page
 made_wide k attrs page =
     record (with_cursor_cells (widened_at k attrs (cursor_row page).cells) page) { column = page.column + 1 }
 
--- The page after the glyph at column k is made narrow; the cursor stays.
+-- The page after the glyph at column `k` becomes narrow; the cursor doesn't move.
 abbrev pub made_narrow : ℕ → Attrs → Page → Page
 made_narrow k attrs page = with_cursor_cells (narrowed_at k attrs (cursor_row page).cells) page
 
--- The page after the glyph at column k gets the width of its whole text; on a page of one column it stays narrow.
+-- The page after the glyph at column `k` takes on the width of its whole text. On a page with one column, it stays
+-- narrow.
 unfoldable pub width_followed : ℕ → Attrs → Page → Page
 width_followed k attrs page =
     let cell = at (cursor_row page).cells k in
@@ -123,7 +126,7 @@ width_followed k attrs page =
     if is_wide cell then (if wide then page else made_narrow k attrs page)
     else (if wide then made_wide k attrs page else page)
 
--- The page after a combining character is printed: it is added to the glyph before the cursor.
+-- The page after a combining character is printed, which adds it to the glyph before the cursor.
 unfoldable pub mark_printed : ℕ → Attrs → Page → Page
 mark_printed mark attrs page =
     let k = mark_column page in

@@ -1,4 +1,4 @@
--- Cursor movement that regards the scroll region, and the region itself (VT510 manual: CUU, CUD, CNL, CPL, CHA, HPA,
+-- Cursor movement that respects the scroll region, and the region itself (VT510 manual: CUU, CUD, CNL, CPL, CHA, HPA,
 -- VPA, HT, DECSTBM, DECOM).
 use Rattle.std.specs.Prelude.{ℕ, ◌+◌, ◌-◌, ◌*◌, ◌/◌, ◌&&◌, nat_le, nat_lt, Bool, length, min, max, if◌then◌else◌}
 use Rattle.vt_grid.specs.Page.{Page}
@@ -12,45 +12,45 @@ in_region page = nat_le page.top page.row && nat_le page.row page.bottom
 abbrev pub last_row : Page → ℕ
 last_row page = length page.rows - 1
 
--- The page after the cursor moves up by n rows: from inside the region at most to its top, otherwise to the first row
--- (CUU).
+-- The page after the cursor moves up by `n` rows (CUU). If it starts inside the scroll region, it stops at the
+-- region's top, otherwise at the first row.
 unfoldable pub moved_up : ℕ → Page → Page
 moved_up n page = record page { row = max (page.row - n) (if in_region page then page.top else 0) }
 
--- The page after the cursor moves down by n rows: from inside the region at most to its bottom, otherwise to the last
--- row (CUD).
+-- The page after the cursor moves down by `n` rows (CUD). If it starts inside the scroll region, it stops at the
+-- region's bottom, otherwise at the last row.
 unfoldable pub moved_down : ℕ → Page → Page
 moved_down n page = record page { row = min (page.row + n) (if in_region page then page.bottom else last_row page) }
 
--- The page after the cursor moves to the first column n rows below (CNL).
+-- The page after the cursor moves down by `n` rows as CUD does, and to the first column (CNL).
 abbrev pub next_line : ℕ → Page → Page
 next_line n page = carriage_return (moved_down n page)
 
--- The page after the cursor moves to the first column n rows above (CPL).
+-- The page after the cursor moves up by `n` rows as CUU does, and to the first column (CPL).
 abbrev pub previous_line : ℕ → Page → Page
 previous_line n page = carriage_return (moved_up n page)
 
--- The page after the cursor moves to a column, counted from 0 and limited to the last one (CHA, HPA).
+-- The page after the cursor moves to a 0-based column, stopping at the last one (CHA, HPA).
 abbrev pub moved_to_column : ℕ → Page → Page
 moved_to_column c page = record page { column = min c (page.width - 1) }
 
--- The page after the cursor moves to a row, counted from 0 and limited to the last one (VPA).
+-- The page after the cursor moves to a 0-based row, stopping at the last one (VPA).
 abbrev pub moved_to_row : ℕ → Page → Page
 moved_to_row r page = record page { row = min r (last_row page) }
 
--- The page after the cursor moves to the next column that is a multiple of 8, at most to the last one, even from a
--- pending wrap (HT).
+-- The page after the cursor moves to the next column that is a multiple of 8, stopping at the last column; a pending
+-- wrap is cancelled (HT).
 abbrev pub tabbed : Page → Page
 tabbed page = record page { column = min ((page.column / 8 + 1) * 8) (page.width - 1) }
 
--- The page after its region is set to the rows from top to bottom, or to the whole page if these are fewer than two
--- rows; the cursor moves to the region's first row and column (DECSTBM).
+-- The page after its scroll region is set to rows `top` to `bottom`, or to the whole page if that is fewer than two
+-- rows. The cursor moves to the first column of the region's first row (DECSTBM).
 unfoldable pub region_set : ℕ → ℕ → Page → Page
 region_set top bottom page =
     if nat_lt top (min bottom (last_row page))
     then record page { top = top; bottom = min bottom (last_row page); row = top; column = 0 }
     else record page { top = 0; bottom = last_row page; row = 0; column = 0 }
 
--- The page after origin mode is set or reset; the cursor moves to its home position (DECOM).
+-- The page after origin mode is set or reset, which also moves the cursor to its home position (DECOM).
 abbrev pub origin_set : Bool → Page → Page
 origin_set on page = moved_to 0 0 (record page { origin = on })

@@ -1,4 +1,4 @@
--- Resizing a page: which rows scroll off, which come back, and where the cursors are afterward (xterm).
+-- Resizing a page: which rows scroll off, which come back, and where the cursors end up (xterm).
 use Rattle.std.specs.Prelude.{ℕ, ◌+◌, ◌-◌, nat_lt, List, ◌++◌, length, take, map, min, if◌then◌else◌}
 use Rattle.vt_cells.specs.Attrs.{default_attrs}
 use Rattle.vt_rows.specs.Row.{RowValue, blank_row, resized_row}
@@ -6,34 +6,34 @@ use Rattle.vt_grid.specs.Page.{Page, by_row, row_or}
 use Rattle.vt_grid.specs.Scrollback.{Scrollback, pushed, reported}
 use Rattle.vt_grid.specs.Shifts.{unflagged}
 
--- The number of rows that scroll off when a page is resized to this height: those in excess, except that rows below
--- the cursor go first.
+-- The number of rows that scroll off when a page is resized to this height: the excess rows, minus the rows below the
+-- cursor, which are dropped first.
 abbrev pub leaving : ℕ → Page → ℕ
 leaving height page = (length page.rows - height) - (length page.rows - (page.row + 1))
 
--- The number of rows that come back when a page is resized to this height: as many as there is room for, at most
--- those that scrolled off and are not back.
+-- The number of rows that come back when a page is resized to this height: as many as there is room for, up to the
+-- number of rows that scrolled off and haven't come back.
 abbrev pub returning : ℕ → Scrollback → Page → ℕ
 returning height above page = min (height - length page.rows) above.theoretical
 
--- `height` rows of the list of scrollback followed by the page: from `down` rows below the page's first row on, or
--- from `up` rows above it. Rows before the list, which were not kept, and rows after it are blank. With one row of
--- scrollback, two of the page and `up` 2, five rows are: one that was not kept, the one of scrollback, the two of the
--- page, and a blank one.
+-- A window of `height` rows over the scrollback rows `above` followed by the page's `rows`. It begins `up` rows
+-- before row `down` of the page. Rows outside the list are blank, such as scrollback rows that were discarded. For
+-- example, with one scrollback row, a page of two rows, `down` 0 and `up` 2, a window of five rows has a blank row
+-- for the discarded one, the scrollback row, the two page rows, and a blank row.
 unfoldable pub window : (width height down up : ℕ) → (above rows : List RowValue) → List RowValue
 window width height down up above rows =
     by_row height (λ k. if nat_lt (length above + down + k) up then blank_row default_attrs width
     else row_or width (above ++ rows) (length above + down + k - up))
 
--- The rows cut or extended to this width; the last one is not wrapped.
+-- The rows, cut off or extended to this width; the last row is marked as not wrapped.
 abbrev pub rows_resized : ℕ → List RowValue → List RowValue
 rows_resized width rows = unflagged width (length rows - 1) (map (resized_row width) rows)
 
--- The index of a row after `down` rows scrolled off above it and `up` came back; at most the last row.
+-- The new index of a row after `down` rows scrolled off above it and `up` rows came back, limited to the last row.
 abbrev pub row_resized : (height down up : ℕ) → ℕ → ℕ
 row_resized height down up row = min (row - down + up) (height - 1)
 
--- The page resized: the region is all of it, and no wrap is pending.
+-- The page after a resize. The scroll region is the whole page, and no wrap is pending.
 unfoldable pub page_resized : (height width : ℕ) → Scrollback → Page → Page
 page_resized height width above page =
     let down = leaving height page in
@@ -49,11 +49,11 @@ page_resized height width above page =
       width = width;
     }
 
--- Scrollback of which no row is displayed.
+-- Scrollback with none of its rows displayed.
 abbrev pub out_of_view : Scrollback → Scrollback
 out_of_view above = record above { offset = 0 }
 
--- Scrollback after the newest n of the rows that scrolled off went back to the page.
+-- Scrollback after the newest `n` rows that scrolled off move back to the page.
 abbrev pub taken_back : ℕ → Scrollback → Scrollback
 taken_back n above =
     record above { rows = take (length above.rows - n) above.rows; theoretical = above.theoretical - n }
@@ -64,6 +64,6 @@ scrollback_resized height page above =
     taken_back (returning height above page)
     (pushed (length page.rows) page.width (take (leaving height page) page.rows) (out_of_view above))
 
--- The rows that scroll off in a resize and are not kept, oldest first.
+-- The rows that are reported instead of kept when a resize scrolls rows off the page, oldest first.
 abbrev pub resize_reports : ℕ → Page → Scrollback → List RowValue
 resize_reports height page above = reported (take (leaving height page) page.rows) above

@@ -1,45 +1,45 @@
--- Scrollback: the rows that scrolled off the top of a page, as far as they are kept (xterm's saved lines).
+-- Scrollback: the rows that scrolled off the top of a page and are still kept (xterm's saved lines).
 use Rattle.std.specs.Prelude.{◌≡◌, ℕ, ◌+◌, ◌-◌, ◌==◌, ◌≤◌, ◌<◌, nat_lt, List, [], ◌∷◌}
 use Rattle.std.specs.Prelude.{◌++◌, length, All, take, drop, map, min, slice_index_or, if◌then◌else◌}
 use Rattle.std.specs.List.{FoldsTo}
 use Rattle.vt_rows.specs.Row.{RowValue, IsRow, resized_row, trimmed_row}
 
--- The value of scrollback: its rows, oldest first; how many are kept at most; how many there would be without that
--- limit; and the number of rows by which the display is scrolled back.
+-- The value of scrollback: its rows, oldest first; its capacity in rows; the number of rows it would have with
+-- unlimited capacity; and the number of rows by which the display is scrolled back.
 pub record Scrollback : Type 0 where
   pub rows : List RowValue
   pub capacity : ℕ
   pub theoretical : ℕ
   pub offset : ℕ
 
--- Scrollback without rows.
+-- Empty scrollback with this capacity.
 abbrev pub no_scrollback : ℕ → Scrollback
 no_scrollback capacity = record { rows = []; capacity = capacity; theoretical = 0; offset = 0 }
 
--- The invariant of scrollback: at most as many rows as its capacity, an offset within them, and valid rows, each of
--- its own width.
+-- The invariant of scrollback: no more rows than its capacity, an offset of at most the number of its rows, and valid
+-- rows, each of its own width.
 pub record IsScrollback (above : Scrollback) : Type 0 where
   pub kept : length above.rows ≤ above.capacity
   pub in_view : above.offset ≤ length above.rows
   pub sound : All (λ row. IsRow (length row.cells) row) above.rows
 
--- The last n items of a list.
+-- The last `n` items of a list.
 abbrev pub last_of : {X : Type 0} → ℕ → List X → List X
 last_of n xs = drop (length xs - n) xs
 
--- The items of a list before its last n.
+-- All items of a list except the last `n`.
 abbrev pub before_last : {X : Type 0} → ℕ → List X → List X
 before_last n xs = take (length xs - n) xs
 
--- The rows of scrollback, followed by the rows that scrolled off the page, without the default blanks at their ends.
+-- The scrollback rows, followed by the rows that scrolled off the page with their trailing default blanks removed.
 abbrev pub stacked : List RowValue → Scrollback → List RowValue
 stacked gone above = above.rows ++ map trimmed_row gone
 
--- The largest value of the theoretical length, 2^64 - 1.
+-- The maximum of the theoretical length, 2^64 - 1.
 abbrev pub greatest : ℕ
 greatest = 18446744073709551615
 
--- Scrollback after these rows scrolled off; displayed rows stay in place as long as they are kept.
+-- Scrollback after these rows scroll off. The displayed rows don't change as long as they are kept.
 unfoldable pub kept_after : List RowValue → Scrollback → Scrollback
 kept_after gone above =
     let rows = last_of above.capacity (stacked gone above) in
@@ -49,17 +49,17 @@ kept_after gone above =
       offset = if above.offset == 0 then 0 else min (above.offset + length gone) (length rows);
     }
 
--- A displayed row, which has at least as many columns as the screen.
+-- The row, extended to the screen's width if it is narrower.
 abbrev pub grown_row : ℕ → RowValue → RowValue
 grown_row width row = if nat_lt (length row.cells) width then resized_row width row else row
 
--- The number of rows that have fewer columns than this width.
+-- The number of rows narrower than this width.
 abbrev pub narrow_rows : ℕ → List RowValue → ℕ
 narrow_rows width [] = 0
 narrow_rows width (row ∷ rows) = (if nat_lt (length row.cells) width then 1 else 0) + narrow_rows width rows
 
--- Scrollback in which the displayed rows are extended to the screen's width: the newest rows, as many as the offset,
--- limited to the height of the screen.
+-- Scrollback with its displayed rows extended to the screen's width. The displayed rows begin `offset` rows before
+-- the end, and there are at most `height` of them.
 unfoldable pub grown_in_view : (height width : ℕ) → Scrollback → Scrollback
 grown_in_view height width above =
     let first = length above.rows - above.offset in
@@ -69,18 +69,18 @@ grown_in_view height width above =
           ++ (map (grown_row width) (take height (drop first above.rows)) ++ drop (first + height) above.rows);
     }
 
--- Scrollback after these rows scrolled off a page of this height and width.
+-- Scrollback after these rows scroll off a page of this height and width.
 abbrev pub pushed : (height width : ℕ) → List RowValue → Scrollback → Scrollback
 pushed height width [] above = above
 pushed height width (row ∷ gone) above = grown_in_view height width (kept_after (row ∷ gone) above)
 
--- The rows that are not kept when these rows scroll off, oldest first; they are reported.
+-- The rows that are reported instead of kept when these rows scroll off, oldest first.
 abbrev pub reported : List RowValue → Scrollback → List RowValue
 reported [] above = []
 reported (row ∷ gone) above = before_last above.capacity (stacked (row ∷ gone) above)
 
--- One row scrolls off and takes over the memory of the oldest one, which is no shorter: scrollback is at capacity,
--- and none of it is displayed.
+-- A single row scrolls off and reuses the memory of the oldest scrollback row, which is at least as long. Scrollback
+-- is at capacity, and none of it is displayed.
 pub record TurnsOver (gone : List RowValue) (above : Scrollback) : Type 0 where
   pub one : length gone ≡ 1
   pub full : length above.rows ≡ above.capacity
@@ -88,29 +88,31 @@ pub record TurnsOver (gone : List RowValue) (above : Scrollback) : Type 0 where
   pub room : (d : RowValue) → length (trimmed_row (slice_index_or gone 0 d)).cells
       ≤ length (slice_index_or above.rows 0 d).cells
 
--- Moving these rows into scrollback allocates memory, because they do not just take over that of the oldest row.
+-- Moving these rows into scrollback may allocate, because the memory of the oldest row can't be reused.
 abbrev pub TakesMemory : List RowValue → Scrollback → Type 0
 TakesMemory gone above = (0 < length gone) × ((0 < above.capacity) × (TurnsOver gone above → ⊥))
 
--- These rows scrolled off: what scrollback is then, and what was reported one by one.
+-- The rows `gone` scroll off: `after` is the resulting scrollback, and the rows that are not kept are reported one by
+-- one.
 abbrev pub Sends : {S : Type 0} → (S → RowValue → S → Type 0) →
     (height width : ℕ) → List RowValue → Scrollback → S → Scrollback → S → Type 0
 Sends leaves height width gone above old after new =
     (after ≡ pushed height width gone above) × FoldsTo leaves old (reported gone above) new
 
--- Scrollback displayed with offset n, at most the number of its rows, on a screen of this height and width.
+-- Scrollback with its offset set to `n`, or to the number of its rows if that is less, on a screen of this height and
+-- width.
 unfoldable pub with_view : (height width : ℕ) → ℕ → Scrollback → Scrollback
 with_view height width n above = grown_in_view height width (record above { offset = min n (length above.rows) })
 
--- Displaying scrollback with offset n extends a row, which allocates memory.
+-- Setting the scrollback offset to `n` allocates memory, because a displayed row must be extended.
 abbrev pub ViewTakesMemory : (height width : ℕ) → ℕ → Scrollback → Type 0
 ViewTakesMemory height width n above = 0 < narrow_rows width (take height (last_of n above.rows))
 
--- Scrollback after its rows are removed and forgotten.
+-- Scrollback after all of its rows are discarded.
 abbrev pub cleared : Scrollback → Scrollback
 cleared above = no_scrollback above.capacity
 
--- The displayed rows: the newest rows of scrollback, as many as the offset, and then those of the page, in all as
--- many as the page has.
+-- The displayed rows: the newest scrollback rows, as many as the offset, followed by rows of the page, up to the
+-- height of the page.
 abbrev pub visible : Scrollback → List RowValue → List RowValue
 visible above rows = take (length rows) (last_of above.offset above.rows ++ rows)

@@ -1,4 +1,4 @@
--- What a call does that scrolls rows off the top of a page.
+-- The effects of calls that scroll rows off the top of a page.
 use Rattle.std.specs.Prelude.{◌≡◌, ℕ, List, IsErr, OnErr, OnOk, take}
 use Rattle.std.specs.List.{FoldsTo}
 use Rattle.std.specs.declared.result.Result.{Result}
@@ -9,7 +9,7 @@ use Rattle.vt_grid.specs.Page.{Page}
 use Rattle.vt_grid.specs.Resize.{leaving, out_of_view, page_resized, resize_reports, scrollback_resized}
 use Rattle.vt_grid.specs.Scrollback.{Scrollback, Sends, TakesMemory}
 
--- The page becomes `made` and these rows go to scrollback; or an allocation fails, and nothing has changed.
+-- The page becomes `made`, and the rows `gone` are moved to scrollback. If an allocation fails, nothing is changed.
 pub record LetsRowsGo {P S : Type 0} (leaves : S → RowValue → S → Type 0) (height width : ℕ) (gone : List RowValue)
     (before : P) (above : Scrollback) (old : S) (made after : P) (kept : Scrollback) (new : S)
     (result : Result (Unit {0}) Error) : Type 0 where
@@ -19,20 +19,20 @@ pub record LetsRowsGo {P S : Type 0} (leaves : S → RowValue → S → Type 0) 
   pub grows : IsErr result → TakesMemory gone above
   pub memory : OnlyOutOfMemory result
 
--- If the call fails, it is out of memory and nothing has changed.
+-- If the call fails, the error is `OutOfMemory`, and nothing is changed.
 pub record FailsUnchanged {P S : Type 0} (before : P) (old : S) (after : P) (new : S)
     (result : Result (Unit {0}) Error) : Type 0 where
   pub err : OnErr result ((after ≡ before) × (new ≡ old))
   pub memory : OnlyOutOfMemory result
 
--- These rows go to scrollback; or an allocation fails, and scrollback is `before`.
+-- The rows `gone` are moved to the scrollback `above`. If an allocation fails, the scrollback is `before`.
 pub record SendsOrFails {S : Type 0} (leaves : S → RowValue → S → Type 0) (height width : ℕ) (gone : List RowValue)
     (above : Scrollback) (old : S) (before after : Scrollback) (new : S)
     (result : Result (Unit {0}) Error) : Type 0 where
   pub sent : OnOk result (Sends leaves height width gone above old after new)
   pub refused : FailsUnchanged before old after new result
 
--- The page is resized to this height and width; or an allocation for the rows that scroll off fails, and nothing has
+-- The page is resized to this height and width. If an allocation for the rows that scroll off fails, nothing is
 -- changed.
 pub record ResizesPage {S : Type 0} (leaves : S → RowValue → S → Type 0) (height width : ℕ)
     (before : Page) (was : Scrollback) (old : S) (after : Page) (kept : Scrollback) (new : S)

@@ -1,33 +1,33 @@
--- The rows that scrollback works on, and how it allocates memory for rows to extend before it changes anything; for
--- its private contracts only.
+-- How scrollback allocates memory for the rows it must extend before it changes anything; for its private contracts
+-- only.
 use Rattle.std.specs.Prelude.{◌≡◌, ℕ, ◌+◌, ◌-◌, ◌<◌, ◌≤◌, List, ◌++◌, length, All, take, drop, map, slice_index_or}
 use Rattle.vt_cells.specs.Attrs.{default_attrs}
 use Rattle.vt_rows.specs.Row.{RowValue, IsRow, blank_row, trimmed_row}
 use Rattle.vt_grid.specs.Scrollback.{Scrollback, grown_row, narrow_rows}
 
--- Each row is valid in its own width.
+-- Each row is valid for its own width.
 abbrev pub AreRows : List RowValue → Type 0
 AreRows rows = All (λ row. IsRow (length row.cells) row) rows
 
--- The rows from `first` on, as many as a screen of this height displays.
+-- The rows from `first` on, limited to the height of the screen.
 abbrev pub window_from : (first height : ℕ) → List RowValue → List RowValue
 window_from first height rows = take height (drop first rows)
 
--- The rows with those from `first` on, as many as the screen displays, extended to this width.
+-- The rows, of which those from `first` on, limited to the height of the screen, are extended to this width.
 abbrev pub grown_from : (first height width : ℕ) → List RowValue → List RowValue
 grown_from first height width rows =
     take first rows ++ (map (grown_row width) (window_from first height rows) ++ drop (first + height) rows)
 
--- The rows of scrollback from the first displayed one on, limited to this height.
+-- The displayed scrollback rows, limited to this height.
 abbrev pub in_view : ℕ → Scrollback → List RowValue
 in_view height above = window_from (length above.rows - above.offset) height above.rows
 
--- The oldest of these rows is shorter than the first row that scrolls off, without the default blanks at its end.
+-- The oldest of `rows` is shorter than the first row of `gone` without its trailing default blanks.
 abbrev pub OldestIsShorter : List RowValue → List RowValue → Type 0
 OldestIsShorter gone rows = (d : RowValue) →
     length (slice_index_or rows 0 d).cells < length (trimmed_row (slice_index_or gone 0 d)).cells
 
--- Blank rows of this width, enough to replace those rows that have fewer columns.
+-- The rows `spare` are blank rows of this width, enough to replace all narrower rows of `rows`.
 pub record AreSpare (width : ℕ) (rows spare : List RowValue) : Type 0 where
   pub blank : All (λ row. row ≡ blank_row default_attrs width) spare
   pub enough : narrow_rows width rows ≤ length spare

@@ -1,10 +1,10 @@
--- Screens that display the same.
+-- Screens of the same size that display the same content.
 use Rattle.std.specs.Prelude.{◌≡◌}
 use Rattle.vt_grid.specs.Page.{SameSize}
 use Rattle.vt_screen.specs.Screen.{ScreenValue}
 use Rattle.vt_screen.specs.Shown.{shown}
 
--- The copy has the screen's size and displays what the screen displays.
+-- The two screens have the same size and display the same content.
 pub record ShowsAlike (screen copy : ScreenValue) : Type 0 where
   pub shown : shown copy ≡ shown screen
   pub size : SameSize copy.page screen.page

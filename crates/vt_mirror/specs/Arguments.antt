@@ -1,17 +1,19 @@
--- The command-line arguments of the program `vtmirror`: rows, columns, and how many bytes are read between updates.
+-- The command-line arguments of the program `vtmirror`: rows, columns, and the number of bytes to read between
+-- updates.
 use Rattle.std.specs.Prelude.{ℕ, List, [], ◌∷◌}
 use Rattle.vt_show.specs.Arguments.{IsSize}
 
--- Exactly three arguments, each decimal digits with a value from 1 to 65535, that give these numbers.
+-- There are exactly three arguments, each a decimal number from 1 to 65535, and they specify `rows`, `cols` and
+-- `every`.
 abbrev pub AsksToMirror : List (List ℕ) → (rows cols every : ℕ) → Type 0
 AsksToMirror (first ∷ second ∷ third ∷ []) rows cols every = IsSize first rows × IsSize second cols × IsSize third every
 AsksToMirror _ rows cols every = ⊥
 
--- Wrong arguments.
+-- The arguments are invalid.
 abbrev pub AskForNothing : List (List ℕ) → Type 0
 AskForNothing words = (rows cols every : ℕ) → AsksToMirror words rows cols every → ⊥
 
--- Arguments that give a size and a number of bytes for which `Holds` holds.
+-- The arguments are valid, and `Holds` holds for the numbers that they specify.
 pub record AskFor (words : List (List ℕ)) (Holds : (rows cols every : ℕ) → Type 0) : Type 0 where
   pub rows : ℕ
   pub cols : ℕ

@@ -1,4 +1,4 @@
--- The results of each call of a mirror, and the mirror it leaves.
+-- The effects of the calls to a mirror: their results, and the mirror after them.
 use Rattle.std.specs.Prelude.{◌≡◌, ◌⊎◌, ℕ, ◌-◌, ◌^◌, ◌<◌, ◌≤◌, Bool, true, false, List, [], Option, Some, None, Err, Ok}
 use Rattle.std.specs.Prelude.{length, string_bytes, IfErr, IfOk}
 use Rattle.std.specs.declared.result.Result.{Result}
@@ -23,8 +23,8 @@ use Rattle.vt_mirror.specs.Viewers.{Puts, PutsAmong, ViewersValue, is_viewer, ne
 use Rattle.vt_mirror.specs.declared.update.Update.{Update}
 use Rattle.vt_mirror.specs.declared.update.Update.TheVariants.{Diff, Full}
 
--- A call of `process`: bytes are read as by a parser whose callbacks do nothing; the size and the viewers are
--- unchanged.
+-- The effect of `process`: the bytes are parsed as by a parser whose callbacks do nothing. The size and the viewers
+-- are unchanged.
 pub record MirrorProcesses (old : MirrorValue) (bytes : List ℕ)
     (answer : Result (Unit {0}) Error) (new : MirrorValue) : Type 0 where
   pub viewers : new.viewers ≡ old.viewers
@@ -32,8 +32,8 @@ pub record MirrorProcesses (old : MirrorValue) (bytes : List ℕ)
   pub parser : ParserProcesses quietly old.parser bytes answer new.parser
   pub current : new.current ≡ []
 
--- A call of `set_size`: the screen is resized, and no screen is recorded for any viewer; a resize to the present size
--- changes nothing and never fails.
+-- The effect of `set_size`: the screen is resized, and the recorded screens of all viewers are dropped. A resize to
+-- the current size changes nothing and never fails.
 pub record Resizes (old : MirrorValue) (rows cols : ℕ)
     (answer : Result (Unit {0}) Error) (new : MirrorValue) : Type 0 where
   pub same : has_size rows cols old.parser.screen ≡ true → (answer ≡ Ok tt) × (new ≡ old)
@@ -46,12 +46,12 @@ pub record Resizes (old : MirrorValue) (rows cols : ℕ)
       })
   pub refused : IfErr answer (λ error. (error ≡ OutOfMemory) × (new ≡ old))
 
--- The greatest viewer number.
+-- The maximum viewer number.
 abbrev pub greatest : ℕ
 greatest = 2 ^ 64 - 1
 
--- A call of `join`: a new viewer gets the next number, and no screen is recorded for it yet; after the greatest number
--- there is none, and an error changes nothing.
+-- The effect of `join`: a new viewer gets the next number, and no screen is recorded for it yet. After the maximum
+-- number, there is no next one, and the call fails. On error, nothing is changed.
 pub record JoinsMirror (old : ViewersValue) (answer : Result ℕ Error) (new : ViewersValue) : Type 0 where
   pub number : IfOk answer (λ viewer. viewer ≡ next_number old.last)
   pub last : IfOk answer (λ viewer. new.last ≡ Some viewer)
@@ -60,13 +60,13 @@ pub record JoinsMirror (old : ViewersValue) (answer : Result ℕ Error) (new : V
   pub only : IfErr answer (λ error. (error ≡ OutOfMemory) ⊎ ((error ≡ NoNumber) × (old.last ≡ Some greatest)))
   pub refused : IfErr answer (λ _. new ≡ old)
 
--- A call of `leave`: the viewer is removed, and the result says whether there was one.
+-- The effect of `leave`: the viewer is removed, and the result says whether there was one.
 pub record Leaves (old : ViewersValue) (viewer : ℕ) (answer : Bool) (new : ViewersValue) : Type 0 where
   pub was : answer ≡ is_viewer old viewer
   pub last : new.last ≡ old.last
   pub puts : Puts old viewer false None new
 
--- The redraw of a screen, with its size of at least one row and one column.
+-- The text is the redraw of the screen, whose size is at least one row and one column.
 pub record IsFull (self : ScreenValue) (rows cols : ℕ) (text : List ℕ) : Type 0 where
   pub tall : rows ≡ length self.page.rows
   pub wide : cols ≡ self.page.width
@@ -79,7 +79,8 @@ pub record IsFull (self : ScreenValue) (rows cols : ℕ) (text : List ℕ) : Typ
   pub controls : IsMadeOf drawing_finals drawing_controls text
   pub again : KeepsPlain text
 
--- A difference between screens of one size; it is empty if both display the same and, for a steady screen, only then.
+-- The text is a difference between two screens of the same size. It is empty if they display the same; for a steady
+-- screen, it is empty only then.
 pub record IsDiff (self prev : ScreenValue) (text : List ℕ) : Type 0 where
   pub size : SameSize self.page prev.page
   pub redraws : Redraws (shown self) (IsReaderOf (shown self) (shown prev)) KeepsRest text
@@ -87,12 +88,12 @@ pub record IsDiff (self prev : ScreenValue) (text : List ℕ) : Type 0 where
   pub empty : IsSteady (shown self) → text ≡ [] → shown self ≡ shown prev
   pub again : KeepsPlain text
 
--- How a difference is made: only drawn, or with rows moved first.
+-- The kind of a difference: drawn only, or possibly preceded by moves of rows.
 pub data Kind : Type 0 where
   Drawn : Kind
   Scrolling : Kind
 
--- A difference that is only drawn touches only what is near a differing row.
+-- The text is a difference that moves no rows. It only affects cells near a row that differs.
 pub record IsDrawn (self prev : ScreenValue) (text : List ℕ) : Type 0 where
   pub diff : IsDiff self prev text
   pub is : text ≡ bytes_of_all (difference (shown self) (shown prev))
@@ -100,7 +101,8 @@ pub record IsDrawn (self prev : ScreenValue) (text : List ℕ) : Type 0 where
   pub touches : IsSteady (shown self)
       → TouchesOnly (IsReaderOf (shown self) (shown prev)) text (IsLocal (shown self) (shown prev))
 
--- A difference that moves rows first starts from a steady screen, and is never longer than one that is only drawn.
+-- The text is a difference that may move rows first. It starts from a steady screen and is never longer than the
+-- difference that moves none.
 pub record Scrolls (self prev : ScreenValue) (text : List ℕ) : Type 0 where
   pub diff : IsDiff self prev text
   pub from_steady : IsSteady (shown prev)
@@ -116,19 +118,20 @@ abbrev pub IsFullUpdate : (self : ScreenValue) → Update → Type 0
 IsFullUpdate self (Full rows cols text) = IsFull self rows cols (string_bytes text)
 IsFullUpdate self (Diff text) = ⊥
 
--- A full redraw although a screen is recorded: only in the kind that scrolls, if that screen is not steady.
+-- The update is a full redraw although a screen is recorded. This happens only for the kind `Scrolling`, if the
+-- recorded screen is not steady.
 abbrev pub IsFullAfter : Kind → (self prev : ScreenValue) → (rows cols : ℕ) → (text : List ℕ) → Type 0
 IsFullAfter Drawn self prev rows cols text = ⊥
 IsFullAfter Scrolling self prev rows cols text = (IsSteady (shown prev) → ⊥) × IsFull self rows cols text
 
--- An update: a full redraw if no screen is recorded, and otherwise a difference of this kind from the recorded screen,
--- if one may start from it.
+-- The update is a full redraw if no screen is recorded. Otherwise it is a difference of this kind from the recorded
+-- screen, if such a difference exists.
 abbrev pub IsUpdate : Kind → (self : ScreenValue) → Option ScreenValue → Update → Type 0
 IsUpdate kind self (Some prev) (Diff text) = IsOfKind kind self prev (string_bytes text)
 IsUpdate kind self (Some prev) (Full rows cols text) = IsFullAfter kind self prev rows cols (string_bytes text)
 IsUpdate kind self None update = IsFullUpdate self update
 
--- A viewer gets an update, and the mirror's screen, which is valid, is recorded for it.
+-- The viewer gets an update, and the mirror's screen, which is valid, is recorded for it.
 pub record GivesUpdate (kind : Kind) (old : MirrorValue) (viewer : ℕ) (update : Update) (new : MirrorValue) : Type 0 where
   pub is : is_viewer old.viewers viewer ≡ true
   pub whole : IsScreen old.parser.screen
@@ -139,13 +142,13 @@ pub record GivesUpdate (kind : Kind) (old : MirrorValue) (viewer : ℕ) (update 
   pub puts : Puts old.viewers viewer true (Some old.parser.screen) new.viewers
   pub current : PutsAmong old.current viewer true new.current
 
--- What the result of an update means; `None` is for a number without a viewer.
+-- The effect of a successful request for an update; `None` means that no viewer has this number.
 abbrev pub Answers : Kind → (old : MirrorValue) → ℕ → Option Update → (new : MirrorValue) → Type 0
 Answers kind old viewer None new = (is_viewer old.viewers viewer ≡ false) × (new ≡ old)
 Answers kind old viewer (Some update) new = GivesUpdate kind old viewer update new
 
--- A call of `update` or `update_scrolling`: `None` if there is no viewer with this number, which is never an error; an
--- error changes nothing.
+-- The effect of `update` or `update_scrolling`. If no viewer has this number, the result is always `Ok(None)`. On
+-- error, nothing is changed.
 pub record Asks (kind : Kind) (old : MirrorValue) (viewer : ℕ)
     (answer : Result (Option Update) Error) (new : MirrorValue) : Type 0 where
   pub nobody : is_viewer old.viewers viewer ≡ false → answer ≡ Ok None

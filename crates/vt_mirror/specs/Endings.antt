@@ -1,4 +1,4 @@
--- The message of a run that failed, and its exit status.
+-- The error message and the exit status of a failed run.
 use Rattle.std.specs.Prelude.{ℕ, List, Option, Some, None, codes}
 use Rattle.vt_show.specs.declared.faults.Fault.{Fault}
 use Rattle.vt_show.specs.declared.faults.Fault.TheVariants.{Memory, Read, Write}
@@ -9,7 +9,7 @@ line_of (Some Read) = codes "vtmirror: read failed"
 line_of (Some Write) = codes "vtmirror: write failed"
 line_of None = codes "usage: vtmirror ROWS COLS EVERY"
 
--- The exit status: 1 for a fault, 2 for wrong arguments.
+-- The exit status: 1 for a fault, 2 for invalid arguments.
 abbrev pub status_of : Option Fault → ℕ
 status_of (Some fault) = 1
 status_of None = 2

@@ -1,4 +1,5 @@
--- A viewer of a mirror that reads the updates of `Mirror::update_scrolling`, whatever is drawn.
+-- A viewer that applies the updates of `Mirror::update_scrolling` to a terminal, with no restriction on what is
+-- displayed.
 use Rattle.std.specs.Prelude.{◌≡◌, ◌≢◌, ℕ, false, List, Some, None, Ok, Err, IfSome, string_bytes}
 use Rattle.std.specs.List.{FoldsTo}
 use Rattle.vt_redraw.specs.Steady.{IsSteady}
@@ -12,7 +13,7 @@ use Rattle.vt_mirror.specs.Watching.{Ask, IsLeft, Join, Leave, MirrorCall, Mirro
 use Rattle.vt_mirror.specs.declared.update.Update.{Update}
 use Rattle.vt_mirror.specs.declared.update.Update.TheVariants.{Diff, Full}
 
--- A terminal reads a text, in calls of `process` that all return Ok and whose chunks joined are the text.
+-- A terminal reads `text` through calls to `process` that all return `Ok` and whose chunks concatenate to the text.
 pub record ReadsFine {S : Type 0} (does : CallRelation S) (text : List ℕ) (old new : Parsing S) : Type 0 where
   pub sound : IsScreen new.screen
   pub chunks : List (List ℕ)
@@ -20,25 +21,26 @@ pub record ReadsFine {S : Type 0} (does : CallRelation S) (text : List ℕ) (old
   pub ran : FoldsTo (Ran does) old chunks new
   pub works : new.is_failed ≡ false
 
--- A terminal reads an update: for a full one it takes the size first, and then it reads the text.
+-- A terminal applies an update: for a full redraw, it is resized first, and then it reads the text.
 abbrev pub TakesFine : {S : Type 0} → CallRelation S → Update → Parsing S → Parsing S → Type 0
 TakesFine {S} does (Diff text) old new = ReadsFine does (string_bytes text) old new
 TakesFine {S} does (Full rows cols text) old new =
     (sized : Parsing S) × TakesSize rows cols old sized × ReadsFine does (string_bytes text) sized new
 
--- A terminal reads an update of `Mirror::update_scrolling`; the mirror's screen may be any.
+-- A terminal applies an update of `Mirror::update_scrolling`; nothing is assumed about the mirror's screen.
 pub record SeesAny {S : Type 0} (does : CallRelation S) (kind : Kind) (update : Update) (old new : Watching S) : Type 0 where
   pub scrolling : kind ≡ Scrolling
   pub takes : TakesFine does update old.viewer new.viewer
   pub seen : new.seen ≡ Some old.mirror.parser.screen
 
--- An update is read by the viewer with its number, and by no other.
+-- An update for the viewer `asked` is applied by the viewer `number` if these are the same viewer; otherwise the
+-- viewer `number` is unaffected.
 pub record IsTakenFine {S : Type 0} (does : CallRelation S) (number : ℕ) (kind : Kind) (asked : ℕ) (update : Update)
     (old new : Watching S) : Type 0 where
   pub own : asked ≡ number → SeesAny does kind update old new
   pub others : asked ≢ number → IsLeft old new
 
--- What the viewer with a number does in a call of the mirror.
+-- The effect of a mirror's call on the viewer with this number.
 abbrev pub WatchesAny : {S : Type 0} → CallRelation S → ℕ → Watching S → MirrorCall → Watching S → Type 0
 WatchesAny {S} does number old (Process bytes answer) new = IsLeft old new
 WatchesAny {S} does number old (SetSize rows cols answer) new = IsLeft old new
@@ -49,11 +51,11 @@ WatchesAny {S} does number old (Ask kind viewer (Ok (Some update))) new =
 WatchesAny {S} does number old (Ask kind viewer (Ok None)) new = IsLeft old new
 WatchesAny {S} does number old (Ask kind viewer (Err error)) new = IsLeft old new
 
--- A call of the mirror, and what its viewer does in it.
+-- The effect of a mirror's call on the mirror and on the viewer with this number.
 abbrev pub GoesAny : {S : Type 0} → CallRelation S → ℕ → Watching S → MirrorCall → Watching S → Type 0
 GoesAny {S} does number old call new = MirrorDoes old.mirror call new.mirror × WatchesAny does number old call new
 
--- A plain terminal that displays the screen as it was at its last update, if there was one and that screen was steady.
+-- The viewer's terminal is plain. If it has received an update whose screen was steady, it displays that screen.
 pub record ShowsSteady {S : Type 0} (watching : Watching S) : Type 0 where
   pub plain : IsPlainParser watching.viewer
   pub shows : IfSome watching.seen (λ screen. IsSteady (shown screen) → shown watching.viewer.screen ≡ shown screen)

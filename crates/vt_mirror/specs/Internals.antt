@@ -1,4 +1,4 @@
--- Auxiliary definitions that only private functions cite.
+-- Auxiliary definitions that are cited only by private functions.
 use Rattle.std.specs.Prelude.{◌≡◌, ℕ, ◌*◌, ◌+◌, ◌<◌, ◌≤◌, Bool, false, true, List, ◌∷◌, length, Some, None, string_bytes}
 use Rattle.std.specs.Io.KnownBytes.{Appends, Consumes, IsAtEnd}
 use Rattle.std.specs.List.{AllByRecursion}
@@ -21,28 +21,29 @@ abbrev pub text_of_update : Update → List ℕ
 text_of_update (Diff text) = string_bytes text
 text_of_update (Full rows cols text) = string_bytes text
 
--- A viewer got an update, and its text was written.
+-- The viewer got an update, and its text was written: the output was `written` before and is `grown` now.
 pub record WritesUpdate (old : MirrorValue) (viewer : ℕ) (new : MirrorValue)
     (written grown : Option (List ℕ)) : Type 0 where
   pub update : Update
   pub gives : GivesUpdate Drawn old viewer update new
   pub appends : Appends written grown (text_of_update update)
 
--- A viewer got an update, and a prefix of its text was written.
+-- The viewer got an update, and a prefix of its text was written: the output was `written` before and is `grown` now.
 pub record WritesUpdatePart (old : MirrorValue) (viewer : ℕ) (new : MirrorValue)
     (written grown : Option (List ℕ)) : Type 0 where
   pub update : Update
   pub gives : GivesUpdate Drawn old viewer update new
   pub part : AppendsPart written grown (text_of_update update)
 
--- Bytes were read by the mirror; its viewers and its size are unchanged.
+-- The mirror read `bytes` from the input, which was `left` before and is `rest` now. Its viewers and its size are
+-- unchanged.
 pub record ReadsBytes (bytes : List ℕ) (old new : MirrorValue) (left rest : Option (List ℕ)) : Type 0 where
   pub reads : Consumes left rest bytes
   pub ran : Ran quietly old.parser bytes new.parser
   pub viewers : new.viewers ≡ old.viewers
   pub size : SameSize new.parser.screen.page old.parser.screen.page
 
--- `every` bytes were read, or fewer if none is left.
+-- The mirror read `every` bytes, or all remaining bytes if there were fewer; `is_whole` says which.
 pub record ReadsStretch (every : ℕ) (is_whole : Bool)
     (old new : MirrorValue) (left rest : Option (List ℕ)) : Type 0 where
   pub bytes : List ℕ
@@ -51,14 +52,14 @@ pub record ReadsStretch (every : ℕ) (is_whole : Bool)
   pub fewer : is_whole ≡ false → length bytes < every
   pub end : is_whole ≡ false → IsAtEnd rest
 
--- Some of the bytes before the next update were read, and `still` are left to read.
+-- The mirror has read some of the `every` bytes before the next update, and `still` of them remain to be read.
 pub record InStretch (every still : ℕ) (old new : MirrorValue) (left rest : Option (List ℕ)) : Type 0 where
   pub bytes : List ℕ
   pub reads : ReadsBytes bytes old new left rest
   pub some : 0 < still
   pub count : length bytes + still ≡ every
 
--- A read failed before all bytes for the next update were read.
+-- A read failed before `every` bytes were read for the next update.
 pub record ReadsFewer (every : ℕ) (left rest : Option (List ℕ)) : Type 0 where
   pub bytes : List ℕ
   pub fewer : length bytes < every
@@ -70,14 +71,13 @@ pub record ReadsAtMost (every : ℕ) (left rest : Option (List ℕ)) : Type 0 wh
   pub few : length bytes ≤ every
   pub reads : Consumes left rest bytes
 
--- A mirror that has read nothing, with a viewer before its first update.
+-- The mirror has read nothing, and its viewer has not received an update yet.
 pub record IsBegun (mirror : MirrorValue) (viewer : ℕ) : Type 0 where
   pub scanner : StandsFor mirror.parser.scanner start
   pub views : is_viewer mirror.viewers viewer ≡ true
   pub note : note_of mirror.viewers viewer ≡ None
 
--- The state after an update: everything that was due is written, and the number of bytes read is a multiple of the
--- interval.
+-- All updates due so far have been written, and the number of bytes read is a multiple of `every`.
 pub record IsWritten (every viewer : ℕ) (old new : MirrorValue) (left rest written grown : Option (List ℕ)) : Type 0 where
   pub input : List ℕ
   pub count : ℕ

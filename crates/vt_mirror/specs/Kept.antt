@@ -1,4 +1,5 @@
--- What a mirror keeps for its viewers: numbered copies of screens, which viewers share, and texts.
+-- The copies of screens that a mirror keeps for its viewers, numbered by version and shared between viewers, and the
+-- texts it keeps.
 use Rattle.std.specs.Prelude.{◌≡◌, ◌⊎◌, ℕ, suc, ◌<◌, ◌≤◌, ◌==◌, ◌&&◌, nat_lt, Bool, false, List, filter, map, string_bytes}
 use Rattle.std.specs.Prelude.{Option, Some, None}
 use Rattle.std.specs.BTreeMap.{is_at}
@@ -11,9 +12,9 @@ use Rattle.vt_mirror.specs.declared.copies.Note.{Note}
 use Rattle.vt_mirror.specs.declared.texts.DiffCache.{DiffCache}
 use Rattle.vt_mirror.specs.declared.texts.KeptDiff.{KeptDiff}
 
--- ---- what a mirror sees of the kept values
+-- ---- the model of the kept values
 
--- A screen, and the text of a difference from it.
+-- A screen, and the text of the difference from it to the current screen.
 abbrev pub DiffFrom : Type 0
 DiffFrom = ScreenValue × List ℕ
 
@@ -26,10 +27,10 @@ pub record KeptValue : Type 0 where
   pub scrolling : Option DiffFrom
   -- The text of the current screen's redraw, if it is stored.
   pub redraw : Option (List ℕ)
-  -- The viewers that were updated since the screen changed.
+  -- The viewers that received an update since the screen last changed.
   pub current_viewers : List ℕ
 
--- The recorded screens, without the versions of their copies.
+-- The recorded screens by viewer number, without the versions of their copies.
 abbrev pub screens_of : List (ℕ × Note) → List (ℕ × ScreenValue)
 screens_of notes = map (λ (e : ℕ × Note). (e.0, e.1.screen)) notes
 
@@ -45,27 +46,27 @@ abbrev pub from_of : Option KeptDiff → Option Note
 from_of None = None
 from_of (Some diff) = Some diff.from
 
--- ---- copies of one version are copies of one screen
+-- ---- copies with the same version are copies of the same screen
 
 abbrev pub noted_at : List (ℕ × Note) → ℕ → Option Note
 noted_at notes viewer = lookup (is_at (nat_cmp viewer)) notes
 
--- Whether two notes have the same version other than 0, which stands for no version.
+-- Whether two notes have the same version, which is not 0; version 0 means that a note has no version.
 abbrev pub have_one_version : (one other : Note) → Bool
 have_one_version one other = nat_lt 0 one.version && (one.version == other.version)
 
--- Whether a note is a copy of the current screen.
+-- Whether a note is known to be a copy of the current screen, because it has the same version.
 abbrev pub is_of_current : (current note : Option Note) → Bool
 is_of_current None _ = false
 is_of_current (Some current) None = false
 is_of_current (Some current) (Some note) = have_one_version note current
 
--- The viewers among `numbers` for which a copy of the current screen is noted.
+-- The viewers in `numbers` for which a copy of the current screen is recorded.
 abbrev pub current_in : (numbers : List ℕ) → List (ℕ × Note) → (current : Option Note) → List ℕ
 current_in numbers notes current = filter (λ viewer. is_of_current current (noted_at notes viewer)) numbers
 
--- All copies that are kept: those recorded for viewers, that of the current screen, and those that the stored
--- differences start from.
+-- All copies that are kept: the copies recorded for viewers, the copy of the current screen, and the copies that the
+-- stored differences start from.
 pub record Copies : Type 0 where
   pub notes : List (ℕ × Note)
   pub current : Option Note
@@ -81,18 +82,18 @@ IsKept copies note =
     ((viewer : ℕ) × (noted_at copies.notes viewer ≡ Some note))
     ⊎ ((copies.current ≡ Some note) ⊎ ((copies.diff ≡ Some note) ⊎ (copies.scrolling ≡ Some note)))
 
--- Two copies have the same version, which is not 0; 0 stands for no version.
+-- The two copies have the same version, which is not 0; version 0 means that a copy has no version.
 pub record AreOfOneVersion (one other : Note) : Type 0 where
   pub numbered : 0 < one.version
   pub equal : one.version ≡ other.version
 
 pub record AreShared (copies : Copies) (version : ℕ) : Type 0 where
-  -- `version` is the last one that was given to a copy.
+  -- `version` is the last version that was assigned to a copy.
   pub below : (note : Note) → IsKept copies note → note.version ≤ version
   pub agree : (one other : Note) → IsKept copies one → IsKept copies other →
       AreOfOneVersion one other → one.screen ≡ other.screen
 
--- The copy of the current screen has a version; if there is no copy, there is a next version.
+-- The copy of the current screen has a version. If there is no copy, a next version is available.
 abbrev pub HasVersion : Option Note → (version : ℕ) → Type 0
 HasVersion None version = version < greatest
 HasVersion (Some note) version = 0 < note.version
@@ -102,17 +103,18 @@ pub record AreKept (value : ViewersValue) (copies : Copies) (version : ℕ) : Ty
   pub shared : AreShared copies version
   pub numbered : HasVersion copies.current version
 
--- The notes with version 0.
+-- The notes with their versions reset to 0.
 abbrev pub without_versions : List (ℕ × Note) → List (ℕ × Note)
 without_versions notes = map (λ (e : ℕ × Note). (e.0, record (e.1) { version = 0 })) notes
 
--- Versions and notes are unchanged, and there is a next version; or versions start again, and no note has one.
+-- A next version is available: either the versions and notes are unchanged, or the versions start again from 0 and no
+-- note keeps its version.
 abbrev pub HaveNext : (version : ℕ) (notes : List (ℕ × Note)) (after : ℕ) (renewed : List (ℕ × Note)) → Type 0
 HaveNext version notes after renewed =
     ((after ≡ version) × (renewed ≡ notes) × (version < greatest))
     ⊎ ((after ≡ 0) × (renewed ≡ without_versions notes))
 
--- The copy of the current screen is unchanged, or is a new one with the next version if there was none.
+-- The copy of the current screen is unchanged, or there was none and a new one with the next version was made.
 abbrev pub IsRenewed : (screen : ScreenValue) → (version : ℕ) (current : Option Note)
     → (after : ℕ) (renewed : Option Note) → Type 0
 IsRenewed screen version current after renewed =
@@ -120,7 +122,7 @@ IsRenewed screen version current after renewed =
     ⊎ ((note : Note) × (renewed ≡ Some note) × (note.version ≡ after)
     × (after ≡ suc version) × (note.screen ≡ screen) × (current ≡ None))
 
--- A copy of the current screen for a viewer: the one that is kept.
+-- The note is the kept copy of the current screen.
 pub record IsCurrentNote (self : ScreenValue) (current : Option Note) (note : Note) : Type 0 where
   pub screen : note.screen ≡ self
   pub kept : current ≡ Some note

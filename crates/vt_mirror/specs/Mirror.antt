@@ -1,4 +1,4 @@
--- A mirror: a terminal, and viewers that each get the updates by which they display the same.
+-- A mirror: a terminal, and viewers that each get the updates needed to display the same content.
 use Rattle.std.specs.Prelude.{◌≡◌, ℕ, Bool, List, Some}
 use Rattle.vt_grid.specs.Page.{SameSize}
 use Rattle.vt_screen.specs.Screen.{ScreenValue}
@@ -8,20 +8,20 @@ use Rattle.vt_mirror.specs.Viewers.{ViewersValue, is_among, note_of}
 pub record MirrorValue : Type 0 where
   pub parser : Parsing (Unit {0})
   pub viewers : ViewersValue
-  -- The numbers of the viewers that had an update after the last input and the last resize.
+  -- The numbers of the viewers that received an update after the last input and the last resize.
   pub current : List ℕ
 
--- Whether a viewer has had an update since the screen last changed.
+-- Whether a viewer received an update after the last input and the last resize.
 abbrev pub is_current : MirrorValue → ℕ → Bool
 is_current mirror viewer = is_among mirror.current viewer
 
--- The recorded screens have the size of the mirror's screen.
+-- The invariant of a mirror: every recorded screen has the size of the mirror's screen.
 abbrev pub IsMirror : MirrorValue → Type 0
 IsMirror mirror =
     (viewer : ℕ) (screen : ScreenValue) → note_of mirror.viewers viewer ≡ Some screen →
     SameSize mirror.parser.screen.page screen.page
 
--- The mirror's screen is a fresh one of this size and capacity.
+-- The mirror's screen is blank and has this size and scrollback capacity.
 abbrev pub ShowsFreshScreen : (rows cols capacity : ℕ) → MirrorValue → Type 0
 ShowsFreshScreen rows cols capacity mirror =
     HasFreshScreen rows cols capacity mirror.parser.callbacks mirror.parser

@@ -1,5 +1,5 @@
--- What a run over an input writes for its one viewer: an update at the start, one after each interval of `every` bytes,
--- and one at the end.
+-- The output of a run over an input for its single viewer: an update at the start, one after each interval of `every`
+-- bytes, and one at the end.
 use Rattle.std.specs.Prelude.{◌≡◌, ℕ, zero, suc, ◌*◌, ◌/◌, ◌<◌, ◌≤◌, ◌⊎◌, List, [], ◌∷◌, ◌++◌, length, map, take, Err, OnOk}
 use Rattle.std.specs.Io.KnownBytes.{Appends, Consumes, IsAtEnd, Keeps}
 use Rattle.std.specs.List.{AllByRecursion}
@@ -16,30 +16,30 @@ use Rattle.vt_show.specs.declared.faults.Fault.{Fault}
 use Rattle.vt_show.specs.declared.faults.Fault.TheVariants.{Memory, Read, Write}
 use Rattle.vt_show.specs.Shown.{AppendsPart}
 
--- ---- the screens of which the viewer gets an update, after the first one
+-- ---- the screens after the first one for which the viewer gets an update
 
--- The first `count` multiples of a number.
+-- The first `count` positive multiples of `number`.
 abbrev pub multiples : (number count : ℕ) → List ℕ
 multiples number zero = []
 multiples number (suc count) = multiples number count ++ (suc count * number ∷ [])
 
--- The screens after each full interval of the input.
+-- The screens after each full interval of `every` bytes of the input.
 abbrev pub screens_on_way : (first : ScreenValue) (every : ℕ) → List ℕ → List ScreenValue
 screens_on_way first every input =
     map (λ n. screen_in start first (take n input)) (multiples every (length input / every))
 
--- The screens after each full interval of the input, and the one at its end.
+-- The screens after each full interval of `every` bytes of the input, and the screen at its end.
 abbrev pub screens_to_end : (first : ScreenValue) (every : ℕ) → List ℕ → List ScreenValue
 screens_to_end first every input = screens_on_way first every input ++ (screen_in start first input ∷ [])
 
--- A screen that is valid and has the size of the first one.
+-- The screen is valid and has the size of `first`.
 pub record IsUpdatedAfter (first screen : ScreenValue) : Type 0 where
   pub sound : IsScreen screen
   pub colored : IsColored screen
   pub size : SameSize screen.page first.page
 
 -- ---- the texts of these updates: what `Screen::contents_formatted` returns for the first screen, and
--- `Screen::contents_diff` for each next one against the one before it
+-- `Screen::contents_diff` for each later one
 
 abbrev pub text_on_way : (first : ScreenValue) (every : ℕ) → List ℕ → List ℕ
 text_on_way first every input = chain_text first (screens_on_way first every input)
@@ -47,9 +47,10 @@ text_on_way first every input = chain_text first (screens_on_way first every inp
 abbrev pub text_to_end : (first : ScreenValue) (every : ℕ) → List ℕ → List ℕ
 text_to_end first every input = chain_text first (screens_to_end first every input)
 
--- ---- what was read, and what was written for it
+-- ---- the input that was read and the output that was written
 
--- The input was read to its end, and all updates were written.
+-- The input was read to its end, and all updates were written. The input was `left` before and is `rest` now; the
+-- output was `written` before and is `grown` now.
 pub record WritesToEnd (first : ScreenValue) (every : ℕ) (left rest written grown : Option (List ℕ)) : Type 0 where
   pub input : List ℕ
   pub reads : Consumes left rest input
@@ -57,14 +58,14 @@ pub record WritesToEnd (first : ScreenValue) (every : ℕ) (left rest written gr
   pub controls : IsMadeOf drawing_finals drawing_controls (text_to_end first every input)
   pub updated : AllByRecursion (IsUpdatedAfter first) (first ∷ screens_to_end first every input)
 
--- A read failed, and all updates that were due for what was read were written.
+-- A read failed after `input`, and all updates that were due by then had been written.
 pub record WritesOnWay (first : ScreenValue) (every : ℕ) (left rest written grown : Option (List ℕ)) : Type 0 where
   pub input : List ℕ
   pub reads : Consumes left rest input
   pub appends : Appends written grown (text_on_way first every input)
   pub controls : IsMadeOf drawing_finals drawing_controls (text_on_way first every input)
 
--- An allocation failed: all updates were written except the one for the last bytes, at most as many as an interval.
+-- An allocation failed. All updates were written except the one for the last bytes read, which are at most `every`.
 pub record WritesBehind (first : ScreenValue) (every : ℕ) (left rest written grown : Option (List ℕ)) : Type 0 where
   pub input : List ℕ
   pub last : List ℕ
@@ -73,27 +74,28 @@ pub record WritesBehind (first : ScreenValue) (every : ℕ) (left rest written g
   pub appends : Appends written grown (text_on_way first every input)
   pub controls : IsMadeOf drawing_finals drawing_controls (text_on_way first every input)
 
--- An allocation failed, before the first update or later.
+-- An allocation failed, either before the first update, with nothing read or written, or later.
 abbrev pub WritesSome : (first : ScreenValue) (every : ℕ) → (left rest written grown : Option (List ℕ)) → Type 0
 WritesSome first every left rest written grown =
     (Keeps left rest × Keeps written grown) ⊎ WritesBehind first every left rest written grown
 
--- Writing the first update failed before anything was read: a prefix of its text was written.
+-- Writing the first update failed after a prefix of its text was written; no input had been read.
 pub record FailsAtFirst (first : ScreenValue) (left rest written grown : Option (List ℕ)) : Type 0 where
   pub reads : Keeps left rest
   pub part : AppendsPart written grown (shown_text first)
   pub controls : IsMadeOf drawing_finals drawing_controls (shown_text first)
 
--- The earlier texts were written, and a prefix of the next one.
+-- The output `written` grew to `grown` by the whole text `earlier` and a prefix of the text `next`.
 pub record AppendsThenPart (earlier next : List ℕ) (written grown : Option (List ℕ)) : Type 0 where
   pub taken : List ℕ
   pub lost : List ℕ
   pub parts : next ≡ taken ++ lost
   pub appends : Appends written grown (earlier ++ taken)
 
--- Writing a later update failed: the one before it was due after `input`, and this one after the following bytes
--- `last`, which are a full interval, or fewer if none is left. All updates before it were written, and a prefix of its
--- text, the difference between the screens after the two.
+-- Writing an update other than the first failed. The update before it was due after `input`. The failed update was
+-- due after the next bytes `last`, which are a full interval, or fewer at the end of the input. All earlier updates
+-- were written, and so was a prefix of the failed update, which is the difference between the screens at these two
+-- points.
 pub record FailsLater (first : ScreenValue) (every : ℕ) (left rest written grown : Option (List ℕ)) : Type 0 where
   pub input : List ℕ
   pub count : ℕ
@@ -106,13 +108,13 @@ pub record FailsLater (first : ScreenValue) (every : ℕ) (left rest written gro
   pub controls : IsMadeOf drawing_finals drawing_controls (text_on_way first every input
       ++ shown_change (screen_in start first input) (screen_in start first (input ++ last)))
 
--- A prefix of one update was written, and nothing after it.
+-- Writing an update failed after a prefix of its text was written.
 abbrev pub WritesPart : (first : ScreenValue) (every : ℕ) → (left rest written grown : Option (List ℕ)) → Type 0
 WritesPart first every left rest written grown =
     FailsAtFirst first left rest written grown ⊎ FailsLater first every left rest written grown
 
--- The input is read to its end, or up to a fault, and the updates that were due are written; `error` turns a fault into
--- the error that is returned.
+-- The effect of a run. The input is read to its end or up to a fault, and the updates that are due are written. The
+-- function `error` converts a fault to the error that is returned.
 pub record UpdatesOrFails {E : Type 0} (error : Fault → E) (first : ScreenValue) (every : ℕ)
     (left rest written grown : Option (List ℕ)) (result : Result (Unit {0}) E) : Type 0 where
   pub end : OnOk result (IsAtEnd rest)

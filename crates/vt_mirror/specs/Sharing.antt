@@ -1,4 +1,4 @@
--- What a mirror knows of the copies and texts that it keeps.
+-- The invariant of the copies and texts that a mirror keeps.
 use Rattle.std.specs.Prelude.{◌≡◌, ℕ, List, IfSome}
 use Rattle.vt_cells.specs.Op.{bytes_of_all}
 use Rattle.vt_redraw.specs.Redraw.{redraw}
@@ -18,7 +18,7 @@ pub record IsRedraw (self : ScreenValue) (text : List ℕ) : Type 0 where
   pub controls : IsMadeOf drawing_finals drawing_controls text
   pub again : KeepsPlain text
 
--- The recorded screens have the mirror's size, and the current copy and the stored texts are those of the mirror's
+-- The recorded screens have the mirror's size, and the current copy and the stored texts belong to the mirror's
 -- screen.
 pub record IsSharing (parser : Parsing (Unit {0})) (kept : KeptValue) : Type 0 where
   pub sized : IsMirror (record { parser = parser; viewers = kept.viewers; current = kept.current_viewers })

@@ -1,4 +1,4 @@
--- Viewers: their numbers, and the screen of each one's last update.
+-- The viewers of a mirror: their numbers, and the screen of each viewer's last update.
 use Rattle.std.specs.Prelude.{◌≡◌, ◌≢◌, ℕ, ◌+◌, ◌≤◌, Bool, true, List, Option, Some, None}
 use Rattle.std.specs.BTreeMap.{is_at}
 use Rattle.std.specs.List.{list_any}
@@ -7,42 +7,42 @@ use Rattle.std.specs.Ordering.{nat_cmp}
 use Rattle.vt_screen.specs.Screen.{ScreenValue}
 
 pub record ViewersValue : Type 0 where
-  -- The last number that was returned to a viewer.
+  -- The last number that was assigned to a viewer.
   pub last : Option ℕ
   -- The numbers of the current viewers.
   pub numbers : List ℕ
-  -- The screen of each viewer's last update since the last resize, by viewer number.
+  -- The screen of each viewer's last update since the last resize, keyed by viewer number.
   pub notes : List (ℕ × ScreenValue)
 
 abbrev pub is_viewer : ViewersValue → ℕ → Bool
 is_viewer viewers viewer = list_any (is_at (nat_cmp viewer)) viewers.numbers
 
--- Whether `viewer` is one of the numbers.
+-- Whether `viewer` is in a list of viewer numbers.
 abbrev pub is_among : (numbers : List ℕ) → ℕ → Bool
 is_among numbers viewer = list_any (is_at (nat_cmp viewer)) numbers
 
--- Whether `viewer` is among the numbers becomes `is`; for all other numbers it is unchanged.
+-- The change to a set of viewer numbers: `is` says whether `viewer` is now in it. All other numbers are unaffected.
 pub record PutsAmong (old : List ℕ) (viewer : ℕ) (is : Bool) (new : List ℕ) : Type 0 where
   pub here : is_among new viewer ≡ is
   pub others : (other : ℕ) → other ≢ viewer → is_among new other ≡ is_among old other
 
--- The screen that is recorded for a viewer number.
+-- The screen recorded for a viewer number.
 abbrev pub note_of : ViewersValue → ℕ → Option ScreenValue
 note_of viewers viewer = lookup (is_at (nat_cmp viewer)) viewers.notes
 
--- The number of the next viewer.
+-- The number of the next viewer, given the last number that was assigned.
 abbrev pub next_number : Option ℕ → ℕ
 next_number None = 0
 next_number (Some last) = last + 1
 
--- Viewers have numbers that were returned, and screens are recorded only for viewers.
+-- Every viewer has a number that was assigned, and screens are recorded only for viewers.
 pub record AreViewers (viewers : ViewersValue) : Type 0 where
   pub numbers : (viewer : ℕ) → is_viewer viewers viewer ≡ true → viewer + 1 ≤ next_number viewers.last
   pub notes : (viewer : ℕ) (screen : ScreenValue) →
       note_of viewers viewer ≡ Some screen → is_viewer viewers viewer ≡ true
 
--- Viewers after a change to one number: whether it has a viewer, and which screen is recorded for it; nothing changes
--- for other numbers.
+-- The viewers after a change to the number `viewer`: `is` says whether it has a viewer now, and `note` is the screen
+-- recorded for it. All other numbers are unchanged.
 pub record Puts (old : ViewersValue) (viewer : ℕ) (is : Bool)
     (note : Option ScreenValue) (new : ViewersValue) : Type 0 where
   pub here : is_viewer new viewer ≡ is

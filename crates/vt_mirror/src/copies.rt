@@ -13,9 +13,9 @@ use std::snapshot::Snapshot;
 use std::sync::Arc;
 use vt100::{Error, Screen};
 
-/// A copy of what a screen displays, without its scrollback and the page that
-/// is not displayed. Its value in clauses is the screen that it was made of,
-/// which no program can read.
+/// A copy of what a screen displays, without scrollback or the inactive page.
+/// In contracts, its value is the whole screen that was copied, although code
+/// cannot read that screen.
 #[derive(Drop)]
 pub(crate) struct DisplayCopy {
     of: Snapshot<Screen>,
@@ -43,7 +43,7 @@ impl DisplayCopy {
     ///
     /// # Errors
     ///
-    /// `Error::OutOfMemory` if an allocation fails.
+    /// Returns `Error::OutOfMemory` if an allocation fails.
     fn new(screen: &Screen) -> Result<DisplayCopy, Error>
         ensures ok { IfOk result (λ copy. copy ≡ screen.now) }
         ensures memory { OnlyOutOfMemory result }
@@ -58,14 +58,15 @@ impl DisplayCopy {
         })
     }
 
-    /// Returns a screen that displays the same as the screen that was copied.
+    /// Returns a screen with the same display as the screen that was copied.
     fn screen(&self) -> &Screen
         ensures { ShowsAlike self.now result.now }
     {
         &self.copy
     }
 
-    /// Returns whether the screen is steady. The test was made when it was copied.
+    /// Returns whether the screen that was copied is steady, which was
+    /// determined when the copy was made.
     fn is_steady(&self) -> bool
         ensures { IsTrue result ↔ IsSteady (shown self.now) }
     {
@@ -73,7 +74,7 @@ impl DisplayCopy {
     }
 }
 
-/// A copy of what a screen displays, in memory once for all its holders.
+/// A copy of what a screen displays, stored once and shared by all its holders.
 #[derive(Drop)]
 pub(crate) struct SharedCopy {
     shared: Arc<DisplayCopy, Global>,
@@ -89,11 +90,12 @@ impl Model for SharedCopy {
 }
 
 impl SharedCopy {
-    /// Copies what `screen` displays, for one holder.
+    /// Copies what `screen` displays and returns the first shared handle to the
+    /// copy.
     ///
     /// # Errors
     ///
-    /// `Error::OutOfMemory` if an allocation fails.
+    /// Returns `Error::OutOfMemory` if an allocation fails.
     pub(crate) fn new(alloc: Global, screen: &Screen) -> Result<SharedCopy, Error>
         ensures ok { IfOk result (λ copy. copy ≡ screen.now) }
         ensures memory { OnlyOutOfMemory result }
@@ -105,8 +107,8 @@ impl SharedCopy {
         }
     }
 
-    /// Returns the copy for one more holder, without an allocation, or `None`
-    /// if it already has as many holders as can be counted.
+    /// Returns another shared handle to the copy without allocating, or `None`
+    /// if the copy has the maximum number of holders.
     pub(crate) fn share(&self) -> Option<SharedCopy>
         ensures { IfSome result (λ copy. copy ≡ self.now) }
     {
@@ -116,14 +118,15 @@ impl SharedCopy {
         }
     }
 
-    /// Returns a screen that displays the same as the screen that was copied.
+    /// Returns a screen with the same display as the screen that was copied.
     pub(crate) fn screen(&self) -> &Screen
         ensures { ShowsAlike self.now result.now }
     {
         self.shared.screen()
     }
 
-    /// Returns whether the screen is steady, without reading its cells.
+    /// Returns whether the screen that was copied is steady, without reading
+    /// its cells.
     pub(crate) fn is_steady(&self) -> bool
         ensures { IsTrue result ↔ IsSteady (shown self.now) }
     {
@@ -136,8 +139,8 @@ impl SharedCopy {
     }
 }
 
-/// A copy of a screen with a version number. Copies with one version are copies
-/// of one screen.
+/// A copy of a screen with a version number. Copies with the same version are
+/// copies of the same screen.
 #[derive(Drop)]
 pub(crate) struct Note {
     /// The version number, or 0 if the copy has none.
@@ -147,8 +150,8 @@ pub(crate) struct Note {
 }
 
 impl Note {
-    /// Returns the note for one more holder, without an allocation, or `None`
-    /// if its copy already has as many holders as can be counted.
+    /// Returns another shared handle to the note without allocating, or `None`
+    /// if its copy has the maximum number of holders.
     pub(crate) fn share(&self) -> Option<Note>
         ensures { IfSome result (λ note. note ≡ self.now) }
     {
@@ -161,8 +164,8 @@ impl Note {
         })
     }
 
-    /// Returns whether both have the same version, so that they are copies of
-    /// one screen.
+    /// Returns whether the two notes have the same version, which means that
+    /// they are copies of the same screen. Notes without a version never match.
     pub(crate) fn is_of_version(&self, other: &Note) -> bool
         ensures test { result ≡ have_one_version self.now other.now }
         ensures equal { result ≡ true ↔ AreOfOneVersion self.now other.now }

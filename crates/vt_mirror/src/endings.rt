@@ -1,12 +1,12 @@
-//! The message and exit status with which a run ends.
+//! The messages and exit statuses of runs that fail.
 
 ghost use Rattle.std.specs.Prelude.{◌≡◌};
 ghost use Rattle.vt_mirror.specs.Endings.{line_of, status_of};
 
 use vt_show::Fault;
 
-/// Returns the line for standard error, without its line end, and the exit
-/// status: for a fault, or for wrong arguments if `fault` is `None`.
+/// Returns the message for standard error (without a line end) and the exit
+/// status for a fault. `None` stands for invalid command-line arguments.
 ///
 /// # Examples
 ///

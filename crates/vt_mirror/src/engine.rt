@@ -1,5 +1,5 @@
-//! The engine of the program `vtmirror`, which turns an input into the updates
-//! of one viewer.
+//! The engine of the program `vtmirror`, which turns its input into updates for
+//! one viewer.
 
 ghost use Rattle.std.specs.Io.KnownBytes.{Keeps};
 ghost use Rattle.std.specs.Prelude.{◌≡◌, ◌≢◌, ◌<◌, ◌↔◌, Err, IfErr, IfOk, None, OnOk, Some, map, string_bytes, true};
@@ -18,29 +18,29 @@ use std::io::{Read, Write};
 use std::num::NonZeroU16;
 use vt_show::{Fault, write_text};
 
-/// The largest number of bytes that are read at once.
+/// The maximum number of bytes read at once.
 const BUFFER_SIZE: usize = 8192;
 
-/// Reads the input to its end into a mirror of this size, without scrollback
-/// and with one viewer, and writes that viewer's updates.
+/// Reads all input into a mirror of the given size, without scrollback and with
+/// one viewer, and writes that viewer's updates.
 ///
-/// An update is written at the start, after every `every` bytes, and at the
-/// end, and each is flushed. A fresh terminal of this size that reads the
+/// One update is written at the start, one after every `every` bytes, and one
+/// at the end. Each is flushed. A fresh terminal of this size that reads the
 /// output displays the screen as it was at the last update, if the screen was
 /// steady (each glyph reproduces itself when printed) at each update.
 ///
 /// # Errors
 ///
-/// What was written before a fault stays, and nothing more is written.
+/// Nothing more is written after a fault.
 ///
-/// - `Fault::Read` after any error of a read, including an interrupted one. All
-///   updates that were due for what was read have been written.
+/// - `Fault::Read` if a read fails, even if it was only interrupted. All
+///   updates that were due for the bytes read have been written.
 /// - `Fault::Memory` if an allocation fails. At most one update that was due
 ///   has not been written.
-/// - `Fault::Write` after any error of a write or a flush, or if the writer
-///   accepts no bytes; an interrupted write is tried again. All updates before
-///   the failing one have been written, and a prefix of that one, or all of it.
-///   Nothing was read after the bytes that it was due for.
+/// - `Fault::Write` if a write or a flush fails, or if the writer accepts no
+///   bytes. An interrupted write is retried. All updates before the failing one
+///   have been written, as well as a prefix of the failing one, possibly all of
+///   it. No input has been read beyond the bytes for which that update was due.
 pub fn run<R: Read, W: Write>(
     alloc: Global,
     reader: &mut R,
@@ -62,13 +62,14 @@ pub fn run<R: Read, W: Write>(
     run_viewer(&mut mirror, viewer, reader, writer, every)
 }
 
-/// Calls [`run`] with the size and the interval that the command-line arguments
-/// give. `words` doesn't include the program's name.
+/// Calls [`run`] with the size and the interval given by the command-line
+/// arguments `words`, which do not include the program's name.
 ///
 /// # Errors
 ///
-/// Those of [`run`], or `None` if the arguments are wrong (see
-/// [`arguments`](crate::arguments)); then nothing is read or written.
+/// Returns the fault of [`run`], or `None` if the arguments are invalid (see
+/// [`arguments`](crate::arguments)). If they are invalid, nothing is read or
+/// written.
 pub fn run_words<R: Read, W: Write>(
     alloc: Global,
     words: &[String],
@@ -91,8 +92,8 @@ pub fn run_words<R: Read, W: Write>(
     }
 }
 
-/// Reads the input to its end, writing one update per interval of `every` bytes
-/// for a viewer that has had no update.
+/// Reads all input, writing one update at the start and one per interval of
+/// `every` bytes for a newly joined viewer.
 fn run_viewer<R: Read, W: Write>(
     mirror: &mut Mirror,
     viewer: u64,
@@ -117,8 +118,8 @@ fn run_viewer<R: Read, W: Write>(
     Err(Fault::Read)
 }
 
-/// Reads `every` bytes into the mirror, or all that are left if there are
-/// fewer. Returns whether there were as many.
+/// Reads `every` bytes into the mirror, or all remaining bytes if there are
+/// fewer. Returns whether `every` bytes were read.
 fn read_stretch<R: Read>(
     mirror: &mut Mirror,
     reader: &mut R,
@@ -152,7 +153,7 @@ fn read_stretch<R: Read>(
     Err(Fault::Read)
 }
 
-/// Writes the viewer's update, and flushes it.
+/// Writes the viewer's next update and flushes the writer.
 fn write_update<W: Write>(mirror: &mut Mirror, viewer: u64, writer: &mut W) -> Result<(), Fault>
     requires { is_viewer mirror.old.viewers viewer ≡ true }
     ensures writes { OnOk result

@@ -1,4 +1,4 @@
-//! Laws about lists of calls. These functions do nothing when run; their
+//! Laws about sequences of calls. These functions do nothing when called; their
 //! clauses state what is proved.
 
 ghost use Rattle.std.specs.List.{AllByRecursion, FoldsTo};
@@ -20,25 +20,26 @@ ghost use Rattle.vt100.specs.Pieces.{IsFine, IsPlainParser, Processes, Processin
 
 use vt100::Callbacks;
 
-/// States that a viewer displays the screen as it was at its last update, after
-/// any list of calls of a fresh [`Mirror`](crate::Mirror), failed ones
-/// included.
+/// States that a viewer displays the screen as it was at the viewer's last
+/// update, after any sequence of calls to a fresh [`Mirror`](crate::Mirror),
+/// including failed calls.
 ///
 /// - `shows`: the viewer may be any parser, with any callbacks, that was plain
-///   before its first update, took the size of each full update by
-///   `Parser::set_size` before reading it, and read all its updates in order,
-///   each in any chunks. Each update may come from
+///   before its first update, was resized with `Parser::set_size` to the size
+///   of each full update before reading it, and read all its updates in order,
+///   each split into any chunks. Each update may come from
 ///   [`update`](crate::Mirror::update) or
 ///   [`update_scrolling`](crate::Mirror::update_scrolling). The viewer may have
 ///   joined late, may have missed any number of calls, and may have left since.
-/// - `numbers`: no viewer number is returned twice; those that successive calls
-///   of [`join`](crate::Mirror::join) return count up.
+/// - `numbers`: no viewer number is returned twice; successful calls to
+///   [`join`](crate::Mirror::join) return consecutive numbers.
 ///
 /// The premises are that the mirror's screen was steady at these updates (see
-/// `Screen::contents_formatted`), and that the viewer's own calls of `set_size`
-/// returned `Ok`; its calls of `process` do so by `vt100::laws::quiet_pieces`.
-/// The premise that the viewer's screen is a valid one (`IsScreen`) holds for
-/// every parser, by the clause `whole` of `Screen::size`.
+/// `Screen::contents_formatted`) and that the viewer's own calls to `set_size`
+/// returned `Ok`. Its calls to `process` return `Ok` by
+/// `vt100::laws::quiet_pieces`. The premise that the viewer's screen is valid
+/// (`IsScreen`) holds for every parser, by the clause `whole` of
+/// `Screen::size`.
 pub fn viewers<CB: Callbacks>()
     ensures shows { (number : ℕ) (calls : List MirrorCall) (old new : Watching CB) →
         IsFresh old.mirror → IsNew old → FoldsTo (Goes number) old calls new → ShowsSeen new }
@@ -47,27 +48,28 @@ pub fn viewers<CB: Callbacks>()
 {}
 
 /// States that a viewer whose updates all come from
-/// [`update_scrolling`](crate::Mirror::update_scrolling) heals: after any list
-/// of calls of a fresh [`Mirror`](crate::Mirror) it displays the screen as it
-/// was at its last update, if that screen was steady, whatever screens came
-/// before.
+/// [`update_scrolling`](crate::Mirror::update_scrolling) recovers from screens
+/// that are not steady. After any sequence of calls to a fresh
+/// [`Mirror`](crate::Mirror), it displays the screen as it was at its last
+/// update, if that screen was steady, whatever screens came before.
 ///
-/// Steady or not, the viewer is a plain terminal. It is as in [`viewers`], and
-/// all its calls of `process` and `set_size` return `Ok`.
+/// Even if that screen was not steady, the viewer is a plain terminal. The
+/// viewer may be any parser allowed by [`viewers`] whose calls to `process` and
+/// `set_size` all return `Ok`.
 pub fn heals<CB: Callbacks>()
     ensures shows { (number : ℕ) (calls : List MirrorCall) (old new : Watching CB) →
         IsFresh old.mirror → IsNew old → FoldsTo (GoesAny CB.does number) old calls new → ShowsSteady new }
 {}
 
 /// States that a plain terminal that reads the output of [`run`](crate::run),
-/// in any chunks, is plain and displays the screen after the input. Each call
-/// returns `Ok`; callbacks, scrollback, the other page and the modes are
-/// unchanged.
+/// split into any chunks, is plain afterwards and displays the final screen of
+/// the run. Each call to `process` returns `Ok`. Callbacks, scrollback, the
+/// other page and the modes are unchanged.
 ///
-/// The premises are that the terminal has the size of the run, and that the
+/// The premises are that the terminal has the size of the run and that the
 /// screen was steady at each update (see `Screen::contents_formatted`). The
-/// premise `IsUpdatedAfter`, that each of these screens is valid and of one
-/// size, is part of what a successful run ensures.
+/// premise `IsUpdatedAfter`, which says that each of these screens is valid and
+/// that all have the same size, is guaranteed by a successful run.
 pub fn runs<CB: Callbacks>()
     ensures shows { (first : ScreenValue) (every : ℕ) (input : List ℕ) (p q : Parsing CB) (calls : List Processing) →
         IsScreen p.screen → IsPlainParser p → SameSize first.page p.screen.page →

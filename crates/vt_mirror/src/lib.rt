@@ -1,5 +1,5 @@
-//! Mirrors: one terminal, and any number of viewers that escape sequences keep
-//! equal to it; and the engine of the program `vtmirror`.
+//! Mirrors, which keep any number of viewers in sync with one terminal by
+//! sending them escape sequences, and the engine of the program `vtmirror`.
 #![tactic(auto)]
 
 mod copies;

@@ -18,20 +18,20 @@ use std::marker::Model;
 use std::num::NonZeroU16;
 use vt100::{Error, Parser, Screen};
 
-/// A terminal in memory with any number of viewers: terminals elsewhere that
-/// escape sequences keep equal to it.
+/// An in-memory terminal with any number of viewers: other terminals that are
+/// kept in sync with it by escape sequences.
 ///
-/// A viewer has a number, and the mirror records what the screen displayed at
-/// the viewer's last update. So a viewer may miss any number of calls, and its
-/// next update makes up for all of them.
-/// [`laws::viewers`](crate::laws::viewers) states what follows for viewers over
-/// any list of calls.
+/// Each viewer has a number, and the mirror records what the screen displayed
+/// at each viewer's last update. A viewer may therefore miss any number of
+/// calls; its next update makes up for all of them.
+/// [`laws::viewers`](crate::laws::viewers) states what this guarantees to
+/// viewers over any sequence of calls.
 ///
-/// Viewers that were updated to the same screen share one copy of it, and those
-/// of them that are updated next share the update's text. So a further viewer
-/// that keeps up takes little memory and time; only a viewer whose last update
-/// was to a screen of its own needs a copy and a difference of its own. A copy
-/// has neither scrollback nor the page that is not displayed (see
+/// Viewers that were last updated to the same screen share one copy of it, and
+/// they also share the text of their next update. An additional viewer that
+/// keeps up therefore takes little memory and time. A viewer needs its own copy
+/// and its own difference only if no other viewer was last updated to the same
+/// screen. A copy contains neither scrollback nor the inactive page (see
 /// `Screen::shown_copy`).
 ///
 /// # Examples
@@ -65,7 +65,8 @@ impl Model for Mirror {
     ghost invariant = { λ m. IsSharing m.parser m.viewers };
 }
 
-// Dropping is written out, so that it is one call in the proofs of callers, as for a screen.
+// `Drop` is implemented by hand so that dropping is a single call in callers' proofs, as for
+// `Screen`.
 impl Drop for Mirror {
     fn drop(self) {
         let Mirror {
@@ -77,12 +78,12 @@ impl Drop for Mirror {
 }
 
 impl Mirror {
-    /// Creates a mirror with a fresh screen and no viewers. Of the rows that
-    /// scroll off the top, the last `scrollback_capacity` are kept.
+    /// Creates a mirror with a fresh screen and no viewers. Scrollback keeps
+    /// the last `scrollback_capacity` rows that scroll off the top.
     ///
     /// # Errors
     ///
-    /// `Error::OutOfMemory` if the screen cannot be allocated.
+    /// Returns `Error::OutOfMemory` if the screen cannot be allocated.
     pub fn new(
         alloc: Global,
         rows: NonZeroU16,
@@ -105,30 +106,32 @@ impl Mirror {
     }
 
     /// Parses `bytes` and applies them to the screen, as `Parser::process`
-    /// does. Viewers see the changes with their next updates.
+    /// does. Each viewer receives the changes with its next update.
     ///
     /// # Errors
     ///
-    /// `Error::OutOfMemory` if an allocation fails. The steps before the
-    /// failing one stay applied; from then on the mirror reads nothing and
-    /// returns `Error::Failed`. Viewers can still join, leave and be updated.
+    /// Returns `Error::OutOfMemory` if an allocation fails. The steps before
+    /// the failing one remain in effect. From then on, the mirror reads nothing
+    /// and returns `Error::Failed`, but viewers can still join, leave and be
+    /// updated.
     pub fn process(&mut self, bytes: &[u8]) -> Result<(), Error>
         ensures call { MirrorProcesses self.old bytes.now result self.new }
     {
-        // Only for the proof: the contract of `size` says that every screen is valid, and bytes
-        // keep the size of a valid screen.
+        // Only for the proof: the contract of `size` says that every screen is valid, and parsing
+        // keeps the size of a valid screen.
         self.parser.screen().size();
         self.viewers.discard_current();
         self.parser.process(bytes)
     }
 
     /// Resizes the screen, as `Parser::set_size` does. The next update of every
-    /// viewer is then a full one. A resize to the present size changes nothing
+    /// viewer is then a full one. A resize to the current size changes nothing
     /// and never fails.
     ///
     /// # Errors
     ///
-    /// `Error::OutOfMemory` if an allocation fails; nothing has changed.
+    /// Returns `Error::OutOfMemory` if an allocation fails. On error, nothing
+    /// is changed.
     pub fn set_size(&mut self, rows: NonZeroU16, cols: NonZeroU16) -> Result<(), Error>
         ensures call { Resizes self.old rows.value cols.value result self.new }
     {
@@ -140,13 +143,15 @@ impl Mirror {
         Ok(())
     }
 
-    /// Adds a viewer and returns its number: 0 for the first one, and one more
-    /// than the last number for each later one. No number is returned twice.
+    /// Adds a viewer and returns its number. The first viewer gets the number
+    /// 0, and each later viewer gets the next number. No number is returned
+    /// twice.
     ///
     /// # Errors
     ///
-    /// `Error::NoNumber` if and only if `u64::MAX` was returned before,
-    /// `Error::OutOfMemory` if an allocation fails; nothing has changed.
+    /// Returns `Error::NoNumber` if and only if `u64::MAX` has already been
+    /// returned, and `Error::OutOfMemory` if an allocation fails. On error,
+    /// nothing is changed.
     pub fn join(&mut self) -> Result<u64, Error>
         ensures parser { self.new.parser ≡ self.old.parser }
         ensures call { JoinsMirror self.old.viewers result self.new.viewers }
@@ -156,7 +161,7 @@ impl Mirror {
         self.viewers.join()
     }
 
-    /// Removes a viewer. Returns whether there was a viewer with this number.
+    /// Removes a viewer and returns whether there was one with this number.
     pub fn leave(&mut self, viewer: u64) -> bool
         ensures parser { self.new.parser ≡ self.old.parser }
         ensures call { Leaves self.old.viewers viewer result self.new.viewers }
@@ -168,24 +173,25 @@ impl Mirror {
     /// Returns the viewer's next update, or `None` if and only if there is no
     /// viewer with this number.
     ///
-    /// The first update, and the first one after a resize, is a full redraw,
+    /// The first update, and the first one after a resize, is a full redraw
     /// with at least one row and one column. Every other update is the
-    /// difference from the screen of the viewer's last update. It is empty if
-    /// the screen displays the same as at that update and, if the screen is
-    /// steady (each glyph reproduces itself when printed), only then. Reading
+    /// difference from the screen at the viewer's last update. It is empty if
+    /// the display has not changed since then and, if the screen is steady
+    /// (each glyph reproduces itself when printed), only in that case. Reading
     /// it touches only what is near a change, as with `Screen::contents_diff`.
     ///
-    /// A plain terminal (in ground state, with the full scroll region, origin
-    /// mode off and no scrollback displayed) that takes the size of each full
-    /// update before reading it, and that reads all updates of one viewer in
-    /// order, displays the mirror's screen as it was at the last of them, if it
-    /// was steady at each (see `Screen::contents_formatted`).
+    /// A plain terminal is one in ground state, with the full scroll region,
+    /// origin mode off and no scrollback displayed. If such a terminal is
+    /// resized to the size of each full update before it reads that update, and
+    /// reads all updates of one viewer in order, it displays the mirror's
+    /// screen as it was at the last update, provided that the screen was steady
+    /// at each update (see `Screen::contents_formatted`).
     ///
     /// # Errors
     ///
-    /// `Error::OutOfMemory` if the text, or the copy of the screen that is
-    /// recorded, cannot be allocated; nothing has changed, and the same update
-    /// can be requested again.
+    /// Returns `Error::OutOfMemory` if the text of the update or the copy of
+    /// the screen that is recorded cannot be allocated. On error, nothing is
+    /// changed, and the same update can be requested again.
     pub fn update(&mut self, viewer: u64) -> Result<Option<Update>, Error>
         ensures call { Asks Drawn self.old viewer result self.new }
     {
@@ -200,18 +206,19 @@ impl Mirror {
     /// Returns the viewer's next update, as [`update`](Mirror::update) does,
     /// but with a difference that may move rows first.
     ///
-    /// Like that of `Screen::contents_diff_scrolling`, the difference is never
-    /// longer, may be much shorter after text has scrolled, and may touch any
-    /// row. If the screen of the viewer's last update was not steady, the
-    /// update is a full one. So a viewer that only gets updates of this
-    /// function displays each steady screen, whatever came before
-    /// (`laws::heals`). The two functions may be mixed from one update to the
-    /// next.
+    /// As with `Screen::contents_diff_scrolling`, the difference is never
+    /// longer than the plain one, may be much shorter after text has scrolled,
+    /// and may touch any row. If the screen at the viewer's last update was not
+    /// steady, the update is a full one. A viewer that gets all its updates
+    /// from this function therefore displays each steady screen, whatever came
+    /// before (`laws::heals`). The two functions may be mixed from one update
+    /// to the next.
     ///
     /// # Errors
     ///
-    /// `Error::OutOfMemory` if an allocation fails, as in `update`; nothing has
-    /// changed, and the same update can be requested again.
+    /// Returns `Error::OutOfMemory` if an allocation fails, as `update` does.
+    /// On error, nothing is changed, and the same update can be requested
+    /// again.
     pub fn update_scrolling(&mut self, viewer: u64) -> Result<Option<Update>, Error>
         ensures call { Asks Scrolling self.old viewer result self.new }
     {
@@ -223,14 +230,15 @@ impl Mirror {
         Ok(Some(update))
     }
 
-    /// Returns whether the viewer is up to date: whether it had an update after the
-    /// last call to [`process`](Mirror::process) and the last change of size. If so,
-    /// its next update is an empty difference, or a full one if it is one of
-    /// `update_scrolling` and the screen is not steady. The test allocates nothing
-    /// and reads no cell.
+    /// Returns whether the viewer is up to date, which means that it has had an
+    /// update since the last call to [`process`](Mirror::process) and the last
+    /// change of size. The next update of such a viewer is an empty difference,
+    /// or a full update if it comes from `update_scrolling` and the screen is
+    /// not steady. The test allocates nothing and reads no cells.
     ///
-    /// It returns false for a number that is no viewer's, and after each call of
-    /// `process`, even if the bytes changed nothing that is displayed.
+    /// It returns false if there is no viewer with this number. After each call
+    /// to `process`, it returns false for every viewer until that viewer's next
+    /// update, even if the display has not changed.
     pub fn is_current(&self, viewer: u64) -> bool
         ensures exact { result ≡ is_current self.now viewer }
         ensures noted { IsTrue result → note_of self.now.viewers viewer ≡ Some self.now.parser.screen }
@@ -242,7 +250,7 @@ impl Mirror {
     ///
     /// # Errors
     ///
-    /// `Error::OutOfMemory` if its text cannot be allocated.
+    /// Returns `Error::OutOfMemory` if its text cannot be allocated.
     fn full(&mut self) -> Result<Update, Error>
         ensures same { self.new ≡ self.old }
         ensures ok { IfOk result (λ update. IsFullUpdate self.old.parser.screen update) }
@@ -259,11 +267,11 @@ impl Mirror {
     }
 
     /// Returns the difference from the screen recorded for a viewer, or the
-    /// full redraw if none is recorded.
+    /// full redraw if no screen is recorded.
     ///
     /// # Errors
     ///
-    /// `Error::OutOfMemory` if its text cannot be allocated.
+    /// Returns `Error::OutOfMemory` if its text cannot be allocated.
     fn drawn_update(&mut self, viewer: u64) -> Result<Update, Error>
         ensures same { self.new ≡ self.old }
         ensures whole { IsScreen self.new.parser.screen }
@@ -292,13 +300,13 @@ impl Mirror {
         Ok(Update::Diff(text))
     }
 
-    /// Returns the difference from the screen recorded for a viewer, which may
-    /// move rows first, or the full redraw if none is recorded or that screen
-    /// is not steady.
+    /// Returns the difference from the screen recorded for a viewer, possibly
+    /// one that moves rows first, or the full redraw if no screen is recorded
+    /// or the recorded screen is not steady.
     ///
     /// # Errors
     ///
-    /// `Error::OutOfMemory` if its text cannot be allocated.
+    /// Returns `Error::OutOfMemory` if its text cannot be allocated.
     fn scrolling_update(&mut self, viewer: u64) -> Result<Update, Error>
         ensures same { self.new ≡ self.old }
         ensures whole { IsScreen self.new.parser.screen }
@@ -335,7 +343,8 @@ impl Mirror {
     ///
     /// # Errors
     ///
-    /// `Error::OutOfMemory` if an allocation fails; nothing has changed.
+    /// Returns `Error::OutOfMemory` if an allocation fails. On error, nothing
+    /// is changed.
     fn note(&mut self, viewer: u64) -> Result<(), Error>
         requires { is_viewer self.old.viewers viewer ≡ true }
         ensures parser { self.new.parser ≡ self.old.parser }
@@ -352,7 +361,7 @@ impl Mirror {
     }
 }
 
-/// Returns the full update with this text and the size of the screen.
+/// Returns a full update with the given text and the size of the screen.
 fn full_of(screen: &Screen, text: String) -> Update
     requires { IsRedraw screen.now (string_bytes text) }
     ensures { IsFullUpdate screen.now result }

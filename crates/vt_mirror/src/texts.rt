@@ -1,4 +1,4 @@
-//! The texts of differences, which viewers share.
+//! A cache of difference texts that viewers share.
 
 ghost use Rattle.std.specs.Prelude.{◌≡◌, ◌⊎◌, IfSome, None, Some, string_bytes};
 ghost use Rattle.vt_mirror.specs.Kept.{AreOfOneVersion};
@@ -14,7 +14,7 @@ pub(crate) struct KeptDiff {
     text: String,
 }
 
-/// The last difference to the current screen, kept for all viewers that need
+/// The last difference to the current screen, stored for all viewers that need
 /// the same one.
 #[derive(Drop)]
 pub(crate) struct DiffCache {
@@ -60,7 +60,7 @@ impl DiffCache {
         self.last = Some(KeptDiff { from, text });
     }
 
-    /// Empties the cache, since the screen changes.
+    /// Empties the cache, which is necessary when the screen changes.
     pub(crate) fn clear(&mut self)
         ensures { self.new.last ≡ None }
     {

@@ -14,10 +14,10 @@ pub enum Update {
     /// The escape sequences for any plain terminal of this size, as
     /// `Screen::contents_formatted` returns them.
     Full {
-        /// The number of rows of the mirror.
+        /// The number of rows of the mirror's screen.
         rows: u16,
 
-        /// The number of columns of the mirror.
+        /// The number of columns of the mirror's screen.
         cols: u16,
 
         /// The escape sequences of the redraw.

@@ -14,19 +14,20 @@ use std::collections::{BTreeMap, BTreeSet};
 use std::marker::Model;
 use vt100::{Error, Screen};
 
-/// The viewers, the screen of each one's last update, and the texts that they
-/// share.
+/// The viewers of a mirror, the screen at each viewer's last update, and the
+/// update texts that viewers share.
 #[derive(Drop)]
 pub(crate) struct Viewers {
-    /// The last number that was returned to a viewer.
+    /// The last viewer number that was assigned, if any.
     last: Option<u64>,
     numbers: BTreeSet<u64>,
 
-    /// A copy of the screen of each viewer's last update since the last resize.
-    /// Viewers that were updated to one screen share the copy.
+    /// For each viewer that has been updated since the last resize, a copy of
+    /// the screen at its last update. Viewers that were updated to the same
+    /// screen share one copy.
     notes: BTreeMap<u64, Note>,
 
-    /// The last version that a copy was given.
+    /// The last version number that was assigned to a copy.
     version: u64,
 
     /// A copy of the current screen, if one was made since it changed.
@@ -35,11 +36,11 @@ pub(crate) struct Viewers {
     /// The last difference to the current screen, for `Mirror::update`.
     diff: DiffCache,
 
-    /// The last difference to the current screen that may scroll, for
+    /// The last scrolling difference to the current screen, for
     /// `Mirror::update_scrolling`.
     scrolling: DiffCache,
 
-    /// The text of the current screen's redraw.
+    /// The text of the current screen's redraw, if it is stored.
     redraw: Option<String>,
 }
 
@@ -64,7 +65,7 @@ impl Model for Viewers {
 }
 
 impl Viewers {
-    /// Creates a set of no viewers.
+    /// Creates an empty set of viewers.
     pub(crate) fn new(alloc: Global) -> Viewers
         ensures last { result.viewers.last ≡ None }
         ensures nobody { result.viewers.numbers ≡ [] }
@@ -87,12 +88,13 @@ impl Viewers {
         }
     }
 
-    /// Adds a viewer and returns its number, the next one.
+    /// Adds a viewer and returns its number, which is the next unused one.
     ///
     /// # Errors
     ///
-    /// `Error::NoNumber` if the greatest number was returned before,
-    /// `Error::OutOfMemory` if an allocation fails; nothing has changed.
+    /// Returns `Error::NoNumber` if `u64::MAX` has already been returned, and
+    /// `Error::OutOfMemory` if an allocation fails. On error, nothing is
+    /// changed.
     pub(crate) fn join(&mut self) -> Result<u64, Error>
         ensures call { JoinsMirror self.old.viewers result self.new.viewers }
         ensures rest { self.new ≡ record self.old {
@@ -113,7 +115,7 @@ impl Viewers {
         Ok(viewer)
     }
 
-    /// Removes a viewer. Returns whether there was one of this number.
+    /// Removes a viewer and returns whether there was one with this number.
     pub(crate) fn leave(&mut self, viewer: u64) -> bool
         ensures call { Leaves self.old.viewers viewer result self.new.viewers }
         ensures rest { self.new ≡ record self.old {
@@ -126,14 +128,15 @@ impl Viewers {
         self.numbers.remove(&viewer)
     }
 
-    /// Returns whether a viewer has this number.
+    /// Returns whether there is a viewer with this number.
     pub(crate) fn has(&self, viewer: u64) -> bool
         ensures { result ≡ is_viewer self.now.viewers viewer }
     {
         self.numbers.contains(&viewer)
     }
 
-    /// Returns the copy of the screen noted for a viewer.
+    /// Returns the copy of the screen recorded for a viewer, or `None` if no
+    /// screen is recorded.
     pub(crate) fn noted(&self, viewer: u64) -> Option<&SharedCopy>
         ensures some { IfSome result (λ copy. note_of self.now.viewers viewer ≡ Some copy.now) }
         ensures none { IfNone result (note_of self.now.viewers viewer ≡ None) }
@@ -144,8 +147,8 @@ impl Viewers {
         }
     }
 
-    /// Returns whether a viewer was updated since the screen changed, so that the
-    /// screen noted for it is the current one.
+    /// Returns whether a viewer has been updated since the screen last changed,
+    /// which means that the screen recorded for it is the current one.
     pub(crate) fn is_current(&self, viewer: u64) -> bool
         ensures exact { result ≡ is_among self.now.current_viewers viewer }
         ensures noted { IsTrue result → (screen : ScreenValue)
@@ -184,8 +187,8 @@ impl Viewers {
         self.diff.keep(note, text, alloc);
     }
 
-    /// Returns the text of the difference that may scroll from the screen
-    /// recorded for a viewer, if it is in the cache.
+    /// Returns the text of the scrolling difference from the screen recorded
+    /// for a viewer, if it is in the cache.
     pub(crate) fn kept_scrolling(&self, viewer: u64) -> Option<&str>
         ensures { IfSome result (λ text. (screen : ScreenValue)
             × (note_of self.now.viewers viewer ≡ Some screen) × (self.now.scrolling ≡ Some (screen, text.now))) }
@@ -195,9 +198,8 @@ impl Viewers {
         Some(text)
     }
 
-    /// Stores the text of the difference that may scroll from the screen
-    /// recorded for a viewer, if other viewers may need it and memory can be
-    /// allocated.
+    /// Stores the text of the scrolling difference from the screen recorded for
+    /// a viewer, if other viewers may need it and memory can be allocated.
     pub(crate) fn keep_scrolling(&mut self, viewer: u64, text: &str, alloc: Global)
         ensures rest { self.new ≡ record self.old { scrolling = self.new.scrolling } }
         ensures scrolling { (self.new.scrolling ≡ self.old.scrolling) ⊎ ((screen : ScreenValue)
@@ -237,7 +239,8 @@ impl Viewers {
     ///
     /// # Errors
     ///
-    /// `Error::OutOfMemory` if an allocation fails; the records are unchanged.
+    /// Returns `Error::OutOfMemory` if an allocation fails. On error, the
+    /// records are unchanged.
     pub(crate) fn note(&mut self, viewer: u64, screen: &Screen, alloc: Global) -> Result<(), Error>
         requires viewer { is_viewer self.old.viewers viewer ≡ true }
         requires current { IfSome self.old.current (λ current. current ≡ screen.now) }
@@ -263,8 +266,8 @@ impl Viewers {
         Ok(())
     }
 
-    /// Drops the copy of the current screen and all texts, since the screen
-    /// changes.
+    /// Drops the copy of the current screen and all stored texts. This is
+    /// necessary when the screen changes.
     pub(crate) fn discard_current(&mut self)
         ensures { self.new ≡ record self.old {
           current = None;
@@ -281,8 +284,8 @@ impl Viewers {
         leave_a_version(&mut self.version, &mut self.notes);
     }
 
-    /// Drops all copies and texts, including the screens recorded for viewers,
-    /// since the size changes.
+    /// Drops all copies and stored texts, including the screens recorded for
+    /// viewers. This is necessary when the size changes.
     pub(crate) fn discard_all(&mut self)
         ensures { self.new ≡ record {
           viewers = record (self.old.viewers) { notes = [] };
@@ -298,8 +301,8 @@ impl Viewers {
     }
 }
 
-/// Starts the versions again if the last one was given, so that the next copy
-/// can have one: then no copy that is noted has a version any more.
+/// Restarts the version numbers if the last one has been assigned, and removes
+/// the version of every recorded copy. The next copy can then have a version.
 fn leave_a_version(version: &mut u64, notes: &mut BTreeMap<u64, Note>)
     ensures { HaveNext version.old notes.old.entries version.new notes.new.entries }
 {
@@ -313,12 +316,13 @@ fn leave_a_version(version: &mut u64, notes: &mut BTreeMap<u64, Note>)
     *version = 0;
 }
 
-/// Returns a copy of the current screen for a viewer: the one that is kept, or
-/// else a new one with the next version, which is kept too.
+/// Returns a copy of the current screen for a viewer: the stored copy if there
+/// is one, otherwise a new copy with the next version, which is then stored as
+/// well.
 ///
 /// # Errors
 ///
-/// `OutOfMemory` if a copy is needed and cannot be allocated.
+/// Returns `Error::OutOfMemory` if a copy is needed and cannot be allocated.
 fn current_note(
     alloc: Global,
     screen: &Screen,
@@ -351,12 +355,13 @@ fn current_note(
     })
 }
 
-/// Returns the copy for one more holder, or a new one if it has as many as can
-/// be counted.
+/// Returns another shared handle to `copy`, or to a new copy of the screen if
+/// `copy` has the maximum number of holders.
 ///
 /// # Errors
 ///
-/// `OutOfMemory` if a new copy is needed and cannot be allocated.
+/// Returns `Error::OutOfMemory` if a new copy is needed and cannot be
+/// allocated.
 fn shared_or_new(alloc: Global, screen: &Screen, copy: &SharedCopy) -> Result<SharedCopy, Error>
     requires { copy.now ≡ screen.now }
     ensures ok { IfOk result (λ copy. copy ≡ screen.now) }
@@ -368,8 +373,8 @@ fn shared_or_new(alloc: Global, screen: &Screen, copy: &SharedCopy) -> Result<Sh
     }
 }
 
-/// Returns the number after the last one, or `None` if that is the greatest
-/// number.
+/// Returns the number after `last` (0 if there is none), or `None` if `last` is
+/// `u64::MAX`.
 fn next_after(last: Option<u64>) -> Option<u64>
     ensures some { IfSome result (λ viewer. (viewer ≡ next_number last) × (last ≢ Some greatest)) }
     ensures none { IfNone result (last ≡ Some greatest) }

@@ -7,12 +7,12 @@ ghost use Rattle.vt_mirror.specs.Arguments.{AskForNothing, AsksToMirror};
 use std::num::NonZeroU16;
 use vt_show::size;
 
-/// Returns the rows, the columns and the number of bytes between updates that
-/// exactly three command-line arguments give, or `None` if the arguments are
-/// wrong.
+/// Parses the number of rows, the number of columns and the number of bytes
+/// between updates from exactly three command-line arguments. Returns `None` if
+/// the arguments are invalid.
 ///
-/// Each argument is decimal digits with a value from 1 to 65535; leading zeros
-/// are allowed.
+/// Each argument consists of decimal digits with a value from 1 to 65535;
+/// leading zeros are allowed.
 ///
 /// # Examples
 ///
@@ -34,7 +34,7 @@ pub fn arguments(words: &[&str]) -> Option<(NonZeroU16, NonZeroU16, NonZeroU16)>
     Some((rows, cols, every))
 }
 
-/// Returns what owned command-line arguments give, as [`arguments`] reads them.
+/// Parses owned command-line arguments, as [`arguments`] does.
 pub(crate) fn asked(words: &[String]) -> Option<(NonZeroU16, NonZeroU16, NonZeroU16)>
     ensures some { IfSome result (λ a.
         AsksToMirror (map (λ word. string_bytes word) words.now) (non_zero_u16_get a.0)

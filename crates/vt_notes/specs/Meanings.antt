@@ -1,4 +1,4 @@
--- The meaning of notes.
+-- The calls and rows that notes stand for.
 use Rattle.std.specs.Prelude.{◌≡◌, map, string_bytes}
 use Rattle.vt_notes.specs.declared.note.KeptRow.{KeptRow}
 use Rattle.vt_notes.specs.declared.note.Note.{Note}
@@ -8,7 +8,7 @@ use Rattle.vt_rows.specs.Row.{RowValue}
 use Rattle.vt_screen.specs.Calls as value
 use Rattle.vt_screen.specs.Calls.{CallValue}
 
--- The row that a kept row stands for.
+-- The row that a stored row stands for.
 abbrev pub row_of : KeptRow → RowValue
 row_of row = record { cells = row.cells.items; wrapped = row.wrapped }
 
@@ -29,7 +29,7 @@ value_of (note.UnhandledCsi first second groups byte) =
 value_of (note.UnhandledOsc parts) = value.UnhandledOsc (map (λ part. part.items) parts.items)
 value_of (note.OnScroll row alternate) = value.OnScroll (row_of row) alternate
 
--- The note of a row has its basic text, as the first row of a capture.
+-- A note about a row stores the row's basic text, written as the first row of a capture.
 abbrev pub HasText : Note → Type 0
 HasText (note.OnScroll row alternate) = string_bytes row.text ≡ basic_text unwritten (row_of row)
 HasText _ = Unit {0}

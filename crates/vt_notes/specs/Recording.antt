@@ -1,4 +1,4 @@
--- The effect of callbacks that write a capture of the rows that are reported.
+-- The effect of callbacks that append the reported rows to a capture.
 use Rattle.std.specs.Prelude.{◌≡◌, ◌⊎◌, ℕ, Bool, true, false, List, [], ◌++◌}
 use Rattle.vt_rows.specs.Basic.{Written, unwritten}
 use Rattle.vt_rows.specs.Row.{RowValue}
@@ -7,13 +7,13 @@ use Rattle.vt_screen.specs.Capture.{basic_texts, written_after_all}
 use Rattle.vt_screen.specs.Screen.{ScreenValue}
 use Rattle.vt_screen.specs.Streamed.{row_of_call}
 
--- The capture so far, the state after it, and whether nothing of it is missing.
+-- The capture so far, its state, and whether no part of it is missing.
 pub record Recorded : Type 0 where
   pub text : List ℕ
   pub state : Written
   pub is_whole : Bool
 
--- The state before any row is recorded.
+-- The initial state: an empty capture with nothing missing.
 abbrev pub nothing_recorded : Recorded
 nothing_recorded = record { text = []; state = unwritten; is_whole = true }
 
@@ -22,7 +22,7 @@ abbrev pub with_rows : List RowValue → Recorded → Recorded
 with_rows rows old =
     record old { text = old.text ++ basic_texts old.state rows; state = written_after_all old.state rows }
 
--- The row of the main page that a call reports is appended to the capture, or the capture is recorded as not whole;
--- the screen is unchanged.
+-- The row of the main page that the call reports is appended to the capture, or the capture is marked as incomplete.
+-- The screen is unchanged.
 abbrev pub Records : CallValue → Recorded → ScreenValue → Recorded → ScreenValue → Type 0
 Records call old before new after = (after ≡ before) × ((new ≡ with_rows (row_of_call call) old) ⊎ (new.is_whole ≡ false))

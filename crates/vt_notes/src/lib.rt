@@ -1,5 +1,5 @@
-//! Callbacks that note each call with all its arguments, for tests and for the replay of recorded
-//! cases. The notes after a run are proved to be the calls of the run.
+//! Callbacks that note each call with all its arguments, for tests and for replaying recorded
+//! cases. The notes after a run are proved to be exactly the calls of that run.
 #![tactic(auto)]
 
 pub mod laws;

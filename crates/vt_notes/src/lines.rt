@@ -5,7 +5,7 @@ use std::alloc::AllocError;
 use std::convert::AsSlice;
 
 impl Note {
-    /// Appends the line of this call, with its line end.
+    /// Appends this call to `lines` as one line, including its line end.
     pub(crate) fn write_line(&self, lines: &mut String) -> Result<(), AllocError> {
         match self {
             Note::AudibleBell => writeln!(lines, "audible_bell()"),
@@ -49,8 +49,8 @@ fn write_texts<T: AsSlice<u8>>(
     writeln!(lines, ")")
 }
 
-/// Appends the line of a row that scrolled off: its text in hexadecimal (a dot if empty), and 1 for
-/// the alternate page.
+/// Appends the line for a row that scrolled off: its text in hexadecimal (a dot if the text is
+/// empty), and 1 if it was on the alternate page, otherwise 0.
 fn write_scroll(lines: &mut String, text: &[u8], alternate: bool) -> Result<(), AllocError> {
     write!(lines, "scroll ")?;
     if text.is_empty() {

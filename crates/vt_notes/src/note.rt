@@ -15,15 +15,15 @@ pub struct KeptRow {
     /// The cells, from left to right.
     pub cells: Vec<Cell>,
 
-    /// Whether the row is wrapped: its text continued on the row that was below it.
+    /// Whether the row is wrapped, which means that its text continued on the row below it.
     pub wrapped: bool,
 
-    /// The basic text of the row, as the first row of a capture.
+    /// The basic text of the row, as if it were the first row of a capture.
     pub text: String,
 }
 
-/// A call of a method of [`Callbacks`](vt100::Callbacks), named after the method, with copies of
-/// its arguments.
+/// A call to a method of [`Callbacks`](vt100::Callbacks). Each variant is named after its method
+/// and holds copies of the arguments.
 #[derive(Drop)]
 pub enum Note {
     AudibleBell,
@@ -42,11 +42,11 @@ pub enum Note {
 }
 
 impl Note {
-    /// Creates the note of a call.
+    /// Creates a note of a call.
     ///
     /// # Errors
     ///
-    /// Fails if a copy of an argument cannot be allocated.
+    /// Returns [`AllocError`] if a copy of an argument cannot be allocated.
     pub fn of_call(alloc: Global, call: Call<'_>) -> Result<Self, AllocError>
         ensures call { IfOk result (λ note. value_of note ≡ call_of call.entry) }
         ensures text { IfOk result HasText }
@@ -80,12 +80,12 @@ impl Note {
         }
     }
 
-    /// Creates the note of a row that scrolled off; `alternate` says whether it was on the
+    /// Creates a note of a row that scrolled off. `alternate` says whether the row was on the
     /// alternate page.
     ///
     /// # Errors
     ///
-    /// Fails if a copy of the cells or their text cannot be allocated.
+    /// Returns [`AllocError`] if the copy of the cells or their text cannot be allocated.
     pub fn of_scroll(
         alloc: Global,
         row: &RowContents<'_>,
@@ -110,7 +110,7 @@ impl Note {
     }
 }
 
-/// Returns copies of a list of slices.
+/// Returns a list with a copy of each slice.
 fn owned<T: Copy>(alloc: Global, lists: &[&[T]]) -> Result<Vec<Vec<T>>, AllocError>
     ensures { IfOk result (λ copies. map (λ copy. copy.items) copies.items ≡ map (λ list. list.now) lists.now) }
 {

@@ -10,7 +10,7 @@ use std::marker::Model;
 use vt100::capture::RowContents;
 use vt100::{Call, Callbacks, Screen};
 
-/// The calls noted so far. If memory for a note cannot be allocated, the call is missing, and
+/// The calls noted so far. If a note cannot be allocated, its call is missing, and
 /// [`Notes::is_complete`] returns `false` from then on.
 pub struct Notes {
     alloc: Global,
@@ -30,8 +30,8 @@ impl Model for Notes {
     ghost invariant = { λ n. All HasText n.calls.items };
 }
 
-// Dropping notes is one call: the steps of a derived drop would be repeated at each exit of each
-// caller's proof.
+// `Drop` is implemented by hand so that dropping is a single call. The steps of a derived drop
+// would be repeated at each exit of each caller's proof.
 impl Drop for Notes {
     fn drop(self) {
         let Notes {
@@ -43,7 +43,7 @@ impl Drop for Notes {
 }
 
 impl Notes {
-    /// Creates notes without calls.
+    /// Creates an empty list of notes.
     pub fn new(alloc: Global) -> Self
         ensures { result ≡ nothing_noted }
     {
@@ -54,7 +54,7 @@ impl Notes {
         }
     }
 
-    /// Returns the calls noted so far, in order. The note of a row has its basic text.
+    /// Returns the calls noted so far, in order. The note of a row contains the row's basic text.
     pub fn calls(&self) -> &[Note]
         ensures calls { map value_of result.now ≡ self.now.calls }
         ensures texts { All HasText result.now }
@@ -62,7 +62,7 @@ impl Notes {
         self.calls.as_slice()
     }
 
-    /// Returns whether no call is missing.
+    /// Returns whether all calls have been noted.
     pub fn is_complete(&self) -> bool
         ensures { result ≡ self.now.is_complete }
     {
@@ -71,13 +71,14 @@ impl Notes {
 
     /// Returns the calls noted so far as lines of text, one for each call.
     ///
-    /// Each line is written like a call in Rust: numbers in decimal, and bytes as text in double
-    /// quotes with Rust's escapes. A row that scrolled off is written as `scroll`, its basic text
-    /// in hexadecimal (a dot if empty), and 1 for the alternate page.
+    /// Each line looks like a call in Rust, with numbers in decimal and bytes in double quotes with
+    /// Rust's escapes. A row that scrolled off is written as `scroll`, its basic text in
+    /// hexadecimal (a dot if the text is empty), and 1 if it was on the alternate page, otherwise
+    /// 0.
     ///
     /// # Errors
     ///
-    /// Fails if a call is missing, and if the lines cannot be allocated.
+    /// Returns [`AllocError`] if a call is missing or the lines cannot be allocated.
     pub fn lines(&self, alloc: Global) -> Result<String, AllocError>
         ensures { OnOk result (self.now.is_complete ≡ true) }
     {

@@ -11,13 +11,13 @@ use std::alloc::Global;
 use std::num::NonZeroU16;
 use vt100::{Error, Parser};
 
-/// Creates a parser with a new screen of this size, without scrollback, and feeds the chunks to it
-/// one by one. Its notes are exactly the calls that the bytes cause.
+/// Creates a parser with a new screen of the given size, without scrollback, and feeds the chunks
+/// to it one by one. Its notes are exactly the calls that the bytes cause.
 ///
 /// # Errors
 ///
-/// Returns [`Error::OutOfMemory`] if memory for the screen, the text of a command or a note cannot
-/// be allocated.
+/// Returns [`Error::OutOfMemory`] if the screen, the text of a command or a note cannot be
+/// allocated.
 pub fn read(
     alloc: Global,
     rows: NonZeroU16,

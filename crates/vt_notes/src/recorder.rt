@@ -1,4 +1,4 @@
-//! Callbacks that write a capture of the rows that are reported.
+//! Callbacks that capture the rows that are reported to them.
 
 ghost use Rattle.std.specs.Prelude.{◌≡◌, ◌++◌, false, true, OnErr, OnOk};
 ghost use Rattle.vt_cells.specs.Refusals.{OnlyOutOfMemory};
@@ -10,9 +10,10 @@ use std::marker::Model;
 use vt100::capture::{BasicFormattedCaptureRange, BasicFormattedCaptureState, RowContents};
 use vt100::{Call, Callbacks, Error, Screen};
 
-/// The capture so far: the basic text of the rows that scrolled off the main page and are not kept.
+/// A capture of the rows that scrolled off the main page and were not kept in scrollback, as basic
+/// text.
 ///
-/// If memory for a row cannot be allocated, the capture is no longer whole, which is remembered.
+/// If memory for a row cannot be allocated, the recorder remembers that its capture is incomplete.
 pub struct Recorder {
     text: String,
     state: BasicFormattedCaptureState,
@@ -28,8 +29,8 @@ impl Model for Recorder {
     ghost view = { λ r. record { text = string_bytes r.text; state = r.state; is_whole = r.is_whole } };
 }
 
-// Dropping a recorder is one call: the steps of a derived drop would be repeated at each exit of
-// each caller's proof.
+// `Drop` is implemented by hand so that dropping is a single call. The steps of a derived drop
+// would be repeated at each exit of each caller's proof.
 impl Drop for Recorder {
     fn drop(self) {
         let Recorder {
@@ -41,7 +42,7 @@ impl Drop for Recorder {
 }
 
 impl Recorder {
-    /// Creates a recorder without rows.
+    /// Creates a recorder with an empty capture.
     pub fn new(alloc: Global) -> Self
         ensures { result ≡ nothing_recorded }
     {
@@ -63,8 +64,8 @@ impl Recorder {
     ///
     /// # Errors
     ///
-    /// Returns [`Error::OutOfMemory`] if an allocation fails, or failed for an earlier row. The
-    /// capture is no longer whole then; part of the text may have been appended.
+    /// Returns [`Error::OutOfMemory`] if an allocation fails or has failed for an earlier row. The
+    /// capture is then incomplete, and part of the new text may have been appended.
     pub fn capture(&mut self, screen: &Screen) -> Result<(), Error>
         ensures whole { OnOk result (self.old.is_whole ≡ true) }
         ensures text { OnOk result (self.new.text ≡ self.old.text ++ basic_texts self.old.state (all_rows screen.now)) }
@@ -88,7 +89,7 @@ impl Recorder {
     }
 }
 
-/// Each row of the main page that is reported is written once; the screen is unchanged.
+/// Each reported row of the main page is written once; the screen is unchanged.
 impl Callbacks for Recorder {
     ghost use Rattle.vt_notes.specs.Recording.{Records};
 

@@ -1,4 +1,5 @@
--- Operations whose output a terminal reads back unchanged: their numbers fit, and their text is printed.
+-- Operations whose output a terminal reads back as the same operations: their numbers are in range, and their text is
+-- printable.
 use Rattle.std.specs.Prelude.{◌≡◌, ◌≢◌, ℕ, ◌<◌, ◌^◌, List, None, encode_utf8_all}
 use Rattle.std.specs.Char.{IsScalar}
 use Rattle.std.specs.List.{AllByRecursion}
@@ -6,19 +7,20 @@ use Rattle.vt_cells.specs.Glyph.{columns_of}
 use Rattle.vt_cells.specs.Op.{Op, Hide, ClearAttrs, MoveTo, MoveRight, NextRow, LineFeed, Backspace, EraseBelow}
 use Rattle.vt_cells.specs.Op.{EraseRest, EraseChars, SaveCursor, RestoreCursor, ChangeAttrs, Print, FitsAttrs}
 
--- A character that is printed, or joins the glyph before it.
+-- The character is printed, or is added to the glyph before it.
 pub record IsDrawn (c : ℕ) : Type 0 where
   pub scalar : IsScalar c
   pub shown : columns_of c ≢ None
   pub reported : c ≢ 0xFFFD
 
--- The UTF-8 encoding of characters that are printed.
+-- The text is the UTF-8 encoding of characters that are printed.
 pub record IsDrawnText (text : List ℕ) : Type 0 where
   pub characters : List ℕ
   pub spelled : encode_utf8_all characters ≡ text
   pub printable : AllByRecursion IsDrawn characters
 
--- An operation whose output is read back unchanged; rows and columns are written counting from 1.
+-- The output of the operation is read back as the same operation. Positions are limited to 65534, because rows and
+-- columns are 1-based in the output.
 abbrev pub Fits : Op → Type 0
 Fits (Hide hidden) = Unit {0}
 Fits ClearAttrs = Unit {0}

@@ -1,5 +1,5 @@
--- Output for one row: its columns from `start` up to but not including `stop`, for a terminal with default attributes
--- and its cursor at row r, column `start`.
+-- The output for a range of one row, from column `start` up to but excluding column `stop`. It is for a terminal with
+-- default attributes whose cursor is at row `r`, column `start`.
 use Rattle.std.specs.Prelude.{◌≡◌, ℕ, zero, suc, ◌-◌, ◌==◌, ◌&&◌, not, Bool, true, false}
 use Rattle.std.specs.Prelude.{List, [], ◌∷◌, ◌++◌, length, take, drop, if◌then◌else◌}
 use Rattle.vt_cells.specs.Attrs.{default_attrs}
@@ -14,12 +14,12 @@ use Rattle.vt_redraw.specs.Script.{pen_at}
 use Rattle.vt_redraw.specs.declared.pen.Pen.{Pen}
 use Rattle.vt_redraw.specs.Script.{Scripted, ops_then, cells_written, first_written, behind_last_glyph, row_break}
 
--- The columns of a row in a range.
+-- The cells of a row in the columns `start..stop`.
 abbrev pub in_range : (start stop : ℕ) → List CellValue → List CellValue
 in_range start stop cells = take (stop - start) (drop start cells)
 
--- Cells in which a continuation cell at the beginning is replaced by a default blank, which needs no output only if the
--- terminal has a continuation cell there, too.
+-- The cells, in which a continuation cell at the beginning is replaced with a default blank. That blank needs no
+-- output only if the terminal also has a continuation cell there.
 abbrev pub with_whole_start : List CellValue → List CellValue
 with_whole_start [] = []
 with_whole_start (right_half ∷ xs) = default_blank ∷ xs
@@ -32,7 +32,7 @@ with_whole_start_over (right_half ∷ xs) (blank a ∷ ys) = right_half ∷ ys
 with_whole_start_over (right_half ∷ xs) (glyph text wide a ∷ ys) = right_half ∷ ys
 with_whole_start_over _ ys = ys
 
--- The output for the cells of a range.
+-- The output for the cells in a range of columns.
 abbrev pub range_written : (r start stop : ℕ) → Bool → (xs ys : List CellValue) → Scripted
 range_written r start stop flag xs ys =
     cells_written r start (pen_at r start default_attrs) flag 0
@@ -41,7 +41,8 @@ range_written r start stop flag xs ys =
 abbrev pub is_whole : (start stop width : ℕ) → Bool
 is_whole start stop width = (start == 0) && (stop == width)
 
--- Output followed by the row's last glyph again, if the row is wrapped and the terminal's row is not.
+-- The output `w`, after which the row's last glyph is printed again if the row must be wrapped and the terminal's row
+-- is not.
 abbrev pub marked_on : ℕ → Scripted → Bool → List CellValue → Scripted
 marked_on r w wanted cells =
     if wanted && not w.flag
@@ -51,31 +52,32 @@ marked_on r w wanted cells =
       flag = w.flag;
     } else w
 
--- Whether the row above row r is wrapped.
+-- Whether the row above row `r` is wrapped.
 abbrev pub is_linked : (width : ℕ) → List RowValue → ℕ → Bool
 is_linked width rows zero = false
 is_linked width rows (suc r) = (row_or width rows r).wrapped
 
--- The output for a range of a row over the terminal's row; for a whole row it also makes the row wrapped or not.
+-- The output that replaces a range of the terminal's row `y` with the row `x`. For a whole row, it also sets or
+-- clears the wrapped flag.
 abbrev pub item_of_difference : (r start stop : ℕ) → (x y : RowValue) → Scripted
 item_of_difference r start stop x y =
     let w = range_written r start stop y.wrapped x.cells y.cells in
     let b = row_break r w.pen w.flag x.wrapped x.cells in
     if is_whole start stop (length x.cells) then marked_on r (ops_then w.ops b) x.wrapped x.cells else w
 
--- The output for a whole row after a wrapped row: its first cell as in a link.
+-- The output for a whole row below a wrapped row: its first cell is printed as in a link.
 abbrev pub linked_item : ℕ → List CellValue → Scripted
 linked_item r xs =
     let first = first_written r (pen_at r 0 default_attrs) false xs (blanks default_attrs (length xs)) in
     ops_then first.ops (cells_written r 0 first.pen first.flag first.settled xs (blanks default_attrs (length xs)))
 
--- The output for a range of a row over a blank row; `linked` says whether the row above is wrapped.
+-- The output that draws a range of a row over a blank row; `linked` says whether the row above is wrapped.
 abbrev pub item_of_redraw : (r start stop : ℕ) → (linked : Bool) → RowValue → Scripted
 item_of_redraw r start stop linked x =
     if is_whole start stop (length x.cells) && linked then linked_item r x.cells
     else range_written r start stop false x.cells (blanks default_attrs (length x.cells))
 
--- The text of the output for row r of a picture.
+-- The output, as text, for a range of row `r` of a picture.
 abbrev pub changed_row_text : (r start stop : ℕ) → (self prev : Picture) → List ℕ
 changed_row_text r start stop self prev =
     bytes_of_all (item_of_difference r start stop (row_or self.width self.rows r) (row_or self.width prev.rows r)).ops
@@ -86,16 +88,16 @@ formatted_row_text r start stop self =
 
 -- ---- the rows that are drawn
 
--- A row with the cells of another row in a range.
+-- The cells `ys`, with the cells in the range replaced by those of `xs`.
 abbrev pub with_range : (start stop : ℕ) → (xs ys : List CellValue) → List CellValue
 with_range start stop xs ys = take start ys ++ (in_range start stop xs ++ drop stop ys)
 
--- The range cuts no wide character of a row in two.
+-- Neither end of the range splits a wide character.
 abbrev pub CutsNone : (start stop : ℕ) → List CellValue → Type 0
 CutsNone start stop cells = (is_right_half (at cells start) ≡ false) × (is_right_half (at cells stop) ≡ false)
 
--- A plain canvas of a picture's size with the row `stood` as its row r, the cursor in column c of it, and default
--- attributes.
+-- The canvas is plain, has the picture's size and default attributes, and its row `r` is `stood`. The cursor is in
+-- column `c` of that row.
 pub record AwaitsItem (self : Picture) (r c : ℕ) (stood : RowValue) (any : Canvas) : Type 0 where
   pub plain : IsPlainPage any.page
   pub is : IsPicture (picture_of any)
@@ -105,23 +107,23 @@ pub record AwaitsItem (self : Picture) (r c : ℕ) (stood : RowValue) (any : Can
   pub attrs : any.attrs ≡ default_attrs
   pub stands : row_at any.page r ≡ stood
 
--- The row that an item of a difference leaves.
+-- The row after an item of a difference is drawn on it.
 abbrev pub changed_row : (r start stop : ℕ) → (x y : RowValue) → RowValue
 changed_row r start stop x y =
     record { cells = with_range start stop x.cells y.cells; wrapped = (item_of_difference r start stop x y).flag }
 
--- The row that an item of a redraw leaves on a blank row.
+-- The row after an item of a redraw is drawn on a blank row.
 abbrev pub formatted_row : (start stop width : ℕ) → RowValue → RowValue
 formatted_row start stop width x =
     record { cells = with_range start stop x.cells (blanks default_attrs width); wrapped = false }
 
--- A canvas with row r replaced, and its cursor and attributes those of a pen.
+-- The canvas with row `r` replaced, and with the cursor and attributes of a pen.
 abbrev pub row_drawn : ℕ → RowValue → Pen → Canvas → Canvas
 row_drawn r row pen any = record any {
   page = record (with_row r row any.page) { row = pen.row; column = pen.col };
   attrs = pen.attrs;
 }
 
--- A canvas whose row r is wrapped.
+-- The canvas with row `r` marked as wrapped.
 abbrev pub going_on : ℕ → Canvas → Canvas
 going_on r any = record any { page = with_row r (record (row_at any.page r) { wrapped = true }) any.page }

@@ -1,4 +1,4 @@
--- Moving rows of a terminal before a difference is drawn, and the picture that it then displays.
+-- Moving rows of a terminal before a difference is drawn, and the picture displayed after that.
 use Rattle.std.specs.Prelude.{◌≡◌, ◌⊎◌, ℕ, ◌+◌, ◌-◌, ◌<◌, ◌≤◌, ◌==◌, ◌&&◌, nat_le, nat_lt}
 use Rattle.std.specs.Prelude.{List, ◌++◌, length, if◌then◌else◌}
 use Rattle.vt_cells.specs.Attrs.{default_attrs}
@@ -11,13 +11,13 @@ use Rattle.vt_redraw.specs.Redraw.{difference}
 use Rattle.vt_redraw.specs.Script.{attr_ops}
 use Rattle.vt_redraw.specs.declared.band.Band.{Band}
 
--- A band of a picture of this many rows, of which some row is left after it has moved.
+-- The band is valid for a picture of this many rows, and not all of its rows are pushed out when it moves.
 pub record IsBand (height : ℕ) (band : Band) : Type 0 where
   pub some : 0 < band.count
   pub rows : band.top + band.count < band.bottom
   pub inside : band.bottom ≤ height
 
--- The row that moves to row r: within the band the one `count` rows below or above, or `past` if row r becomes blank.
+-- The former index of row `r` of the band: `count` rows below or above it, or `past` if the row becomes blank.
 abbrev pub source_within : Band → (past r : ℕ) → ℕ
 source_within band past r =
     if band.up
@@ -28,19 +28,19 @@ abbrev pub band_source : Band → (past r : ℕ) → ℕ
 band_source band past r =
     if nat_le band.top r && nat_lt r band.bottom then source_within band past r else r
 
--- Rows after a band has moved: rows that are left behind are default blanks, and the last row is not wrapped.
+-- The rows after a band has moved: vacated rows become default blanks, and the last row is marked as not wrapped.
 unfoldable pub rows_moved : (width : ℕ) → Band → List RowValue → List RowValue
 rows_moved width band rows =
     unflagged width (length rows - 1) (moved_rows width (band_source band (length rows)) rows)
 
--- The row that the last sequence addresses.
+-- The row that the last of the moving sequences addresses.
 abbrev pub last_moved : (height : ℕ) → Band → ℕ
 last_moved height band =
     if band.bottom == height then band.top
     else if band.up then band.bottom - band.count
     else band.top
 
--- The picture after a band has moved: the cursor is where the last sequence was, and the attributes are the default
+-- The picture after a band has moved. The cursor is where the last sequence left it. The attributes are the default
 -- ones, because a terminal may fill rows with the current background.
 abbrev pub moved : Band → Picture → Picture
 moved band picture = record picture {
@@ -52,15 +52,15 @@ moved band picture = record picture {
 
 -- ---- the sequences
 
--- The deletion (DL) and the insertion (IL) of rows at a row.
+-- The sequences that delete (DL) and insert (IL) rows at a given row.
 abbrev pub lines_deleted_text : (row count : ℕ) → List ℕ
 lines_deleted_text row count = bytes_of (MoveTo row 0) ++ counted count 0x4D
 
 abbrev pub lines_inserted_text : (row count : ℕ) → List ℕ
 lines_inserted_text row count = bytes_of (MoveTo row 0) ++ counted count 0x4C
 
--- The sequences that move a band up or down: as many rows are inserted at one end as are deleted at the other, so that
--- the rows below don't move, unless the band ends with the last row.
+-- The sequences that move a band up or down. As many rows are inserted at one end as are deleted at the other, so
+-- that the rows below the band don't move. If the band ends with the last row, one sequence is enough.
 unfoldable pub up_text : (height : ℕ) → Band → List ℕ
 up_text height band =
     if band.bottom == height then lines_deleted_text band.top band.count
@@ -74,15 +74,15 @@ down_text height band =
 abbrev pub band_text : (height : ℕ) → Band → List ℕ
 band_text height band = if band.up then up_text height band else down_text height band
 
--- The sequences that move a band, after a change to the default attributes.
+-- The sequences that move a band, preceded by a change to the default attributes.
 abbrev pub moving_text : Band → Picture → List ℕ
 moving_text band prev = bytes_of_all (attr_ops prev.attrs default_attrs) ++ band_text (length prev.rows) band
 
--- The sequences that move a band, followed by the difference from the picture that is then displayed.
+-- The sequences that move a band, followed by the difference from the picture displayed after that.
 abbrev pub scrolling_text : Band → (self prev : Picture) → List ℕ
 scrolling_text band self prev = moving_text band prev ++ bytes_of_all (difference self (moved band prev))
 
--- The plain difference, or one after some band has moved.
+-- The text is the plain difference, or a difference that moves a band first.
 abbrev pub IsScrolling : (self prev : Picture) → List ℕ → Type 0
 IsScrolling self prev text =
     (text ≡ bytes_of_all (difference self prev))

@@ -1,4 +1,4 @@
--- The difference of two pictures, and the redraw of one, as lists of operations.
+-- The difference between two pictures, and the redraw of one picture, as lists of operations.
 use Rattle.std.specs.Prelude.{ℕ, suc, zero, ◌+◌, ◌-◌, nat_lt, Bool, false, List, [], ◌∷◌}
 use Rattle.std.specs.Prelude.{◌++◌, length, replicate, Option, Some, None, if◌then◌else◌}
 use Rattle.vt_cells.specs.Attrs.{default_attrs, same_bool, Attrs}
@@ -16,18 +16,18 @@ use Rattle.vt_redraw.specs.Script.{last_glyph, cells_written, Linked, no_link, r
 
 -- ---- the rows from the top
 
--- The output for one row: its cells, except for the first ones that are done, and the break.
+-- The output for one row: its cells, except for the first `settled` cells, and the break after it.
 unfoldable pub row_written : (r settled : ℕ) → Pen → Bool → RowValue → List CellValue → Scripted
 row_written r settled pen flag x ys =
     let cells = cells_written r 0 pen flag settled x.cells ys in
     ops_then cells.ops (row_break r cells.pen cells.flag x.wrapped x.cells)
 
--- The link from row r to the next row.
+-- The link from row `r` to the next row, if row `r` is wrapped.
 abbrev pub link_of : ℕ → Pen → RowValue → Bool → RowValue → RowValue → Linked
 link_of r pen above on x y =
     if above.wrapped then row_link r pen above.cells on y.wrapped x.cells y.cells else no_link pen y.wrapped
 
--- The output for the rows below row r, which is `above`; `on` says whether the terminal's row r is wrapped.
+-- The output for the rows below row `r`, which is `above`; `on` says whether row `r` of the terminal is wrapped.
 unfoldable pub rows_below : ℕ → Pen → RowValue → Bool → (xs ys : List RowValue) → Scripted
 rows_below r pen above on [] ys = no_ops pen on
 rows_below r pen above on (x ∷ xs) [] = no_ops pen on
@@ -45,22 +45,23 @@ rows_written pen (x ∷ xs) (y ∷ ys) =
 
 -- ---- the cursor
 
--- The nearest row at or above row n whose last column is not blank.
+-- The nearest row at or above row `n` whose last column is not blank.
 abbrev pub nearest : ℕ → List RowValue → ℕ → Option ℕ
 nearest width rows zero = if ends_blank (row_or width rows 0).cells then None else Some 0
 nearest width rows (suc n) = if ends_blank (row_or width rows (suc n)).cells then nearest width rows n else Some (suc n)
 
--- The operations that pass a blank last column: a space is printed and then erased.
+-- The operations that move the cursor past a blank last column: a space is printed and then erased.
 abbrev pub blank_passed : (was attrs : Attrs) → List Op
 blank_passed was attrs =
     Print (0x20 ∷ [])
     ∷ (attr_ops was attrs ++ (SaveCursor ∷ Backspace ∷ EraseChars 1 ∷ RestoreCursor ∷ attr_ops attrs was))
 
--- The operations that make a wrap pending at the end of row r, whose last column is blank in these attributes.
+-- The operations that make a wrap pending at the end of row `r`, whose last column is a blank with these attributes.
 unfoldable pub over_blank : Pen → (r width : ℕ) → Attrs → List Op
 over_blank pen r width attrs = move_ops pen r (width - 1) ++ blank_passed pen.attrs attrs
 
--- The operations that make a wrap pending at the end of row r: after the last glyph of row i, and down from there.
+-- The operations that make a wrap pending at the end of row `r`: they print the last glyph of row `i` and then move
+-- down.
 unfoldable pub under_last : Pen → (i r : ℕ) → List CellValue → List Op
 under_last pen i r cells =
     (behind_last_glyph i pen cells).ops
@@ -70,7 +71,7 @@ abbrev pub pending_at : Option ℕ → Pen → ℕ → List RowValue → ℕ →
 pending_at None pen width rows r = over_blank pen r width (attrs_of (at (row_or width rows r).cells (width - 1)))
 pending_at (Some i) pen width rows r = under_last pen i r (row_or width rows i).cells
 
--- The operations that move the cursor to its position; the pen's attributes are unchanged.
+-- The operations that move the cursor to its final position; the pen's attributes are unchanged.
 unfoldable pub cursor_written : Pen → ℕ → List RowValue → (row column : ℕ) → List Op
 cursor_written pen width rows row column =
     if is_at pen row column then []
@@ -82,7 +83,7 @@ cursor_written pen width rows row column =
 abbrev pub pen_of : Picture → Pen
 pen_of picture = pen_at picture.row picture.column picture.attrs
 
--- The operations that turn one picture into another: rows, cursor and attributes.
+-- The operations that turn the picture `prev` into `self`: rows, cursor and attributes.
 unfoldable pub script : (self prev : Picture) → List Op
 script self prev =
     let written = rows_written (pen_of prev) self.rows prev.rows in
@@ -95,7 +96,7 @@ hiding self prev = if same_bool self.hidden prev.hidden then [] else Hide self.h
 unfoldable pub difference : (self prev : Picture) → List Op
 difference self prev = hiding self prev ++ script self prev
 
--- A blank picture of the same size.
+-- The blank picture of the same size.
 abbrev pub blank_like : Picture → Picture
 blank_like picture = record {
   rows = replicate (length picture.rows) (blank_row default_attrs picture.width);
@@ -109,7 +110,7 @@ blank_like picture = record {
 unfoldable pub redraw : Picture → List Op
 redraw self = Hide self.hidden ∷ ClearAttrs ∷ MoveTo 0 0 ∷ EraseBelow ∷ script self (blank_like self)
 
--- ---- the cursor alone, for a terminal whose cursor may be anywhere
+-- ---- the cursor alone, for a terminal whose cursor position is unknown
 
 abbrev pub pending_alone : Option ℕ → ℕ → List RowValue → ℕ → List Op
 pending_alone None width rows r =
@@ -126,14 +127,14 @@ cursor_alone self =
     if nat_lt self.column self.width then MoveTo self.row self.column ∷ []
     else pending_alone (nearest self.width self.rows self.row) self.width self.rows self.row
 
--- The operations that hide or show and move the cursor, for a terminal that displays the rest and has default
--- attributes.
+-- The operations that set the cursor's visibility and position, on a terminal that already displays the rest and has
+-- default attributes.
 unfoldable pub cursor_state : Picture → List Op
 cursor_state self = Hide self.hidden ∷ cursor_alone self
 
 -- ---- pictures in sequence
 
--- The differences of each picture against the one before it.
+-- The differences between each picture and the one before it.
 abbrev pub differences : Picture → List Picture → List Op
 differences prev [] = []
 differences prev (x ∷ xs) = difference x prev ++ differences x xs

@@ -1,6 +1,6 @@
--- The output that a sink may refuse.
+-- The output that a sink can reject.
 use Rattle.std.specs.Prelude.{ℕ, ◌<◌, List, length, OnErr, Result}
 
--- What was refused isn't empty.
+-- If the result is an error, the output is not empty.
 abbrev pub RefusedOnlyIfSome : {A E : Type 0} → Result A E → List ℕ → Type 0
 RefusedOnlyIfSome result text = OnErr result (0 < length text)

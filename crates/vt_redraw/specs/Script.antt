@@ -1,5 +1,5 @@
--- What turns a row that the terminal displays into another: its cells, its link with the row above, and the break to
--- the row below.
+-- The output that turns a row of the terminal into a different row: its cells, its link to the row above, and the
+-- break before the row below.
 use Rattle.std.specs.Prelude.{ℕ, suc, zero, ◌+◌, ◌-◌, ◌==◌, ◌&&◌, ◌||◌, not, Bool, true}
 use Rattle.std.specs.Prelude.{false, List, [], ◌∷◌, ◌++◌, length, drop, if◌then◌else◌}
 use Rattle.vt_cells.specs.Glyph.{glyph_columns}
@@ -14,7 +14,7 @@ use Rattle.vt_redraw.specs.declared.pen.Pen.{Pen}
 abbrev pub pen_at : ℕ → ℕ → Attrs → Pen
 pen_at row col attrs = record { row = row; col = col; attrs = attrs }
 
--- The operations that move the pen to a position, and that change its attributes.
+-- The operations that move the pen to a position, and those that change its attributes.
 unfoldable pub move_ops : Pen → ℕ → ℕ → List Op
 move_ops pen row col = moving pen.row pen.col row col
 
@@ -27,16 +27,17 @@ is_blank_of attrs (blank b) = same_attrs attrs b
 is_blank_of attrs (glyph text wide b) = false
 is_blank_of attrs right_half = false
 
--- The number of blanks with these attributes at the beginning of cells.
+-- The number of blanks with these attributes at the beginning of the cells.
 abbrev pub blank_run : Attrs → List CellValue → ℕ
 blank_run attrs cells = prefix_len (is_blank_of attrs) cells
 
--- The erasure of a run of n blanks: to the end of the row if nothing comes after it.
+-- The operation that erases a run of `n` blanks: to the end of the row if no cells follow.
 abbrev pub erase_run : ℕ → List CellValue → Op
 erase_run n [] = EraseRest
 erase_run n (x ∷ xs) = EraseChars n
 
--- Operations, the terminal's cursor and attributes after them, and whether the terminal's row is wrapped then.
+-- A list of operations, the terminal's cursor and attributes after them, and whether the terminal's row is then
+-- wrapped.
 pub record Scripted : Type 0 where
   pub ops : List Op
   pub pen : Pen
@@ -48,36 +49,36 @@ no_ops pen flag = record { ops = []; pen = pen; flag = flag }
 abbrev pub ops_then : List Op → Scripted → Scripted
 ops_then ops written = record { ops = ops ++ written.ops; pen = written.pen; flag = written.flag }
 
--- One operation at a position with these attributes.
+-- The operations that perform `op` at a position with these attributes.
 abbrev pub placed_op : Pen → ℕ → ℕ → Attrs → Op → List Op
 placed_op pen row col attrs op = move_ops pen row col ++ (attr_ops pen.attrs attrs ++ op ∷ [])
 
--- ---- whether the terminal's row is wrapped, by the cells of it that are left
+-- ---- whether the terminal's row is wrapped, given its remaining cells
 
 abbrev pub is_nil : List CellValue → Bool
 is_nil [] = true
 is_nil (x ∷ xs) = false
 
--- Whether a single continuation cell is left, in the last column: its wide character was overwritten, so it is no
--- continuation cell any more.
+-- Whether the only cell left is a continuation cell in the last column, whose wide character was overwritten, so that
+-- it becomes blank.
 abbrev pub is_torn : List CellValue → Bool
 is_torn (right_half ∷ []) = true
 is_torn _ = false
 
--- Whether the terminal's row is still wrapped after a glyph: not if the glyph is wide and leaves a single continuation
--- cell, which becomes blank.
+-- Whether the terminal's row is still wrapped after a glyph. It is not if the glyph is wide and the only cell after
+-- it is a continuation cell, which becomes blank.
 abbrev pub flag_behind : Bool → Bool → List CellValue → Bool
 flag_behind flag wide rest = flag && not (wide && is_torn rest)
 
--- Whether the terminal's row is still wrapped after a run of blanks: not if the run reaches the last column or leaves a
--- single continuation cell.
+-- Whether the terminal's row is still wrapped after a run of blanks. It is not if the run reaches the last column or
+-- the only cell after it is a continuation cell.
 abbrev pub flag_past : Bool → List CellValue → Bool
 flag_past flag rest = flag && not (is_nil rest || is_torn rest)
 
 -- ---- the cells of a row, from left to right
 
--- The output for the cells of a row from column c on, of which the first `settled` are done; xs are the row's cells
--- from there, and ys those that the terminal displays.
+-- The output that replaces the displayed cells `ys` with `xs`, from column `c` of row `r` on. The first `settled`
+-- cells need no output.
 unfoldable pub cells_written : (r c : ℕ) → Pen → (flag : Bool) → (settled : ℕ) → (xs ys : List CellValue) → Scripted
 cells_written r c pen flag settled [] ys = no_ops pen flag
 cells_written r c pen flag settled (x ∷ xs) [] = no_ops pen flag
@@ -104,7 +105,8 @@ last_glyph cells = at cells (last_column cells)
 abbrev pub is_at : Pen → ℕ → ℕ → Bool
 is_at pen row col = (pen.row == row) && (pen.col == col)
 
--- The pen after the last glyph of row r, and the operations that print that glyph again unless the pen is there.
+-- The pen after the last glyph of row `r`, and the operations that print that glyph again unless the pen is already
+-- there.
 abbrev pub pen_behind : ℕ → List CellValue → Pen
 pen_behind r cells = pen_at r (length cells) (attrs_of (last_glyph cells))
 
@@ -117,9 +119,10 @@ behind_last_glyph r pen cells =
       flag = true;
     }
 
--- ---- the link of a row with a wrapped row above it
+-- ---- the link of a row to a wrapped row above it
 
--- Operations, the state of the terminal after them, and how many of the row's first cells are done.
+-- A list of operations, the state of the terminal after them, and the number of cells at the beginning of the row
+-- that they have drawn.
 pub record Linked : Type 0 where
   pub ops : List Op
   pub pen : Pen
@@ -129,7 +132,8 @@ pub record Linked : Type 0 where
 abbrev pub no_link : Pen → Bool → Linked
 no_link pen flag = record { ops = []; pen = pen; flag = flag; settled = 0 }
 
--- The output for the first cell, with a wrap pending in the row above: a blank is printed as a space, which is erased.
+-- The output for the first cell while a wrap is pending in the row above. A blank is printed as a space, which is
+-- then erased.
 abbrev pub first_written : ℕ → Pen → Bool → (xs ys : List CellValue) → Linked
 first_written r pen flag [] ys = no_link pen flag
 first_written r pen flag (x ∷ xs) [] = no_link pen flag
@@ -147,7 +151,7 @@ first_written r pen flag (glyph text wide a ∷ xs) (y ∷ ys) = record {
   settled = glyph_columns wide;
 }
 
--- Whether the row begins with a glyph that the terminal does not display there.
+-- Whether the row begins with a glyph that the terminal does not display there yet.
 abbrev pub starts_other : List CellValue → List CellValue → Bool
 starts_other [] ys = false
 starts_other (x ∷ xs) [] = false
@@ -157,8 +161,8 @@ abbrev pub ops_then_link : List Op → Linked → Linked
 ops_then_link ops link =
     record { ops = ops ++ link.ops; pen = link.pen; flag = link.flag; settled = link.settled }
 
--- The link from the cells `above` of a wrapped row r to the next row; `on` says whether the terminal's row r is
--- wrapped.
+-- The link from the cells `above` of row `r`, which is wrapped, to the next row; `on` says whether row `r` of the
+-- terminal is wrapped.
 unfoldable pub row_link : ℕ → Pen → (above : List CellValue) →
     (on : Bool) → (flag : Bool) → (xs ys : List CellValue) → Linked
 row_link r pen above on flag xs ys =
@@ -166,9 +170,10 @@ row_link r pen above on flag xs ys =
     then ops_then_link (behind_last_glyph r pen above).ops (first_written (r + 1) (behind_last_glyph r pen above).pen flag xs ys)
     else no_link pen flag
 
--- ---- the break to the row below
+-- ---- the break before the row below
 
--- The break after a row, by which the terminal's row ceases to be wrapped: its last glyph is erased and printed again.
+-- The break after a row, which clears the wrapped flag of the terminal's row: the last glyph is erased and printed
+-- again.
 abbrev pub break_ops : ℕ → Pen → List CellValue → Scripted
 break_ops r pen cells = record {
   ops =

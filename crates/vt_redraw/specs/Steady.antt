@@ -1,4 +1,4 @@
--- Steady pictures, whose glyphs reproduce themselves when printed character by character.
+-- Steady pictures: every glyph reproduces itself when its characters are printed.
 use Rattle.std.specs.Prelude.{◌≡◌, ℕ, Bool, false, List, ◌++◌, length, Some, All, chars}
 use Rattle.std.specs.Char.{encode_utf8}
 use Rattle.std.specs.List.{list_any}
@@ -10,13 +10,13 @@ use Rattle.vt_grid.specs.Printing.{glyph_put}
 use Rattle.vt_grid.specs.Canvas.{Canvas, drawn_text}
 use Rattle.vt_redraw.specs.Picture.{Picture, IsPicture}
 
--- A canvas of one blank row with the cursor in the first column and these attributes.
+-- A canvas of one blank row, with the cursor in the first column and the given attributes.
 abbrev pub blank_line : ℕ → Attrs → Canvas
 blank_line width attrs =
     record { page = blank_page 1 width; attrs = attrs; saved_attrs = default_attrs; hidden = false }
 
--- The characters of the text, printed on a blank row, give this glyph in the first columns and nothing else, with the
--- cursor after it.
+-- Printing the characters of the text on a blank row produces exactly this glyph at the beginning of the row, with
+-- the cursor after it.
 abbrev pub IsSteadyGlyph : ℕ → List ℕ → Bool → Attrs → Type 0
 IsSteadyGlyph width text wide attrs =
     drawn_text (chars text) (blank_line width attrs)
@@ -30,7 +30,7 @@ IsSteadyCell width right_half = Unit {0}
 abbrev pub IsSteady : Picture → Type 0
 IsSteady picture = All (λ row. All (IsSteadyCell picture.width) row.cells) picture.rows
 
--- A steady picture of a size.
+-- The picture is valid, steady, and of this width and height.
 pub record IsOfSize (width height : ℕ) (picture : Picture) : Type 0 where
   pub is : IsPicture picture
   pub steady : IsSteady picture
@@ -39,7 +39,7 @@ pub record IsOfSize (width height : ℕ) (picture : Picture) : Type 0 where
 
 -- ---- pictures known to be steady
 
--- Whether a glyph contains U+FE0F, which asks for emoji presentation (Unicode, Variation Sequences).
+-- Whether a glyph contains U+FE0F, which requests emoji presentation (Unicode, Variation Sequences).
 abbrev pub has_selector : CellValue → Bool
 has_selector (glyph text wide attrs) = list_any is_selector (chars text)
 has_selector (blank attrs) = false
@@ -48,6 +48,6 @@ has_selector right_half = false
 abbrev pub HasNoSelector : Picture → Type 0
 HasNoSelector picture = All (λ row. All (λ cell. has_selector cell ≡ false) row.cells) picture.rows
 
--- The text of a heart with U+FE0F.
+-- The text of a heart, U+2764, followed by U+FE0F.
 abbrev pub heart_text : List ℕ
 heart_text = encode_utf8 0x2764 ++ encode_utf8 0xFE0F

@@ -1,16 +1,16 @@
--- The basic text of a row: its text with SGR sequences only (ECMA-48).
+-- The basic text of a row: its text with no escape sequences except SGR (ECMA-48).
 use Rattle.std.specs.Prelude.{◌||◌, ℕ, not, Bool, false, List, [], ◌∷◌, ◌++◌, if◌then◌else◌}
 use Rattle.vt_cells.specs.Attrs.{default_attrs, Attrs}
 use Rattle.vt_cells.specs.Cell.{CellValue, blank, glyph, right_half, is_default_blank, is_right_half, attrs_of}
 use Rattle.vt_cells.specs.Op.{change_text}
 use Rattle.vt_rows.specs.Row.{RowValue, trimmed}
 
--- The state between rows: the attributes of the last text, and whether a line end is pending before the next row.
+-- The state between two rows: the attributes of the last text, and whether a line end is due before the next row.
 pub record Written : Type 0 where
   pub attrs : Attrs
   pub is_due : Bool
 
--- The state before anything is written.
+-- The initial state, before any text is written.
 abbrev pub unwritten : Written
 unwritten = record { attrs = default_attrs; is_due = false }
 
@@ -24,11 +24,11 @@ shown_text (blank attrs) = 0x20 ∷ []
 shown_text (glyph text wide attrs) = text
 shown_text right_half = []
 
--- The attributes after a cell is written: those of the cell, but unchanged if the cell has none of its own.
+-- The attributes after a cell is written: those of the cell, or unchanged if the cell has none of its own.
 abbrev pub attrs_after : Attrs → CellValue → Attrs
 attrs_after attrs cell = if is_bare cell then attrs else attrs_of cell
 
--- The text of a list of cells, each preceded by the change to its attributes.
+-- The text of a list of cells, each preceded by the SGR change to its attributes.
 abbrev pub cells_text : Attrs → List CellValue → List ℕ
 cells_text attrs [] = []
 cells_text attrs (cell ∷ cells) =
@@ -39,11 +39,11 @@ abbrev pub attrs_after_all : Attrs → List CellValue → Attrs
 attrs_after_all attrs [] = attrs
 attrs_after_all attrs (cell ∷ cells) = attrs_after_all (attrs_after attrs cell) cells
 
--- The basic text of a row: the pending line end, and the cells without the default blanks at the end.
+-- The basic text of a row: the line end if one is due, and the cells without their trailing default blanks.
 abbrev pub basic_text : Written → RowValue → List ℕ
 basic_text written row = (if written.is_due then 0x0A ∷ [] else []) ++ cells_text written.attrs (trimmed row.cells)
 
--- The state after a row is written: a line end is pending unless the row is wrapped.
+-- The state after a row is written: a line end is due unless the row is wrapped.
 abbrev pub written_after : Written → RowValue → Written
 written_after written row =
     record { attrs = attrs_after_all written.attrs (trimmed row.cells); is_due = not row.wrapped }

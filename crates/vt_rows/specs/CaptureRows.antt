@@ -1,39 +1,39 @@
--- The rows of a capture on a terminal of a given width.
+-- The rows of a capture when it is displayed on a terminal of a given width.
 use Rattle.std.specs.Prelude.{◌≡◌, ◌⊎◌, ℕ, Bool, true, false, not, ◌==◌, ◌&&◌, nat_lt, List, []}
 use Rattle.std.specs.Prelude.{◌∷◌, ◌+◌, ◌<◌, IsUtf8, chars, get_or, length, take, drop}
 use Rattle.vt_rows.specs.Pieces.{Piece, piece_end}
 use Rattle.vt_rows.specs.Stretches.{columns_added, columns_in, ends_within}
 
--- The character is a line end after the row: LF outside an SGR sequence.
+-- The character is a line end after the text `row`: an LF outside an SGR sequence.
 abbrev pub ends_row : List ℕ → ℕ → Bool
 ends_row row c = not (ends_within row) && (c == 0x0A)
 
--- A character that adds `added` columns to `used` ones would make a row that has some columns too wide.
+-- A character of `added` columns doesn't fit after `used` columns. It always fits if `used` is 0.
 abbrev pub is_beyond : ℕ → ℕ → ℕ → Bool
 is_beyond width used added = nat_lt 0 used && (nat_lt 0 added && nat_lt width (used + added))
 
--- The character would make the row too wide.
+-- The character would make the row wider than `width`.
 abbrev pub overflows : ℕ → List ℕ → ℕ → Bool
 overflows width row c = is_beyond width (columns_in row) (columns_added (ends_within row) c)
 
--- No character of the row ends or overflows the part of the row before it.
+-- No character of the row is a line end, and none makes the row too wide.
 abbrev pub IsUncut : ℕ → List ℕ → Type 0
 IsUncut width row =
     (k : ℕ) → k < length row →
     (ends_row (take k row) (get_or row k 0) ≡ false) × (overflows width (take k row) (get_or row k 0) ≡ false)
 
--- A row is the slice of the capture at its index, consists of whole characters, and is uncut.
+-- The row is the slice of the capture at its index, consists of whole characters, and contains no row break.
 pub record IsRowOf (width : ℕ) (capture : List ℕ) (row : Piece) : Type 0 where
   pub slice : take (length row.1) (drop row.0 capture) ≡ row.1
   pub utf8 : IsUtf8 row.1
   pub uncut : IsUncut width (chars row.1)
 
--- The next row begins after the line end that ends this one.
+-- The next row begins after the line end that ends this row.
 pub record IsBehindEnd (capture : List ℕ) (row next : Piece) : Type 0 where
   pub place : next.0 ≡ piece_end row + 1
   pub ends : ends_row (chars row.1) (get_or capture (piece_end row) 0) ≡ true
 
--- The next row begins at the end of this one, with a character that overflows it.
+-- The next row begins directly at the end of this row, with a character that doesn't fit on it.
 pub record IsBehindFull (width : ℕ) (row next : Piece) : Type 0 where
   pub place : next.0 ≡ piece_end row
   pub first : ℕ
@@ -41,7 +41,7 @@ pub record IsBehindFull (width : ℕ) (row next : Piece) : Type 0 where
   pub begins : chars next.1 ≡ first ∷ rest
   pub overflows : overflows width (chars row.1) first ≡ true
 
--- Consecutive rows from byte `at` on, of which the last one ends with the capture.
+-- The rows are consecutive from byte `at` on, and the last one ends with the capture.
 abbrev pub AreRowsFrom : ℕ → List ℕ → ℕ → List Piece → Type 0
 AreRowsFrom width capture at [] = ⊥
 AreRowsFrom width capture at (row ∷ []) = (row.0 ≡ at) × IsRowOf width capture row × (piece_end row ≡ length capture)
@@ -49,6 +49,6 @@ AreRowsFrom width capture at (row ∷ next ∷ rows) =
     (row.0 ≡ at) × IsRowOf width capture row × (IsBehindEnd capture row next ⊎ IsBehindFull width row next)
     × AreRowsFrom width capture next.0 (next ∷ rows)
 
--- The pieces are all the rows of a capture, in order.
+-- The pieces are all rows of the capture, in order.
 abbrev pub AreRowsOf : ℕ → List ℕ → List Piece → Type 0
 AreRowsOf width capture rows = AreRowsFrom width capture 0 rows

@@ -1,4 +1,4 @@
--- The cells of a row by column, and the edits of a row.
+-- The cells of a row by column, and the edits of rows.
 use Rattle.std.specs.Prelude.{◌≡◌, ℕ, ◌+◌, ◌-◌, ◌&&◌, ◌==◌, nat_lt, not, Bool, true, false, List, [], ◌∷◌, ◌++◌}
 use Rattle.std.specs.Prelude.{length, take, drop, replicate, map, slice_index_or, slice_set, if◌then◌else◌}
 use Rattle.std.specs.List.{range_with_len}
@@ -10,7 +10,7 @@ use Rattle.vt_cells.specs.Attrs.{Attrs}
 abbrev pub at : List CellValue → ℕ → CellValue
 at cells k = slice_index_or cells k default_blank
 
--- The row of n columns given by a function of the column.
+-- A row of `n` columns, in which column `k` is `f k`.
 abbrev pub by_column : ℕ → (ℕ → CellValue) → List CellValue
 by_column n f = map f (range_with_len 0 n)
 
@@ -23,39 +23,40 @@ pub record IsPaired (cells : List CellValue) : Type 0 where
 abbrev pub ends_blank : List CellValue → Bool
 ends_blank cells = is_blank (at cells (length cells - 1))
 
--- A list of n blanks with attributes `attrs`.
+-- A list of `n` blanks with the attributes `attrs`.
 abbrev pub blanks : Attrs → ℕ → List CellValue
 blanks attrs n = replicate n (blank attrs)
 
 -- ---- Edits that replace columns
 
--- A cell that is a blank with its own attributes if it was the first cell of a wide glyph; any other cell is
--- unchanged.
+-- The cell, or a blank with its attributes if it is the first cell of a wide glyph.
 abbrev pub mended : CellValue → CellValue
 mended (glyph text true attrs) = blank attrs
 mended (glyph text false attrs) = glyph text false attrs
 mended (blank attrs) = blank attrs
 mended right_half = right_half
 
--- Cells cut off on the right: if the last one is the first cell of a wide glyph, it becomes a blank.
+-- The cells after the row is cut off to their right. If the last one is the first cell of a wide glyph, it becomes a
+-- blank.
 abbrev pub shut : List CellValue → List CellValue
 shut [] = []
 shut (x ∷ []) = mended x ∷ []
 shut (x ∷ y ∷ xs) = x ∷ shut (y ∷ xs)
 
--- Cells cut off on the left: if the first one is a continuation cell, it becomes `orphan`.
+-- The cells after the row is cut off to their left. If the first one is a continuation cell, it becomes `orphan`.
 abbrev pub opened : CellValue → List CellValue → List CellValue
 opened orphan [] = []
 opened orphan (right_half ∷ xs) = orphan ∷ xs
 opened orphan (blank attrs ∷ xs) = blank attrs ∷ xs
 opened orphan (glyph text wide attrs ∷ xs) = glyph text wide attrs ∷ xs
 
--- The cells after n columns from column c on are replaced by `new`; a continuation cell cut off after them becomes
--- `orphan`.
+-- The cells after `n` columns, starting at column `c`, are replaced by `new`. A continuation cell that loses its wide
+-- glyph becomes `orphan`.
 unfoldable pub put_cells : ℕ → CellValue → List CellValue → ℕ → List CellValue → List CellValue
 put_cells c orphan new n cells = shut (take c cells) ++ (new ++ opened orphan (drop n (drop c cells)))
 
--- The cell at column k after n columns from column c on are replaced by `new`: `put_cells`, column by column.
+-- The cell at column `k` after `n` columns, starting at column `c`, are replaced by `new`: `put_cells`, column by
+-- column.
 abbrev pub column_of : ℕ → ℕ → CellValue → List CellValue → List CellValue → ℕ → CellValue
 column_of c n orphan new cells k =
     if nat_lt k c then (if (k + 1 == c) && is_wide (at cells k) then blank (attrs_of (at cells k)) else at cells k)
@@ -63,39 +64,39 @@ column_of c n orphan new cells k =
     else if (k == c + n) && is_right_half (at cells k) then orphan
     else at cells k
 
--- The cells after a narrow glyph is put at column c. If that cuts a wide glyph, its continuation cell becomes a space
+-- The cells after a narrow glyph is put at column `c`. A continuation cell that loses its wide glyph becomes a space
 -- with the attributes of the new glyph.
 abbrev pub put_narrow : ℕ → List ℕ → Attrs → List CellValue → List CellValue
 put_narrow c text attrs cells = put_cells c (glyph (0x20 ∷ []) false attrs) (glyph text false attrs ∷ []) 1 cells
 
--- The cells after a wide glyph is put at columns c and c + 1. A continuation cell cut off after them becomes a blank
--- with the attributes of the new glyph.
+-- The cells after a wide glyph is put at columns `c` and `c + 1`. A continuation cell that loses its own wide glyph
+-- becomes a blank with the attributes of the new one.
 abbrev pub put_wide : ℕ → List ℕ → Attrs → List CellValue → List CellValue
 put_wide c text attrs cells = put_cells c (blank attrs) (glyph text true attrs ∷ right_half ∷ []) 2 cells
 
--- The cells after n columns from column c on are erased. If one cell of a wide glyph is erased, the other one becomes
--- a blank with its own attributes.
+-- The cells after `n` columns are erased, starting at column `c`. If only one cell of a wide glyph is erased, the
+-- other becomes a blank: its first cell keeps its attributes, and its continuation cell gets the default ones.
 abbrev pub erased : ℕ → ℕ → Attrs → List CellValue → List CellValue
 erased c n attrs cells = put_cells c default_blank (blanks attrs n) n cells
 
--- The cells after a combining character is added at column k, which keeps its width.
+-- The cells after a combining character is added to the cell at column `k`. The width of the cell is unchanged.
 abbrev pub marked_at : ℕ → ℕ → List CellValue → List CellValue
 marked_at k mark cells = slice_set cells k (marked mark (at cells k))
 
--- The cells after the narrow glyph at column k is made wide. A continuation cell cut off after it becomes a blank
--- with attributes `attrs`.
+-- The cells after the narrow glyph at column `k` becomes wide. A continuation cell that loses its own wide glyph
+-- becomes a blank with the attributes `attrs`.
 abbrev pub widened_at : ℕ → Attrs → List CellValue → List CellValue
 widened_at k attrs cells = put_cells k (blank attrs) (widened true (at cells k) ∷ right_half ∷ []) 2 cells
 
--- The cells after the glyph at column k is made narrow; its continuation cell becomes a space with attributes
+-- The cells after the glyph at column `k` becomes narrow. Its continuation cell becomes a space with the attributes
 -- `attrs`.
 abbrev pub narrowed_at : ℕ → Attrs → List CellValue → List CellValue
 narrowed_at k attrs cells = put_cells k (glyph (0x20 ∷ []) false attrs) (widened false (at cells k) ∷ []) 1 cells
 
--- ---- Edits that move columns: column k comes from column `source k`, a default blank past the end
+-- ---- Edits that move columns: column `k` was column `source k`, or is a default blank if that is past the end
 
--- The cell at column k after a move of columns: if only one cell of a wide glyph moves along, it becomes a blank with
--- its own attributes.
+-- The cell at column `k` after columns moved. If only one cell of a wide glyph moved with it, the cell becomes a
+-- blank with its own attributes.
 abbrev pub moved_at : ℕ → (ℕ → ℕ) → List CellValue → ℕ → CellValue
 moved_at n source cells k =
     if is_wide (at cells (source k)) && not (nat_lt (k + 1) n && (source (k + 1) == source k + 1))
@@ -103,30 +104,31 @@ moved_at n source cells k =
     else if is_right_half (at cells (source k)) && not (source k == source (k - 1) + 1) then default_blank
     else at cells (source k)
 
--- The row of n columns after a move of columns.
+-- The row of `n` columns after columns moved.
 unfoldable pub moved : ℕ → (ℕ → ℕ) → List CellValue → List CellValue
 moved n source cells = by_column n (moved_at n source cells)
 
--- The column at which blanks are inserted: after the two cells of a wide glyph, never between them.
+-- The column at which blanks are inserted: after both cells of a wide glyph, never between them.
 abbrev pub insert_column : ℕ → List CellValue → ℕ
 insert_column c cells = if is_right_half (at cells c) then c + 1 else c
 
--- The source of column k when n columns are inserted at column c; `past`, a column past the end, for an inserted one.
+-- The former index of column `k` after `n` columns are inserted at column `c`. It is `past`, a column past the end,
+-- for an inserted one.
 abbrev pub insert_source : ℕ → ℕ → ℕ → ℕ → ℕ
 insert_source past c n k = if nat_lt k c then k else if nat_lt k (c + n) then past else k - n
 
--- The source of column k when n columns are deleted at column c.
+-- The former index of column `k` after `n` columns are deleted at column `c`.
 abbrev pub delete_source : ℕ → ℕ → ℕ → ℕ
 delete_source c n k = if nat_lt k c then k else k + n
 
--- The cells after n default blanks are inserted at column c; what is pushed past the end is lost (ICH).
+-- The cells after `n` default blanks are inserted at column `c` (ICH). Cells that are pushed past the end are lost.
 unfoldable pub inserted : ℕ → ℕ → List CellValue → List CellValue
 inserted c n cells = moved (length cells) (insert_source (length cells) (insert_column c cells) n) cells
 
--- The cells after n columns are deleted at column c; default blanks fill the end (DCH).
+-- The cells after `n` columns are deleted at column `c` (DCH). Default blanks fill the end.
 unfoldable pub deleted : ℕ → ℕ → List CellValue → List CellValue
 deleted c n cells = moved (length cells) (delete_source c n) cells
 
--- The cells of a row cut or extended to n columns.
+-- The cells of a row, cut off or extended to `n` columns.
 unfoldable pub resized : ℕ → List CellValue → List CellValue
 resized n cells = moved n (λ k. k) cells

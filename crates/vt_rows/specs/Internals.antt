@@ -1,5 +1,5 @@
--- What the helpers of the edits compute, and what iterators over captures still have to return; for their contracts,
--- that of `shifts::turn`, and proofs.
+-- The results of the helper functions for edits, and the items that iterators over captures still have to return.
+-- Cited only by their contracts, by the contract of `shifts::turn`, and by proofs.
 use Rattle.std.specs.Prelude.{◌≡◌, ℕ, ◌+◌, ◌-◌, ◌<◌, ◌≤◌, ◌&&◌, nat_le, nat_lt, true, List, [], ◌∷◌, ◌++◌}
 use Rattle.std.specs.Prelude.{length, replicate, slice_set, chars, encode_utf8_all, map, if◌then◌else◌}
 use Rattle.vt_cells.specs.Attrs.{Attrs}
@@ -12,64 +12,65 @@ use Rattle.vt_rows.specs.Cells.{at}
 use Rattle.vt_rows.specs.Pieces.{Piece}
 use Rattle.vt_rows.specs.Stretches.{begins_stretch, ends_stretch}
 
--- The cells prepared for an overwrite of column c: if it holds a continuation cell, the first cell of that wide glyph
--- is a blank with its own attributes.
+-- The cells just before column `c` is overwritten. If it holds a continuation cell, the first cell of that wide glyph
+-- becomes a blank with its own attributes.
 unfoldable pub left_blanked : ℕ → List CellValue → List CellValue
 left_blanked c cells =
     if is_right_half (at cells c) then slice_set cells (c - 1) (blank (attrs_of (at cells (c - 1)))) else cells
 
--- The cells prepared for an overwrite of column c: if it holds the first cell of a wide glyph, its continuation cell
+-- The cells just before column `c` is overwritten. If it holds the first cell of a wide glyph, its continuation cell
 -- becomes `cell`.
 unfoldable pub right_replaced : ℕ → CellValue → List CellValue → List CellValue
 right_replaced c cell cells = if is_wide (at cells c) then slice_set cells (c + 1) cell else cells
 
--- If column c holds the first cell of a wide glyph, there is a column for its continuation cell.
+-- If column `c` holds the first cell of a wide glyph, there is another column for its continuation cell.
 abbrev pub HasRoom : ℕ → List CellValue → Type 0
 HasRoom c cells = is_wide (at cells c) ≡ true → c + 1 < length cells
 
--- The cells with the last one made a blank with its own attributes, if it is the first cell of a wide glyph.
+-- The cells, of which the last becomes a blank with its own attributes if it is the first cell of a wide glyph.
 unfoldable pub end_blanked : List CellValue → List CellValue
 end_blanked cells =
     if is_wide (at cells (length cells - 1))
     then slice_set cells (length cells - 1) (blank (attrs_of (at cells (length cells - 1)))) else cells
 
--- The source index of each item when the range from..to is rotated left by n.
+-- The former index of item `k` after the range `from..to` is rotated left by `n`.
 abbrev pub turn_source : ℕ → ℕ → ℕ → ℕ → ℕ
 turn_source from to n k =
     if nat_le from k && nat_lt k to then (if nat_lt (k + n) to then k + n else k + n - (to - from)) else k
 
--- A text was appended to a sink and the buffer in front of it, and nothing that was written is gone.
+-- The text was appended to a sink through its buffer, and the sink's contents did not shrink.
 pub record Gathers (before buffer text after left : List ℕ) : Type 0 where
   pub bytes : gathered after left ≡ gathered before buffer ++ text
   pub grows : length before ≤ length after
 
--- The text of a cell after text with attributes `attrs`, with the change to its attributes.
+-- The text of a cell that follows text with the attributes `attrs`, preceded by the SGR change to its attributes.
 abbrev pub cell_text : Attrs → CellValue → List ℕ
 cell_text attrs cell = change_text attrs (attrs_after attrs cell) ++ shown_text cell
 
--- The text of a cell after n columns without a glyph, which are written only if the cell is a glyph.
+-- The text of a cell that follows `n` columns without a glyph. Spaces for these columns are written only if the cell
+-- is a glyph.
 abbrev pub text_behind : ℕ → CellValue → List ℕ
 text_behind n (glyph text wide attrs) = replicate n 0x20 ++ text
 text_behind n _ = []
 
--- The number of columns without a glyph after a cell that follows n such columns.
+-- The number of columns without a glyph up to and including a cell that follows `n` such columns.
 abbrev pub gap_behind : ℕ → CellValue → ℕ
 gap_behind n (blank attrs) = n + 1
 gap_behind n (glyph text wide attrs) = 0
 gap_behind n right_half = n
 
--- The text of cells that follow n columns without a glyph.
+-- The text of the cells that follow `n` columns without a glyph.
 abbrev pub plain_behind : ℕ → List CellValue → List ℕ
 plain_behind n [] = []
 plain_behind n (cell ∷ cells) = text_behind n cell ++ plain_behind (gap_behind n cell) cells
 
--- The piece that begins at byte `at`, or none if it is empty.
+-- The piece that begins at byte `at`, or no piece if its text is empty.
 abbrev pub piece_at : ℕ → List ℕ → List Piece
 piece_at at [] = []
 piece_at at (b ∷ text) = (at, b ∷ text) ∷ []
 
 abbrev mutual
-  -- The pieces of a text that follows the plain text `piece`, which begins at byte `at`.
+  -- The pieces formed by the plain text `piece`, which begins at byte `at`, and the text after it.
   pub pieces_behind : ℕ → List ℕ → List ℕ → List Piece
   pieces_behind at piece [] = piece_at at piece
   pieces_behind at piece (b ∷ text) =
@@ -81,12 +82,12 @@ abbrev mutual
   pieces_within at [] = []
   pieces_within at (b ∷ text) = if ends_stretch b then pieces_behind (at + 1) [] text else pieces_within (at + 1) text
 
--- The pieces of a text that begins at byte `at`, outside any SGR sequence.
+-- The pieces of a text that begins at byte `at`, outside of SGR sequences.
 abbrev pub pieces_from : ℕ → List ℕ → List Piece
 pieces_from at text = pieces_behind at [] text
 
--- The rows of the characters that follow those of `row`: a line end is dropped, and a character that overflows begins
--- the next row.
+-- The rows formed by the characters of `row` and those after it. A line end is dropped, and a character that doesn't
+-- fit begins the next row.
 abbrev pub rows_behind : ℕ → List ℕ → List ℕ → List (List ℕ)
 rows_behind width row [] = row ∷ []
 rows_behind width row (c ∷ text) = if ends_row row c then row ∷ rows_behind width [] text

@@ -1,36 +1,36 @@
--- The plain text of a capture: the longest pieces outside all SGR sequences.
+-- The plain text of a capture: the longest pieces outside of SGR sequences.
 use Rattle.std.specs.Prelude.{◌≡◌, ◌≢◌, ◌<◌, ◌≤◌, ◌↔◌, ◌⊎◌, ℕ, Bool, true, false, List, []}
 use Rattle.std.specs.Prelude.{◌∷◌, ◌+◌, length, take, drop, map, if◌then◌else◌, ⊤}
 use Rattle.vt_rows.specs.Stretches.{IsInStretch, begins_stretch, is_within_after}
 
--- A slice of a capture, with the number of bytes before it.
+-- A slice of a capture, and the number of bytes before it.
 abbrev pub Piece : Type 0
 Piece = ℕ × List ℕ
 
--- The number of bytes before the end of a piece.
+-- The index of the end of a piece in the capture.
 abbrev pub piece_end : Piece → ℕ
 piece_end piece = piece.0 + length piece.1
 
--- Byte k of the capture is in the piece.
+-- Byte `k` of the capture is in the piece.
 abbrev pub IsIn : ℕ → Piece → Type 0
 IsIn k piece = (piece.0 ≤ k) × (k < piece_end piece)
 
--- Byte k of the capture is in one of the pieces.
+-- Byte `k` of the capture is in one of the pieces.
 abbrev pub IsInSome : ℕ → List Piece → Type 0
 IsInSome k [] = ⊥
 IsInSome k (piece ∷ pieces) = IsIn k piece ⊎ IsInSome k pieces
 
--- The piece is not empty, and is the slice of the capture at its index.
+-- The piece is a nonempty slice of the capture at its index.
 abbrev pub IsPieceOf : List ℕ → Piece → Type 0
 IsPieceOf capture piece = (piece.1 ≢ []) × (take (length piece.1) (drop piece.0 capture) ≡ piece.1)
 
--- The pieces are in order from byte `at` on, with at least one byte between one and the next.
+-- The pieces are in order from byte `at` on, separated by at least one byte.
 abbrev pub AreApart : List ℕ → ℕ → List Piece → Type 0
 AreApart capture at [] = ⊤
 AreApart capture at (piece ∷ pieces) =
     IsPieceOf capture piece × (at ≤ piece.0) × AreApart capture (piece_end piece + 1) pieces
 
--- The pieces of a capture: a byte is in one of them exactly if it is in no SGR sequence.
+-- The pieces are the plain text of the capture: a byte is in one of them exactly if it is not in an SGR sequence.
 pub record ArePiecesOf (capture : List ℕ) (pieces : List Piece) : Type 0 where
   pub apart : AreApart capture 0 pieces
   pub plain : (k : ℕ) → k < length capture → IsInSome k pieces ↔ ¬ (IsInStretch capture k)
@@ -39,12 +39,12 @@ pub record ArePiecesOf (capture : List ℕ) (pieces : List Piece) : Type 0 where
 abbrev pub texts_of : List Piece → List (List ℕ)
 texts_of pieces = map (λ p. p.1) pieces
 
--- The bytes of a text outside all SGR sequences; `within` says whether it begins inside one.
+-- The bytes of a text outside of SGR sequences; `within` says whether the text begins inside one.
 abbrev pub plain_from : Bool → List ℕ → List ℕ
 plain_from within [] = []
 plain_from true (b ∷ text) = plain_from (is_within_after true b) text
 plain_from false (b ∷ text) = if begins_stretch b then plain_from true text else b ∷ plain_from false text
 
--- A capture without its SGR sequences.
+-- The capture without its SGR sequences.
 abbrev pub without_stretches : List ℕ → List ℕ
 without_stretches capture = plain_from false capture

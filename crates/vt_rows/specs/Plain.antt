@@ -1,25 +1,25 @@
--- The plain text of columns of a row: its glyphs, with spaces for the columns before and between them.
+-- The plain text of some columns of a row: its glyphs, with spaces for the columns before and between them.
 use Rattle.std.specs.Prelude.{ℕ, Bool, List, [], ◌∷◌, take, drop, if◌then◌else◌}
 use Rattle.std.specs.List.{flat_map, list_any}
 use Rattle.vt_cells.specs.Cell.{CellValue, default_blank, is_glyph}
 use Rattle.vt_rows.specs.Basic.{shown_text}
 use Rattle.vt_rows.specs.Cells.{opened}
 
--- The cells of the columns from `start` up to but excluding `stop` that the row has; a continuation cell whose glyph
--- begins before them is a default blank.
+-- The cells of the row in the columns `start..stop`, as far as the row has them. A continuation cell at the beginning
+-- becomes a default blank.
 abbrev pub columns_between : (start stop : ℕ) → List CellValue → List CellValue
 columns_between start stop cells = opened default_blank (drop start (take stop cells))
 
--- The cells up to the last one in which a glyph begins.
+-- The cells up to and including the last glyph.
 abbrev pub up_to_last_glyph : List CellValue → List CellValue
 up_to_last_glyph [] = []
 up_to_last_glyph (cell ∷ cells) = if list_any is_glyph (cell ∷ cells) then cell ∷ up_to_last_glyph cells else []
 
--- The text of these columns, up to the last one in which a glyph begins: the text of a glyph, nothing for its
--- continuation cell, and a space for any other column.
+-- The text of the columns `start..stop` up to the last glyph that begins in them. A continuation cell adds no text,
+-- and any other column without a glyph adds a space.
 unfoldable pub plain_text : (start stop : ℕ) → List CellValue → List ℕ
 plain_text start stop cells = flat_map shown_text (up_to_last_glyph (columns_between start stop cells))
 
--- A glyph begins in one of these columns.
+-- A glyph begins in one of the columns `start..stop`.
 abbrev pub has_glyph : (start stop : ℕ) → List CellValue → Bool
 has_glyph start stop cells = list_any is_glyph (drop start (take stop cells))

@@ -10,39 +10,39 @@ pub record RowValue : Type 0 where
   pub cells : List CellValue
   pub wrapped : Bool
 
--- A row of blanks that is not wrapped.
+-- A row of blanks with these attributes that is not wrapped.
 abbrev pub blank_row : Attrs → ℕ → RowValue
 blank_row attrs width = record { cells = blanks attrs width; wrapped = false }
 
--- A row with the cells that a print or an erase left: it is no longer wrapped if the last column is blank.
+-- The row after its cells changed in a print or an erase. It is no longer wrapped if its last column is blank.
 abbrev pub with_cells : RowValue → List CellValue → RowValue
 with_cells row cells = record { cells = cells; wrapped = row.wrapped && not (ends_blank cells) }
 
--- The invariant of every row of a page: its width, whole wide glyphs, no wrap after a blank last column, and valid
--- cells.
+-- The invariant of every row of a page: it has the page's width, its wide glyphs are whole, it isn't wrapped if its
+-- last column is blank, and its cells are valid.
 pub record IsRow (width : ℕ) (row : RowValue) : Type 0 where
   pub columns : length row.cells ≡ width
   pub paired : IsPaired row.cells
   pub flagged : row.wrapped ≡ true → ends_blank row.cells ≡ false
   pub sound : All IsCell row.cells
 
--- A row after columns are inserted; it is not wrapped.
+-- The row after columns are inserted; it is not wrapped.
 abbrev pub inserted_row : ℕ → ℕ → RowValue → RowValue
 inserted_row c n row = record { cells = inserted c n row.cells; wrapped = false }
 
--- A row after columns are deleted; it is not wrapped.
+-- The row after columns are deleted; it is not wrapped.
 abbrev pub deleted_row : ℕ → ℕ → RowValue → RowValue
 deleted_row c n row = record { cells = deleted c n row.cells; wrapped = false }
 
--- A row cut or extended to n columns; it is no longer wrapped if its width changes.
+-- The row, cut off or extended to `n` columns. It is no longer wrapped if its width changes.
 abbrev pub resized_row : ℕ → RowValue → RowValue
 resized_row n row = record { cells = resized n row.cells; wrapped = row.wrapped && (length row.cells == n) }
 
--- Cells without the default blanks at their end.
+-- The cells without their trailing default blanks.
 abbrev pub trimmed : List CellValue → List CellValue
 trimmed [] = []
 trimmed (cell ∷ cells) = if list_all is_default_blank (cell ∷ cells) then [] else cell ∷ trimmed cells
 
--- A row without the default blanks at its end.
+-- The row without its trailing default blanks.
 abbrev pub trimmed_row : RowValue → RowValue
 trimmed_row row = record { cells = trimmed row.cells; wrapped = row.wrapped }

@@ -1,24 +1,25 @@
--- SGR sequences within a capture ("stretches"): from ESC through the next `m`, or to the end (ECMA-48, CSI and SGR).
+-- SGR sequences in a capture ("stretches"): each extends from an ESC through the next `m`, or to the end of the
+-- capture (ECMA-48, CSI and SGR).
 use Rattle.std.specs.Prelude.{◌≡◌, ◌≢◌, ◌<◌, ◌≤◌, get_or, ℕ, not, Bool, true, false, ◌==◌}
 use Rattle.std.specs.Prelude.{min, List, [], ◌∷◌, ◌+◌, Option, Some, None, if◌then◌else◌}
 use Rattle.std.specs.List.{fold}
 use Rattle.unicode_width.specs.Width.{char_width}
 
--- The character begins an SGR sequence.
+-- The character is ESC, which begins an SGR sequence.
 abbrev pub begins_stretch : ℕ → Bool
 begins_stretch c = c == 0x1B
 
--- The character `m` ends an SGR sequence.
+-- The character is `m`, which ends an SGR sequence.
 abbrev pub ends_stretch : ℕ → Bool
 ends_stretch c = c == 0x6D
 
--- A text ends inside an SGR sequence after one more character, given whether it did so before.
+-- Whether a text ends inside an SGR sequence after another character is appended, given whether it did so before.
 abbrev pub is_within_after : Bool → ℕ → Bool
 is_within_after true c = not (ends_stretch c)
 is_within_after false c = begins_stretch c
 
--- Byte or character k of a text is in an SGR sequence: there is an ESC at or before it, and no `m` from that ESC up
--- to k.
+-- Byte or character `k` of a text is in an SGR sequence: there is an ESC at or before it, and no `m` from that ESC up
+-- to but excluding `k`.
 abbrev pub IsInStretch : List ℕ → ℕ → Type 0
 IsInStretch text k = (i : ℕ) × (i ≤ k) × (get_or text i 0 ≡ 0x1B) × ((j : ℕ) → i ≤ j → j < k → get_or text j 0 ≢ 0x6D)
 
@@ -26,25 +27,25 @@ IsInStretch text k = (i : ℕ) × (i ≤ k) × (get_or text i 0 ≡ 0x1B) × ((j
 abbrev pub ends_within : List ℕ → Bool
 ends_within text = fold is_within_after false text
 
--- The columns of a character for which `unicode_width` returns this width: at most 2, and 1 if it returns none (UAX
--- #11).
+-- The number of columns of a character if `unicode_width` returns this width: at most 2, and 1 if it returns none
+-- (UAX #11).
 abbrev pub shown_columns_or : Option ℕ → ℕ
 shown_columns_or (Some width) = min width 2
 shown_columns_or None = 1
 
--- The columns of a character outside SGR sequences.
+-- The number of columns of a character outside of SGR sequences.
 unfoldable pub shown_columns : ℕ → ℕ
 shown_columns c = shown_columns_or (char_width false c)
 
--- The columns that a character adds to the text before it: none inside an SGR sequence.
+-- The number of columns that a character adds to the text before it: none inside an SGR sequence.
 abbrev pub columns_added : Bool → ℕ → ℕ
 columns_added within c = if within then 0 else if begins_stretch c then 0 else shown_columns c
 
--- The columns of a text that begins inside an SGR sequence or outside.
+-- The number of columns of a text; `within` says whether it begins inside an SGR sequence.
 abbrev pub columns_from : Bool → List ℕ → ℕ
 columns_from within [] = 0
 columns_from within (c ∷ text) = columns_added within c + columns_from (is_within_after within c) text
 
--- The columns that a text takes.
+-- The number of columns that a text takes.
 abbrev pub columns_in : List ℕ → ℕ
 columns_in text = columns_from false text

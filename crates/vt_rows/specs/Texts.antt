@@ -1,4 +1,4 @@
--- Runs of printable ASCII in a row, a narrow glyph for each byte.
+-- Runs of printable ASCII in a row: one narrow glyph for each byte.
 use Rattle.std.specs.Prelude.{ℕ, ◌<◌, ◌≤◌, false, List, [], ◌∷◌, length, map, All}
 use Rattle.std.specs.Char.{encode_utf8}
 use Rattle.vt_cells.specs.Attrs.{Attrs}
@@ -17,7 +17,7 @@ narrow_glyph attrs c = glyph (encode_utf8 c) false attrs
 abbrev pub glyphs_of : Attrs → List ℕ → List CellValue
 glyphs_of attrs text = map (narrow_glyph attrs) text
 
--- The cells after a narrow glyph for each character is put from column c on. If that cuts a wide glyph at the end,
--- its continuation cell becomes a space with the attributes of the new glyphs.
+-- The cells after one narrow glyph for each character is put, starting at column `c`. A continuation cell that loses
+-- its wide glyph becomes a space with the attributes of the new glyphs.
 abbrev pub put_text : ℕ → List ℕ → Attrs → List CellValue → List CellValue
 put_text c text attrs cells = put_cells c (glyph (0x20 ∷ []) false attrs) (glyphs_of attrs text) (length text) cells

@@ -1,5 +1,6 @@
--- The state of the automaton, and its step on a byte: the next state, and at most two events. A state consists of its
--- kind and the bytes collected in it; a sequence is read from all of these at once, when its last byte arrives.
+-- The state of the scanner's automaton, and its step for a byte: the next state and at most two events. A state
+-- consists of its kind and the bytes collected in it. A sequence is interpreted as a whole when its last byte
+-- arrives.
 use Rattle.std.specs.Prelude.{ℕ, Bool, not, ◌&&◌, ◌==◌, nat_lt, nat_le, List}
 use Rattle.std.specs.Prelude.{[], ◌∷◌, ◌++◌, take, filter, if◌then◌else◌}
 use Rattle.std.specs.List.{slice_split}
@@ -22,11 +23,11 @@ pub record State : Type 0 where
 pub data Event : Type 0 where
   -- A character to print.
   Character : (code : ℕ) → Event
-  -- A control character.
+  -- A control character to execute.
   Executed : (byte : ℕ) → Event
   -- An escape sequence: its intermediates and its last byte.
   EscDispatch : (intermediates : List ℕ) (byte : ℕ) → Event
-  -- A control sequence: its groups of numbers, its private marker and its intermediates, and its final byte.
+  -- A control sequence: its groups of numbers, its private marker and intermediates, and its final byte.
   CsiDispatch : (groups : List (List ℕ)) (intermediates : List ℕ) (byte : ℕ) → Event
   -- An operating system command: its parts.
   OscDispatch : (parts : List (List ℕ)) → Event
@@ -40,23 +41,23 @@ pub record Step : Type 0 where
 abbrev pub start : State
 start = record { kind = Ground; collected = [] }
 
--- A parameter byte: a digit, `:` or `;`.
+-- The byte is a parameter byte: a digit, `:` or `;`.
 abbrev pub is_parameter : ℕ → Bool
 is_parameter b = nat_le 0x30 b && nat_le b 0x3B
 
--- The parameter bytes of a collected text.
+-- The parameter bytes among the collected bytes.
 abbrev pub parameter_text : List ℕ → List ℕ
 parameter_text text = filter is_parameter text
 
--- The private marker and the intermediates of a collected text: the first two bytes that are not parameter bytes.
+-- The private marker and intermediates among the collected bytes: the first two bytes that are not parameter bytes.
 abbrev pub intermediates_of : List ℕ → List ℕ
 intermediates_of text = take 2 (filter (λ b. not (is_parameter b)) text)
 
--- The first 16 parts of an operating system command, which are separated by `;`.
+-- The first 16 parts of an operating system command; parts are separated by `;`.
 abbrev pub parts_of : List ℕ → List (List ℕ)
 parts_of text = take 16 (slice_split (λ b. b == 0x3B) text)
 
--- The events when byte b ends a collected text.
+-- The events that are issued when byte `b` ends the collected bytes.
 abbrev pub given : ending.Ending → List ℕ → ℕ → List Event
 given ends.Nothing text b = []
 given ends.Character text b = Character b ∷ []
@@ -66,23 +67,24 @@ given ends.CsiDispatch text b = CsiDispatch (table_of (parameter_text text)).gro
 given ends.OscDispatch text b = OscDispatch (parts_of text) ∷ []
 given ends.OscDispatchAndExecuted text b = OscDispatch (parts_of text) ∷ Executed b ∷ []
 
--- The step of a state that makes a transition of the table.
+-- The step that performs a transition of the table.
 abbrev pub step_after : Kind → List ℕ → ℕ → Turn → Step
 step_after kind text b (Collect next) = record { state = record { kind = next; collected = text ++ b ∷ [] }; events = [] }
 step_after kind text b Drop = record { state = record { kind = kind; collected = text }; events = [] }
 step_after kind text b Execute = record { state = record { kind = kind; collected = text }; events = Executed b ∷ [] }
 step_after kind text b (End next end) = record { state = record { kind = next; collected = [] }; events = given end text b }
 
--- The step in the ground state when no character is incomplete: a byte from 80 on begins a character, or is a U+FFFD
--- by itself.
+-- The step in the ground state if no character is incomplete. A byte from 0x80 on begins a character or becomes
+-- U+FFFD.
 unfoldable pub fresh_step : ℕ → Step
 fresh_step b =
     if nat_lt b 0x80 then step_after Ground [] b (turn_of Ground (class_of b))
     else if is_beginning (b ∷ []) then record { state = record { kind = Ground; collected = b ∷ [] }; events = [] }
     else record { state = start; events = Character 0xFFFD ∷ [] }
 
--- The step in the ground state when a character is incomplete: a byte that cannot continue it ends it as one U+FFFD
--- and is read anew (Unicode 3.9: the longest part that begins a well-formed sequence is replaced as one).
+-- The step in the ground state if a character is incomplete. A byte that cannot continue the character ends it as a
+-- single U+FFFD and is then read as a new byte (Unicode 3.9: the longest prefix of a well-formed sequence is replaced
+-- as one).
 unfoldable pub character_step : List ℕ → ℕ → Step
 character_step text b =
     if is_character (text ++ b ∷ [])
@@ -91,7 +93,7 @@ character_step text b =
     then record { state = record { kind = Ground; collected = text ++ b ∷ [] }; events = [] }
     else record { state = (fresh_step b).state; events = Character 0xFFFD ∷ (fresh_step b).events }
 
--- The step of the automaton on one byte.
+-- The step of the automaton for one byte.
 abbrev pub step_in : Kind → List ℕ → ℕ → Step
 step_in Ground [] b = fresh_step b
 step_in Ground (x ∷ xs) b = character_step (x ∷ xs) b

@@ -1,16 +1,16 @@
--- UTF-8 on whole byte lists: well-formed sequences as in Table 3-7 of the Unicode Standard, and their bits as in
--- Table 3-6.
+-- UTF-8 on lists of bytes: well-formed sequences as in Table 3-7 of the Unicode Standard, and their bits as in Table
+-- 3-6.
 use Rattle.std.specs.Prelude.{ℕ, ◌+◌, ◌*◌, ◌%◌, Bool, false, ◌&&◌, ◌==◌, nat_le, List, [], ◌∷◌, if◌then◌else◌}
 
--- The byte is in an inclusive range.
+-- The byte is in the inclusive range from `low` to `high`.
 abbrev pub is_within : ℕ → ℕ → ℕ → Bool
 is_within low high byte = nat_le low byte && nat_le byte high
 
--- The byte can be a third or fourth byte, and in most cases a second one.
+-- The byte can be the third or fourth byte of a character, and in most cases the second.
 abbrev pub continues : ℕ → Bool
 continues byte = is_within 0x80 0xBF byte
 
--- The byte can be the second byte after this first one.
+-- The byte can be the second byte of a character that begins with `first`.
 abbrev pub is_second : ℕ → ℕ → Bool
 is_second first byte =
     if first == 0xE0 then is_within 0xA0 0xBF byte
@@ -19,21 +19,21 @@ is_second first byte =
     else if first == 0xF4 then is_within 0x80 0x8F byte
     else continues byte
 
--- The bytes are one whole character above U+007F.
+-- The bytes are exactly one character above U+007F.
 unfoldable pub is_character : List ℕ → Bool
 is_character (a ∷ b ∷ []) = is_within 0xC2 0xDF a && continues b
 is_character (a ∷ b ∷ c ∷ []) = is_within 0xE0 0xEF a && (is_second a b && continues c)
 is_character (a ∷ b ∷ c ∷ d ∷ []) = is_within 0xF0 0xF4 a && (is_second a b && (continues c && continues d))
 is_character _ = false
 
--- The bytes are a proper prefix of a character, and not empty.
+-- The bytes are a nonempty proper prefix of a character.
 unfoldable pub is_beginning : List ℕ → Bool
 is_beginning (a ∷ []) = is_within 0xC2 0xF4 a
 is_beginning (a ∷ b ∷ []) = is_within 0xE0 0xF4 a && is_second a b
 is_beginning (a ∷ b ∷ c ∷ []) = is_within 0xF0 0xF4 a && (is_second a b && continues c)
 is_beginning _ = false
 
--- The code point of a character of two to four bytes, from the bits that its bytes carry.
+-- The code point of a character of two to four bytes.
 abbrev pub character_of : List ℕ → ℕ
 character_of (a ∷ b ∷ []) = a % 32 * 64 + b % 64
 character_of (a ∷ b ∷ c ∷ []) = a % 16 * 4096 + b % 64 * 64 + c % 64

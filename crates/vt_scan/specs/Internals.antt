@@ -1,4 +1,4 @@
--- Aids of proofs, which only contracts of private functions cite.
+-- Auxiliary definitions for proofs that are cited only by the contracts of private functions.
 use Rattle.std.specs.Prelude.{◌≡◌, ◌≢◌, ℕ, ◌-◌, ◌<◌, ◌⊎◌, ◌&&◌, nat_le, Bool, true, false, List, [], ◌∷◌, ◌++◌}
 use Rattle.std.specs.Prelude.{◌≤◌, length, slice_index_or, take, drop, Some, None}
 use Rattle.vt_scan.specs.Characters.{is_character, is_beginning, character_of}
@@ -17,12 +17,12 @@ use Rattle.vt_scan.specs.declared.unfinished.Bytes.TheVariants.{Zero, One, Two, 
 use Rattle.vt_scan.specs.declared.unfinished.Extended.{Extended}
 use Rattle.vt_scan.specs.declared.unfinished.Extended.TheVariants.{Further, Character, Broken}
 
--- What a scanner with these fields holds.
+-- The value of a scanner with these fields.
 abbrev pub held : Kind → List ℕ → GroupTable → List ℕ → List ℕ → Held
 held kind unfinished table intermediates text =
     record { kind = kind; unfinished = unfinished; table = table; intermediates = intermediates; text = text }
 
--- The kind is one in which numbers and intermediates are collected.
+-- A state of this kind collects numbers and intermediates.
 abbrev pub InSequence : Kind → Type 0
 InSequence kinds.Ground = ⊥
 InSequence kinds.CsiIgnore = ⊥
@@ -40,7 +40,7 @@ FitsEnding old new ending.CsiDispatch = InSequence old × (new ≡ kinds.Ground)
 FitsEnding old new ending.OscDispatch = (old ≡ kinds.OscString) × ((new ≡ kinds.Ground) ⊎ (new ≡ kinds.Escape))
 FitsEnding old new ending.OscDispatchAndExecuted = (old ≡ kinds.OscString) × (new ≡ kinds.Ground)
 
--- The property that all transitions of the table share.
+-- The transition satisfies the property that all transitions of the table share.
 abbrev pub Fits : Kind → Turn → Type 0
 Fits old (Collect new) = (InSequence old × InSequence new) ⊎ ((old ≡ kinds.OscString) × (new ≡ kinds.OscString))
 Fits old Drop = Unit {0}
@@ -59,7 +59,7 @@ abbrev pub is_unfinished : List ℕ → Bool
 is_unfinished [] = true
 is_unfinished (x ∷ xs) = is_beginning (x ∷ xs)
 
--- The result of adding one byte to an incomplete character, and the bytes that are left.
+-- The result of appending one byte to an incomplete character, and the bytes that are still incomplete afterward.
 abbrev pub Extends : List ℕ → ℕ → Extended → List ℕ → Type 0
 Extends old b Further new =
     (is_character (old ++ b ∷ []) ≡ false) × (is_beginning (old ++ b ∷ []) ≡ true) × (new ≡ old ++ b ∷ [])
@@ -67,11 +67,11 @@ Extends old b (Character c) new =
     (is_character (old ++ b ∷ []) ≡ true) × (c ≡ character_of (old ++ b ∷ [])) × (new ≡ [])
 Extends old b Broken new = (is_character (old ++ b ∷ []) ≡ false) × (is_beginning (old ++ b ∷ []) ≡ false) × (new ≡ [])
 
--- A decimal digit.
+-- The byte is a decimal digit.
 abbrev pub is_digit : ℕ → Bool
 is_digit b = nat_le 0x30 b && nat_le b 0x39
 
--- A byte that cannot end a string: not CAN, SUB or ESC.
+-- The byte cannot end a string: it is not CAN, SUB or ESC.
 abbrev pub IsUnended : ℕ → Type 0
 IsUnended b = (b ≢ 0x18) × (b ≢ 0x1A) × (b ≢ 0x1B)
 
@@ -81,17 +81,18 @@ pub record Opens (bytes : List ℕ) : Type 0 where
   pub first : slice_index_or bytes 0 0 ≡ 0x1B
   pub second : slice_index_or bytes 1 0 ≡ 0x5B
 
--- The groups of numbers that end at these indices, and the last one, which ends at `len`.
+-- Groups of consecutive numbers. Each group begins where the previous one ends. The indices are the ends of all
+-- groups but the last, which ends at `len`.
 abbrev pub groups_from : ℕ → List ℕ → ℕ → List ℕ → List (List ℕ)
 groups_from from [] len numbers = take (len - from) (drop from numbers) ∷ []
 groups_from from (to ∷ ends) len numbers = take (to - from) (drop from numbers) ∷ groups_from to ends len numbers
 
--- The indices are ascending, so that each group has a number, and so has the last one.
+-- The indices are strictly ascending, so every group, including the last, has at least one number.
 abbrev pub Ascends : ℕ → List ℕ → ℕ → Type 0
 Ascends from [] len = from < len
 Ascends from (to ∷ ends) len = (from < to) × Ascends to ends len
 
--- The events that the scanner returns when a byte ends a collected text.
+-- The events that the scanner returns when a byte ends the collected bytes.
 abbrev pub answer_of : Ending → ℕ → Events
 answer_of ending.Nothing b = record { first = None; second = None }
 answer_of ending.Character b = record { first = Some (event.Character b); second = None }
@@ -101,7 +102,7 @@ answer_of ending.CsiDispatch b = record { first = Some (event.Csi b); second = N
 answer_of ending.OscDispatch b = record { first = Some event.Osc; second = None }
 answer_of ending.OscDispatchAndExecuted b = record { first = Some event.Osc; second = Some (event.Executed b) }
 
--- The scanner entered a state with nothing collected; the lists that an event may still refer to are unchanged.
+-- The scanner entered a state with nothing collected. Lists that an event may still refer to are unchanged.
 pub record Begins (old : Held) (new : Held) (begun : Kind) : Type 0 where
   pub kind : new.kind ≡ begun
   pub reads : Reads new begun []

@@ -1,4 +1,4 @@
--- Bytes that are not printable ASCII; for private contracts and proofs only.
+-- A fast test for bytes that are not printable ASCII; for private contracts and proofs only.
 use Rattle.std.specs.Prelude.{ℕ, ◌+◌, ◌%◌, Bool, nat_le}
 
 -- The byte is not printable ASCII: subtracting 0x7F with wrap-around gives at most 0xA0.

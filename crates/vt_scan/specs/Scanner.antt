@@ -1,5 +1,5 @@
--- What the scanner holds of the bytes that it has read, which states of the automaton it represents by that, and what
--- the events that it returns mean.
+-- The data that a scanner holds about the bytes that it has read, the states of the automaton that this data can
+-- stand for, and the meaning of the events that it returns.
 use Rattle.std.specs.Prelude.{◌≡◌, ◌≢◌, ℕ, ◌<◌, ◌≤◌, ◌==◌, ◌&&◌, ◌||◌, nat_le, Bool, false, List, [], ◌++◌, length, map, option_to_list}
 use Rattle.vt_scan.specs.Parameters.{GroupTable, table_of}
 use Rattle.vt_scan.specs.Automaton as automaton
@@ -15,14 +15,14 @@ use Rattle.vt_scan.specs.declared.event.Event as event
 use Rattle.vt_scan.specs.declared.event.Event.TheVariants as given
 use Rattle.vt_scan.specs.declared.event.Events.{Events}
 
--- All that a scanner holds. Fields that its kind does not use have old values.
+-- The value of a scanner. Fields that its kind does not use have outdated values.
 pub record Held : Type 0 where
   pub kind : Kind
   -- The bytes of an incomplete character.
   pub unfinished : List ℕ
-  -- The numbers of a sequence.
+  -- The numbers of a control sequence.
   pub table : GroupTable
-  -- The private marker and the intermediates, at most two bytes.
+  -- The private marker and intermediates, at most two bytes.
   pub intermediates : List ℕ
   -- The text of an operating system command.
   pub text : List ℕ
@@ -32,7 +32,7 @@ pub record ReadsSequence (held : Held) (text : List ℕ) : Type 0 where
   pub table : held.table ≡ table_of (parameter_text text)
   pub intermediates : held.intermediates ≡ intermediates_of text
 
--- In this kind, what is held is the reading of the collected bytes `text`.
+-- The scanner holds the data that a state of this kind with the collected bytes `text` requires.
 abbrev pub Reads : Held → Kind → List ℕ → Type 0
 Reads held Ground text = held.unfinished ≡ text
 Reads held CsiIgnore text = Unit {0}
@@ -40,17 +40,17 @@ Reads held OscString text = held.text ≡ text
 Reads held Skip text = Unit {0}
 Reads held _ text = ReadsSequence held text
 
--- A scanner that holds this may be in this state: what is held is all that the state's future events depend on.
+-- The scanner can be in this state: it holds all data that the state's future events depend on.
 pub record StandsFor (held : Held) (state : State) : Type 0 where
   pub kind : held.kind ≡ state.kind
   pub reads : Reads held held.kind state.collected
 
--- The bytes of an operating system command that has not ended; nothing else is kept byte by byte.
+-- The bytes of an unfinished operating system command. No other sequence is kept byte by byte.
 abbrev pub unfinished_command : Kind → List ℕ → List ℕ
 unfinished_command OscString text = text
 unfinished_command _ text = []
 
--- The event of the automaton that an event of the scanner means; its lists are those that the scanner holds.
+-- The automaton's event that an event of the scanner stands for. Its lists are taken from the scanner.
 abbrev pub event_of : Held → event.Event → automaton.Event
 event_of held (given.Character c) = automaton.Character c
 event_of held (given.Executed b) = automaton.Executed b
@@ -58,11 +58,11 @@ event_of held (given.Escape b) = automaton.EscDispatch held.intermediates b
 event_of held (given.Csi b) = automaton.CsiDispatch held.table.groups held.intermediates b
 event_of held given.Osc = automaton.OscDispatch (parts_of held.text)
 
--- The events of the automaton that the events of the scanner mean, in their order.
+-- The automaton's events that the events of the scanner stand for, in the same order.
 abbrev pub events_in : Held → Events → List automaton.Event
 events_in held events = map (event_of held) (option_to_list events.first ++ option_to_list events.second)
 
--- The scanner represents the state after a step, and its events mean exactly those of the step.
+-- The scanner can be in the state after the step, and its events stand for exactly those of the step.
 pub record Follows (new : Held) (answer : Events) (step : Step) : Type 0 where
   pub stands : StandsFor new step.state
   pub means : events_in new answer ≡ step.events
@@ -71,36 +71,37 @@ pub record Follows (new : Held) (answer : Events) (step : Step) : Type 0 where
 abbrev pub IsPrintableByte : ℕ → Type 0
 IsPrintableByte b = (0x20 ≤ b) × (b < 0x7F)
 
--- The scanner is in the ground state with nothing incomplete, and the byte is printable ASCII.
+-- The scanner is in the ground state with no incomplete character, and the byte is printable ASCII.
 abbrev pub ReadsItself : Held → ℕ → Type 0
 ReadsItself held b = (held.kind ≡ Ground) × (held.unfinished ≡ []) × (0x20 ≤ b) × (b < 0x7F)
 
--- The scanner is in the ground state with nothing incomplete, and the byte is a control character other than ESC.
+-- The scanner is in the ground state with no incomplete character, and the byte is a control character other than
+-- ESC.
 abbrev pub ExecutesItself : Held → ℕ → Type 0
 ExecutesItself held b = (held.kind ≡ Ground) × (held.unfinished ≡ []) × (b < 0x20) × (b ≢ 0x1B)
 
--- Feeding byte b makes the step of the automaton from every state that the scanner represents, and returns its
--- events.
+-- Feeding the byte `b` performs the automaton's step from every state that the scanner can be in, and returns the
+-- events of that step.
 abbrev pub Feeds : Held → ℕ → Held → Events → Type 0
 Feeds old b new answer =
     (state : State) → StandsFor old state → Follows new answer (step_in state.kind state.collected b)
 
--- Feeding these bytes one by one makes the run of the automaton from every state that the scanner represents, with
+-- Feeding these bytes one by one performs the automaton's run from every state that the scanner can be in, with
 -- exactly these events.
 abbrev pub FeedsAll : Held → List ℕ → Held → List automaton.Event → Type 0
 FeedsAll old bytes new events =
     (state : State) → StandsFor old state → StandsFor new (run state bytes).state × ((run state bytes).events ≡ events)
 
--- These bytes cause no event, in any state that the scanner represents.
+-- These bytes cause no event in any state that the scanner can be in.
 abbrev pub HasNoEvent : Held → List ℕ → Type 0
 HasNoEvent held bytes = (state : State) → StandsFor held state → (run state bytes).events ≡ []
 
--- An intermediate byte (ECMA-48, section 5.4, and ECMA-35).
+-- The byte is an intermediate byte (ECMA-48, section 5.4, and ECMA-35).
 abbrev pub is_intermediate : ℕ → Bool
 is_intermediate b = nat_le 0x20 b && nat_le b 0x2F
 
--- A byte that introduces a sequence: ESC in the ground state with nothing incomplete, then an intermediate, or `[`
--- and then parameter bytes.
+-- The byte is part of the beginning of a sequence: ESC in the ground state with no incomplete character, then an
+-- intermediate byte, or `[` followed by parameter bytes.
 abbrev pub leads_in : Kind → List ℕ → ℕ → Bool
 leads_in Ground unfinished b = (length unfinished == 0) && (b == 0x1B)
 leads_in Escape unfinished b = (b == 0x5B) || is_intermediate b
@@ -108,16 +109,16 @@ leads_in CsiEntry unfinished b = is_parameter b
 leads_in CsiParam unfinished b = is_parameter b
 leads_in _ unfinished b = false
 
--- A final byte of a control sequence (ECMA-48, section 5.4).
+-- The byte is a final byte of a control sequence (ECMA-48, section 5.4).
 abbrev pub is_final : ℕ → Bool
 is_final b = nat_le 0x40 b && nat_le b 0x7E
 
--- A byte that ends a control sequence without intermediates, which is then dispatched.
+-- The byte ends a control sequence without intermediates, which is then dispatched.
 abbrev pub ends_sequence : Kind → ℕ → Bool
 ends_sequence CsiEntry b = is_final b
 ends_sequence CsiParam b = is_final b
 ends_sequence _ b = false
 
--- A byte that ends an escape sequence, which is then dispatched.
+-- The byte ends an escape sequence, which is then dispatched.
 abbrev pub EndsEscape : Kind → ℕ → Type 0
 EndsEscape kind b = turn_of kind (class_of b) ≡ End Ground EscDispatch

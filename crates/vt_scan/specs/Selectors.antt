@@ -1,10 +1,11 @@
--- Bytes that contain no U+FE0F, which is EF B8 8F in UTF-8 (Unicode 3.9, Table 3-6), and bytes that yield none.
+-- Bytes that don't contain U+FE0F, which is EF B8 8F in UTF-8 (Unicode 3.9, Table 3-6), and bytes that are not parsed
+-- as U+FE0F.
 use Rattle.std.specs.Prelude.{◌≢◌, ℕ, List, [], ◌∷◌, take, drop}
 use Rattle.std.specs.List.{AllByRecursion}
 use Rattle.vt_scan.specs.Automaton.{State, Character}
 use Rattle.vt_scan.specs.Run.{run}
 
--- The bytes contain EF B8 8F nowhere.
+-- `bytes` doesn't contain the sequence EF B8 8F.
 abbrev pub SpellsNoSelector : List ℕ → Type 0
 SpellsNoSelector bytes = (i : ℕ) → take 3 (drop i bytes) ≢ 0xEF ∷ 0xB8 ∷ 0x8F ∷ []
 

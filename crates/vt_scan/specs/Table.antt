@@ -1,6 +1,6 @@
--- The byte automaton except for UTF-8: the transition for each kind of state and each class of bytes. It follows Paul
--- Williams' parser for ANSI terminals, with control sequences as in ECMA-48, section 5.4, and escape sequences as in
--- ECMA-35.
+-- The scanner's automaton, except for UTF-8: the transition for each kind of state and each class of bytes. It
+-- follows Paul Williams' parser for ANSI terminals, with control sequences as in ECMA-48, section 5.4, and escape
+-- sequences as in ECMA-35.
 use Rattle.std.specs.Prelude.{ℕ, ◌==◌, ◌||◌, nat_lt, if◌then◌else◌}
 use Rattle.vt_scan.specs.declared.table.Kind.{Kind}
 use Rattle.vt_scan.specs.declared.table.Kind.TheVariants.{Ground, Escape, EscapeIntermediate, CsiEntry, CsiParam}
@@ -13,7 +13,8 @@ use Rattle.vt_scan.specs.declared.table.Turn.TheVariants.{Collect, Drop, Execute
 use Rattle.vt_scan.specs.declared.table.Ending.TheVariants.{Nothing, Character, Executed, EscDispatch}
 use Rattle.vt_scan.specs.declared.table.Ending.TheVariants.{CsiDispatch, OscDispatch, OscDispatchAndExecuted}
 
--- The class of a byte: the columns of ECMA-48's code table, and the bytes with a meaning of their own.
+-- The class of a byte: its columns in ECMA-48's code table, with separate classes for bytes that have a special
+-- meaning.
 unfoldable pub class_of : ℕ → Class
 class_of b =
     if nat_lt b 0x20 then
@@ -32,8 +33,8 @@ class_of b =
     else if b == 0x7F then Delete
     else High
 
--- The transition for a class of bytes; the first line that matches applies. In the ground state, bytes from 80 on are
--- UTF-8 and do not go by this table.
+-- The transition for a kind of state and a class of bytes; the first matching line applies. In the ground state,
+-- bytes from 0x80 on are UTF-8 and don't use this table.
 abbrev pub turn_of : Kind → Class → Turn
 turn_of OscString Bell = End Ground OscDispatch
 turn_of OscString Cancel = End Ground OscDispatchAndExecuted

@@ -1,8 +1,8 @@
--- The output of writers of sequences, and what it is read as.
+-- The output of functions that write escape sequences, and how the scanner reads it.
 use Rattle.std.specs.Prelude.{ℕ, zero, ◌+◌, ◌≤◌, List, [], ◌∷◌}
 use Rattle.vt_scan.specs.Automaton.{Event, Step, start}
 
--- The step back to the ground state with nothing incomplete, with these events.
+-- A step that returns to the ground state with no incomplete character, with these events.
 abbrev pub back_with : List Event → Step
 back_with events = record { state = start; events = events }
 
@@ -11,8 +11,8 @@ abbrev pub IsParameterText : List ℕ → Type 0
 IsParameterText [] = Unit {0}
 IsParameterText (b ∷ text) = (0x30 ≤ b) × (b ≤ 0x3B) × IsParameterText text
 
--- The groups of CUP's parameters for a row and a column that count from 0; the home position has no parameters, which
--- read as one 0.
+-- The groups of CUP's parameters for a 0-based row and column. The home position has no parameters, which are read as
+-- one 0.
 abbrev pub place_groups : ℕ → ℕ → List (List ℕ)
 place_groups zero zero = (0 ∷ []) ∷ []
 place_groups row col = ((row + 1) ∷ []) ∷ ((col + 1) ∷ []) ∷ []

@@ -1,4 +1,4 @@
--- Runs of characters of three bytes and two columns.
+-- Runs of characters that take three bytes and two columns each.
 use Rattle.std.specs.Prelude.{◌≡◌, ◌≢◌, ℕ, ◌+◌, ◌*◌, ◌<◌, true, List, [], ◌∷◌, slice_index_or, Some}
 use Rattle.std.specs.Char.{IsScalar}
 use Rattle.vt_cells.specs.Glyph.{columns_of}
@@ -8,18 +8,18 @@ use Rattle.vt_scan.specs.Characters.{character_of, is_character}
 abbrev pub IsWideCharacter : ℕ → Type 0
 IsWideCharacter c = IsScalar c × ((c ≢ 0xFFFD) × (columns_of c ≡ Some 2))
 
--- These three bytes are the character c, which takes two columns.
+-- These three bytes encode the character `c`, which takes two columns.
 pub record IsWideThree (bytes : List ℕ) (c : ℕ) : Type 0 where
   pub whole : is_character bytes ≡ true
   pub means : c ≡ character_of bytes
   pub low : c < 0xFFFD
   pub wide : columns_of c ≡ Some 2
 
--- The three bytes of character k.
+-- The three bytes of the character at index `k`.
 abbrev pub three_at : List ℕ → ℕ → List ℕ
 three_at bytes k =
     slice_index_or bytes (3 * k) 0 ∷ slice_index_or bytes (3 * k + 1) 0 ∷ slice_index_or bytes (3 * k + 2) 0 ∷ []
 
--- The first n characters of a text, with the bytes that encode them.
+-- The first `n` characters of `text` are encoded by `bytes`, three bytes and two columns each.
 abbrev pub AreWideThrees : ℕ → List ℕ → List ℕ → Type 0
 AreWideThrees n bytes text = (k : ℕ) → k < n → IsWideThree (three_at bytes k) (slice_index_or text k 0)

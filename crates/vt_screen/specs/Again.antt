@@ -1,4 +1,4 @@
--- What output leaves of a plain terminal, whatever it draws: the terminal is plain again.
+-- Output that leaves a plain terminal plain, whatever it draws.
 use Rattle.std.specs.Prelude.{◌≡◌, ℕ, List}
 use Rattle.std.specs.List.{AllByRecursion}
 use Rattle.vt_grid.specs.Page.{SameSize}
@@ -10,35 +10,35 @@ use Rattle.vt_screen.specs.Screen.{ScreenValue, IsScreen, above_page}
 use Rattle.vt_screen.specs.Shown.{IsPlain}
 use Rattle.vt_screen.specs.Steps.{Step, CallBack}
 
--- A step that invokes no callback, except for `on_scroll` when rows scroll off the top and aren't kept.
+-- The step invokes no callbacks, except for `on_scroll` when rows scroll off the top and aren't kept.
 abbrev pub IsNoCallback : Step → Type 0
 IsNoCallback (CallBack call) = ⊥
 IsNoCallback _ = Unit {0}
 
--- A call of `on_scroll`.
+-- The call is one of `on_scroll`.
 abbrev pub IsReport : CallValue → Type 0
 IsReport (OnScroll row alternate) = Unit {0}
 IsReport _ = ⊥
 
--- The other page, which page is active, the input modes with the cursor style, and the size are unchanged.
+-- The inactive page, the choice of the active page, the input modes, the cursor style and the size are unchanged.
 pub record KeepsAside (reader after : ScreenValue) : Type 0 where
   pub other : after.other ≡ reader.other
   pub is_alternate : after.is_alternate ≡ reader.is_alternate
   pub modes : after.modes ≡ reader.modes
   pub size : SameSize after.page reader.page
 
--- A terminal in ground state that has read the output to its end: it is in ground state again and plain, no callback
--- but `on_scroll` was invoked, and everything outside of its active page is unchanged.
+-- A terminal in ground state that reads the output is then in ground state again and plain. The only callback invoked
+-- is `on_scroll`, and everything outside of the active page is unchanged.
 pub record LeavesPlain (text : List ℕ) (reader : ScreenValue) : Type 0 where
   pub ground : (run start text).state ≡ start
   pub steps : AllByRecursion IsNoCallback (steps_in start reader text)
   pub plain : IsPlain (screen_in start reader text)
   pub aside : KeepsAside reader (screen_in start reader text)
 
--- Output that leaves every plain terminal plain.
+-- The output leaves every plain terminal plain.
 abbrev pub KeepsPlain : List ℕ → Type 0
 KeepsPlain text = (reader : ScreenValue) → IsPlain reader → LeavesPlain text reader
 
--- Output that leaves every terminal plain that displays no scrollback.
+-- Every terminal that displays no scrollback is plain after it has read the output.
 abbrev pub MakesPlain : List ℕ → Type 0
 MakesPlain text = (reader : ScreenValue) → IsScreen reader → (above_page reader).offset ≡ 0 → LeavesPlain text reader

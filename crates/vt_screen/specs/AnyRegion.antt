@@ -1,4 +1,4 @@
--- A redraw for terminals with any scroll region and origin mode, and what it makes of them.
+-- A redraw for terminals with any scroll region and origin mode, and its effect on them.
 use Rattle.std.specs.Prelude.{◌≡◌, ℕ, List, [], ◌∷◌, ◌++◌}
 use Rattle.vt_cells.specs.Op.{bytes_of_all, csi}
 use Rattle.vt_redraw.specs.Picture.{Picture, SamePictureSize}
@@ -6,22 +6,23 @@ use Rattle.vt_redraw.specs.Redraw.{redraw}
 use Rattle.vt_screen.specs.Screen.{ScreenValue, IsScreen, above_page}
 use Rattle.vt_screen.specs.Shown.{shown}
 
--- The sequences that turn off origin mode (DECOM) and make the whole page the scroll region (DECSTBM without numbers).
+-- The sequences that turn off origin mode (DECOM) and make the whole page the scroll region (DECSTBM without
+-- parameters).
 abbrev pub whole_region_text : List ℕ
 whole_region_text = csi (0x3F ∷ 0x36 ∷ []) 0x6C ++ csi [] 0x72
 
--- The sequences that reset the region, followed by the redraw of a picture.
+-- The sequences that reset the scroll region, followed by the redraw of a picture.
 abbrev pub reset_text : Picture → List ℕ
 reset_text picture = whole_region_text ++ bytes_of_all (redraw picture)
 
--- A terminal of a picture's size that displays no scrollback; its scroll region and origin mode may be any.
+-- The terminal has the picture's size and displays no scrollback. Its scroll region and origin mode are arbitrary.
 pub record IsReaderInAnyRegion (picture : Picture) (reader : ScreenValue) : Type 0 where
   pub sound : IsScreen reader
   pub offset : (above_page reader).offset ≡ 0
   pub size : SamePictureSize picture (shown reader)
 
--- Everything but the active page, its scroll region and origin mode, what is saved, and the last character is
--- unchanged: scrollback and its offset, the other page and the modes.
+-- Scrollback and its offset, the inactive page and the modes are unchanged. Everything else may have changed: the
+-- active page with its scroll region and origin mode, the saved state, and the last character.
 pub record KeepsRestButRegion (reader after : ScreenValue) : Type 0 where
   pub other : after.other ≡ reader.other
   pub is_alternate : after.is_alternate ≡ reader.is_alternate

@@ -1,11 +1,11 @@
--- The calls by which a terminal reports to the program around it.
+-- The calls by which a terminal reports events to the program that uses it.
 use Rattle.std.specs.Prelude.{ℕ, Bool, List, Option}
 use Rattle.vt_rows.specs.Row.{RowValue}
 
 pub data CallValue : Type 0 where
   AudibleBell : CallValue
   VisualBell : CallValue
-  -- A request for a size in rows and columns.
+  -- A request to resize the terminal, in rows and columns.
   Resize : (rows cols : ℕ) → CallValue
   SetWindowIconName : (name : List ℕ) → CallValue
   SetWindowTitle : (title : List ℕ) → CallValue
@@ -16,5 +16,5 @@ pub data CallValue : Type 0 where
   UnhandledEscape : (first second : Option ℕ) (byte : ℕ) → CallValue
   UnhandledCsi : (first second : Option ℕ) (groups : List (List ℕ)) (byte : ℕ) → CallValue
   UnhandledOsc : (parts : List (List ℕ)) → CallValue
-  -- A row that scrolled off the top of a page and isn't kept, or that scrollback dropped.
+  -- A row that scrolled off the top of a page and isn't kept, or that was dropped from scrollback.
   OnScroll : (row : RowValue) (alternate : Bool) → CallValue

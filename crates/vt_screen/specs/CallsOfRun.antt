@@ -1,5 +1,5 @@
--- The calls that a run makes if callbacks leave the screen alone: a function of the scanner's state, the screen and the
--- bytes.
+-- The calls made by a run over bytes if callbacks leave the screen unchanged. They depend only on the scanner's
+-- state, the screen and the bytes.
 use Rattle.std.specs.Prelude.{◌≡◌, ℕ, List, [], ◌∷◌, ◌++◌, map}
 use Rattle.std.specs.List.{FoldsTo}
 use Rattle.vt_scan.specs.Automaton.{State, Event}
@@ -10,20 +10,20 @@ use Rattle.vt_screen.specs.Controls.{seen_of, steps_of}
 use Rattle.vt_screen.specs.Steps.{Step, CallBack, reports, screen_after}
 use Rattle.vt_screen.specs.Run.{CallRelation, CalledOnAnyScreen}
 
--- Callbacks receive calls in order, each whatever the screen is.
+-- The callbacks receive these calls in order, with any screen.
 abbrev pub TakesCalls : {S : Type 0} → CallRelation S → S → List CallValue → S → Type 0
 TakesCalls does old calls new = FoldsTo (CalledOnAnyScreen does) old calls new
 
--- A relation of callbacks that leave the screen alone.
+-- The callbacks never change the screen.
 abbrev pub LeavesScreen : {S : Type 0} → CallRelation S → Type 0
 LeavesScreen {S} does =
     (call : CallValue) → (old new : S) → (before after : ScreenValue) → does call old before new after → after ≡ before
 
--- Callbacks that leave the screen alone receive a call, with some screen.
+-- The callbacks receive a call, with some screen that they leave unchanged.
 abbrev pub CalledOnSomeScreen : {S : Type 0} → CallRelation S → S → CallValue → S → Type 0
 CalledOnSomeScreen does old call new = (screen : ScreenValue) × does call old screen new screen
 
--- The calls that a step makes, in order: its own, or a report of each row that scrolls off and isn't kept.
+-- The calls that a step makes, in order: its own call, or a report of each row that scrolls off and isn't kept.
 abbrev pub calls_of : Step → ScreenValue → List CallValue
 calls_of (CallBack call) screen = call ∷ []
 calls_of step screen = map (λ row. OnScroll row screen.is_alternate) (reports step screen)
@@ -38,7 +38,7 @@ abbrev pub screen_after_all : List Step → ScreenValue → ScreenValue
 screen_after_all [] screen = screen
 screen_after_all (step ∷ steps) screen = screen_after_all steps (screen_after step screen)
 
--- The steps of a list of events, each event on the screen as it is then.
+-- The steps of a list of events; the steps of each event depend on the screen before that event.
 abbrev pub steps_of_all : List Event → ScreenValue → List Step
 steps_of_all [] screen = []
 steps_of_all (event ∷ events) screen =

@@ -1,4 +1,4 @@
--- Captures: the basic texts of rows in sequence.
+-- Captures: the concatenated basic texts of rows.
 use Rattle.std.specs.Prelude.{◌≡◌, ℕ, ◌<◌, List, [], ◌∷◌, ◌++◌, length, ◌⊎◌, ⊤}
 use Rattle.std.proofs.Common.{inl, inr}
 use Rattle.std.specs.Borrow.{MutBor}
@@ -10,7 +10,7 @@ use Rattle.vt_rows.specs.declared.capture.range.BasicFormattedCaptureRange.{Basi
 use Rattle.vt_rows.specs.declared.capture.range.BasicFormattedCaptureRange.TheVariants.{Full, Visible}
 use Rattle.vt_screen.specs.Screen.{ScreenValue, above_page, visible_rows}
 
--- The basic texts of rows, continuing from a capture state.
+-- The concatenated basic texts of rows, continuing from a capture state.
 abbrev pub basic_texts : Written → List RowValue → List ℕ
 basic_texts written [] = []
 basic_texts written (row ∷ rows) = basic_text written row ++ basic_texts (written_after written row) rows
@@ -18,11 +18,11 @@ basic_texts written (row ∷ rows) = basic_text written row ++ basic_texts (writ
 abbrev pub written_after_all : Written → List RowValue → Written
 written_after_all written rows = fold written_after written rows
 
--- All rows of scrollback above the active page, followed by the rows of that page.
+-- All scrollback rows of the active page, followed by the rows of that page.
 abbrev pub all_rows : ScreenValue → List RowValue
 all_rows screen = (above_page screen).rows ++ screen.page.rows
 
--- The rows that a capture range includes.
+-- The rows included in a capture range.
 abbrev pub captured_rows : BasicFormattedCaptureRange → ScreenValue → List RowValue
 captured_rows (Full state) screen = all_rows screen
 captured_rows Visible screen = visible_rows screen
@@ -36,16 +36,16 @@ given_state Visible = unwritten
 abbrev pub captured_text : BasicFormattedCaptureRange → ScreenValue → List ℕ
 captured_text range screen = basic_texts (given_state range) (captured_rows range screen)
 
--- A capture range after the call has returned: the borrowed state, or nothing.
+-- What is left of a capture range after the call: the borrowed capture state, or nothing.
 abbrev pub RangeLeft : Type 0
 RangeLeft = (MutBor Written × ⊤) ⊎ (⊤ ⊎ ⊥)
 
--- A predicate holds for the caller's capture state, if there is one.
+-- The predicate `P` holds for the caller's capture state, if there is one.
 abbrev pub IfGiven : RangeLeft → (Written → Type 0) → Type 0
 IfGiven (inl full) P = P full.0.now
 IfGiven (inr visible) P = ⊤
 
--- The sink accepted some first rows in full and stopped in the text of the next row, which isn't empty; the state is
+-- The sink accepted the complete text of some rows and failed within the nonempty text of the next row. The state is
 -- the one after the complete rows.
 pub record StopsBehind (refuses : List ℕ → List ℕ → List ℕ → Type 0) (start : List ℕ) (before : Written)
     (rows : List RowValue) (text : List ℕ) (state : Written) : Type 0 where

@@ -1,11 +1,11 @@
--- A redraw followed by differences, each against the screen before it.
+-- A redraw, followed by differences that each start from the screen before.
 use Rattle.std.specs.Prelude.{ℕ, List, [], ◌∷◌, ◌++◌}
 use Rattle.vt_redraw.specs.Picture.{SamePictureSize}
 use Rattle.vt_redraw.specs.Steady.{IsSteady}
 use Rattle.vt_screen.specs.Screen.{ScreenValue, IsScreen, IsColored}
 use Rattle.vt_screen.specs.Shown.{shown, shown_change, shown_text}
 
--- A screen that can be redrawn on a terminal: its picture is steady and of that terminal's size.
+-- The screen can be redrawn on the terminal `reader`: its picture is steady and has the size of that terminal.
 pub record CanShowOn (reader self : ScreenValue) : Type 0 where
   pub sound : IsScreen self
   pub colored : IsColored self

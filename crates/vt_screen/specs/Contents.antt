@@ -7,27 +7,26 @@ use Rattle.vt_rows.specs.Row.{RowValue}
 use Rattle.vt_screen.specs.Screen.{ScreenValue, visible_row, visible_rows}
 use Rattle.vt_screen.specs.declared.rows.Rows.{Rows}
 
--- The line end after a row, which a wrapped row lacks.
+-- The line end after a row; empty if the row is wrapped.
 abbrev pub line_end : RowValue → List ℕ
 line_end row = if row.wrapped then [] else 0x0A ∷ []
 
--- The line end before a row in which no glyph begins, if the row before it is wrapped.
+-- The line end before a row that contains no glyph, if the row before it is wrapped.
 abbrev pub gap_line : ℕ → Bool → RowValue → List ℕ
 gap_line width goes_on row = if goes_on && not (has_glyph 0 width row.cells) then 0x0A ∷ [] else []
 
--- The text of consecutive rows, each in `width` columns; `goes_on` says whether the row before the first one is
--- wrapped.
+-- The text of consecutive rows of `width` columns; `goes_on` says whether the row before the first one is wrapped.
 abbrev pub lines_of : ℕ → Bool → List RowValue → List ℕ
 lines_of width goes_on [] = []
 lines_of width goes_on (row ∷ rows) =
     gap_line width goes_on row ++ (plain_text 0 width row.cells ++ (line_end row ++ lines_of width row.wrapped rows))
 
--- A byte followed by text; a line end followed by nothing is dropped.
+-- The text with a byte put before it. A line end is dropped if the text is empty.
 abbrev pub before : ℕ → List ℕ → List ℕ
 before byte [] = if byte == 0x0A then [] else byte ∷ []
 before byte (next ∷ text) = byte ∷ (next ∷ text)
 
--- Text without the line ends at its end.
+-- The text without its trailing line ends.
 abbrev pub without_line_ends : List ℕ → List ℕ
 without_line_ends [] = []
 without_line_ends (byte ∷ text) = before byte (without_line_ends text)
@@ -38,15 +37,15 @@ contents_of screen = without_line_ends (lines_of screen.page.width false (visibl
 
 -- ---- text between two positions
 
--- A row's part of the text between two positions: the first row from its column on, the last one up to its column, any
--- other in full.
+-- The part of row `r` in the text between two positions. The first row begins at its column, the last one ends at its
+-- column, and rows between them are included in full.
 abbrev pub part_of : (start_row start_col end_row end_col : ℕ) → ScreenValue → ℕ → List ℕ
 part_of start_row start_col end_row end_col screen r =
     plain_text (if r == start_row then start_col else 0)
     (if r == end_row then end_col else screen.page.width) (visible_row screen r).cells
     ++ (if r == end_row then [] else line_end (visible_row screen r))
 
--- The text between two positions, as far as its rows are displayed.
+-- The text between two positions, limited to the displayed rows.
 abbrev pub between_of : (start_row start_col end_row end_col : ℕ) → ScreenValue → List ℕ
 between_of start_row start_col end_row end_col screen =
     flat_map (part_of start_row start_col end_row end_col screen)
@@ -54,10 +53,10 @@ between_of start_row start_col end_row end_col screen =
 
 -- ---- text row by row
 
--- The text of each row in the columns from `start` up to but not including `stop`.
+-- The text of each row in the columns `start..stop`.
 abbrev pub row_texts : (start stop : ℕ) → List RowValue → List (List ℕ)
 row_texts start stop rows = map (λ row. plain_text start stop row.cells) rows
 
--- The texts that the iterator has still to return.
+-- The texts that the iterator still has to return.
 abbrev pub rows_left : Rows → List (List ℕ)
 rows_left rows = row_texts rows.start rows.stop (drop rows.row (visible_rows rows.screen.now))

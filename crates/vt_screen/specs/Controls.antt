@@ -1,4 +1,4 @@
--- The steps of each event, and so which bytes are which control function.
+-- The steps that each event causes. This defines which control functions exist, and which bytes invoke them.
 use Rattle.std.specs.Prelude.{ℕ, ◌-◌, ◌==◌, ◌&&◌, ◌||◌, not, nat_lt, nat_le, Bool, true, false}
 use Rattle.std.specs.Prelude.{List, [], ◌∷◌, ◌++◌, length, replicate, slice_index_or, slice_get}
 use Rattle.std.specs.Prelude.{Option, Some, None, bytes_eq, codes, if◌then◌else◌}
@@ -29,7 +29,7 @@ use Rattle.vt_screen.specs.Steps.{Step, Print, LineFeed, ScrollUp, OnPage, SaveC
 use Rattle.vt_screen.specs.Steps.{EnterFresh, LeaveAlternate, LeaveRestoring, Reset, EraseScrollback, Render}
 use Rattle.vt_screen.specs.Steps.{HideCursor, SetMode, CallBack}
 
--- What an event can see of a screen: its size, and the last character that REP would repeat.
+-- The parts of a screen that the steps of an event depend on: its size, and the last character, which REP repeats.
 pub record Seen : Type 0 where
   pub rows : ℕ
   pub columns : ℕ
@@ -40,11 +40,11 @@ seen_of screen = record { rows = length screen.page.rows; columns = screen.page.
 
 -- ---- numbers
 
--- The first number of a group, or 0 if there is none.
+-- The first number of the group at index `i`; 0 if there is none.
 abbrev pub number_at : ℕ → List (List ℕ) → ℕ
 number_at i groups = slice_index_or (slice_index_or groups i []) 0 0
 
--- The first number of a group, or a default if it is 0 or missing.
+-- The first number of the group at index `i`; `default` if it is 0 or missing.
 abbrev pub number_or : ℕ → ℕ → List (List ℕ) → ℕ
 number_or default i groups = if number_at i groups == 0 then default else number_at i groups
 
@@ -53,12 +53,14 @@ intermediate_at i intermediates = slice_get intermediates i
 
 -- ---- the steps of each kind of event
 
--- The steps of a character: U+0080 to U+009F and U+FFFD are reported, all others are printed.
+-- The steps of a character: U+0080 to U+009F and U+FFFD are reported as unhandled, and all other characters are
+-- printed.
 unfoldable pub character_steps : ℕ → List Step
 character_steps c =
     if (c == 0xFFFD) || (nat_le 0x80 c && nat_le c 0x9F) then CallBack (UnhandledChar c) ∷ [] else Print c ∷ []
 
--- The steps of a control byte: BEL, BS, HT, LF, VT, FF, CR; SO and SI do nothing.
+-- The steps of a control character: BEL, BS, HT, LF, VT, FF and CR are performed, SO and SI are ignored, and all
+-- others are reported as unhandled.
 unfoldable pub control_steps : ℕ → List Step
 control_steps b =
     if b == 0x07 then CallBack AudibleBell ∷ []
@@ -69,7 +71,7 @@ control_steps b =
     else if (b == 0x0E) || (b == 0x0F) then []
     else CallBack (UnhandledControl b) ∷ []
 
--- The steps of an escape sequence: DECSC, DECRC, DECKPAM, DECKPNM, RI, RIS, and the visual bell of GNU Screen.
+-- The steps of an escape sequence: DECSC, DECRC, DECKPAM, DECKPNM, RI, RIS, or the visual bell of GNU Screen (ESC g).
 unfoldable pub escape_steps : List ℕ → ℕ → List Step
 escape_steps [] b =
     if b == 0x37 then SaveCursor ∷ []
@@ -82,7 +84,8 @@ escape_steps [] b =
     else CallBack (UnhandledEscape None None b) ∷ []
 escape_steps (intermediate ∷ intermediates) b = CallBack (UnhandledEscape (Some intermediate) (intermediate_at 0 intermediates) b) ∷ []
 
--- The steps of one reading of SGR, and of all groups, each of which is read as the one before it demands.
+-- The steps of one SGR group that was interpreted, and the steps of all SGR groups. How a group is interpreted
+-- depends on the group before it.
 abbrev pub reading_steps : List (List ℕ) → Reading → List Step
 reading_steps groups Silent = []
 reading_steps groups (Set setting) = Render setting ∷ []
@@ -96,7 +99,7 @@ sgr_from groups wanted (group ∷ rest) =
 abbrev pub sgr_steps : List (List ℕ) → List Step
 sgr_steps groups = sgr_from groups Any groups
 
--- The steps of ED and of EL; an unknown number is reported.
+-- The steps of ED and EL; an unknown parameter is reported as unhandled.
 unfoldable pub page_erasing : CallValue → ℕ → List Step
 page_erasing report n =
     if n == 0 then OnPage EraseBelow ∷ []
@@ -112,7 +115,7 @@ row_erasing report n =
     else if n == 2 then OnPage EraseRow ∷ []
     else CallBack report ∷ []
 
--- The rows or columns of a requested size; the screen's own if the group is missing.
+-- The number of rows or columns of a requested size; the screen's own number if the group is missing.
 abbrev pub size_or : ℕ → ℕ → List (List ℕ) → ℕ
 size_or own i groups = if nat_lt i (length groups) then number_at i groups else own
 
@@ -126,7 +129,8 @@ abbrev pub repeated : ℕ → Option ℕ → List Step
 repeated n (Some c) = replicate n (Print c)
 repeated n None = []
 
--- The step of a control sequence whose only number is a count of at least 1; each acts on the page.
+-- The step of a control sequence whose only parameter is a count or a position of at least 1, and which only changes
+-- the page.
 unfoldable pub counted_step : ℕ → ℕ → Option PageStep
 counted_step b n =
     if b == 0x40 then Some (InsertChars n)
@@ -145,7 +149,7 @@ counted_step b n =
     else if b == 0x64 then Some (MoveToRow (n - 1))
     else None
 
--- The steps of other control sequences without a private marker or an intermediate byte; rows and columns count from 1.
+-- The steps of other control sequences without a private marker or intermediate bytes. Rows and columns are 1-based.
 unfoldable pub other_steps : List (List ℕ) → ℕ → Seen → List Step
 other_steps groups b seen =
     if (b == 0x48) || (b == 0x66) then OnPage (MoveTo (number_or 1 0 groups - 1) (number_or 1 1 groups - 1)) ∷ []
@@ -156,7 +160,7 @@ other_steps groups b seen =
     else if b == 0x74 then window_steps groups seen
     else CallBack (UnhandledCsi None None groups b) ∷ []
 
--- The steps of SU and REP, which may scroll rows off the page, and else of other control sequences.
+-- The steps of SU and REP, which may scroll rows off the page, or of other control sequences.
 unfoldable pub scrolling_steps : List (List ℕ) → ℕ → Seen → List Step
 scrolling_steps groups b seen =
     if b == 0x53 then ScrollUp (number_or 1 0 groups) ∷ []
@@ -167,11 +171,11 @@ abbrev pub one_or : Option PageStep → List Step → List Step
 one_or (Some step) others = OnPage step ∷ []
 one_or None others = others
 
--- The steps of a control sequence without a private marker or an intermediate byte.
+-- The steps of a control sequence without a private marker or intermediate bytes.
 abbrev pub unmarked_steps : List (List ℕ) → ℕ → Seen → List Step
 unmarked_steps groups b seen = one_or (counted_step b (number_or 1 0 groups)) (scrolling_steps groups b seen)
 
--- The cursor style that DECSCUSR gives a number.
+-- The cursor style that a DECSCUSR parameter selects.
 unfoldable pub style_of : ℕ → Option CursorStyle
 style_of n =
     if n == 0 then Some style.Default
@@ -199,7 +203,7 @@ alternate_step on = if on then EnterAlternate else LeaveAlternate
 abbrev pub fresh_alternate_step : Bool → Step
 fresh_alternate_step on = if on then EnterFresh else LeaveRestoring
 
--- The steps of a private mode of one number; an unknown one is reported.
+-- The steps that set or reset a private mode; an unknown mode is reported as unhandled.
 unfoldable pub mode_step : Bool → CallValue → ℕ → List Step
 mode_step on report n =
     if n == 1 then SetMode (UseApplicationCursor on) ∷ []
@@ -221,7 +225,7 @@ mode_steps on report [] = []
 mode_steps on report ((n ∷ []) ∷ groups) = mode_step on report n ++ mode_steps on report groups
 mode_steps on report (_ ∷ groups) = CallBack report ∷ mode_steps on report groups
 
--- The steps of control sequences with the private marker `?`.
+-- The steps of a control sequence with the private marker `?`.
 unfoldable pub private_steps : Option ℕ → List (List ℕ) → ℕ → List Step
 private_steps second groups b =
     let report = UnhandledCsi (Some 0x3F) second groups b in
@@ -231,7 +235,7 @@ private_steps second groups b =
     else if b == 0x6C then mode_steps false report groups
     else CallBack report ∷ []
 
--- The steps of control sequences with a space as intermediate byte.
+-- The steps of a control sequence with a space as its intermediate byte.
 unfoldable pub space_steps : Option ℕ → List (List ℕ) → ℕ → List Step
 space_steps second groups b =
     if b == 0x71 then style_steps (UnhandledCsi (Some 0x20) second groups b) (style_of (number_at 0 groups))
@@ -247,8 +251,8 @@ abbrev pub csi_steps : List (List ℕ) → List ℕ → ℕ → Seen → List St
 csi_steps groups [] b seen = unmarked_steps groups b seen
 csi_steps groups (intermediate ∷ intermediates) b seen = intermediate_steps intermediate (intermediate_at 0 intermediates) groups b
 
--- The steps of operating system commands, titles and the clipboard (xterm, OSC 0, 1, 2 and 52), and the tests they
--- make.
+-- The steps of operating system commands for titles and the clipboard (xterm, OSC 0, 1, 2 and 52), and the tests used
+-- for them.
 abbrev pub is_clipboard_kind : List ℕ → Bool
 is_clipboard_kind kind = list_all (λ b. list_any (λ c. c == b) (codes "cpqs01234567")) kind
 

@@ -1,8 +1,8 @@
--- Output whose only controls are BS, LF, CR and ESC, and what follows each ESC.
+-- Output whose only control characters are BS, LF, CR and ESC, and the characters that may follow each ESC.
 use Rattle.std.specs.Prelude.{◌≡◌, ◌⊎◌, ◌&&◌, ◌||◌, nat_le, nat_lt, ℕ, Bool, true, List, [], ◌∷◌, encode_utf8_all, ⊤}
 use Rattle.vt_screen.specs.MadeOf.{IsOneOf}
 
--- Whether a character is no control of C0 or C1 and not DEL.
+-- Whether a character is neither a C0 or C1 control character nor DEL.
 abbrev pub is_graphic : ℕ → Bool
 is_graphic c = (nat_le 0x20 c && nat_lt c 0x7F) || nat_le 0xA0 c
 
@@ -17,7 +17,8 @@ EscapesOnly nexts (c ∷ rest) =
     ((is_graphic c ≡ true) ⊎ IsOneOf c (0x08 ∷ 0x0A ∷ 0x0D ∷ 0x1B ∷ []))
     × ((c ≡ 0x1B → BeginsWith nexts rest) × EscapesOnly nexts rest)
 
--- The UTF-8 encoding of characters whose only controls are BS, LF, CR and ESC followed by one of `nexts`.
+-- The text is the UTF-8 encoding of characters. The only control characters among them are BS, LF, CR, and ESC
+-- followed by one of `nexts`.
 pub record HasOnlyEscapes (nexts : List ℕ) (text : List ℕ) : Type 0 where
   pub characters : List ℕ
   pub spelled : text ≡ encode_utf8_all characters

@@ -1,5 +1,5 @@
--- How the fields of a screen make up its value, and what private functions do; only for the model and the contracts of
--- private functions.
+-- How the fields of a screen represent its value, and the effects of private functions; only for the model and the
+-- contracts of private functions.
 use Rattle.std.specs.Prelude.{◌≡◌, ℕ, ◌<◌, ◌≤◌, Bool, true, false, List, [], ◌++◌, Option, Some, None}
 use Rattle.std.specs.Prelude.{IfSome, IsSome, OnErr, OnOk, Result, option_map, not, if◌then◌else◌}
 use Rattle.vt_rows.specs.Basic.{Written}
@@ -14,27 +14,29 @@ use Rattle.vt_screen.specs.Pages.{fresh_page, page_aside, reports_of}
 use Rattle.vt_screen.specs.Screen.{ScreenValue, IsPrintable}
 pub use Rattle.vt_screen.specs.Screen.{IsColoredCell, IsColoredRow, AreColored}
 
--- What a screen has besides its active page: the other page, which of them is active, and scrollback above each.
+-- The parts of a screen besides its active page: the inactive page, which of the two is the alternate page, and the
+-- scrollback of each.
 pub record Aside : Type 0 where
   pub other : Option Page
   pub is_alternate : Bool
   pub active : Scrollback
   pub idle : Scrollback
 
--- The scrollback of the main page, and of the alternate page.
+-- The scrollback of the main page and that of the alternate page, given the scrollback of the active and the inactive
+-- page.
 abbrev pub main_scrollback : Bool → Scrollback → Scrollback → Scrollback
 main_scrollback is_alternate active idle = if is_alternate then idle else active
 
 abbrev pub alternate_scrollback : Bool → Scrollback → Scrollback → Scrollback
 alternate_scrollback is_alternate active idle = if is_alternate then active else idle
 
--- Scrollback that never keeps a row.
+-- The scrollback keeps no rows: it is empty and has capacity 0.
 pub record IsNothing (above : Scrollback) : Type 0 where
   pub capacity : above.capacity ≡ 0
   pub rows : above.rows ≡ []
   pub offset : above.offset ≡ 0
 
--- Scrollback whose rows may come back to a page.
+-- The scrollback is valid, so its rows may return to a page.
 pub record IsAbove (above : Scrollback) : Type 0 where
   pub sound : IsScrollback above
   pub colored : AreColored above.rows
@@ -53,13 +55,13 @@ pub record IsKept (page : Page) (last : Option ℕ) (aside : Aside) : Type 0 whe
   pub nothing : IsNothing (alternate_scrollback aside.is_alternate aside.active aside.idle)
   pub above : IsAbove (main_scrollback aside.is_alternate aside.active aside.idle)
 
--- ---- parts of switching pages and resetting
+-- ---- parts of page switches and resets
 
--- A screen whose inactive page exists, created if there was none.
+-- The screen with its inactive page created, if there was none.
 abbrev pub with_other : ScreenValue → ScreenValue
 with_other screen = record screen { other = Some (page_aside screen) }
 
--- A screen with its two pages exchanged, if there are two.
+-- The screen with its two pages swapped, if there are two.
 abbrev pub exchanged_with : Option Page → ScreenValue → ScreenValue
 exchanged_with (Some page) screen =
     record screen { page = page; other = Some screen.page; is_alternate = not screen.is_alternate }
@@ -68,14 +70,14 @@ exchanged_with None screen = screen
 abbrev pub exchanged : ScreenValue → ScreenValue
 exchanged screen = exchanged_with screen.other screen
 
--- A screen with its active page reset, and one with its inactive page reset.
+-- The screen with its active page reset, and the screen with its inactive page reset.
 abbrev pub with_fresh_page : ScreenValue → ScreenValue
 with_fresh_page screen = record screen { page = fresh_page screen }
 
 abbrev pub with_fresh_other : ScreenValue → ScreenValue
 with_fresh_other screen = record screen { other = option_map (λ _. fresh_page screen) screen.other }
 
--- A screen with both pages resized, while the main page is active.
+-- The screen with both pages resized, while the main page is active.
 abbrev pub pages_resized : (rows cols : ℕ) → ScreenValue → ScreenValue
 pages_resized rows cols screen = record screen {
   page = page_resized rows cols screen.scrollback screen.page;
@@ -83,25 +85,25 @@ pages_resized rows cols screen = record screen {
   scrollback = scrollback_resized rows screen.page screen.scrollback;
 }
 
--- The calls that report the rows that a resize of both pages drops.
+-- The calls that report the rows dropped when both pages are resized.
 abbrev pub reports_of_pages : (rows : ℕ) → ScreenValue → List CallValue
 reports_of_pages rows screen =
     reports_of false rows (Some screen.page) screen.scrollback ++ reports_of true rows screen.other (no_scrollback 0)
 
--- A valid size of a page: at least one row and one column.
+-- The size is valid for a page: at least one row and one column.
 pub record IsPageSize (height width : ℕ) : Type 0 where
   pub rows : 0 < height
   pub cols : 0 < width
 
 -- ---- parts of output
 
--- A range of columns of a screen, from `start` up to but not including `stop`.
+-- The columns `start..stop` are a valid range of the screen's columns.
 pub record IsColumns (start stop : ℕ) (screen : ScreenValue) : Type 0 where
   pub order : start ≤ stop
   pub inside : stop ≤ screen.page.width
 
--- Rows were written after those of a capture state, which is now the one after them; or the sink stopped in one of
--- them.
+-- The rows were written, continuing from the capture state `before`, and the state is now `after`. If the call
+-- failed, the sink failed within one of the rows.
 pub record WritesRows {A E : Type 0} (refuses : List ℕ → List ℕ → List ℕ → Type 0) (start : List ℕ) (before : Written)
     (rows : List RowValue) (result : Result A E) (bytes : List ℕ) (after : Written) : Type 0 where
   pub text : OnOk result (bytes ≡ start ++ basic_texts before rows)

@@ -1,11 +1,11 @@
--- What output for terminals consists of: characters that are no controls, control sequences with decimal numbers, and a
--- few controls that are listed.
+-- The elements of output for terminals: characters that are not control characters, control sequences with decimal
+-- numbers, and a few other listed sequences.
 use Rattle.std.specs.Prelude.{◌≡◌, ◌<◌, ◌≤◌, ◌⊎◌, ℕ, List, [], ◌∷◌, ◌++◌, codes, encode_utf8_all, map}
 use Rattle.std.specs.Char.{IsScalar}
 use Rattle.std.specs.List.{AllByRecursion, flat_map}
 use Rattle.vt_cells.specs.Op.{csi, joined}
 
--- An element of output: characters, CSI with decimal numbers separated by `;`, or a listed control.
+-- An element of output: characters, a control sequence with decimal numbers separated by `;`, or a listed sequence.
 pub data Piece : Type 0 where
   Characters : (characters : List ℕ) → Piece
   Numbered : (numbers : List ℕ) (final : ℕ) → Piece
@@ -16,7 +16,7 @@ piece_text (Characters characters) = encode_utf8_all characters
 piece_text (Numbered numbers final) = csi (joined numbers) final
 piece_text (Control bytes) = bytes
 
--- A Unicode character that is no control of C0 or C1 (ECMA-48) and not DEL.
+-- The character is a Unicode scalar value that is neither a C0 or C1 control character (ECMA-48) nor DEL.
 abbrev pub IsCharacter : ℕ → Type 0
 IsCharacter c = IsScalar c × (((0x20 ≤ c) × (c < 0x7F)) ⊎ (0xA0 ≤ c))
 
@@ -24,26 +24,26 @@ abbrev pub IsOneOf : {A : Type 0} → A → List A → Type 0
 IsOneOf x [] = ⊥
 IsOneOf x (y ∷ ys) = (x ≡ y) ⊎ IsOneOf x ys
 
--- A valid element: its characters are no controls, its sequence ends in one of `finals`, or its control is one of
--- `controls`.
+-- The element is valid: its characters are not control characters, its control sequence ends in one of `finals`, or
+-- it is one of the sequences `controls`.
 abbrev pub IsPiece : (finals : List ℕ) → (controls : List (List ℕ)) → Piece → Type 0
 IsPiece finals controls (Characters characters) = AllByRecursion IsCharacter characters
 IsPiece finals controls (Numbered numbers final) = IsOneOf final finals
 IsPiece finals controls (Control bytes) = IsOneOf bytes controls
 
--- Output that consists of valid elements and nothing else.
+-- The output consists of valid elements and nothing else.
 pub record IsMadeOf (finals : List ℕ) (controls : List (List ℕ)) (text : List ℕ) : Type 0 where
   pub pieces : List Piece
   pub are_pieces : AllByRecursion (IsPiece finals controls) pieces
   pub spelled : text ≡ flat_map piece_text pieces
 
--- ---- the controls in each kind of output
+-- ---- the control sequences in each kind of output
 
 abbrev pub escapes : List (List ℕ) → List (List ℕ)
 escapes texts = map (λ text. 0x1B ∷ text) texts
 
--- The controls of output that draws: CUP, CUF, ECH, EL, ED, SGR; CR LF, LF, BS, DECSC, DECRC, and showing or hiding the
--- cursor.
+-- The sequences in output that draws: CUP, CUF, ECH, EL, ED, SGR, CR LF, LF, BS, DECSC, DECRC, and DECTCEM to show or
+-- hide the cursor.
 abbrev pub drawing_finals : List ℕ
 drawing_finals = codes "HCXKJm"
 
@@ -52,16 +52,17 @@ drawing_controls =
     (0x0D ∷ 0x0A ∷ []) ∷ (0x0A ∷ []) ∷ (0x08 ∷ [])
     ∷ escapes (codes "7" ∷ codes "8" ∷ codes "[?25h" ∷ codes "[?25l" ∷ [])
 
--- The final bytes of output that draws and may move rows: besides, IL and DL.
+-- The final bytes of control sequences in output that draws and may move rows: those of output that draws, and those
+-- of IL and DL.
 abbrev pub scrolling_finals : List ℕ
 scrolling_finals = codes "LMHCXKJm"
 
--- The controls of output that draws and resets the region: besides, origin mode off and the whole page as scroll
--- region.
+-- The sequences in output that draws and resets the scroll region: those of output that draws, the reset of origin
+-- mode, and DECSTBM without parameters.
 abbrev pub reset_controls : List (List ℕ)
 reset_controls = escapes (codes "[?6l" ∷ codes "[r" ∷ []) ++ drawing_controls
 
--- The controls of input modes: keypad, cursor keys, bracketed paste, mouse, and cursor style.
+-- The sequences in output that sets input modes: keypad, cursor keys, bracketed paste, mouse, and cursor style.
 abbrev pub input_controls : List (List ℕ)
 input_controls =
     escapes
@@ -73,10 +74,10 @@ input_controls =
 abbrev pub state_controls : List (List ℕ)
 state_controls = input_controls ++ drawing_controls
 
--- The controls of captures and plain text: line ends.
+-- The control characters in captures and plain text: line ends.
 abbrev pub plain_controls : List (List ℕ)
 plain_controls = (0x0A ∷ []) ∷ []
 
--- The final bytes of captures: SGR.
+-- The final byte of control sequences in captures: SGR.
 abbrev pub capture_finals : List ℕ
 capture_finals = codes "m"

@@ -1,11 +1,11 @@
--- The values of calls.
+-- The values that calls stand for.
 use Rattle.std.specs.Prelude.{map}
 use Rattle.vt_screen.specs.Calls as value
 use Rattle.vt_screen.specs.Calls.{CallValue}
 use Rattle.vt_screen.specs.declared.callbacks.Call.{Call}
 use Rattle.vt_screen.specs.declared.callbacks.Call.TheVariants as call
 
--- The value of a call with its arguments.
+-- The value that a call with its arguments stands for.
 abbrev pub call_of : Call → CallValue
 call_of call.AudibleBell = value.AudibleBell
 call_of call.VisualBell = value.VisualBell

@@ -12,7 +12,7 @@ pub data ModeStep : Type 0 where
   UseApplicationCursor : (on : Bool) → ModeStep
   UseBracketedPaste : (on : Bool) → ModeStep
   SetMouseMode : MouseProtocolMode → ModeStep
-  -- Resets the mouse mode to none, if this mode is active.
+  -- Resets the mouse mode to `None`, if this mode is active.
   ClearMouseMode : MouseProtocolMode → ModeStep
   SetMouseEncoding : MouseProtocolEncoding → ModeStep
   -- Resets the mouse encoding to the default, if this encoding is active.
@@ -33,14 +33,15 @@ same_mouse_encoding encoding.Utf8 encoding.Utf8 = true
 same_mouse_encoding encoding.Sgr encoding.Sgr = true
 same_mouse_encoding _ _ = false
 
--- The mouse mode, and the mouse encoding, after one is reset: the default if that one was active.
+-- The mouse mode after `mode` is reset, and the mouse encoding after `encoding` is reset: the default if that one was
+-- active, otherwise unchanged.
 abbrev pub mouse_mode_without : MouseProtocolMode → MouseProtocolMode → MouseProtocolMode
 mouse_mode_without was mode = if same_mouse_mode was mode then mouse.None else was
 
 abbrev pub mouse_encoding_without : MouseProtocolEncoding → MouseProtocolEncoding → MouseProtocolEncoding
 mouse_encoding_without was form = if same_mouse_encoding was form then encoding.Default else was
 
--- The modes after a step.
+-- The modes after a step that changes them.
 abbrev pub modes_after : ModeStep → Modes → Modes
 modes_after (UseApplicationKeypad on) modes = record modes { application_keypad = on }
 modes_after (UseApplicationCursor on) modes = record modes { application_cursor = on }

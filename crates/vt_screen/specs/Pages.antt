@@ -8,22 +8,23 @@ use Rattle.vt_grid.specs.Scrollback.{Scrollback, no_scrollback}
 use Rattle.vt_screen.specs.Calls.{CallValue, OnScroll}
 use Rattle.vt_screen.specs.Screen.{ScreenValue, above_page, fresh_screen}
 
--- A fresh page of the screen's size.
+-- A blank page of the screen's size.
 abbrev pub fresh_page : ScreenValue → Page
 fresh_page screen = blank_page (length screen.page.rows) screen.page.width
 
--- The inactive page, or a fresh one if it was never created.
+-- The inactive page, or a blank one if it was never created.
 abbrev pub page_aside : ScreenValue → Page
 page_aside screen = unwrap_or screen.other (fresh_page screen)
 
--- A screen with cursor, origin mode and attributes saved, and one with them restored (DECSC, DECRC).
+-- The screen after the cursor, origin mode and attributes are saved (DECSC), and the screen after they are restored
+-- (DECRC).
 abbrev pub saved : ScreenValue → ScreenValue
 saved screen = record screen { page = cursor_saved screen.page; saved_attrs = screen.attrs }
 
 abbrev pub restored : ScreenValue → ScreenValue
 restored screen = record screen { page = cursor_restored screen.page; attrs = screen.saved_attrs }
 
--- A screen switched to its alternate page, with no scrollback displayed.
+-- The screen after it switches to its alternate page, with no scrollback displayed.
 abbrev pub entered : ScreenValue → ScreenValue
 entered screen =
     if screen.is_alternate then screen
@@ -34,22 +35,24 @@ entered screen =
       scrollback = out_of_view screen.scrollback;
     }
 
--- A screen with everything saved on the active page, then switched to a fresh alternate page; if that page was already
--- active, what was saved on it is lost.
+-- The screen after its cursor, origin mode and attributes are saved and it switches to a blank alternate page. If the
+-- alternate page was already active, the state saved on it is lost.
 abbrev pub entered_fresh : ScreenValue → ScreenValue
 entered_fresh screen = record (entered (saved screen)) { page = fresh_page screen }
 
--- A screen switched to its main page.
+-- The screen after it switches to its main page.
 abbrev pub left_alternate : ScreenValue → ScreenValue
 left_alternate screen =
     if screen.is_alternate
     then record screen { page = page_aside screen; other = Some screen.page; is_alternate = false } else screen
 
--- A screen switched to its main page, with that page's saved cursor and origin mode and the saved attributes restored.
+-- The screen after it switches to its main page and restores that page's saved cursor and origin mode, and the saved
+-- attributes.
 abbrev pub left_restored : ScreenValue → ScreenValue
 left_restored screen = restored (left_alternate screen)
 
--- A fresh screen of the same size and capacity; an alternate page that was created before stays, reset (RIS).
+-- The screen after a full reset (RIS): blank, with the same size and scrollback capacity. An alternate page that had
+-- been created still exists and is blank.
 abbrev pub reset : ScreenValue → ScreenValue
 reset screen = record (fresh_screen (length screen.page.rows) screen.page.width screen.scrollback.capacity) {
   other = option_map (λ _. fresh_page screen) screen.other;
@@ -57,7 +60,7 @@ reset screen = record (fresh_screen (length screen.page.rows) screen.page.width 
 
 -- ---- resizing
 
--- The main page, and the alternate page.
+-- The main page, and the alternate page of a screen.
 abbrev pub main_page : ScreenValue → Page
 main_page screen = if screen.is_alternate then page_aside screen else screen.page
 
@@ -71,7 +74,8 @@ above_aside screen = if screen.is_alternate then screen.scrollback else no_scrol
 abbrev pub has_size : (rows cols : ℕ) → ScreenValue → Bool
 has_size rows cols screen = (rows == length screen.page.rows) && (cols == screen.page.width)
 
--- A resized screen: both pages and the scrollback of the main page; an equal size changes nothing.
+-- The screen after it is resized: both pages and the scrollback of the main page. A resize to the same size changes
+-- nothing.
 abbrev pub resized : (rows cols : ℕ) → ScreenValue → ScreenValue
 resized rows cols screen =
     if has_size rows cols screen then screen
@@ -85,7 +89,7 @@ abbrev pub reports_of : (alternate : Bool) (rows : ℕ) → Option Page → Scro
 reports_of alternate rows (Some page) above = map (λ row. OnScroll row alternate) (resize_reports rows page above)
 reports_of alternate rows None above = []
 
--- The calls that report the rows that a resize drops: first those of the main page, then those of the alternate page.
+-- The calls that report the rows dropped by a resize: first those of the main page, then those of the alternate page.
 abbrev pub calls_resized : (rows cols : ℕ) → ScreenValue → List CallValue
 calls_resized rows cols screen =
     if has_size rows cols screen then []

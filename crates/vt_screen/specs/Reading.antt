@@ -1,4 +1,4 @@
--- Reading without callbacks, allocations or rows that scroll off the page: what it makes of a screen.
+-- The effect of reading bytes that invoke no callbacks, allocate nothing, and scroll no rows off the page.
 use Rattle.std.specs.Prelude.{◌==◌, ℕ, Bool, true, false, List, [], ◌∷◌, Option, Some, None, is_some, if◌then◌else◌}
 use Rattle.vt_grid.specs.Canvas.{and_then}
 use Rattle.vt_grid.specs.Moves.{feeds_out}
@@ -13,7 +13,7 @@ use Rattle.vt_scan.specs.declared.table.Kind.TheVariants.{OscString}
 use Rattle.vt_scan.specs.declared.table.Turn.{Turn}
 use Rattle.vt_scan.specs.declared.table.Turn.TheVariants.{Collect}
 
--- The screen after a step, or none if the step would invoke a callback, allocate, scroll a row off the page or erase
+-- The screen after a step; `None` if the step would invoke a callback, allocate, scroll a row off the page or erase
 -- scrollback.
 abbrev pub quiet_step : Step → ScreenValue → Option ScreenValue
 quiet_step (Print c) screen = if pushes c screen.page then None else Some (display_after (Print c) screen)
@@ -34,7 +34,7 @@ quiet_events [] screen = Some screen
 quiet_events (event ∷ events) screen =
     and_then (quiet_events events) (quiet_steps (steps_of event (seen_of screen)) screen)
 
--- Whether collecting a byte may allocate, as for the text of an operating system command.
+-- Whether a transition may allocate, because it collects a byte of an operating system command.
 abbrev pub grows : Turn → Bool
 grows (Collect OscString) = true
 grows _ = false
@@ -47,7 +47,7 @@ pub record Terminal : Type 0 where
 abbrev pub terminal : State → ScreenValue → Terminal
 terminal scan screen = record { scan = scan; screen = screen }
 
--- The terminal after a byte, or none if the byte would invoke a callback, allocate, or scroll a row off the page.
+-- The terminal after a byte; `None` if the byte would invoke a callback, allocate, or scroll a row off the page.
 unfoldable pub read_byte : Terminal → ℕ → Option Terminal
 read_byte t b =
     if grows (turn_of t.scan.kind (class_of b)) then None

@@ -4,8 +4,8 @@ use Rattle.vt_cells.specs.declared.error.Error.{Error}
 use Rattle.vt_cells.specs.declared.error.Error.TheVariants.{OutOfMemory}
 use Rattle.vt_redraw.specs.Refusals.{RefusedOnlyIfSome}
 
--- One call of `next`: it returns the next text, or an error if that isn't empty and cannot be allocated, and the others
--- are left; or none is left, now and later.
+-- The effect of a call to `next`. It returns the next text, or an error if that text is not empty and cannot be
+-- allocated. Once no text is left, it returns `None`, now and later.
 module _ {S A : Type 0} (left : S → List (List ℕ)) where
   abbrev pub GivesText : S → Option (Result (String A) Error) → S → Type 0
   GivesText old None new = (left old ≡ []) × (left new ≡ [])

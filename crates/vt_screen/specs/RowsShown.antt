@@ -1,4 +1,4 @@
--- The output that draws each row of a screen on another terminal, and what it makes of the terminals that read it.
+-- The output that draws each row of a screen on another terminal, and its effect on the terminals that read it.
 use Rattle.std.specs.Prelude.{◌≡◌, ◌≢◌, ℕ, ◌+◌, ◌-◌, ◌<◌, ◌≤◌, min, false, true, List, [], length, map, slice_index_or}
 use Rattle.std.specs.List.{range_with_len}
 use Rattle.vt_cells.specs.Attrs.{default_attrs}
@@ -12,51 +12,53 @@ use Rattle.vt_redraw.specs.Picture.{Picture}
 use Rattle.vt_screen.specs.Screen.{ScreenValue}
 use Rattle.vt_screen.specs.Shown.{IsReader, Turns, shown}
 
--- Row r of a screen's picture.
+-- Row `r` of a screen's picture.
 abbrev pub shown_row : ScreenValue → ℕ → RowValue
 shown_row screen r = row_of_picture (shown screen) r
 
 -- ---- the output
 
--- The end of a range of `width` columns from `start` on, at most the number of columns.
+-- The end of a range of `width` columns from `start` on, limited to the number of columns.
 abbrev pub range_end : (start width columns : ℕ) → ℕ
 range_end start width columns = min (start + width) columns
 
--- The output for row r of a picture in a range of columns, for a terminal whose row is blank.
+-- The output that draws a range of columns of row `r` of a picture on a terminal whose row is blank.
 abbrev pub formatted_text : (start stop : ℕ) → Picture → ℕ → List ℕ
 formatted_text start stop picture r =
     bytes_of_all (item_of_redraw r start stop (is_linked picture.width picture.rows r) (row_of_picture picture r)).ops
 
--- The output for row r of a picture in a range of columns, for a terminal that displays the row of another picture.
+-- The output that draws a range of columns of row `r` of a picture on a terminal that displays that row of the
+-- picture `prev`.
 abbrev pub changed_text : (start stop : ℕ) → (picture prev : Picture) → ℕ → List ℕ
 changed_text start stop picture prev r =
     bytes_of_all (item_of_difference r start stop (row_of_picture picture r) (row_of_picture prev r)).ops
 
--- The outputs for the rows from row r on.
+-- The outputs for the rows from row `r` on.
 abbrev pub texts_from : (ℕ → List ℕ) → (r height : ℕ) → List (List ℕ)
 texts_from text r height = map text (range_with_len r (height - r))
 
--- The outputs for all rows of a screen in `width` columns from `start` on, for terminals whose rows are blank.
+-- The outputs that draw `width` columns from `start` on, one for each row of a screen, on terminals whose row is
+-- blank.
 abbrev pub formatted_rows : (start width : ℕ) → ScreenValue → List (List ℕ)
 formatted_rows start width screen =
     texts_from (formatted_text start (range_end start width screen.page.width) (shown screen)) 0
     (length screen.page.rows)
 
--- The outputs for all rows of a screen in `width` columns from `start` on, for terminals that display the rows of
--- another screen.
+-- The outputs that draw `width` columns from `start` on, one for each row of a screen, on terminals that display that
+-- row of the screen `prev`.
 abbrev pub changed_rows : (start width : ℕ) → (screen prev : ScreenValue) → List (List ℕ)
 changed_rows start width screen prev =
     texts_from (changed_text start (range_end start width screen.page.width) (shown screen) (shown prev)) 0
     (length screen.page.rows)
 
--- The output for row r in a list of outputs.
+-- The output for row `r` in a list of outputs.
 abbrev pub text_at : List (List ℕ) → ℕ → List ℕ
 text_at texts r = slice_index_or texts r []
 
 -- ---- the terminals that read a row's output
 
--- A plain terminal of a picture's size with the row `stood` as its row r, the cursor at column c of it, and default
--- attributes.
+-- The terminal is plain, has the picture's size and default attributes, and its row `r` is `stood`. The cursor is in
+-- column `c` of that row.
 pub record IsRowReader (picture : Picture) (r c : ℕ) (stood : RowValue) (reader : ScreenValue) : Type 0 where
   pub is : IsReader picture reader
   pub row : reader.page.row ≡ r
@@ -64,11 +66,12 @@ pub record IsRowReader (picture : Picture) (r c : ℕ) (stood : RowValue) (reade
   pub attrs : reader.attrs ≡ default_attrs
   pub stands : row_at reader.page r ≡ stood
 
--- A plain terminal whose row r is blank, with the cursor at column c of it and default attributes.
+-- The terminal is plain, has the picture's size and default attributes, and its row `r` is blank. The cursor is in
+-- column `c` of that row.
 abbrev pub IsBlankReader : Picture → (r c : ℕ) → ScreenValue → Type 0
 IsBlankReader picture r c reader = IsRowReader picture r c (blank_row default_attrs picture.width) reader
 
--- A plain terminal with a wrap pending after a glyph at the end of row r, above a blank row.
+-- The terminal is plain and has a wrap pending after a glyph at the end of row `r`, and the row below is blank.
 pub record IsWrapReader (picture : Picture) (r : ℕ) (reader : ScreenValue) : Type 0 where
   pub is : IsReader picture reader
   pub row : reader.page.row ≡ r
@@ -77,48 +80,49 @@ pub record IsWrapReader (picture : Picture) (r : ℕ) (reader : ScreenValue) : T
   pub full : ends_blank (row_at reader.page r).cells ≡ false
   pub below : row_at reader.page (r + 1) ≡ blank_row default_attrs picture.width
 
--- ---- what a row's output makes of them
+-- ---- the effect of a row's output on them
 
--- Row r has the cells of the row `shows` in the range; no other cell has changed, and no other row has become wrapped
--- or ceased to be.
+-- Row `r` has the cells of the row `shows` in the range. No other cell has changed, and neither has the wrapped flag
+-- of any other row.
 pub record HasRange (start stop r : ℕ) (shows : RowValue) (reader after : ScreenValue) : Type 0 where
   pub cells : (row_at after.page r).cells ≡ with_range start stop shows.cells (row_at reader.page r).cells
   pub others : (k : ℕ) → k ≢ r → row_at after.page k ≡ row_at reader.page k
   pub height : length after.page.rows ≡ length reader.page.rows
 
--- Row r is not wrapped.
+-- Row `r` is not wrapped after the output.
 abbrev pub IsOff : ℕ → (reader after : ScreenValue) → Type 0
 IsOff r reader after = (row_at after.page r).wrapped ≡ false
 
--- Row r + 1 has the cells of the row `shows` and is not wrapped, and row r is wrapped; no other row has changed.
+-- Row `r + 1` has the cells of the row `shows` and is not wrapped, and row `r` is wrapped. No other row has changed.
 pub record HasLinked (r : ℕ) (shows : RowValue) (reader after : ScreenValue) : Type 0 where
   pub below : row_at after.page (r + 1) ≡ record { cells = shows.cells; wrapped = false }
   pub above : row_at after.page r ≡ record (row_at reader.page r) { wrapped = true }
   pub others : (k : ℕ) → k ≢ r → k ≢ r + 1 → row_at after.page k ≡ row_at reader.page k
   pub height : length after.page.rows ≡ length reader.page.rows
 
--- Output that turns row r of a terminal from `stood` into that of a screen, in `width` columns from `start` on.
+-- The output turns row `r` of a terminal from `stood` into that row of the screen, in `width` columns from `start`
+-- on.
 abbrev pub DrawsRow : (start width : ℕ) → ScreenValue → (r : ℕ) → (stood : RowValue) → List ℕ → Type 0
 DrawsRow start width screen r stood text =
     Turns (IsRowReader (shown screen) r start stood) text
     (HasRange start (range_end start width screen.page.width) r (shown_row screen r))
 
--- ---- the rows for which this holds
+-- ---- the rows to which this applies
 
--- The range is the whole row.
+-- The range of columns is the whole row.
 abbrev pub IsWholeRow : (start width columns : ℕ) → Type 0
 IsWholeRow start width columns = (start ≡ 0) × (columns ≤ width)
 
--- A predicate holds for each row of a screen's picture in which the range cuts no wide character in two.
+-- `P` holds for each row of a screen's picture in which the range splits no wide character.
 abbrev pub EachUncut : (start width : ℕ) → ScreenValue → (ℕ → Type 0) → Type 0
 EachUncut start width screen P =
     (r : ℕ) → r < length (shown screen).rows
     → CutsNone start (range_end start width screen.page.width) (shown_row screen r).cells → P r
 
--- A predicate holds for each wrapped row of a screen's picture.
+-- `P` holds for each wrapped row of a screen's picture.
 abbrev pub EachLinked : ScreenValue → (ℕ → Type 0) → Type 0
 EachLinked screen P = (r : ℕ) → r + 1 < length (shown screen).rows → (shown_row screen r).wrapped ≡ true → P r
 
--- A predicate holds for each row of a screen's picture that isn't wrapped.
+-- `P` holds for each row of a screen's picture that isn't wrapped.
 abbrev pub EachOff : ScreenValue → (ℕ → Type 0) → Type 0
 EachOff screen P = (r : ℕ) → r < length screen.page.rows → (shown_row screen r).wrapped ≡ false → P r

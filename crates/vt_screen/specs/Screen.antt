@@ -1,4 +1,4 @@
--- A screen: its active page and the other one, scrollback, attributes and modes.
+-- A screen: its active and inactive pages, scrollback, attributes and modes.
 use Rattle.std.specs.Prelude.{◌≡◌, ◌≢◌, ℕ, Bool, true, false, List, length, All}
 use Rattle.std.specs.Prelude.{Option, None, IfSome, IsSome, if◌then◌else◌}
 use Rattle.std.specs.Char.{IsScalar}
@@ -16,7 +16,8 @@ use Rattle.vt_grid.specs.Scrollback.{Scrollback, IsScrollback, no_scrollback, wi
 pub use Rattle.vt_screen.specs.declared.modes.Modes.{Modes}
 
 pub record ScreenValue : Type 0 where
-  -- The active page, and the other one once the alternate page was created; scrollback belongs to the main page.
+  -- The active page, and the inactive one, which is `None` until the alternate page is created. Scrollback belongs to
+  -- the main page.
   pub page : Page
   pub other : Option Page
   pub is_alternate : Bool
@@ -25,7 +26,7 @@ pub record ScreenValue : Type 0 where
   pub saved_attrs : Attrs
   pub hidden : Bool
   pub modes : Modes
-  -- The last printed character that took columns.
+  -- The last printed character that took columns, which REP repeats.
   pub last : Option ℕ
 
 abbrev pub no_modes : Modes
@@ -38,7 +39,7 @@ no_modes = record {
   cursor_style = style.Default;
 }
 
--- A fresh screen of this size and scrollback capacity.
+-- A blank screen of this size and scrollback capacity.
 abbrev pub fresh_screen : (rows cols capacity : ℕ) → ScreenValue
 fresh_screen rows cols capacity = record {
   page = blank_page rows cols;
@@ -68,21 +69,22 @@ with_canvas canvas screen =
 abbrev pub above_page : ScreenValue → Scrollback
 above_page screen = if screen.is_alternate then no_scrollback 0 else screen.scrollback
 
--- The displayed rows.
+-- The displayed rows of a screen.
 abbrev pub visible_rows : ScreenValue → List RowValue
 visible_rows screen = visible (above_page screen) screen.page.rows
 
--- The displayed row at an index; past the end a blank row.
+-- The displayed row at an index; a blank row past the end.
 abbrev pub visible_row : ScreenValue → ℕ → RowValue
 visible_row screen r = row_or screen.page.width (visible_rows screen) r
 
--- A screen scrolled back by the newest n rows of scrollback, at most all; the alternate page has none.
+-- The screen with its scrollback offset set to `n`, or to the number of scrollback rows if that is less. The
+-- alternate page has no scrollback.
 abbrev pub scrolled_back : ℕ → ScreenValue → ScreenValue
 scrolled_back n screen =
     if screen.is_alternate then screen
     else record screen { scrollback = with_view (length screen.page.rows) screen.page.width n screen.scrollback }
 
--- A character that can be printed: a Unicode scalar value other than U+FFFD, which is reported instead.
+-- The character can be printed: it is a Unicode scalar value other than U+FFFD, which is reported instead.
 abbrev pub IsPrintable : ℕ → Type 0
 IsPrintable c = IsScalar c × (c ≢ 0xFFFD)
 
@@ -94,7 +96,7 @@ pub record IsScreen (screen : ScreenValue) : Type 0 where
   pub scrollback : IsScrollback screen.scrollback
   pub last : IfSome screen.last IsPrintable
 
--- A cell whose palette colours are at most 255.
+-- The components of the cell's colours are at most 255.
 abbrev pub IsColoredCell : CellValue → Type 0
 IsColoredCell cell = FitsAttrs (attrs_of cell)
 
@@ -104,7 +106,7 @@ IsColoredRow row = All IsColoredCell row.cells
 abbrev pub AreColored : List RowValue → Type 0
 AreColored rows = All IsColoredRow rows
 
--- A screen whose palette colours are at most 255, which every screen is.
+-- The components of all colours of the screen are at most 255. This holds for every screen.
 pub record IsColored (screen : ScreenValue) : Type 0 where
   pub rows : AreColored screen.page.rows
   pub above : AreColored screen.scrollback.rows

@@ -1,5 +1,5 @@
--- SGR, group by group (ECMA-48, and xterm for extended colours): a group sets an attribute, begins or continues an
--- extended colour, or is unknown.
+-- SGR, one group of parameters at a time (ECMA-48, and xterm for extended colours). A group sets an attribute, begins
+-- or continues an extended colour, or is unknown.
 use Rattle.std.specs.Prelude.{ℕ, ◌-◌, ◌==◌, ◌&&◌, nat_lt, true, false, List, [], ◌∷◌, if◌then◌else◌}
 use Rattle.vt_cells.specs.Attrs.{default_attrs, Attrs}
 use Rattle.vt_cells.specs.declared.attrs.Intensity.TheVariants.{Normal, Bold, Dim}
@@ -16,7 +16,7 @@ use Rattle.vt_screen.specs.declared.sgr.Wanted.TheVariants.{Any, Form, Index, Re
 pub use Rattle.vt_screen.specs.declared.sgr.GroupRead.{GroupRead}
 use Rattle.vt_screen.specs.declared.sgr.Reading.TheVariants.{Silent, Set, Unhandled}
 
--- Attributes with a setting applied.
+-- The attributes after a setting is applied.
 abbrev pub rendered : Setting → Attrs → Attrs
 rendered Reset attrs = default_attrs
 rendered (Foreground color) attrs = record attrs { fgcolor = color }
@@ -36,7 +36,7 @@ silent wanted = record { reading = Silent; wanted = wanted }
 abbrev pub set : Setting → GroupRead
 set setting = record { reading = Set setting; wanted = Any }
 
--- The reading of a single number as a setting.
+-- The interpretation of a single number as a setting.
 unfoldable pub number_read : ℕ → GroupRead
 number_read n =
     if n == 0 then set Reset
@@ -59,7 +59,8 @@ number_read n =
     else if is_within 100 107 n then set (Background (Idx (n - 92)))
     else record { reading = Unhandled; wanted = Any }
 
--- The reading of a colour in one group: 2 and three components, or 5 and a palette index.
+-- The interpretation of an extended colour given by one group: the number 2 and three components, or the number 5 and
+-- a palette index.
 unfoldable pub rgb_read : Layer → ℕ → ℕ → ℕ → GroupRead
 rgb_read layer r g b =
     if nat_lt r 256 && (nat_lt g 256 && nat_lt b 256) then set (colored layer (Rgb r g b)) else silent Stopped
@@ -76,7 +77,7 @@ three_read layer form i = if form == 5 then index_read layer i else unknown
 abbrev pub five_read : Layer → ℕ → ℕ → ℕ → ℕ → GroupRead
 five_read layer form r g b = if form == 2 then rgb_read layer r g b else unknown
 
--- The reading of a group as a setting.
+-- The interpretation of a group as a setting.
 unfoldable pub setting_read : List ℕ → GroupRead
 setting_read (n ∷ []) = number_read n
 setting_read (n ∷ form ∷ i ∷ []) =
@@ -85,8 +86,8 @@ setting_read (n ∷ form ∷ r ∷ g ∷ b ∷ []) =
     if n == 38 then five_read Front form r g b else if n == 48 then five_read Back form r g b else unknown
 setting_read _ = unknown
 
--- The reading of a group as the form of an extended colour: 2 or 5 alone; any other group is reported and ends the
--- reading.
+-- The interpretation of a group as the kind of an extended colour, which is the single number 2 or 5. Any other group
+-- is reported, and the rest of the sequence is ignored.
 unfoldable pub form_read : Layer → List ℕ → GroupRead
 form_read layer (n ∷ []) =
     if n == 2 then silent (Red layer)
@@ -94,7 +95,8 @@ form_read layer (n ∷ []) =
     else record { reading = Unhandled; wanted = Stopped }
 form_read layer _ = record { reading = Unhandled; wanted = Stopped }
 
--- The reading of a group as a colour component: one number up to 255; anything else ends the reading.
+-- The interpretation of a group as a colour component, which is a single number up to 255. After any other group, the
+-- rest of the sequence is ignored.
 abbrev pub part_read : List ℕ → (ℕ → GroupRead) → GroupRead
 part_read (n ∷ []) next = if nat_lt n 256 then next n else silent Stopped
 part_read _ next = silent Stopped

@@ -1,5 +1,5 @@
--- What output that sets input modes makes of the terminals that read it; and output for whole states, which are a
--- display and input modes.
+-- The effect of output that sets input modes on the terminals that read it, and output for whole states, which
+-- consist of a display and input modes.
 use Rattle.std.specs.Prelude.{◌≡◌, ℕ, List, ◌++◌}
 use Rattle.vt_redraw.specs.Steady.{IsSteady}
 use Rattle.vt_screen.specs.InputTexts.{input_change, input_text}
@@ -9,13 +9,13 @@ use Rattle.vt_screen.specs.Shown.{shown, shown_change, shown_text}
 
 -- ---- input modes
 
--- The mouse mode, the mouse encoding and the cursor style have their defaults.
+-- The mouse mode, the mouse encoding and the cursor style have their default values.
 pub record HasDefaultMouseAndStyle (modes : Modes) : Type 0 where
   pub mouse_mode : modes.mouse_mode ≡ no_modes.mouse_mode
   pub mouse_encoding : modes.mouse_encoding ≡ no_modes.mouse_encoding
   pub cursor_style : modes.cursor_style ≡ no_modes.cursor_style
 
--- Output that sets these modes on every terminal in ground state whose modes satisfy `Had`, and changes nothing else.
+-- The output sets these modes on every terminal in ground state whose modes satisfy `Had`, and changes nothing else.
 abbrev pub SetsModes : (Modes → Type 0) → Modes → List ℕ → Type 0
 SetsModes Had modes text =
     (reader : ScreenValue) → Had reader.modes → ReadsTo text reader (record reader { modes = modes })
@@ -26,16 +26,17 @@ SetsModes Had modes text =
 abbrev pub state_text : ScreenValue → List ℕ
 state_text screen = shown_text screen ++ input_text screen.modes
 
--- The difference between two screens, followed by the output that changes the input modes that differ.
+-- The difference between two screens, followed by the output that changes those input modes that differ.
 abbrev pub state_change : (was new : ScreenValue) → List ℕ
 state_change was new = shown_change was new ++ input_change was.modes new.modes
 
--- A plain terminal of the screen's size whose mouse mode, mouse encoding and cursor style have their defaults.
+-- The terminal is plain and has the screen's size, and its mouse mode, mouse encoding and cursor style have their
+-- default values.
 pub record IsStateReader (screen reader : ScreenValue) : Type 0 where
   pub is : IsReader (shown screen) reader
   pub modes : HasDefaultMouseAndStyle reader.modes
 
--- A plain terminal that displays the screen `prev` and has its input modes.
+-- The terminal is plain, displays the screen `prev` and has its input modes.
 pub record IsStateReaderOf (screen prev reader : ScreenValue) : Type 0 where
   pub is : IsReaderOf (shown screen) (shown prev) reader
   pub modes : reader.modes ≡ prev.modes
@@ -44,8 +45,8 @@ pub record IsStateReaderOf (screen prev reader : ScreenValue) : Type 0 where
 abbrev pub HasModes : Modes → (reader after : ScreenValue) → Type 0
 HasModes modes reader after = after.modes ≡ modes
 
--- Output that redraws a screen on every terminal with the property `Reader` and sets the screen's input modes;
--- everything else is unchanged.
+-- The output redraws a screen on every terminal with the property `Reader` and sets the screen's input modes.
+-- Everything else is unchanged.
 pub record GivesState (Reader : ScreenValue → Type 0) (screen : ScreenValue) (text : List ℕ) : Type 0 where
   pub redraws : Redraws (shown screen) Reader KeepsRestButModes text
   pub modes : IsSteady (shown screen) → Makes Reader text (HasModes screen.modes)

@@ -1,4 +1,4 @@
--- The elementary steps of an event, and the screen after each.
+-- The elementary steps that events consist of, and the screen after each.
 use Rattle.std.specs.Prelude.{◌≡◌, ℕ, ◌&&◌, nat_lt, nat_le, Bool, false, List}
 use Rattle.std.specs.Prelude.{[], length, Option, Some, None, if◌then◌else◌}
 use Rattle.vt_cells.specs.Glyph.{columns_of}
@@ -20,17 +20,17 @@ pub data Step : Type 0 where
   Print : (c : ℕ) → Step
   LineFeed : Step
   ScrollUp : (count : ℕ) → Step
-  -- Any other step that changes the page.
+  -- Any other step that only changes the page.
   OnPage : PageStep → Step
   SaveCursor : Step
   RestoreCursor : Step
-  -- Switches to the alternate page, with its contents or reset; switches back, without or with restoring what was
-  -- saved.
+  -- Steps that switch to the alternate page, as it was or blank, and back to the main page, with or without restoring
+  -- the saved state.
   EnterAlternate : Step
   EnterFresh : Step
   LeaveAlternate : Step
   LeaveRestoring : Step
-  -- Resets the screen to a fresh one.
+  -- Resets the screen (RIS).
   Reset : Step
   EraseScrollback : Step
   Render : Setting → Step
@@ -39,9 +39,9 @@ pub data Step : Type 0 where
   -- Invokes a callback.
   CallBack : CallValue → Step
 
--- ---- the screen after a step, except for scrollback that takes over rows or is erased; `screen_after` is the whole
+-- ---- the screen after a step, except for its scrollback; `screen_after` includes the scrollback
 
--- Whether a printed character becomes the last character: it takes columns and fits on the page.
+-- Whether a printed character becomes the last character: it takes columns and is not wider than the page.
 abbrev pub becomes_last : ScreenValue → Option ℕ → Bool
 becomes_last screen None = false
 becomes_last screen (Some columns) = nat_lt 0 columns && nat_le columns screen.page.width
@@ -68,7 +68,7 @@ display_after (HideCursor hidden) screen = record screen { hidden = hidden }
 display_after (SetMode step) screen = record screen { modes = modes_after step screen.modes }
 display_after (CallBack call) screen = screen
 
--- ---- the rows that a step scrolls off the page
+-- ---- the rows that a step scrolls off
 
 -- The rows that a step scrolls off the top of the active page.
 abbrev pub outgoing : Step → ScreenValue → List RowValue
@@ -93,12 +93,12 @@ screen_after EraseScrollback screen =
     if screen.is_alternate then screen else record screen { scrollback = cleared screen.scrollback }
 screen_after step screen = display_after step screen
 
--- The rows that a step reports, older first: those that aren't kept.
+-- The rows that a step reports because they aren't kept, oldest first.
 abbrev pub reports : Step → ScreenValue → List RowValue
 reports EraseScrollback screen = (above_page screen).rows
 reports step screen = reported (outgoing step screen) (above_page screen)
 
--- A step that allocates: it moves a row into scrollback, or switches to an alternate page that doesn't exist yet.
+-- The step allocates: it moves a row into scrollback, or switches to an alternate page that doesn't exist yet.
 abbrev pub Grows : Step → ScreenValue → Type 0
 Grows EnterAlternate screen = screen.other ≡ None
 Grows EnterFresh screen = screen.other ≡ None

@@ -1,5 +1,5 @@
--- What streams out of the main page: the rows that scroll off it, the rows that are reported, and the text of all of
--- them.
+-- The stream of rows out of the main page: the rows that scroll off it, the rows that are reported, and the text of
+-- all of them.
 use Rattle.std.specs.Prelude.{◌≡◌, ◌≢◌, ℕ, ◌≤◌, true, false, List, [], ◌∷◌, ◌++◌, length, All, map, if◌then◌else◌}
 use Rattle.std.specs.List.{AllByRecursion}
 use Rattle.vt_rows.specs.Basic.{unwritten}
@@ -13,13 +13,13 @@ use Rattle.vt_screen.specs.Screen.{ScreenValue}
 use Rattle.vt_screen.specs.Steps.{Step, outgoing, screen_after}
 use Rattle.vt_screen.specs.CallsOfRun.{steps_in}
 
--- Two lists of rows that are equal except for default blanks at the ends of rows.
+-- The two lists of rows are equal except for trailing default blanks in their rows.
 abbrev pub AreSameTrimmed : List RowValue → List RowValue → Type 0
 AreSameTrimmed rows others = map trimmed_row rows ≡ map trimmed_row others
 
--- ---- the rows of calls
+-- ---- the rows that calls report
 
--- The row that a call reports, if it is one of the main page.
+-- The row of the main page that a call reports, if any.
 abbrev pub row_of_call : CallValue → List RowValue
 row_of_call (OnScroll row false) = row ∷ []
 row_of_call _ = []
@@ -42,30 +42,30 @@ sent_off_all (step ∷ steps) screen = sent_off step screen ++ sent_off_all step
 abbrev pub sent_off_in : State → ScreenValue → List ℕ → List RowValue
 sent_off_in scan screen bytes = sent_off_all (steps_in scan screen bytes) screen
 
--- ---- premises
+-- ---- preconditions
 
--- The event of RIS.
+-- The event of RIS (full reset).
 abbrev pub ris : Event
 ris = EscDispatch [] 0x63
 
--- No event of a run over bytes is RIS.
+-- No event of a run over the bytes is RIS.
 abbrev pub HasNoRis : State → List ℕ → Type 0
 HasNoRis scan bytes = AllByRecursion (λ event. event ≢ ris) (run scan bytes).events
 
--- No wrapped row of scrollback is shorter than the screen.
+-- No wrapped scrollback row is narrower than the screen.
 abbrev pub HasWideFlags : ScreenValue → Type 0
 HasWideFlags screen = All (λ row. row.wrapped ≡ true → screen.page.width ≤ length row.cells) screen.scrollback.rows
 
 -- ---- everything except scrollback
 
--- A screen with its scrollback and capacity removed.
+-- The screen with empty scrollback of capacity 0.
 abbrev pub without_scrollback : ScreenValue → ScreenValue
 without_scrollback screen = record screen { scrollback = no_scrollback 0 }
 
 -- ---- captures
 
--- The text of the rows that were reported one by one, followed by a full capture of the screen with the same capture
--- state.
+-- The text of the rows that were reported one by one, followed by a full capture of the screen that continues from
+-- the same capture state.
 abbrev pub streamed_text : List CallValue → ScreenValue → List ℕ
 streamed_text calls screen =
     let gone = rows_of_calls calls in

@@ -1,4 +1,4 @@
--- Text that is printed character by character and scrolls no row off the page.
+-- Text that is printed character by character without scrolling a row off the page.
 use Rattle.std.specs.Prelude.{ℕ, List, [], ◌∷◌}
 use Rattle.vt_screen.specs.Screen.{ScreenValue}
 use Rattle.vt_screen.specs.Steps.{Print, display_after}

@@ -1,5 +1,5 @@
--- The positions that reading touches: those that its steps print on, append to, or erase, or whose wide character they
--- cut.
+-- The positions that reading touches: those that its steps print on, append to or erase, and those of wide characters
+-- that they split.
 use Rattle.std.specs.Prelude.{◌≡◌, ℕ, ◌+◌, ◌-◌, ◌<◌, ◌≤◌, ◌==◌, ◌||◌, min, true, false, List, [], ◌∷◌, length, Some}
 use Rattle.vt_cells.specs.Glyph.{columns_of}
 use Rattle.vt_cells.specs.Attrs.{Attrs}
@@ -20,29 +20,30 @@ use Rattle.vt_screen.specs.Steps.{LeaveAlternate, LeaveRestoring, Reset}
 abbrev pub TouchesAll : (ℕ → ℕ → Type 0) → Page → Type 0
 TouchesAll May page = (r c : ℕ) → r < length page.rows → c < page.width → May r c
 
--- `May` holds for every position of the rows from `first` up to but not including `behind`.
+-- `May` holds for every position in the rows from `first` up to but excluding `behind`.
 abbrev pub TouchesRows : (ℕ → ℕ → Type 0) → (first behind : ℕ) → Page → Type 0
 TouchesRows May first behind page = (r c : ℕ) → first ≤ r → r < behind → c < page.width → May r c
 
--- `May` holds for what a line feed touches: nothing, unless it scrolls.
+-- `May` holds for every position that a line feed touches: none, unless it scrolls.
 abbrev pub FeedTouches : (ℕ → ℕ → Type 0) → Page → Type 0
 FeedTouches May page = at_bottom page ≡ true → TouchesAll May page
 
--- `May` holds for what printing a character touches, including the line feed if it wraps.
+-- `May` holds for every position that printing a character touches, including the line feed if the cursor wraps.
 abbrev pub PrintTouches : (ℕ → ℕ → Type 0) → ℕ → Attrs → Page → Type 0
 PrintTouches May c attrs page =
     CharTouches May (columns_of c) c attrs page × (wraps c page ≡ true → FeedTouches May page)
 
--- `May` holds for the cursor's row from the cursor on, unless a wrap is pending.
+-- `May` holds for every position touched by erasing from the cursor to the end of its row; none is touched if a wrap
+-- is pending.
 abbrev pub RestTouches : (ℕ → ℕ → Type 0) → Page → Type 0
 RestTouches May page = (page.column == page.width) ≡ false → Changes May page.column (page.width - page.column) page
 
--- `May` holds for the cursor's row from its beginning through the cursor.
+-- `May` holds for every position touched by erasing from the beginning of the cursor's row through the cursor.
 abbrev pub StartTouches : (ℕ → ℕ → Type 0) → Page → Type 0
 StartTouches May page = Changes May 0 (min (page.column + 1) page.width) page
 
--- `May` holds for what a step of the page touches: every position if it moves cells or rows, none if it moves the
--- cursor or changes a setting.
+-- `May` holds for every position that a step of the page touches. If the step moves cells or rows, these are all
+-- positions; if it moves the cursor or changes a setting, there are none.
 abbrev pub PageStepTouches : (ℕ → ℕ → Type 0) → PageStep → Page → Type 0
 PageStepTouches May EraseBelow page =
     RestTouches May page × TouchesRows May (page.row + 1) (length page.rows) page
@@ -62,7 +63,7 @@ PageStepTouches May (ScrollDown n) page = TouchesAll May page
 PageStepTouches May ReverseIndex page = TouchesAll May page
 PageStepTouches May step page = Unit {0}
 
--- `May` holds for what a step touches; every position if it switches pages.
+-- `May` holds for every position that a step touches. A step that switches pages touches every position.
 abbrev pub StepTouches : (ℕ → ℕ → Type 0) → Step → ScreenValue → Type 0
 StepTouches May (Print c) screen = PrintTouches May c screen.attrs screen.page
 StepTouches May LineFeed screen = FeedTouches May screen.page
@@ -75,7 +76,7 @@ StepTouches May LeaveRestoring screen = TouchesAll May screen.page
 StepTouches May Reset screen = TouchesAll May screen.page
 StepTouches May step screen = Unit {0}
 
--- `May` holds for what a list of steps touches, each on the screen where it takes place.
+-- `May` holds for every position that a list of steps touches, each on the screen before that step.
 abbrev pub StepsTouch : (ℕ → ℕ → Type 0) → List Step → ScreenValue → Type 0
 StepsTouch May [] screen = Unit {0}
 StepsTouch May (step ∷ steps) screen =
@@ -89,14 +90,15 @@ EventsTouch May (event ∷ events) screen =
     × ((next : ScreenValue) → quiet_steps (steps_of event (seen_of screen)) screen ≡ Some next →
     EventsTouch May events next)
 
--- `May` holds for all that reading the bytes without callbacks or allocations touches.
+-- `May` holds for every position touched by reading the bytes, if reading them invokes no callbacks and allocates
+-- nothing.
 abbrev pub ReadTouches : (ℕ → ℕ → Type 0) → Terminal → List ℕ → Type 0
 ReadTouches May t [] = Unit {0}
 ReadTouches May t (b ∷ bytes) =
     EventsTouch May (step_in t.scan.kind t.scan.collected b).events t.screen
     × ((u : Terminal) → read_byte t b ≡ Some u → ReadTouches May u bytes)
 
--- Every terminal in ground state with the property `Reader` touches, by reading the output, only positions for which
+-- When a terminal in ground state with the property `Reader` reads the output, it touches only positions for which
 -- `May` holds.
 abbrev pub TouchesOnly : (ScreenValue → Type 0) → List ℕ → (ℕ → ℕ → Type 0) → Type 0
 TouchesOnly Reader text May = (reader : ScreenValue) → Reader reader → ReadTouches May (terminal start reader) text

@@ -1,61 +1,62 @@
-//! The callbacks by which a terminal reports to the program around it.
+//! The callbacks through which a terminal reports to the program that embeds
+//! it.
 
 use crate::screen::Screen;
 use vt_rows::RowContents;
 
-/// A call of one of the functions of [`Callbacks`], with its arguments.
+/// A call to one of the methods of [`Callbacks`], with its arguments.
 #[derive(Clone, Copy)]
 pub enum Call<'a> {
-    /// A call of [`Callbacks::audible_bell`].
+    /// A call to [`Callbacks::audible_bell`].
     AudibleBell,
 
-    /// A call of [`Callbacks::visual_bell`].
+    /// A call to [`Callbacks::visual_bell`].
     VisualBell,
 
-    /// A call of [`Callbacks::resize`], with the rows and columns.
+    /// A call to [`Callbacks::resize`], with the requested rows and columns.
     Resize((u16, u16)),
 
-    /// A call of [`Callbacks::set_window_icon_name`], with the name.
+    /// A call to [`Callbacks::set_window_icon_name`], with the name.
     SetWindowIconName(&'a [u8]),
 
-    /// A call of [`Callbacks::set_window_title`], with the title.
+    /// A call to [`Callbacks::set_window_title`], with the title.
     SetWindowTitle(&'a [u8]),
 
-    /// A call of [`Callbacks::copy_to_clipboard`], with the clipboards and the
+    /// A call to [`Callbacks::copy_to_clipboard`], with the clipboards and the
     /// Base64 text.
     CopyToClipboard(&'a [u8], &'a [u8]),
 
-    /// A call of [`Callbacks::paste_from_clipboard`], with the clipboards.
+    /// A call to [`Callbacks::paste_from_clipboard`], with the clipboards.
     PasteFromClipboard(&'a [u8]),
 
-    /// A call of [`Callbacks::unhandled_char`], with the character.
+    /// A call to [`Callbacks::unhandled_char`], with the character.
     UnhandledChar(char),
 
-    /// A call of [`Callbacks::unhandled_control`], with the control byte.
+    /// A call to [`Callbacks::unhandled_control`], with the control byte.
     UnhandledControl(u8),
 
-    /// A call of [`Callbacks::unhandled_escape`], with two intermediate bytes
-    /// and the final byte.
+    /// A call to [`Callbacks::unhandled_escape`], with the first two
+    /// intermediate bytes and the final byte.
     UnhandledEscape(Option<u8>, Option<u8>, u8),
 
-    /// A call of [`Callbacks::unhandled_csi`], with the private marker or
-    /// intermediate bytes, the groups of parameters and the final byte.
+    /// A call to [`Callbacks::unhandled_csi`], with the private marker and
+    /// intermediate bytes, the parameter groups and the final byte.
     UnhandledCsi(Option<u8>, Option<u8>, &'a [&'a [u16]], char),
 
-    /// A call of [`Callbacks::unhandled_osc`], with the parts of the command.
+    /// A call to [`Callbacks::unhandled_osc`], with the parts of the command.
     UnhandledOsc(&'a [&'a [u8]]),
 }
 
-/// The functions that a terminal calls for everything that its screen doesn't
-/// display: bells, titles, the clipboard, requests for a size, unknown
-/// sequences, and rows that scroll away.
+/// The methods that a terminal calls for everything that its screen does not
+/// display: bells, titles, clipboard access, resize requests, unknown
+/// sequences, and rows that are dropped.
 ///
-/// `does` is the relation that says what each call does to the callbacks and to
-/// the screen that it receives. An implementation may resize, scroll or replace
+/// The relation `does` describes what each call does to the callbacks and to
+/// the screen passed to it. An implementation may resize, scroll or replace
 /// that screen.
 ///
 /// Only [`Callbacks::otherwise`] and [`Callbacks::on_scroll`] must be
-/// implemented; every other function calls `otherwise` by default:
+/// implemented. Every other method calls `otherwise` by default:
 ///
 /// ```
 /// struct Tally {
@@ -92,19 +93,20 @@ pub trait Callbacks {
 
     ghost does: { CallValue → Self → ScreenValue → Self → ScreenValue → Type 0 };
 
-    /// Handles a call whose own function is not implemented.
+    /// Handles every call whose own method is not implemented.
     fn otherwise(&mut self, screen: &mut Screen, call: Call<'_>)
         ensures { does (call_of call.entry) self.old screen.old self.new screen.new };
 
-    /// Called for each row that is dropped, older rows first: one that scrolls
-    /// off the top of a page and isn't kept, one that scrollback drops to make
-    /// room, and one that ED 3 (xterm, `CSI 3 J`) erases. `alternate` is true
-    /// if the row comes from the alternate page, which keeps no rows.
+    /// Called for each row that is dropped, oldest first. A row is dropped when
+    /// it scrolls off the top of a page and is not kept, when scrollback drops
+    /// it to make room, or when ED 3 (xterm, `CSI 3 J`) erases it. `alternate`
+    /// is true if the row comes from the alternate page, which has no
+    /// scrollback.
     ///
-    /// A row of the page comes without the default blanks at its end. If a
-    /// resize brings back a row that wasn't kept, it comes back blank; it is
-    /// then a row like any other and is reported again when it scrolls off
-    /// again.
+    /// A row that comes directly from the page is passed without its trailing
+    /// default blanks. If a resize brings back a row that was not kept, the row
+    /// comes back blank. It is then treated like any other row and is reported
+    /// again when it scrolls off again.
     ///
     /// RIS, [`Screen::clear_scrollback`] and [`Screen::set_size`] invoke no
     /// callbacks.
@@ -125,11 +127,11 @@ pub trait Callbacks {
         self.otherwise(screen, Call::VisualBell);
     }
 
-    /// Called when a program requests a new size in rows and columns, by
-    /// `CSI 8 ; rows ; cols t` (xterm). The screen has not been resized.
+    /// Called when a program requests a new size in rows and columns with
+    /// `CSI 8 ; rows ; cols t` (xterm). The screen itself has not been resized.
     ///
-    /// A number that is missing at the end of the sequence is the screen's own;
-    /// an empty one is 0.
+    /// A number that is missing at the end of the sequence defaults to the
+    /// screen's current size. An empty number is 0.
     fn resize(&mut self, screen: &mut Screen, size: (u16, u16))
         ensures { does (calls.Resize size.0 size.1) self.old screen.old self.new screen.new }
     {
@@ -138,8 +140,8 @@ pub trait Callbacks {
 
     /// Called with a new icon name for the window (xterm, OSC 0 and 1).
     ///
-    /// `name` holds the bytes as they were sent, which may not be UTF-8. For
-    /// OSC 0, a call of [`Callbacks::set_window_title`] follows.
+    /// `name` holds the bytes as sent; they might not be valid UTF-8. For OSC
+    /// 0, a call to [`Callbacks::set_window_title`] follows.
     fn set_window_icon_name(&mut self, screen: &mut Screen, name: &[u8])
         ensures { does (calls.SetWindowIconName name.now) self.old screen.old self.new screen.new }
     {
@@ -148,7 +150,7 @@ pub trait Callbacks {
 
     /// Called with a new title for the window (xterm, OSC 0 and 2).
     ///
-    /// `title` holds the bytes as they were sent, which may not be UTF-8.
+    /// `title` holds the bytes as sent; they might not be valid UTF-8.
     fn set_window_title(&mut self, screen: &mut Screen, title: &[u8])
         ensures { does (calls.SetWindowTitle title.now) self.old screen.old self.new screen.new }
     {
@@ -158,18 +160,17 @@ pub trait Callbacks {
     /// Called when a program writes to one or more clipboards (xterm, OSC 52).
     ///
     /// Each byte of `kind` names a clipboard: `c`, `p`, `q`, `s` or a digit
-    /// from 0 to 7. `text` holds Base64 characters as they were sent; it is not
-    /// decoded. Both may be empty.
+    /// from 0 to 7. `text` holds the Base64 characters as sent, not decoded.
+    /// Both may be empty.
     fn copy_to_clipboard(&mut self, screen: &mut Screen, kind: &[u8], text: &[u8])
         ensures { does (calls.CopyToClipboard kind.now text.now) self.old screen.old self.new screen.new }
     {
         self.otherwise(screen, Call::CopyToClipboard(kind, text));
     }
 
-    /// Called when a program asks for the contents of a clipboard (xterm, OSC
+    /// Called when a program requests the contents of a clipboard (xterm, OSC
     /// 52 with `?` as its text). `kind` is as in
-    /// A call of [`Callbacks::copy_to_clipboard`], with the clipboards and the
-    /// Base64 text.
+    /// [`Callbacks::copy_to_clipboard`].
     fn paste_from_clipboard(&mut self, screen: &mut Screen, kind: &[u8])
         ensures { does (calls.PasteFromClipboard kind.now) self.old screen.old self.new screen.new }
     {
@@ -177,15 +178,15 @@ pub trait Callbacks {
     }
 
     /// Called for a character that is not printed: U+FFFD, which stands for
-    /// malformed UTF-8 (Unicode Standard, Table 3-7), and U+0080 to U+009F, the
-    /// C1 controls of ECMA-48.
+    /// malformed UTF-8 (Unicode Standard, Table 3-7), or one of U+0080 to
+    /// U+009F, the C1 controls (ECMA-48).
     fn unhandled_char(&mut self, screen: &mut Screen, code: char)
         ensures { does (calls.UnhandledChar code) self.old screen.old self.new screen.new }
     {
         self.otherwise(screen, Call::UnhandledChar(code));
     }
 
-    /// Called for an unknown control function of one byte (ECMA-48, set C0).
+    /// Called for an unknown single-byte control function (ECMA-48, C0 set).
     fn unhandled_control(&mut self, screen: &mut Screen, byte: u8)
         ensures { does (calls.UnhandledControl byte) self.old screen.old self.new screen.new }
     {
@@ -195,8 +196,8 @@ pub trait Callbacks {
     /// Called for an unknown escape sequence (ECMA-48), with its first two
     /// intermediate bytes and its final byte.
     ///
-    /// The string terminator `ESC \` counts as one: after each command or
-    /// string that it ends, it is reported as
+    /// The string terminator `ESC \` is treated as an unknown escape sequence:
+    /// after each command or string that it ends, it is reported as
     /// `unhandled_escape(None, None, b'\\')`.
     fn unhandled_escape(
         &mut self,
@@ -211,12 +212,13 @@ pub trait Callbacks {
     }
 
     /// Called for an unknown control sequence (ECMA-48), and for each unknown
-    /// setting of SGR and each unknown private mode.
+    /// SGR setting and each unknown private mode.
     ///
     /// `first` and `second` are the first two of the sequence's private marker
-    /// and intermediate bytes, `groups` are the groups of its first 32 numbers,
-    /// and `byte` is its final byte. If the first intermediate byte is a space,
-    /// `first` and `second` are `None` unless the final byte is `q` (DECSCUSR).
+    /// and intermediate bytes, `groups` holds its first 32 numbers, arranged in
+    /// groups, and `byte` is its final byte. If the first intermediate byte is
+    /// a space, `first` and `second` are `None` unless the final byte is `q`
+    /// (DECSCUSR).
     fn unhandled_csi(
         &mut self,
         screen: &mut Screen,
@@ -231,8 +233,8 @@ pub trait Callbacks {
         self.otherwise(screen, Call::UnhandledCsi(first, second, groups, byte));
     }
 
-    /// Called for an unknown operating system command (ECMA-48), with its parts
-    /// between semicolons, at most the first 16.
+    /// Called for an unknown operating system command (ECMA-48), with the parts
+    /// between its semicolons. Only the first 16 parts are passed.
     fn unhandled_osc(&mut self, screen: &mut Screen, parts: &[&[u8]])
         ensures { does (calls.UnhandledOsc (map (λ part. part.now) parts.now)) self.old screen.old self.new screen.new }
     {
@@ -240,7 +242,7 @@ pub trait Callbacks {
     }
 }
 
-/// The callbacks that do nothing.
+/// Callbacks that do nothing.
 impl Callbacks for () {
     ghost use Rattle.std.specs.Prelude.{◌≡◌};
 

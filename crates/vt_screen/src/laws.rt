@@ -1,5 +1,5 @@
-//! Laws about what screens display. These functions do nothing when run; their
-//! clauses state what is proved.
+//! Laws about what screens display. These functions do nothing when called;
+//! their clauses state what is proved.
 
 ghost use Rattle.std.specs.Prelude.{[], codes, ◌≡◌, ◌+◌, ◌<◌, ◌≤◌, ◌↔◌, ℕ, List, suc, ◌++◌, length, replicate};
 ghost use Rattle.vt_grid.specs.Page.{SameSize};
@@ -23,15 +23,15 @@ ghost use Rattle.vt_screen.specs.Steps.{EraseScrollback, screen_after};
 ghost use Rattle.vt_screen.specs.Streamed.{AreSameTrimmed, HasNoRis, HasWideFlags, without_scrollback, rows_of_calls, sent_off_in};
 ghost use Rattle.vt_screen.specs.CallsOfRun.{calls_in, screen_in};
 
-/// States that what a screen displays is a picture of the screen's size, and
+/// States that the picture that a screen displays has the screen's size, and
 /// that two screens have the same size if and only if their pictures do
 /// (`sizes`).
 ///
-/// With no scrollback displayed, its rows are those that the getters return
-/// (`own`). Displayed rows of scrollback are cut to the screen's columns; even
-/// then all cells before the last column are those that the getters return
-/// (`inner`). In the last column, a wide character that is cut in two is
-/// displayed as a blank.
+/// If no scrollback is displayed, the rows of the picture are the rows that the
+/// getters return (`own`). Displayed rows of scrollback are cut to the screen's
+/// width. Even then, all cells left of the last column are the cells that the
+/// getters return (`inner`). A wide character that is cut in two at the last
+/// column is displayed as a blank.
 pub fn shown_is()
     ensures picture { (screen : ScreenValue) → IsScreen screen → IsPicture (shown screen) }
     ensures rows { (screen : ScreenValue) → length (shown screen).rows ≡ length screen.page.rows }
@@ -43,13 +43,13 @@ pub fn shown_is()
         at (row_of_picture (shown screen) row).cells col ≡ at (visible_row screen row).cells col }
 {}
 
-/// States that getters return the same values for two screens that display the
-/// same.
+/// States that the getters of two screens with the same display return the same
+/// values.
 ///
-/// They agree on the size, the cursor, the attributes, whether the cursor is
-/// hidden, and the cells left of the last column. If neither displays
-/// scrollback, they also agree on all displayed rows with their cells and
-/// whether they are wrapped, and on the text of the screen and of each range.
+/// The screens agree on the size, the cursor, the attributes, whether the
+/// cursor is hidden, and the cells left of the last column. If neither screen
+/// displays scrollback, they also agree on the cells of all displayed rows, on
+/// which rows are wrapped, and on the text of the screen and of each range.
 pub fn same_shown()
     ensures size { (screen other : ScreenValue) → shown screen ≡ shown other → SameSize screen.page other.page }
     ensures row { (screen other : ScreenValue) → shown screen ≡ shown other → screen.page.row ≡ other.page.row }
@@ -70,7 +70,7 @@ pub fn same_shown()
         between_of start_row start_col end_row end_col screen ≡ between_of start_row start_col end_row end_col other }
 {}
 
-/// States that a screen without U+FE0F in any displayed cell is steady,
+/// States that a screen is steady if no displayed cell contains U+FE0F,
 /// whatever the widths of its characters are.
 pub fn steady_without_selectors()
     ensures { (screen : ScreenValue) → IsScreen screen → ShowsNoSelector screen → IsSteady (shown screen) }
@@ -80,13 +80,13 @@ pub fn steady_without_selectors()
 /// U+FE0F.
 ///
 /// - `fresh`: a fresh screen contains none on either page or in scrollback.
-/// - `ran`, `sized`, `scrolled_back`: this is preserved by a run whose
+/// - `ran`, `sized`, `scrolled_back`: this property is preserved by a run whose
 ///   callbacks leave the screen alone, by a resize, and by scrolling back.
-/// - `shown`: then no displayed cell contains U+FE0F, so the screen is steady
-///   by `steady_without_selectors`.
+/// - `shown`: on such a screen, no displayed cell contains U+FE0F, so the
+///   screen is steady by `steady_without_selectors`.
 ///
-/// Bytes that don't contain EF B8 8F read no U+FE0F, by
-/// `vt_scan::laws::selectors`.
+/// By `vt_scan::laws::selectors`, input without the bytes EF B8 8F contains no
+/// U+FE0F.
 pub fn no_selectors()
     ensures fresh { (rows cols capacity : ℕ) → HasNoSelectors (fresh_screen rows cols capacity) }
     ensures ran { (scan : State) (screen : ScreenValue) (bytes : List ℕ) → IsScreen screen →
@@ -98,24 +98,24 @@ pub fn no_selectors()
     ensures shown { (screen : ScreenValue) → HasNoSelectors screen → ShowsNoSelector screen }
 {}
 
-/// States that the capture of a fresh screen consists of line ends alone, one
-/// fewer than it has rows.
+/// States that the capture of a fresh screen consists only of line ends, one
+/// fewer than the screen has rows.
 pub fn fresh_capture()
     ensures { (rows cols capacity : ℕ) →
         basic_texts unwritten (visible_rows (fresh_screen (suc rows) cols capacity)) ≡ replicate rows 0x0A }
 {}
 
-/// States which rows stream out of the main page in a run whose callbacks leave
-/// the screen alone.
+/// States which rows scroll off the main page during a run whose callbacks
+/// leave the screen alone.
 ///
-/// - `kept`: the rows that are reported with `false`, followed by scrollback
-///   after the run, are scrollback before the run followed by the rows that
-///   scrolled off the top of the main page. They agree in their cells, except
-///   for default blanks at their ends, and in whether they are wrapped. The
-///   premises are that the run contains no RIS and that no wrapped row of
-///   scrollback was shorter than the screen.
-/// - `sent`, `rest`: the rows that scroll off, and the screen without its
-///   scrollback, depend neither on the capacity nor on the contents of
+/// - `kept`: the rows that are reported to `on_scroll` with `false`, followed
+///   by the scrollback after the run, match the scrollback before the run
+///   followed by the rows that scrolled off the top of the main page. Matching
+///   rows have the same cells, apart from trailing default blanks, and are both
+///   wrapped or both not. The premises are that the run contains no RIS and
+///   that no wrapped row of scrollback was narrower than the screen.
+/// - `sent`, `rest`: the rows that scroll off, and everything on the screen
+///   except its scrollback, depend on neither the capacity nor the contents of
 ///   scrollback.
 pub fn streams()
     ensures kept { (scan : State) (screen : ScreenValue) (bytes : List ℕ) → IsScreen screen → HasWideFlags screen →
@@ -131,14 +131,15 @@ pub fn streams()
 /// States when every wrapped row of scrollback is at least as wide as the
 /// screen, which is a premise of `streams`.
 ///
-/// It holds for a fresh screen. It is preserved by any run whose callbacks
-/// leave the screen alone, even with RIS, by scrolling back, by erasing
-/// scrollback, and by a resize to no more columns.
+/// This holds for a fresh screen. It is preserved by any run whose callbacks
+/// leave the screen alone (even one that contains RIS), by scrolling back, by
+/// erasing scrollback, and by a resize that adds no columns.
 ///
 /// A resize to more columns may break it, because a wrapped row of scrollback
-/// keeps its old width. For example, after `abc` on a screen of two rows and
-/// one column whose scrollback keeps a row, the row of `a` is one column wide
-/// and wrapped, and stays so when the screen gets more columns.
+/// keeps its old width. For example, print `abc` on a screen with two rows, one
+/// column and a scrollback of one row. The row of `a` is then in scrollback,
+/// one column wide and wrapped, and it stays that way when the screen gets more
+/// columns.
 pub fn wide_flags()
     ensures fresh { (rows cols capacity : ℕ) → HasWideFlags (fresh_screen rows cols capacity) }
     ensures run { (scan : State) (screen : ScreenValue) (bytes : List ℕ) → IsScreen screen →
@@ -149,14 +150,14 @@ pub fn wide_flags()
         HasWideFlags screen → HasWideFlags (resized rows cols screen) }
 {}
 
-/// States which controls and escape sequences the output of each function
-/// contains, from its clause `controls`.
+/// States which controls and escape sequences can occur in the output of each
+/// function, based on the function's clause `controls`.
 ///
-/// Once decoded, each character of the output is either no control (of C0 or
-/// C1, or DEL) or one of BS, LF, CR and ESC. Each ESC is followed by `[`, `7`
-/// or `8` in output that draws (`drawing`, `scrolling`, `reset`), by these or
-/// `=` or `>` in output that also sets modes (`state`), and by `[` in captures.
-/// Plain text contains no ESC.
+/// Once decoded, the output contains no controls (C0, C1 or DEL) except BS, LF,
+/// CR and ESC. In output that draws (`drawing`, `scrolling`, `reset`), each ESC
+/// is followed by `[`, `7` or `8`. In output that also sets modes (`state`), an
+/// ESC may also be followed by `=` or `>`. In captures, each ESC is followed by
+/// `[`. Plain text contains no ESC.
 pub fn escapes()
     ensures drawing { (text : List ℕ) → IsMadeOf drawing_finals drawing_controls text →
         HasOnlyEscapes (codes "[78") text }

@@ -1,5 +1,5 @@
-//! The screen of a terminal: its two pages, scrollback, attributes and modes,
-//! what control functions do to them, and the output that redraws it.
+//! The screen of a terminal: its pages, scrollback, attributes and modes, the
+//! control functions that change them, and the output that redraws them.
 #![tactic(auto)]
 
 pub mod callbacks;

@@ -6,7 +6,7 @@ ghost use Rattle.vt_screen.specs.ModeStep.{mouse_mode_without, mouse_encoding_wi
 
 use vt_cells::modes::{CursorStyle, MouseProtocolEncoding, MouseProtocolMode};
 
-/// The modes that a program sets for the terminal's input and its cursor.
+/// The input modes and the cursor style that a program has set.
 #[derive(Clone, Copy, PartialEq, Eq, Debug)]
 pub struct Modes {
     /// Whether the keypad sends application sequences (DECKPAM).
@@ -18,7 +18,7 @@ pub struct Modes {
     /// Whether pasted text is bracketed (xterm, DEC private mode 2004).
     pub bracketed_paste: bool,
 
-    /// The mouse events that are reported.
+    /// Which mouse events are reported.
     pub mouse_mode: MouseProtocolMode,
 
     /// The encoding of mouse events.
@@ -29,8 +29,7 @@ pub struct Modes {
 }
 
 impl Modes {
-    /// Creates the modes of a fresh screen: each is off or has its default
-    /// value.
+    /// Returns the modes of a fresh screen, each of them off or at its default.
     pub fn new() -> Self
         ensures { result ≡ no_modes }
     {

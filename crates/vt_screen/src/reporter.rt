@@ -1,13 +1,13 @@
-//! The link between rows that scroll off a page and the callbacks they are
-//! reported to.
+//! The adapter that reports rows scrolling off a page to callbacks.
 
 use crate::callbacks::Callbacks;
 use vt_rows::{Leaving, RowContents};
 
-/// A borrowed set of callbacks, to which the rows of one page are reported.
+/// An adapter that reports the rows dropped from one page to borrowed
+/// callbacks.
 #[derive(Drop)]
 pub struct Reporter<'a, CB: Callbacks> {
-    /// The callbacks to which the rows are reported.
+    /// The callbacks that receive the rows.
     pub callbacks: &'a mut CB,
 
     /// Whether the rows come from the alternate page.

@@ -1,5 +1,5 @@
-//! Iterators over the rows of a screen: their plain text here, and the output
-//! that redraws them in the modules below.
+//! Iterators over the rows of a screen. This module yields their plain text;
+//! its submodules yield the output that redraws them.
 
 ghost use Rattle.std.specs.Prelude.{◌≡◌, ◌+◌};
 ghost use Rattle.vt_screen.specs.Contents.{row_texts, rows_left};
@@ -15,8 +15,9 @@ use vt_cells::Error;
 
 /// An iterator over the plain text of each displayed row; see [`Screen::rows`].
 ///
-/// An item is an error if its text cannot be allocated; the next item is then
-/// that of the next row. After the last row, `next` returns `None` every time.
+/// An item is an error if its text cannot be allocated; iteration then
+/// continues with the next row. After the last row, `next` keeps returning
+/// `None`.
 #[derive(Drop)]
 pub struct Rows<'a> {
     screen: &'a Screen,
@@ -26,8 +27,8 @@ pub struct Rows<'a> {
 }
 
 impl<'a> Rows<'a> {
-    /// Creates an iterator over the rows from the top, in `width` columns from
-    /// `start` on.
+    /// Creates an iterator over the rows from top to bottom that reads `width`
+    /// columns of each, beginning at column `start`.
     pub(crate) fn new(screen: &'a Screen, start: u16, width: u16) -> Rows<'a>
         ensures { rows_left result ≡ row_texts start (start + width) (visible_rows screen.now) }
     {

@@ -69,8 +69,8 @@ impl Model for Screen {
         (record { other = s.other; is_alternate = s.is_alternate; active = s.scrollback; idle = s.other_scrollback }) };
 }
 
-// Dropping is written out, so that it is one call: a derived drop is taken apart field by field in
-// each caller's proof, at each of its exits.
+// `Drop` is implemented by hand so that dropping is a single call. A derived drop would be taken
+// apart field by field in each caller's proof, at each of its exits.
 impl Drop for Screen {
     fn drop(self) {
         let Screen {
@@ -89,13 +89,13 @@ impl Drop for Screen {
     }
 }
 
-/// Creates a fresh screen: default blanks, the cursor in the top left corner,
-/// default attributes, and each mode off or at its default. Its scrollback
-/// keeps at most `scrollback_capacity` rows.
+/// Creates a fresh screen: all cells are default blanks, the cursor is in the
+/// top left corner, the attributes are the defaults, and each mode is off or at
+/// its default. Its scrollback keeps at most `scrollback_capacity` rows.
 ///
 /// # Errors
 ///
-/// `Error::OutOfMemory` if its rows cannot be allocated.
+/// Returns `Error::OutOfMemory` if its rows cannot be allocated.
 #[tactic(auto, using(crate::proofs::Kept::kept_blank))]
 pub fn new_screen(
     alloc: Global,
@@ -127,11 +127,11 @@ pub fn new_screen(
 }
 
 impl Screen {
-    /// Returns a copy of the screen, with both pages and scrollback.
+    /// Returns a copy of the screen, including both pages and scrollback.
     ///
     /// # Errors
     ///
-    /// `Error::OutOfMemory` if the copy cannot be allocated.
+    /// Returns `Error::OutOfMemory` if the copy cannot be allocated.
     pub fn clone(&self) -> Result<Screen, Error>
         ensures ok { IfOk result (λ screen. screen ≡ self.now) }
         ensures memory { OnlyOutOfMemory result }
@@ -154,12 +154,12 @@ impl Screen {
 
 // The getters of a screen.
 impl Screen {
-    /// Returns the number of rows and columns of the screen.
+    /// Returns the size of the screen in rows and columns.
     ///
     /// The clauses `whole` and `colored` state the invariant of every screen:
-    /// both pages have one size, with rows, cursors and regions in bounds;
-    /// scrollback is within its capacity; the last character is a printable
-    /// one; and palette colours are at most 255.
+    /// both pages have the same size, with their cursors and scroll regions in
+    /// bounds; scrollback does not exceed its capacity; the last printed
+    /// character, if any, is printable; and palette indices are at most 255.
     pub fn size(&self) -> (NonZeroU16, NonZeroU16)
         ensures whole { IsScreen self.now }
         ensures colored { IsColored self.now }
@@ -167,14 +167,15 @@ impl Screen {
         ensures cols { result.1.value ≡ self.now.page.width }
     {
         let size = self.grid.size();
-        // Only for the proof: it makes the screen's invariant known.
+        // Only for the proof: this call makes the screen's invariant available.
         self.sound();
         (non_zero(size.rows), non_zero(size.cols))
     }
 
-    /// Returns whether two screens have the same number of rows and of columns.
-    /// [`Screen::contents_diff`], [`Screen::state_diff`] and
-    /// [`Screen::rows_diff`] require it.
+    /// Returns whether two screens have the same number of rows and the same
+    /// number of columns. [`Screen::contents_diff`],
+    /// [`Screen::contents_diff_scrolling`], [`Screen::state_diff`] and
+    /// [`Screen::rows_diff`] require this.
     ///
     /// # Examples
     ///
@@ -191,9 +192,9 @@ impl Screen {
         self.size() == other.size()
     }
 
-    /// Returns the displayed cell at a row and column, counted from 0, or
-    /// `None` if there is no such row or the row has no such column. A row of
-    /// scrollback may have more columns than the screen.
+    /// Returns the displayed cell at a zero-based row and column, or `None` if
+    /// there is no such cell. A row of scrollback may have more columns than
+    /// the screen.
     #[inline]
     pub fn cell(&self, row: u16, col: u16) -> Option<&Cell>
         ensures inside { IsSome result
@@ -203,8 +204,9 @@ impl Screen {
         cell_of(&self.visible_row(row)?, usize::from(col))
     }
 
-    /// Returns whether a displayed row, counted from 0, is wrapped: its text
-    /// continues on the next row. It is false past the last row.
+    /// Returns whether the displayed row at a zero-based index is wrapped,
+    /// which means that its text continues on the next row. Returns false if
+    /// there is no such row.
     pub fn row_wrapped(&self, row: u16) -> bool
         ensures { result ≡ (visible_row self.now row).wrapped }
     {
@@ -214,8 +216,8 @@ impl Screen {
         }
     }
 
-    /// Returns a displayed row: a row of scrollback if it is scrolled back that
-    /// far, or else a row of the page.
+    /// Returns the displayed row at a zero-based index: a row of scrollback if
+    /// the display is scrolled back that far, otherwise a row of the page.
     #[inline]
     fn visible_row(&self, row: u16) -> Option<RowContents<'_>>
         ensures inside { IsSome result ↔ (row < length self.now.page.rows) }
@@ -225,9 +227,9 @@ impl Screen {
         self.scrollback.visible_row(self.grid.rows(), row)
     }
 
-    /// Returns the cursor's row and column, counted from 0. If the column is
-    /// the number of columns, a wrap is pending: the next character is printed
-    /// on the next row.
+    /// Returns the cursor's zero-based row and column. If the column equals the
+    /// number of columns, a wrap is pending: the next character is printed on
+    /// the next row.
     pub fn cursor_position(&self) -> (u16, u16)
         ensures row { result.0 ≡ self.now.page.row }
         ensures column { result.1 ≡ self.now.page.column }
@@ -337,8 +339,8 @@ impl Screen {
         self.attrs.underline()
     }
 
-    /// Returns whether newly printed text is inverse (foreground and background
-    /// exchanged).
+    /// Returns whether newly printed text is inverse (with foreground and
+    /// background exchanged).
     pub fn inverse(&self) -> bool
         ensures { result ≡ self.now.attrs.inverse }
     {
@@ -359,7 +361,7 @@ impl Screen {
 ///
 /// # Errors
 ///
-/// `Error::OutOfMemory` if the copy cannot be allocated.
+/// Returns `Error::OutOfMemory` if the copy cannot be allocated.
 fn copied_page(page: &Option<Grid>, alloc: Global) -> Result<Option<Grid>, Error>
     ensures ok { IfOk result (λ copy. copy ≡ page.now) }
     ensures memory { OnlyOutOfMemory result }

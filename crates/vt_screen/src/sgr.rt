@@ -1,4 +1,5 @@
-//! Select Graphic Rendition: what the groups of numbers of an SGR sequence set.
+//! Select Graphic Rendition (SGR): what the groups of numbers in an SGR
+//! sequence set.
 
 ghost use Rattle.std.specs.Prelude.{◌≡◌, ℕ, MatchOption};
 ghost use Rattle.vt_screen.specs.Sgr.{rendered, colored, silent, set, unknown, number_read, three_read, five_read};
@@ -8,10 +9,10 @@ ghost use Rattle.vt_screen.specs.declared.sgr.GroupRead.{GroupRead};
 use vt_cells::attrs::{Attrs, Intensity};
 use vt_cells::color::Color;
 
-/// A change of the current attributes by SGR.
+/// A change that SGR makes to the current attributes.
 #[derive(Clone, Copy, PartialEq, Eq, Debug)]
 pub enum Setting {
-    /// All attributes return to their defaults.
+    /// Resets all attributes to their defaults.
     Reset,
 
     /// The foreground colour.
@@ -33,7 +34,7 @@ pub enum Setting {
     Inverse(bool),
 }
 
-/// The colour of a cell that an extended colour (SGR 38 or 48) sets: foreground
+/// The colour that an extended colour sequence (SGR 38 or 48) sets: foreground
 /// or background.
 #[derive(Clone, Copy, PartialEq, Eq, Debug)]
 pub enum Layer {
@@ -44,13 +45,13 @@ pub enum Layer {
     Back,
 }
 
-/// What the next group of an SGR sequence is read as.
+/// How the next group of an SGR sequence is read.
 #[derive(Clone, Copy, PartialEq, Eq, Debug)]
 pub enum Wanted {
     /// The next group is a setting.
     Any,
 
-    /// The next group is the form of an extended colour: 2 (RGB) or 5
+    /// The next group is the format of an extended colour: 2 (RGB) or 5
     /// (palette).
     Form(Layer),
 
@@ -60,12 +61,12 @@ pub enum Wanted {
     /// The next group is the red component of a colour.
     Red(Layer),
 
-    /// The next group is the green component of a colour, after its red
-    /// component.
+    /// The next group is the green component of a colour whose red component
+    /// has been read.
     Green(Layer, u8),
 
-    /// The next group is the blue component of a colour, after its red and
-    /// green components.
+    /// The next group is the blue component of a colour whose red and green
+    /// components have been read.
     Blue(Layer, u8, u8),
 
     /// The rest of the sequence is ignored.
@@ -75,7 +76,8 @@ pub enum Wanted {
 /// The effect of one group of an SGR sequence.
 #[derive(Clone, Copy, PartialEq, Eq, Debug)]
 pub enum Reading {
-    /// The group sets nothing, or a later group completes it.
+    /// The group has no effect by itself: it is ignored, or a later group
+    /// completes it.
     Silent,
 
     /// The group changes the attributes.
@@ -85,13 +87,13 @@ pub enum Reading {
     Unhandled,
 }
 
-/// The reading of a group, and what the next group is read as.
+/// The effect of one group, and how the next group is read.
 #[derive(Clone, Copy, PartialEq, Eq, Debug)]
 pub struct GroupRead {
     /// The effect of the group.
     pub reading: Reading,
 
-    /// What the next group is read as.
+    /// How the next group is read.
     pub wanted: Wanted,
 }
 
@@ -115,7 +117,7 @@ impl Setting {
 }
 
 impl Layer {
-    /// Returns the setting of this layer's colour.
+    /// Returns the setting that changes the colour of this layer to `color`.
     fn colored(self, color: Color) -> Setting
         ensures { result ≡ colored self color }
     {
@@ -127,7 +129,7 @@ impl Layer {
 }
 
 impl GroupRead {
-    /// Creates a reading that sets nothing, with the next group read as
+    /// Returns a reading that has no effect, with the next group read as
     /// `wanted`.
     fn silent(wanted: Wanted) -> Self
         ensures { result ≡ silent wanted }
@@ -138,7 +140,7 @@ impl GroupRead {
         }
     }
 
-    /// Creates a reading that applies a setting, with the next group read as a
+    /// Returns a reading that applies `setting`, with the next group read as a
     /// setting.
     fn set(setting: Setting) -> Self
         ensures { result ≡ set setting }
@@ -149,7 +151,7 @@ impl GroupRead {
         }
     }
 
-    /// Creates a reading of an unknown group, with the next group read as a
+    /// Returns the reading of an unknown group, with the next group read as a
     /// setting.
     fn unknown() -> Self
         ensures { result ≡ unknown }
@@ -162,14 +164,15 @@ impl GroupRead {
 }
 
 impl Wanted {
-    /// Reads a group of an SGR sequence as what `self` says is wanted (ECMA-48,
-    /// and xterm for the extended colours). The first group of a sequence is
-    /// read as [`Wanted::Any`].
+    /// Reads one group of an SGR sequence as `self` specifies (ECMA-48, with
+    /// xterm's extended colours). The first group of a sequence is read as
+    /// [`Wanted::Any`].
     ///
-    /// After an extended colour with a component above 255, the rest of the
-    /// sequence is ignored. So it is after an extended colour over several
-    /// groups that is cut short or has a form other than 2 and 5; within one
-    /// group, such a colour is unknown and reading continues.
+    /// The rest of the sequence is ignored after an extended colour with a
+    /// component above 255. It is also ignored after an extended colour in
+    /// several groups that is incomplete or has a format other than 2 and 5. If
+    /// such a colour is in a single group, that group is unknown and the next
+    /// group is read as a setting.
     #[inline(always)]
     #[tactic(auto, unfolding(crate::specs::Sgr::group_read))]
     pub fn read(self, group: &[u16]) -> GroupRead
@@ -203,7 +206,7 @@ fn read_setting(group: &[u16]) -> GroupRead
     }
 }
 
-/// Reads a group of one number as a setting.
+/// Reads a single-number group as a setting.
 #[inline(always)]
 #[tactic(auto, using(std::proofs::lemmas::Bool::Decides::nat_tests), unfolding(crate::specs::Sgr::number_read))]
 fn read_number(number: u16) -> GroupRead
@@ -232,7 +235,7 @@ fn read_number(number: u16) -> GroupRead
     }
 }
 
-/// Reads a group of three numbers as an extended colour with a palette index.
+/// Reads a three-number group as an extended colour with a palette index.
 fn read_three(layer: Layer, form: u16, index: u16) -> GroupRead
     ensures { result ≡ three_read layer form index }
 {
@@ -242,7 +245,7 @@ fn read_three(layer: Layer, form: u16, index: u16) -> GroupRead
     index_colored(layer, index)
 }
 
-/// Reads a group of five numbers as an extended colour with RGB components.
+/// Reads a five-number group as an extended colour with RGB components.
 fn read_five(layer: Layer, form: u16, red: u16, green: u16, blue: u16) -> GroupRead
     ensures { result ≡ five_read layer form red green blue }
 {
@@ -252,7 +255,8 @@ fn read_five(layer: Layer, form: u16, red: u16, green: u16, blue: u16) -> GroupR
     rgb_colored(layer, red, green, blue)
 }
 
-/// Reads a palette index, which must be at most 255.
+/// Returns the reading that sets a palette colour. If `index` is above 255,
+/// nothing is set and the rest of the sequence is ignored.
 #[tactic(auto, using(std::proofs::lemmas::Bool::Decides::nat_tests), unfolding(crate::specs::Sgr::index_read))]
 fn index_colored(layer: Layer, index: u16) -> GroupRead
     ensures { result ≡ index_read layer index }
@@ -263,7 +267,8 @@ fn index_colored(layer: Layer, index: u16) -> GroupRead
     GroupRead::set(layer.colored(Color::Idx(index as u8)))
 }
 
-/// Reads RGB components, each of which must be at most 255.
+/// Returns the reading that sets an RGB colour. If a component is above 255,
+/// nothing is set and the rest of the sequence is ignored.
 #[tactic(auto, using(std::proofs::lemmas::Bool::Decides::nat_tests), unfolding(crate::specs::Sgr::rgb_read))]
 fn rgb_colored(layer: Layer, red: u16, green: u16, blue: u16) -> GroupRead
     ensures { result ≡ rgb_read layer red green blue }
@@ -274,7 +279,7 @@ fn rgb_colored(layer: Layer, red: u16, green: u16, blue: u16) -> GroupRead
     GroupRead::set(layer.colored(Color::Rgb(red as u8, green as u8, blue as u8)))
 }
 
-/// Reads a group as the form of an extended colour.
+/// Reads a group as the format of an extended colour.
 #[tactic(auto, using(std::proofs::lemmas::Bool::Decides::nat_tests), unfolding(crate::specs::Sgr::form_read))]
 fn read_form(layer: Layer, group: &[u16]) -> GroupRead
     ensures { result ≡ form_read layer group.now }
@@ -289,8 +294,8 @@ fn read_form(layer: Layer, group: &[u16]) -> GroupRead
     }
 }
 
-/// Returns the number of a group that holds a colour component or a palette
-/// index: a single number of at most 255.
+/// Returns the colour component or palette index that a group holds, or `None`
+/// unless the group is a single number of at most 255.
 #[tactic(auto, using(std::proofs::lemmas::Bool::Decides::nat_tests))]
 fn part_of(group: &[u16]) -> Option<u8>
     ensures { MatchOption result ((next : ℕ → GroupRead) → part_read group.now next ≡ silent Wanted.Stopped)

@@ -1,10 +1,10 @@
--- The command-line arguments: rows, columns, and what to write.
+-- The command-line arguments of the program `vtshow`: rows, columns, and the mode of the output.
 use Rattle.std.specs.Prelude.{◌≡◌, ℕ, ◌<◌, ◌^◌, List, [], ◌∷◌, codes}
 use Rattle.std.specs.Str.Parse.{IsNumeral, digits_value}
 use Rattle.vt_show.specs.declared.mode.Mode.{Mode}
 use Rattle.vt_show.specs.declared.mode.Mode.TheVariants.{Plain, Formatted, Basic}
 
--- A number of rows or columns: decimal digits with a value from 1 to 65535; leading zeros are allowed.
+-- The argument is a number of rows or columns: a decimal number from 1 to 65535, possibly with leading zeros.
 abbrev pub IsSize : List ℕ → ℕ → Type 0
 IsSize word n = IsNumeral 10 word × (digits_value 10 word ≡ n) × (0 < n) × (n < 2 ^ 16)
 
@@ -14,17 +14,17 @@ name_of Plain = codes "plain"
 name_of Formatted = codes "formatted"
 name_of Basic = codes "basic"
 
--- There are exactly three arguments, which specify these rows, columns and mode.
+-- There are exactly three arguments, and they specify `rows`, `cols` and `mode`.
 abbrev pub AsksToShow : List (List ℕ) → ℕ → ℕ → Mode → Type 0
 AsksToShow (first ∷ second ∷ third ∷ []) rows cols mode =
     IsSize first rows × IsSize second cols × (third ≡ name_of mode)
 AsksToShow _ rows cols mode = ⊥
 
--- The arguments are wrong.
+-- The arguments are invalid.
 abbrev pub AskForNothing : List (List ℕ) → Type 0
 AskForNothing words = (rows cols : ℕ) (mode : Mode) → AsksToShow words rows cols mode → ⊥
 
--- The arguments specify a size and a mode for which this holds.
+-- The arguments are valid, and `Holds` holds for the size and mode that they specify.
 pub record AskFor (words : List (List ℕ)) (Holds : ℕ → ℕ → Mode → Type 0) : Type 0 where
   pub rows : ℕ
   pub cols : ℕ

@@ -1,16 +1,16 @@
--- Aids of proofs, which only private functions' proofs cite.
+-- Auxiliary definitions for proofs that are cited only by the proofs of private functions.
 use Rattle.std.specs.Prelude.{◌≡◌, ℕ, List, ◌++◌}
 use Rattle.std.specs.Io.KnownBytes.{Appends, Consumes}
 use Rattle.std.specs.declared.option.Option.{Option}
 use Rattle.vt100.specs.Parser.{Parsing, Ran, quietly}
 
--- Bytes were read, and the parser has parsed them.
+-- Bytes were read from the input, and the parser has parsed them.
 pub record HasReadBytes (left rest : Option (List ℕ)) (old new : Parsing (Unit {0})) : Type 0 where
   pub bytes : List ℕ
   pub reads : Consumes left rest bytes
   pub ran : Ran quietly old bytes new
 
--- Of the bytes to write, `rest` is left, and those before it were written.
+-- A prefix of the bytes to write has been written, and `rest` is left to write.
 pub record HasWrittenTo (all rest : List ℕ) (old new : Option (List ℕ)) : Type 0 where
   pub taken : List ℕ
   pub parts : all ≡ taken ++ rest

@@ -1,4 +1,4 @@
--- The output for an input: that of the mode for the screen of a new terminal that has parsed the input.
+-- The output for an input. It shows the screen of a new terminal that has parsed the input.
 use Rattle.std.specs.Prelude.{◌≡◌, ◌≢◌, ℕ, List, [], ◌++◌, Err, IsErr, OnOk}
 use Rattle.std.specs.List.{FoldsTo}
 use Rattle.std.specs.Io.KnownBytes.{Appends, Consumes, IsAtEnd, Keeps}
@@ -19,31 +19,33 @@ use Rattle.vt_show.specs.declared.faults.Fault.TheVariants.{Write}
 use Rattle.vt_show.specs.declared.mode.Mode.{Mode}
 use Rattle.vt_show.specs.declared.mode.Mode.TheVariants.{Plain, Formatted, Basic}
 
--- The screen after a run over the input, from a new terminal of this size without scrollback.
+-- The screen is that of a new terminal of this size without scrollback after it has parsed the input.
 abbrev pub ShowsAfter : ℕ → ℕ → List ℕ → ScreenValue → Type 0
 ShowsAfter rows cols input screen =
     FoldsTo (Performs quietly) (state tt (fresh_screen rows cols 0)) (scan.run start input).events (state tt screen)
 
--- The output that `Screen::contents`, `Screen::contents_formatted` or `Screen::contents_formatted_basic` returns.
+-- The output for a mode: the string that `Screen::contents`, `Screen::contents_formatted` or
+-- `Screen::contents_formatted_basic` returns.
 abbrev pub screen_text : Mode → ScreenValue → List ℕ
 screen_text Plain screen = contents_of screen
 screen_text Formatted screen = shown_text screen
 screen_text Basic screen = basic_texts unwritten (visible_rows screen)
 
--- The control characters that the output of a mode may contain: line ends; sequences that draw; or line ends and SGR.
+-- The output contains only the control characters of its mode: line ends for `Plain`, sequences that draw for
+-- `Formatted`, and line ends and SGR for `Basic`.
 abbrev pub IsOfMode : Mode → List ℕ → Type 0
 IsOfMode Plain text = IsMadeOf [] plain_controls text
 IsOfMode Formatted text = IsMadeOf drawing_finals drawing_controls text
 IsOfMode Basic text = IsMadeOf capture_finals plain_controls text
 
--- What was written grew by a prefix of a text, or by all of it.
+-- The output grew by `text` or by a prefix of it.
 pub record AppendsPart (old new : Option (List ℕ)) (text : List ℕ) : Type 0 where
   pub taken : List ℕ
   pub lost : List ℕ
   pub parts : text ≡ taken ++ lost
   pub appends : Appends old new taken
 
--- An input was read, all of it if it is known and none is left, and this holds for its output.
+-- The input from `left` to `rest` was read, and `Holds` holds for the output that it results in.
 pub record ReadsForText (mode : Mode) (rows cols : ℕ) (left rest : Option (List ℕ))
     (Holds : List ℕ → Type 0) : Type 0 where
   pub input : List ℕ
@@ -53,9 +55,9 @@ pub record ReadsForText (mode : Mode) (rows cols : ℕ) (left rest : Option (Lis
   pub text : Holds (screen_text mode screen)
   pub controls : IsOfMode mode (screen_text mode screen)
 
--- The input is read to its end, and the output for it is written, and nothing else. After a fault of writing, the
--- input was read to its end as well, and a prefix of the output is written; after any other fault, nothing is.
--- `error` says how a fault is returned.
+-- The effect of a run. On success, the input is read to its end, and exactly its output is written. If writing fails,
+-- the input has been read to its end, and a prefix of the output is written. After any other fault, nothing is
+-- written. The function `error` converts a fault to the error that is returned.
 pub record ShowsOrFails {E : Type 0} (error : Fault → E) (mode : Mode) (rows cols : ℕ)
     (left rest written grown : Option (List ℕ)) (result : Result (Unit {0}) E) : Type 0 where
   pub end : OnOk result (IsAtEnd rest)

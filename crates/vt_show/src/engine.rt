@@ -1,4 +1,4 @@
-//! The engine of `vtshow`: from the input of a terminal to the output for its screen.
+//! The engine of `vtshow`, which feeds its input to a terminal and writes the resulting screen.
 
 ghost use Rattle.std.specs.Int.NonZero.{non_zero_u16_get};
 ghost use Rattle.std.specs.Io.KnownBytes.{Appends, IsAtEnd, Keeps};
@@ -17,19 +17,19 @@ use std::io::{ErrorKind, Read, Write};
 use std::num::NonZeroU16;
 use vt100::{Parser, Screen};
 
-/// The number of bytes that are read at once.
+/// The maximum number of bytes read at once.
 const BUFFER_SIZE: usize = 8192;
 
-/// Reads the input to its end into a new terminal of this size without scrollback, and writes the
-/// output that `mode` selects, and nothing else.
+/// Reads all input into a new terminal of the given size without scrollback, and writes only the
+/// output that `mode` selects.
 ///
 /// # Errors
 ///
-/// - [`Fault::Memory`] if an allocation fails. Nothing was written.
-/// - [`Fault::Read`] after any error of a read, even an interrupted one. Nothing was written.
-/// - [`Fault::Write`] after any error of a write or of the final flush, or if the writer accepts no
-///   bytes. An interrupted write is tried again. The input was read to its end, and a prefix of the
-///   output, or all of it, was written.
+/// - [`Fault::Memory`] if an allocation fails. Nothing has been written.
+/// - [`Fault::Read`] if a read fails, even if it was only interrupted. Nothing has been written.
+/// - [`Fault::Write`] if a write or the final flush fails, or if the writer accepts no bytes. An
+///   interrupted write is retried. All input has been read, and a prefix of the output, possibly
+///   all of it, has been written.
 pub fn run<R: Read, W: Write>(
     alloc: Global,
     reader: &mut R,
@@ -49,12 +49,12 @@ pub fn run<R: Read, W: Write>(
     write_text(writer, text.as_str())
 }
 
-/// Parses the command-line arguments, and calls [`run`] with them.
+/// Parses the command-line arguments `words` and calls [`run`] with the result.
 ///
 /// # Errors
 ///
-/// Returns the fault of [`run`], or `None` if the arguments are wrong (see
-/// [`arguments`](crate::arguments)); nothing was read or written then.
+/// Returns the fault of [`run`], or `None` if the arguments are invalid (see
+/// [`arguments`](crate::arguments)). If they are invalid, nothing is read or written.
 pub fn run_words<R: Read, W: Write>(
     alloc: Global,
     words: &[String],
@@ -77,8 +77,7 @@ pub fn run_words<R: Read, W: Write>(
     }
 }
 
-/// Reads the input to its end into the parser. Fails with [`Fault::Memory`] only if the parser has
-/// failed.
+/// Reads all input into the parser. Fails with [`Fault::Memory`] only if the parser has failed.
 fn read_all<R: Read>(parser: &mut Parser, reader: &mut R) -> Result<(), Fault>
     ensures end { OnOk result (IsAtEnd (R.remaining reader.new)) }
     ensures ran { OnOk result (HasReadBytes (R.remaining reader.old) (R.remaining reader.new) parser.old parser.new) }
@@ -119,7 +118,7 @@ fn text(screen: &Screen, mode: Mode) -> Result<String, Fault>
 /// # Errors
 ///
 /// Returns [`Fault::Write`] if a write or the flush fails, or if the writer accepts no bytes. A
-/// prefix of the text, or all of it, was written. An interrupted write is tried again.
+/// prefix of the text, possibly all of it, has then been written. An interrupted write is retried.
 pub fn write_text<W: Write>(writer: &mut W, text: &str) -> Result<(), Fault>
     ensures text { OnOk result (Appends (W.contents writer.old) (W.contents writer.new) text.now) }
     ensures part { OnErr result (AppendsPart (W.contents writer.old) (W.contents writer.new) text.now) }
@@ -132,8 +131,8 @@ pub fn write_text<W: Write>(writer: &mut W, text: &str) -> Result<(), Fault>
     Ok(())
 }
 
-/// Writes all of `bytes`. It replaces `Write::write_all`, whose contract does not say what a writer
-/// holds after an error.
+/// Writes all of `bytes`. It is used instead of `Write::write_all`, whose contract does not say
+/// what a writer holds after an error.
 fn write_bytes<W: Write>(writer: &mut W, bytes: &[u8]) -> Result<(), Fault>
     ensures all { OnOk result (Appends (W.contents writer.old) (W.contents writer.new) bytes.now) }
     ensures part { OnErr result (AppendsPart (W.contents writer.old) (W.contents writer.new) bytes.now) }

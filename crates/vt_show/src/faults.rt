@@ -1,9 +1,9 @@
-//! How a run ends.
+//! The faults that can end a run, with their messages and exit statuses.
 
 ghost use Rattle.std.specs.Prelude.{◌≡◌};
 ghost use Rattle.vt_show.specs.Endings.{line_of, status_of};
 
-/// The reason why a run did not write its whole output.
+/// The reason why a run did not write all of its output.
 #[derive(Clone, Copy, PartialEq, Eq, Debug)]
 pub enum Fault {
     /// An allocation failed.
@@ -16,8 +16,8 @@ pub enum Fault {
     Write,
 }
 
-/// Returns the line for standard error, without its line end, and the exit status. `None` stands
-/// for wrong arguments.
+/// Returns the message for standard error (without a line end) and the exit status for a fault.
+/// `None` stands for invalid command-line arguments.
 ///
 /// ```text
 /// assert_eq!(ending(Some(Fault::Read)), ("vtshow: read failed", 1));

@@ -1,5 +1,5 @@
-//! The engine of the program `vtshow`, which writes what a terminal displays after its input. The
-//! parts that the engine of `vtmirror` shares are public, too.
+//! The engine of the program `vtshow`, which writes what a terminal displays after reading the
+//! program's input. The parts that the engine of `vtmirror` also uses are public.
 #![tactic(auto)]
 
 mod engine;

@@ -3,12 +3,12 @@
 /// The kind of output that is written for the screen.
 #[derive(Clone, Copy, PartialEq, Eq, Debug)]
 pub enum Mode {
-    /// The text, without attributes.
+    /// The text of the screen, without attributes.
     Plain,
 
-    /// The escape sequences that display the screen on a new terminal of its size.
+    /// The escape sequences that display the screen on a new terminal of the same size.
     Formatted,
 
-    /// The text with SGR sequences, and no other escape sequences.
+    /// The text of the screen with SGR sequences, and no other escape sequences.
     Basic,
 }

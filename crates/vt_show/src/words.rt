@@ -1,4 +1,4 @@
-//! Command-line arguments, and their meaning.
+//! Parsing of command-line arguments.
 
 ghost use Rattle.std.specs.Int.NonZero.{non_zero_u16_get};
 ghost use Rattle.std.specs.Prelude.{◌≡◌, ◌==◌, ℕ, map, slice_index, string_bytes, IfErr, IfNone, IfSome};
@@ -12,7 +12,8 @@ use std::env::Env;
 use std::num::NonZeroU16;
 use std::{env, io};
 
-/// Copies the command-line arguments. `vtmirror` uses this function, too.
+/// Returns copies of the command-line arguments, without the program's name. `vtmirror` also uses
+/// this function.
 ///
 /// # Errors
 ///
@@ -34,10 +35,11 @@ pub fn given_words<R: Env + AllocGlobal>(rt: &R) -> Result<Vec<String>, Option<F
     Ok(words)
 }
 
-/// Parses rows, columns and mode from exactly three arguments; returns `None` if they are wrong.
+/// Parses the number of rows, the number of columns and the mode from exactly three arguments.
+/// Returns `None` if the arguments are invalid.
 ///
-/// Rows and columns are decimal digits with a value from 1 to 65535; leading zeros are allowed. The
-/// modes are `plain`, `formatted` and `basic`.
+/// The numbers consist of decimal digits with a value from 1 to 65535; leading zeros are allowed.
+/// The modes are `plain`, `formatted` and `basic`.
 ///
 /// ```text
 /// assert_eq!(arguments(&["0", "80", "formatted"]), None);
@@ -56,7 +58,7 @@ pub fn arguments(words: &[&str]) -> Option<(NonZeroU16, NonZeroU16, Mode)>
     Some((rows, cols, mode))
 }
 
-/// Parses rows, columns and mode from owned strings, as [`arguments`] does.
+/// Parses owned command-line arguments, as [`arguments`] does.
 pub(crate) fn asked(words: &[String]) -> Option<(NonZeroU16, NonZeroU16, Mode)>
     ensures some { IfSome result (λ a.
         AsksToShow (map (λ word. string_bytes word) words.now) (non_zero_u16_get a.0) (non_zero_u16_get a.1) a.2) }
@@ -68,8 +70,8 @@ pub(crate) fn asked(words: &[String]) -> Option<(NonZeroU16, NonZeroU16, Mode)>
     arguments(&[rows.as_str(), cols.as_str(), mode.as_str()])
 }
 
-/// Parses a number of rows or columns: decimal digits with a value from 1 to 65535; leading zeros
-/// are allowed. Returns `None` for any other string.
+/// Parses a number of rows or columns. It must consist of decimal digits with a value from 1 to
+/// 65535; leading zeros are allowed. Returns `None` for any other string.
 ///
 /// ```text
 /// assert_eq!(size("080"), NonZeroU16::new(80));
@@ -98,7 +100,7 @@ fn has_sign(word: &str) -> bool
     }
 }
 
-/// Returns the mode of this name.
+/// Returns the mode with this name, if there is one.
 fn mode_named(word: &str) -> Option<Mode>
     ensures some { IfSome result (λ mode. word.now ≡ name_of mode) }
     ensures none { IfNone result ((mode : Mode) → word.now ≡ name_of mode → ⊥) }

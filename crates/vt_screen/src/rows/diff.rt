@@ -1,5 +1,5 @@
-//! An iterator over the output that turns the rows of one screen into those of
-//! another.
+//! An iterator over the output that turns the rows of one screen into the rows
+//! of another.
 
 ghost use Rattle.std.specs.Prelude.{◌≡◌, ◌≤◌, length};
 ghost use Rattle.vt_grid.specs.Page.{SameSize};
@@ -10,11 +10,12 @@ use crate::screen::Screen;
 use std::marker::Model;
 use vt_cells::Error;
 
-/// An iterator over the output that turns each row of one screen into that of
-/// another; see [`Screen::rows_diff`].
+/// An iterator over the output that turns each row of one screen into the same
+/// row of another; see [`Screen::rows_diff`].
 ///
-/// An item is an error if its output cannot be allocated; the next item is then
-/// that of the next row. After the last row, `next` returns `None` every time.
+/// An item is an error if its output cannot be allocated; iteration then
+/// continues with the next row. After the last row, `next` keeps returning
+/// `None`.
 #[derive(Drop)]
 pub struct RowsDiff<'a> {
     screen: &'a Screen,
@@ -24,7 +25,7 @@ pub struct RowsDiff<'a> {
     stop: u16,
 }
 
-/// The value of the iterator: the list of the outputs that are still to come.
+/// The model of the iterator is the list of the remaining outputs.
 impl<'a> Model for RowsDiff<'a> {
     ghost use Rattle.std.specs.Prelude.{List, ℕ, length};
     ghost use Rattle.vt_grid.specs.Page.{SameSize};
@@ -41,8 +42,8 @@ impl<'a> Model for RowsDiff<'a> {
 }
 
 impl<'a> RowsDiff<'a> {
-    /// Creates an iterator over the rows from the top, in the columns from
-    /// `start` up to but not including `stop`.
+    /// Creates an iterator over the rows from top to bottom, limited to the
+    /// columns `start..stop`.
     pub(crate) fn new(screen: &'a Screen, prev: &'a Screen, start: u16, stop: u16) -> RowsDiff<'a>
         requires order { start ≤ stop }
         requires stop { stop ≤ screen.now.page.width }

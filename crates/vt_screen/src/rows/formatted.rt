@@ -11,8 +11,9 @@ use vt_cells::Error;
 /// An iterator over the output that draws each row of a screen on a blank row;
 /// see [`Screen::rows_formatted`].
 ///
-/// An item is an error if its output cannot be allocated; the next item is then
-/// that of the next row. After the last row, `next` returns `None` every time.
+/// An item is an error if its output cannot be allocated; iteration then
+/// continues with the next row. After the last row, `next` keeps returning
+/// `None`.
 #[derive(Drop)]
 pub struct RowsFormatted<'a> {
     screen: &'a Screen,
@@ -21,7 +22,7 @@ pub struct RowsFormatted<'a> {
     stop: u16,
 }
 
-/// The value of the iterator: the list of the outputs that are still to come.
+/// The model of the iterator is the list of the remaining outputs.
 impl<'a> Model for RowsFormatted<'a> {
     ghost use Rattle.std.specs.Prelude.{List, ℕ, length};
     ghost use Rattle.vt_screen.specs.Internals.{IsColumns};
@@ -37,8 +38,8 @@ impl<'a> Model for RowsFormatted<'a> {
 }
 
 impl<'a> RowsFormatted<'a> {
-    /// Creates an iterator over the rows from the top, in the columns from
-    /// `start` up to but not including `stop`.
+    /// Creates an iterator over the rows from top to bottom, limited to the
+    /// columns `start..stop`.
     pub(crate) fn new(screen: &'a Screen, start: u16, stop: u16) -> RowsFormatted<'a>
         requires order { start ≤ stop }
         requires stop { stop ≤ screen.now.page.width }

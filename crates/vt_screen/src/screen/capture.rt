@@ -21,16 +21,16 @@ impl Screen {
     /// sequences. Its only controls are line ends and the ESC that begins each
     /// SGR sequence.
     ///
-    /// Rows are separated by `\n`, except after a wrapped row. Default blanks
-    /// at a row's end are dropped (see
+    /// Rows are separated by `\n`, except after a wrapped row. Trailing default
+    /// blanks of a row are dropped (see
     /// [`RowContents::write_formatted_basic`](vt_rows::RowContents::write_formatted_basic)).
     /// Rows of scrollback may be wider than the screen. The text assumes
     /// default attributes at its beginning and doesn't restore them at its end.
     ///
     /// # Errors
     ///
-    /// `Error::OutOfMemory` if the text cannot be allocated; empty text needs
-    /// no allocation.
+    /// Returns `Error::OutOfMemory` if the text cannot be allocated. Empty text
+    /// needs no allocation.
     pub fn contents_formatted_basic(&self) -> Result<String, Error>
         ensures text { IfText result (λ text. text ≡ basic_texts unwritten (visible_rows self.now)) }
         ensures controls { IfText result (IsMadeOf capture_finals plain_controls) }
@@ -49,11 +49,12 @@ impl Screen {
     ///
     /// # Errors
     ///
-    /// The error of the sink, which ends the writing. The sink has then
-    /// accepted some first rows in full and has stopped within the next row;
-    /// the caller's capture state is the one after the complete rows. What the
-    /// sink holds of the incomplete row is for the sink to define: a string
-    /// holds the chunks that it accepted, each of them complete.
+    /// Returns the first error of the sink, after which nothing more is
+    /// written. By then, the sink has accepted some number of complete rows and
+    /// possibly part of the next row. The caller's capture state is the state
+    /// after the complete rows. How much of the incomplete row the sink holds
+    /// depends on the sink. A string holds the chunks that it accepted, each of
+    /// them complete.
     pub fn write_contents_formatted_basic<S: Sink>(
         &self,
         sink: &mut S,
@@ -104,9 +105,8 @@ impl Screen {
         self.write_rows(sink, state, end - rows.len(), end)
     }
 
-    /// Writes the rows from index `start` up to but not including `end`,
-    /// counted from the first row of scrollback, continuing from the capture
-    /// state `state`.
+    /// Writes the rows `start..end`, numbered from the first row of scrollback,
+    /// continuing from the capture state `state`.
     fn write_rows<S: Sink>(
         &self,
         sink: &mut S,

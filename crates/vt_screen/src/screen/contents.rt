@@ -24,13 +24,12 @@ impl Screen {
     ///
     /// A row's text ends with its last glyph; blank columns before that are
     /// spaces. Each row is followed by `\n`, unless it is wrapped and a glyph
-    /// begins on the next row. Line ends at the end of the text are dropped.
-    /// Rows of scrollback that are longer than the screen are cut to its
-    /// columns.
+    /// begins on the next row. Trailing line ends are dropped. Rows of
+    /// scrollback that are wider than the screen are cut to its width.
     ///
     /// # Errors
     ///
-    /// `Error::OutOfMemory` if the text cannot be allocated.
+    /// Returns `Error::OutOfMemory` if the text cannot be allocated.
     pub fn contents(&self) -> Result<String, Error>
         ensures text { IfText result (λ text. text ≡ contents_of self.now) }
         ensures controls { IfText result (IsMadeOf [] plain_controls) }
@@ -46,24 +45,24 @@ impl Screen {
         }
     }
 
-    /// Returns the text between two positions, as it would be copied from a
-    /// selection, without attributes.
+    /// Returns the text between two positions, without attributes, as it would
+    /// be copied from a selection.
     ///
-    /// It is the first row from `start_col` on, the rows between, and the last
-    /// row up to but not including `end_col`; within one row, the columns from
-    /// `start_col` up to but not including `end_col`. Rows and columns count
-    /// from 0. Each row but the last is followed by `\n` unless it is wrapped.
-    /// If `start_row` is less than `end_row`, `start_col` must be at most the
-    /// number of columns.
+    /// The text consists of the first row from `start_col` on, the rows in
+    /// between, and the last row up to but not including `end_col`. Within a
+    /// single row, it consists of the columns `start_col..end_col`. Rows and
+    /// columns are zero-based. Each row except the last is followed by `\n`
+    /// unless it is wrapped. If `start_row` is less than `end_row`, `start_col`
+    /// must be at most the number of columns.
     ///
     /// Rows that aren't displayed have no text, and a range whose end is before
     /// its start is empty. Only the last row is read past the screen's columns,
-    /// if it is a longer row of scrollback.
+    /// if it is a wider row of scrollback.
     ///
     /// # Errors
     ///
-    /// `Error::OutOfMemory` if the text cannot be allocated; empty text needs
-    /// no allocation.
+    /// Returns `Error::OutOfMemory` if the text cannot be allocated. Empty text
+    /// needs no allocation.
     pub fn contents_between(
         &self,
         start_row: u16,
@@ -92,16 +91,18 @@ impl Screen {
         }
     }
 
-    /// Returns an iterator over the plain text of each displayed row from the
-    /// top, in `width` columns from `start` on, without line ends.
+    /// Returns an iterator over the plain text of each displayed row, from top
+    /// to bottom. Each item is the text of `width` columns, beginning at column
+    /// `start`, without a line end.
     ///
-    /// `start` counts from 0, and both numbers may be any: a column that a row
-    /// doesn't have contributes no text. Rows of scrollback that are longer
-    /// than the screen are read in full. A wide character is included if its
-    /// first column is in the range.
+    /// `start` is zero-based. Any values of `start` and `width` are allowed:
+    /// columns that a row doesn't have contribute no text. Rows of scrollback
+    /// that are wider than the screen are read in full. A wide character is
+    /// included if its first column is in the range.
     ///
-    /// There is one item for each row of the screen. An item is an error if its
-    /// text cannot be allocated; the next item is then that of the next row.
+    /// The iterator yields one item for each row of the screen. An item is an
+    /// error if its text cannot be allocated; iteration then continues with the
+    /// next row.
     ///
     /// # Examples
     ///
@@ -116,13 +117,13 @@ impl Screen {
         ensures controls { (r : ℕ) → IsMadeOf [] plain_controls (text_at (rows_left result) r) }
         ensures count { length (rows_left result) ≡ length self.now.page.rows }
     {
-        // Only for the proof: it makes the screen's invariant known.
+        // Only for the proof: this call makes the screen's invariant available.
         self.sound();
         Rows::new(self, start, width)
     }
 
-    /// Returns the plain text of a displayed row, if there is such a row, in
-    /// the columns from `start` up to but not including `stop`.
+    /// Returns the plain text of a displayed row in the columns `start..stop`,
+    /// or `None` if there is no such row.
     pub(crate) fn row_text(
         &self,
         row: u16,
@@ -158,8 +159,8 @@ impl Screen {
         Ok(())
     }
 
-    /// Writes the text from one position up to another, as far as its rows are
-    /// displayed.
+    /// Writes the text from `start` up to `end`. Rows that aren't displayed
+    /// have no text.
     #[tactic(auto, using(crate::proofs::ContentTexts::parts_more, crate::proofs::ContentTexts::parts_done))]
     fn write_between<S: Sink>(&self, sink: &mut S, start: Pos, end: Pos) -> Result<(), S::Error>
         ensures text { OnOk result
@@ -174,8 +175,8 @@ impl Screen {
         Ok(())
     }
 
-    /// Writes the part of a row that lies between two positions, and its line
-    /// end unless it is the last row of the range.
+    /// Writes the part of a row that lies between `start` and `end`, followed
+    /// by a line end unless the row is wrapped or is the last row of the range.
     fn write_part<S: Sink>(
         &self,
         sink: &mut S,
@@ -199,27 +200,26 @@ impl Screen {
     }
 }
 
-/// Returns `column` if `test` holds, and `other` if not.
+/// Returns `column` if `test` is true, and `other` otherwise.
 fn column_if(test: bool, column: u16, other: u16) -> u16
     ensures { result ≡ (if test then column else other) }
 {
     if test { column } else { other }
 }
 
-/// Returns the index of the next row, at most the number of rows.
+/// Returns the index of the row after `row`, limited to `rows`.
 fn past_row(row: u16, rows: u16) -> u16
     ensures { result ≡ min (row + 1) rows }
 {
     if row < rows { row + 1 } else { rows }
 }
 
-/// Returns the plain text of a row, in the columns from `start` up to but not
-/// including `stop`.
+/// Returns the plain text of a row in the columns `start..stop`.
 ///
 /// # Errors
 ///
-/// `Error::OutOfMemory` if the text cannot be allocated; empty text needs no
-/// allocation.
+/// Returns `Error::OutOfMemory` if the text cannot be allocated. Empty text
+/// needs no allocation.
 fn text_of(alloc: Global, row: &RowContents<'_>, start: usize, stop: usize) -> Result<String, Error>
     ensures { AnswersText result (plain_text start stop row.now.cells) }
 {
@@ -230,9 +230,9 @@ fn text_of(alloc: Global, row: &RowContents<'_>, start: usize, stop: usize) -> R
     }
 }
 
-/// Writes the text of a row in the columns of the screen, with its line end,
-/// and with one before it if the previous row is wrapped and no glyph begins in
-/// this one.
+/// Writes the text of a row, cut to `cols` columns, and its line end. Writes
+/// another line end first if no glyph begins in this row and the previous row
+/// is wrapped (`goes_on`).
 fn write_line<S: Sink>(
     sink: &mut S,
     row: &RowContents<'_>,
@@ -247,8 +247,8 @@ fn write_line<S: Sink>(
     write_line_end(sink, row)
 }
 
-/// Writes a line end for a row in which no glyph begins, if the row before it
-/// is wrapped.
+/// Writes a line end if no glyph begins in the row and the previous row is
+/// wrapped (`goes_on`).
 fn write_gap_line<S: Sink>(
     sink: &mut S,
     row: &RowContents<'_>,
@@ -276,7 +276,8 @@ fn write_line_end<S: Sink>(sink: &mut S, row: &RowContents<'_>) -> Result<(), S:
     }
 }
 
-/// Writes the line end of a row, unless it is the last one of the range.
+/// Writes the line end of a row, unless the row is wrapped or is the last row
+/// of the range.
 fn write_end_unless<S: Sink>(
     sink: &mut S,
     is_last: bool,
@@ -293,7 +294,7 @@ fn write_end_unless<S: Sink>(
     }
 }
 
-/// Removes the line ends at the end of a string.
+/// Removes the trailing line ends of a string.
 #[tactic(auto, using(crate::proofs::ContentTexts::trim_more))]
 fn drop_line_ends(text: &mut String)
     ensures { string_bytes text.new ≡ without_line_ends (string_bytes text.old) }
@@ -303,7 +304,7 @@ fn drop_line_ends(text: &mut String)
     }
 }
 
-/// Returns whether the last byte of a string is a line end.
+/// Returns whether a string ends with a line end.
 #[tactic(auto, using(crate::proofs::ContentTexts::trim_none, crate::proofs::ContentTexts::trim_other))]
 fn ends_line(text: &String) -> bool
     ensures yes { IsTrue result →

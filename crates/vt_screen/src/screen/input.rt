@@ -21,18 +21,18 @@ impl Screen {
     /// Returns the escape sequences that set the input modes of this screen on
     /// a terminal with the default mouse mode, mouse encoding and cursor style.
     ///
-    /// They set the keypad (DECKPAM or DECKPNM), the cursor keys (DECCKM) and
-    /// bracketed paste (xterm, DEC private mode 2004), and also the mouse mode,
-    /// the mouse encoding and the cursor style (DECSCUSR) if these aren't the
-    /// defaults.
+    /// They set the keypad mode (DECKPAM or DECKPNM), the cursor key mode
+    /// (DECCKM) and bracketed paste mode (xterm, DEC private mode 2004). They
+    /// also set the mouse mode, the mouse encoding and the cursor style
+    /// (DECSCUSR) unless these are at their defaults.
     ///
-    /// By `sets`, such a terminal in ground state has these modes after reading
-    /// them. Reading them invokes no callbacks, allocates nothing and changes
-    /// nothing else.
+    /// By `sets`, if such a terminal is in ground state, it has the modes of
+    /// this screen after reading the output. Reading it invokes no callbacks,
+    /// allocates nothing and changes nothing else.
     ///
     /// # Errors
     ///
-    /// `Error::OutOfMemory` if the output cannot be allocated.
+    /// Returns `Error::OutOfMemory` if the output cannot be allocated.
     ///
     /// # Examples
     ///
@@ -56,16 +56,16 @@ impl Screen {
     /// Returns the escape sequences that change the input modes of `prev` to
     /// those of this screen. They contain only the modes that differ.
     ///
-    /// A mouse mode or encoding that is back at its default is reset by the
-    /// sequence of the previous one. By `sets`, a terminal in ground state with
-    /// the modes of `prev` has the modes of this screen after reading the
-    /// output, and nothing else changes. By `empty` and `none` the output is
-    /// empty if and only if both screens have the same modes.
+    /// If the mouse mode or the mouse encoding is back at its default, the
+    /// output resets the one that `prev` has. By `sets`, a terminal in ground
+    /// state with the modes of `prev` has the modes of this screen after
+    /// reading the output, and nothing else changes. By `empty` and `none`, the
+    /// output is empty if and only if both screens have the same modes.
     ///
     /// # Errors
     ///
-    /// `Error::OutOfMemory` if the output cannot be allocated. By `never` this
-    /// cannot fail if both screens have the same modes.
+    /// Returns `Error::OutOfMemory` if the output cannot be allocated. By
+    /// `never`, there is no error if both screens have the same modes.
     pub fn input_mode_diff(&self, prev: &Screen) -> Result<String, Error>
         ensures text { IfText result (λ text. text ≡ input_change prev.now.modes self.now.modes) }
         ensures controls { IfText result (IsMadeOf [] input_controls) }
@@ -117,8 +117,8 @@ impl Screen {
     }
 }
 
-/// Writes the mouse mode, the mouse encoding and the cursor style if they
-/// differ.
+/// Writes the escape sequences that change the mouse mode, the mouse encoding
+/// and the cursor style, each only if it differs.
 fn write_mouse_and_style<S: Sink>(sink: &mut S, was: Modes, new: Modes) -> Result<(), S::Error>
     ensures text { OnOk result (S.text sink.new ≡ S.text sink.old ++ mouse_and_style_text was new) }
     ensures some { RefusedOnlyIfSome result (mouse_and_style_text was new) }
@@ -140,7 +140,7 @@ fn write_mouse_and_style<S: Sink>(sink: &mut S, was: Modes, new: Modes) -> Resul
     style.write_buf(sink)
 }
 
-/// Writes the keypad mode if it differs.
+/// Writes the escape sequence that changes the keypad mode, if it differs.
 fn write_keypad<S: Sink>(sink: &mut S, was: bool, new: bool) -> Result<(), S::Error>
     ensures text { OnOk result (S.text sink.new ≡ S.text sink.old ++ where_changed was new (keypad_text new)) }
     ensures some { RefusedOnlyIfSome result (where_changed was new (keypad_text new)) }
@@ -151,7 +151,7 @@ fn write_keypad<S: Sink>(sink: &mut S, was: bool, new: bool) -> Result<(), S::Er
     ApplicationKeypad { state: new }.write_buf(sink)
 }
 
-/// Writes the mode of the cursor keys if it differs.
+/// Writes the escape sequence that changes the cursor key mode, if it differs.
 fn write_cursor_keys<S: Sink>(sink: &mut S, was: bool, new: bool) -> Result<(), S::Error>
     ensures text { OnOk result
         (S.text sink.new ≡ S.text sink.old ++ where_changed was new (application_cursor_text new)) }
@@ -163,7 +163,8 @@ fn write_cursor_keys<S: Sink>(sink: &mut S, was: bool, new: bool) -> Result<(), 
     ApplicationCursor { state: new }.write_buf(sink)
 }
 
-/// Writes the bracketed paste mode if it differs.
+/// Writes the escape sequence that changes the bracketed paste mode, if it
+/// differs.
 fn write_paste<S: Sink>(sink: &mut S, was: bool, new: bool) -> Result<(), S::Error>
     ensures text { OnOk result (S.text sink.new ≡ S.text sink.old ++ where_changed was new (bracketed_paste_text new)) }
     ensures some { RefusedOnlyIfSome result (where_changed was new (bracketed_paste_text new)) }

@@ -1,8 +1,8 @@
-//! Differences that may move rows first, and are never longer than the plain
+//! Differences that may move rows first and are never longer than the plain
 //! difference.
 //!
-//! The module `redraw` defines what a screen displays, and when a terminal is
-//! plain and a screen steady.
+//! The module `redraw` defines what a screen displays, when a terminal is
+//! plain, and when a screen is steady.
 
 ghost use Rattle.std.specs.Prelude.{◌≡◌, ◌≤◌, ◌++◌, [], IsOk, OnOk, length, string_bytes};
 ghost use Rattle.vt_cells.specs.Refusals.{OnlyOutOfMemory};
@@ -26,24 +26,27 @@ impl Screen {
     /// output is never longer than that of [`Screen::contents_diff`]. Both
     /// screens must have the same size.
     ///
-    /// If rows have scrolled, even within a part of the screen, the output may
-    /// move them (DL and IL) and so be much shorter. Which rows these are is
-    /// guessed from the first 256 rows; any row may be touched.
+    /// If rows have scrolled, even in only a part of the screen, the output may
+    /// move them with DL and IL, which can make the output much shorter. The
+    /// rows to move are guessed from the first 256 rows. The output may touch
+    /// any row.
     ///
-    /// By `redraws`, if this screen is steady (each glyph reproduces itself
-    /// when printed), a plain terminal (in ground state, with the full scroll
-    /// region, origin mode off and no scrollback displayed) that displays
+    /// A terminal is plain if it is in ground state, with the full scroll
+    /// region, origin mode off and no scrollback displayed. A screen is steady
+    /// if each glyph reproduces itself when printed.
+    ///
+    /// By `redraws`, if this screen is steady, a plain terminal that displays
     /// `prev` displays this screen after reading the output, as with
-    /// [`Screen::contents_formatted`]. The output is empty if both screens
-    /// display the same, and by `empty` only then. By `again` a plain terminal
-    /// that has read the output is plain again, even if this screen is not
-    /// steady.
+    /// [`Screen::contents_formatted`]. The output is empty if both screens have
+    /// the same display; by `empty`, a steady screen has empty output only in
+    /// that case. By `again`, a plain terminal that has read the output is
+    /// plain again, even if this screen is not steady.
     ///
     /// # Errors
     ///
-    /// `Error::OutOfMemory` if the output, or the plain difference that it is
-    /// compared with, cannot be allocated. By `never` this cannot fail if both
-    /// screens display the same.
+    /// Returns `Error::OutOfMemory` if the output, or the plain difference that
+    /// it is compared with, cannot be allocated. By `never`, there is no error
+    /// if both screens have the same display.
     ///
     /// # Examples
     ///
@@ -66,7 +69,7 @@ impl Screen {
         ensures never { shown self.now ≡ shown prev.now → IsOk result }
     {
         let text = self.contents_diff(prev)?;
-        // Only for the proof: a value in tail position, so that its clause is found.
+        // Only for the proof: a named result lets the prover find the clauses of the call.
         let shorter = self.shortened(prev, text)?;
         Ok(shorter)
     }
@@ -76,7 +79,8 @@ impl Screen {
     ///
     /// # Errors
     ///
-    /// `Error::OutOfMemory` if the other output cannot be allocated.
+    /// Returns `Error::OutOfMemory` if the alternative output cannot be
+    /// allocated.
     fn shortened(&self, prev: &Screen, text: String) -> Result<String, Error>
         requires size { SameSize self.now.page prev.now.page }
         requires text { string_bytes text ≡ shown_change prev.now self.now }
@@ -100,7 +104,8 @@ impl Screen {
     ///
     /// # Errors
     ///
-    /// `Error::OutOfMemory` if the other output cannot be allocated.
+    /// Returns `Error::OutOfMemory` if the alternative output cannot be
+    /// allocated.
     fn shorter_of(&self, prev: &Screen, band: Band, text: String) -> Result<String, Error>
         requires size { SameSize self.now.page prev.now.page }
         requires band { IsBand (length (shown prev.now).rows) band }
@@ -117,8 +122,8 @@ impl Screen {
         }
     }
 
-    /// Writes the escape sequences that move the rows of `band`, and the
-    /// difference from the picture that a terminal then displays.
+    /// Writes the escape sequences that move the rows of `band`, followed by
+    /// the difference from the picture that a terminal then displays.
     fn write_moved_diff<S: Sink>(
         &self,
         sink: &mut S,
@@ -134,8 +139,8 @@ impl Screen {
         write_contents_diff(sink, &self.view(), &prev.moved_view(band))
     }
 
-    /// Returns a view of what a terminal displays that displayed this screen
-    /// and then moved the rows of `band`.
+    /// Returns a view of what a terminal that displays this screen shows after
+    /// it has moved the rows of `band`.
     fn moved_view(&self, band: Band) -> View<'_>
         requires { IsBand (length (shown self.now).rows) band }
         ensures { result ≡ moved band (shown self.now) }

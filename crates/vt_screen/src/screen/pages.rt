@@ -1,5 +1,5 @@
-//! Control functions for the two pages, for saving the cursor, and for the full
-//! reset.
+//! Control functions that switch between the two pages, save and restore the
+//! cursor, or reset the terminal.
 
 ghost use Rattle.std.specs.Prelude.{◌≡◌, IsErr, IsSome, None, OnErr, OnOk};
 ghost use Rattle.vt_cells.specs.Refusals.{OnlyOutOfMemory};
@@ -31,13 +31,13 @@ pub fn decrc(screen: &mut Screen)
     screen.attrs = screen.saved_attrs;
 }
 
-/// Switches to the alternate page with its contents, and stops displaying
+/// Switches to the alternate page without clearing it, and stops displaying
 /// scrollback (xterm, DEC private mode 47).
 ///
 /// # Errors
 ///
-/// `Error::OutOfMemory` if the page cannot be allocated, which is done on the
-/// first switch; the screen is unchanged.
+/// Returns `Error::OutOfMemory` if the alternate page, which is created on the
+/// first switch, cannot be allocated. On error, the screen is unchanged.
 pub fn enter_alternate(screen: &mut Screen) -> Result<(), Error>
     ensures ok { OnOk result (screen.new ≡ display_after step.EnterAlternate screen.old) }
     ensures err { OnErr result (screen.new ≡ screen.old) }
@@ -49,13 +49,13 @@ pub fn enter_alternate(screen: &mut Screen) -> Result<(), Error>
     Ok(())
 }
 
-/// Saves as [`decsc`] does, and switches to the alternate page, cleared (xterm,
-/// DEC private mode 1049).
+/// Saves the cursor as [`decsc`] does, then switches to the alternate page and
+/// clears it (xterm, DEC private mode 1049).
 ///
 /// # Errors
 ///
-/// `Error::OutOfMemory` if the page cannot be allocated, which is done on the
-/// first switch; the screen is unchanged.
+/// Returns `Error::OutOfMemory` if the alternate page, which is created on the
+/// first switch, cannot be allocated. On error, the screen is unchanged.
 pub fn enter_fresh_alternate(screen: &mut Screen) -> Result<(), Error>
     ensures ok { OnOk result (screen.new ≡ display_after step.EnterFresh screen.old) }
     ensures err { OnErr result (screen.new ≡ screen.old) }
@@ -69,7 +69,7 @@ pub fn enter_fresh_alternate(screen: &mut Screen) -> Result<(), Error>
     Ok(())
 }
 
-/// Switches to the main page (xterm, DEC private mode 47, reset).
+/// Switches to the main page (xterm, reset of DEC private mode 47).
 pub fn leave_alternate(screen: &mut Screen)
     ensures value { screen.new ≡ display_after step.LeaveAlternate screen.old }
     ensures whole { IsScreen screen.old }
@@ -80,8 +80,8 @@ pub fn leave_alternate(screen: &mut Screen)
     exchange(screen);
 }
 
-/// Switches to the main page, and restores as [`decrc`] does (xterm, DEC
-/// private mode 1049, reset).
+/// Switches to the main page and restores the cursor as [`decrc`] does (xterm,
+/// reset of DEC private mode 1049).
 pub fn leave_and_restore(screen: &mut Screen)
     ensures { screen.new ≡ display_after step.LeaveRestoring screen.old }
 {
@@ -93,7 +93,7 @@ pub fn leave_and_restore(screen: &mut Screen)
 /// (RIS). It allocates nothing.
 ///
 /// No callbacks are invoked for the rows of scrollback. If the alternate page
-/// was created before, it stays allocated and becomes blank.
+/// has been created, it stays allocated and becomes blank.
 pub fn ris(screen: &mut Screen)
     ensures { screen.new ≡ display_after step.Reset screen.old }
 {
@@ -108,12 +108,12 @@ pub fn ris(screen: &mut Screen)
     screen.last = None;
 }
 
-/// Creates the inactive page, if there is none yet.
+/// Creates the inactive page if it does not exist yet.
 ///
 /// # Errors
 ///
-/// `Error::OutOfMemory` if the page cannot be allocated; the screen is
-/// unchanged.
+/// Returns `Error::OutOfMemory` if the page cannot be allocated. On error, the
+/// screen is unchanged.
 fn make_other(screen: &mut Screen) -> Result<(), Error>
     ensures ok { OnOk result (screen.new ≡ with_other screen.old) }
     ensures err { OnErr result (screen.new ≡ screen.old) }
@@ -141,7 +141,7 @@ fn show_alternate(screen: &mut Screen)
     exchange(screen);
 }
 
-/// Exchanges the active and the inactive page, if there are two.
+/// Swaps the active and the inactive page, if there are two.
 pub(super) fn exchange(screen: &mut Screen)
     ensures { screen.new ≡ exchanged screen.old }
 {

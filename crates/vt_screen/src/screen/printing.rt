@@ -1,4 +1,4 @@
-//! Printing of characters, one by one or as one edit of their row.
+//! Functions that print characters, one at a time or as a single edit of a row.
 
 ghost use Rattle.std.specs.Prelude.{◌≡◌, ◌≢◌, ◌+◌, ◌-◌, ◌*◌, ◌<◌, ◌≤◌, IfSome, OnErr, OnOk, Some, length};
 ghost use Rattle.vt_cells.specs.Glyph.{columns_of};
@@ -17,19 +17,19 @@ use vt_cells::{Error, columns};
 
 /// Prints a character.
 ///
-/// A character of one or two columns becomes a glyph in the current attributes,
-/// after a wrap if there is no room for it. A combining character is appended
-/// to the glyph before the cursor. A control, or a character wider than the
-/// screen, draws nothing. U+FFFD, which stands for malformed UTF-8, must not be
-/// printed.
+/// A character that is one or two columns wide becomes a glyph with the current
+/// attributes, after a wrap if the row has no room for it. A combining
+/// character is appended to the glyph before the cursor. A control, or a
+/// character wider than the screen, draws nothing. U+FFFD, which stands for
+/// malformed UTF-8, must not be printed.
 ///
 /// A wrap on the bottom row may scroll a row off the page, as
 /// [`super::scrolling::lf`] does.
 ///
 /// # Errors
 ///
-/// `Error::OutOfMemory` if a row that scrolls off the top cannot be kept; the
-/// screen is unchanged.
+/// Returns `Error::OutOfMemory` if there is not enough memory to keep a row
+/// that scrolls off the top. On error, the screen is unchanged.
 #[inline(always)]
 pub fn text<CB: Callbacks>(screen: &mut Screen, c: char, callbacks: &mut CB) -> Result<(), Error>
     requires { c ≢ 0xFFFD }
@@ -56,8 +56,8 @@ pub fn text<CB: Callbacks>(screen: &mut Screen, c: char, callbacks: &mut CB) -> 
     Ok(())
 }
 
-/// Returns the character that REP repeats once `c`, of `width` columns, is
-/// printed.
+/// Returns the character that REP repeats after `c` has been printed. `width`
+/// is the number of columns of `c`.
 #[inline(always)]
 fn last_after(screen: &Screen, c: char, width: Option<u8>) -> Option<char>
     requires sound { c ≢ 0xFFFD }
@@ -75,7 +75,7 @@ fn last_after(screen: &Screen, c: char, width: Option<u8>) -> Option<char>
 }
 
 /// Returns the number of columns from the cursor to the end of its row, which
-/// is how many narrow characters can be printed before a wrap.
+/// is the number of narrow characters that can be printed before a wrap.
 #[inline]
 pub fn room(screen: &Screen) -> u16
     ensures { result ≡ screen.now.page.width - screen.now.page.column }
@@ -83,9 +83,9 @@ pub fn room(screen: &Screen) -> u16
     screen.grid.room()
 }
 
-/// Prints a run of printable ASCII that fits on the cursor's row as one edit,
-/// with the same effect as [`text`] for each character. No row scrolls off the
-/// page, and no callback is invoked.
+/// Prints a run of printable ASCII as one edit, with the same effect as calling
+/// [`text`] for each character. The run must fit on the cursor's row. No row
+/// scrolls off the page, and no callback is invoked.
 #[inline]
 pub fn print_text(screen: &mut Screen, text: &[u8])
     requires some { 0 < length text.now }
@@ -97,9 +97,9 @@ pub fn print_text(screen: &mut Screen, text: &[u8])
     screen.last = Some(char::from(text[text.len() - 1]));
 }
 
-/// Prints a run of wide characters that fits on the cursor's row as one edit,
-/// with the same effect as [`text`] for each character. No row scrolls off the
-/// page, and no callback is invoked.
+/// Prints a run of wide characters as one edit, with the same effect as calling
+/// [`text`] for each character. The run must fit on the cursor's row. No row
+/// scrolls off the page, and no callback is invoked.
 #[inline]
 pub fn print_wide_text(screen: &mut Screen, text: &[char])
     requires some { 0 < length text.now }
@@ -112,8 +112,9 @@ pub fn print_wide_text(screen: &mut Screen, text: &[char])
     screen.last = Some(last);
 }
 
-/// Returns the last printed character that took columns, which REP (ECMA-48)
-/// repeats, or `None` before the first one and after RIS.
+/// Returns the last printed character that took up columns, which is the one
+/// that REP (ECMA-48) repeats. Returns `None` if there has been none since the
+/// screen was created or reset (RIS).
 pub fn last_char(screen: &Screen) -> Option<char>
     ensures value { result ≡ screen.now.last }
     ensures reported { result ≢ Some 0xFFFD }

@@ -39,17 +39,17 @@ use vt_redraw::{
 };
 
 impl Screen {
-    /// Returns a screen of the same size that displays the same: a copy of the
-    /// active page, without scrollback and without the other page. It can serve
-    /// as `prev` of [`Screen::contents_diff`] and takes less memory than a
-    /// clone.
+    /// Returns a copy of what the screen displays: a screen of the same size
+    /// with a copy of the active page, but without scrollback or the other
+    /// page. It can serve as `prev` in [`Screen::contents_diff`] and takes less
+    /// memory than a clone.
     ///
     /// While scrollback is displayed, the result is a copy of the whole screen,
-    /// as `Screen::clone` returns it.
+    /// as returned by `Screen::clone`.
     ///
     /// # Errors
     ///
-    /// `Error::OutOfMemory` if the copy cannot be allocated.
+    /// Returns `Error::OutOfMemory` if the copy cannot be allocated.
     pub fn shown_copy(&self) -> Result<Screen, Error>
         ensures shown { IfOk result (λ screen. shown screen ≡ shown self.now) }
         ensures size { IfOk result (λ screen. SameSize screen.page self.now.page) }
@@ -62,11 +62,11 @@ impl Screen {
         Ok(copy)
     }
 
-    /// Returns a screen with a copy of the active page only.
+    /// Returns a screen that holds a copy of the active page only.
     ///
     /// # Errors
     ///
-    /// `Error::OutOfMemory` if the copy cannot be allocated.
+    /// Returns `Error::OutOfMemory` if the copy cannot be allocated.
     #[tactic(auto, using(crate::proofs::Kept::kept_alone))]
     fn page_copy(&self) -> Result<Screen, Error>
         ensures shown { (above_page self.now).offset ≡ 0 → IfOk result (λ screen. shown screen ≡ shown self.now) }
@@ -97,8 +97,8 @@ impl Screen {
     /// one, displays exactly that screen. A glyph can fail to reproduce itself
     /// only if its text contains U+FE0F, which may make it wide or narrow.
     ///
-    /// Only cells whose text contains U+FE0F are examined closely. Of a row
-    /// whose texts all have fewer than four bytes, only their lengths are read.
+    /// Only cells whose text contains U+FE0F are examined closely. If all texts
+    /// of a row have fewer than four bytes, only their lengths are read.
     ///
     /// # Examples
     ///
@@ -114,29 +114,30 @@ impl Screen {
     }
 
     /// Returns the escape sequences that redraw the screen on a plain terminal
-    /// of the same size, whatever that displayed before.
+    /// of the same size, whatever it displayed before.
     ///
-    /// A terminal is *plain* if it is in ground state, has not run out of
-    /// memory, its scroll region is the whole page, origin mode is off and no
-    /// scrollback is displayed; every fresh one is. A screen is *steady* if
-    /// each displayed glyph, printed on a blank row, reproduces itself; see
-    /// [`Screen::is_steady`].
+    /// A terminal is *plain* if it is in ground state and has not run out of
+    /// memory, its scroll region is the whole page, origin mode is off, and no
+    /// scrollback is displayed. Every fresh terminal is plain. A screen is
+    /// *steady* if each displayed glyph, printed on a blank row, reproduces
+    /// itself; see [`Screen::is_steady`].
     ///
     /// By `redraws`, if this screen is steady, a plain terminal of its size
     /// that has read the output is plain and displays this screen. Reading it
     /// invokes no callbacks and allocates nothing. Scrollback, the other page
     /// and the modes are unchanged; only the saved cursor, saved origin mode,
-    /// saved attributes and last character may change. Screens that display the
-    /// same return the same output, and by `same` only those do.
+    /// saved attributes and last character may change. Screens with the same
+    /// display return the same output. By `same`, screens with different
+    /// displays return different output.
     ///
-    /// Whether the screen is steady or not, the output contains only controls
-    /// that draw (`controls`), and by `again` a plain terminal that has read it
-    /// is plain again: no callback but `on_scroll` was invoked, and its other
-    /// page, input modes, cursor style and size are unchanged.
+    /// Even if the screen is not steady, the output contains only controls that
+    /// draw (`controls`). By `again`, a plain terminal that has read it is
+    /// plain again: no callback except `on_scroll` was invoked, and the other
+    /// page, the input modes, the cursor style and the size are unchanged.
     ///
     /// # Errors
     ///
-    /// `Error::OutOfMemory` if the output cannot be allocated.
+    /// Returns `Error::OutOfMemory` if the output cannot be allocated.
     ///
     /// # Examples
     ///
@@ -163,29 +164,31 @@ impl Screen {
     }
 
     /// Returns the escape sequences that redraw the screen on a terminal of the
-    /// same size with any scroll region and origin mode, whatever it displayed
-    /// before.
+    /// same size, whatever its scroll region and origin mode are and whatever
+    /// it displayed before.
     ///
     /// They turn off origin mode (DECOM), reset the scroll region to the whole
     /// page (DECSTBM), and then redraw as [`Screen::contents_formatted`] does.
     ///
-    /// By `redraws`, if this screen is steady (each glyph reproduces itself
-    /// when printed), a terminal of its size in ground state that displays no
-    /// scrollback, on its main page or the alternate one, is plain and displays
-    /// this screen after reading the output. Reading it invokes no callbacks
-    /// and allocates nothing. Scrollback, the other page and the modes are
-    /// unchanged; besides the scroll region and origin mode, only the saved
-    /// cursor, saved origin mode, saved attributes and last character may
-    /// change. Screens that display the same return the same output, and by
-    /// `same` only those do.
+    /// The terminal must be in ground state and display no scrollback; it may
+    /// be on the main or the alternate page. By `redraws`, if this screen is
+    /// steady (each glyph reproduces itself when printed), such a terminal is
+    /// plain and displays this screen after reading the output. Reading it
+    /// invokes no callbacks and allocates nothing. Scrollback, the other page
+    /// and the modes are unchanged; besides the scroll region and origin mode,
+    /// only the saved cursor, saved origin mode, saved attributes and last
+    /// character may change. Screens with the same display return the same
+    /// output. By `same`, screens with different displays return different
+    /// output.
     ///
-    /// Whether the screen is steady or not, by `again` such a terminal that has
-    /// read the output is plain: no callback but `on_scroll` was invoked, and
-    /// its other page, input modes, cursor style and size are unchanged.
+    /// By `again`, such a terminal is plain after reading the output even if
+    /// this screen is not steady: no callback except `on_scroll` was invoked,
+    /// and the other page, the input modes, the cursor style and the size are
+    /// unchanged.
     ///
     /// # Errors
     ///
-    /// `Error::OutOfMemory` if the output cannot be allocated.
+    /// Returns `Error::OutOfMemory` if the output cannot be allocated.
     ///
     /// # Examples
     ///
@@ -218,27 +221,31 @@ impl Screen {
     /// Returns the escape sequences that turn the display of `prev` into the
     /// display of this screen. Both screens must have the same size.
     ///
-    /// By `redraws`, if this screen is steady (each glyph reproduces itself
-    /// when printed), a plain terminal (in ground state, with the full scroll
-    /// region, origin mode off and no scrollback displayed) that displays
+    /// A terminal is plain if it is in ground state, with the full scroll
+    /// region, origin mode off and no scrollback displayed. A screen is steady
+    /// if each glyph reproduces itself when printed.
+    ///
+    /// By `redraws`, if this screen is steady, a plain terminal that displays
     /// `prev` displays this screen after reading the output, as with
-    /// [`Screen::contents_formatted`]. The output is empty if both screens
-    /// display the same, and by `empty` only then.
+    /// [`Screen::contents_formatted`]. The output is empty if both screens have
+    /// the same display; by `empty`, a steady screen has empty output only in
+    /// that case.
     ///
-    /// By `touches`, only rows that differ and rows directly below one are
-    /// touched. Of the glyphs there that are equal on both screens, only one in
-    /// the first column and one in the last may be touched, and, to make a
-    /// pending wrap, the end of one row.
+    /// By `touches`, if this screen is steady, the output touches only rows
+    /// that differ and the rows directly below them. In these rows, glyphs that
+    /// are equal on both screens are not touched, except in the first and the
+    /// last column. The output may also touch the end of one row to make a wrap
+    /// pending.
     ///
-    /// Whether the screen is steady or not, by `again` a plain terminal that
-    /// has read the output is plain again, as after
+    /// By `again`, a plain terminal that has read the output is plain again
+    /// even if this screen is not steady, as with
     /// [`Screen::contents_formatted`].
     ///
     /// # Errors
     ///
-    /// `Error::OutOfMemory` if the output cannot be allocated. Empty output
-    /// needs no allocation: by `never` this cannot fail if both screens display
-    /// the same.
+    /// Returns `Error::OutOfMemory` if the output cannot be allocated. By
+    /// `never`, there is no error if both screens have the same display,
+    /// because empty output needs no allocation.
     ///
     /// # Examples
     ///
@@ -271,19 +278,21 @@ impl Screen {
     /// Returns the escape sequences that move the cursor to its position on
     /// this screen and hide or show it.
     ///
-    /// They are for a plain terminal (in ground state, with the full scroll
-    /// region, origin mode off and no scrollback displayed) of this size that
-    /// displays the rows of this screen and has default attributes. By `turns`,
-    /// if this screen is steady (each glyph reproduces itself when printed),
-    /// reading them invokes no callbacks and allocates nothing; the rows and
-    /// attributes are unchanged, and the terminal is plain again. By `touches`
-    /// nothing is touched except the end of one row if a wrap is pending. By
-    /// `again` a plain terminal that has read the output is plain again, even
-    /// if this screen is not steady.
+    /// The output is for a plain terminal (in ground state, with the full
+    /// scroll region, origin mode off and no scrollback displayed) of this size
+    /// that displays the rows of this screen and has default attributes.
+    ///
+    /// By `turns`, if this screen is steady (each glyph reproduces itself when
+    /// printed), such a terminal has this screen's cursor after reading the
+    /// output, and it is plain again. Reading it invokes no callbacks and
+    /// allocates nothing, and the rows and attributes are unchanged. By
+    /// `touches`, nothing is touched except the end of one row if a wrap is
+    /// pending. By `again`, a plain terminal that has read the output is plain
+    /// again, even if this screen is not steady.
     ///
     /// # Errors
     ///
-    /// `Error::OutOfMemory` if the output cannot be allocated.
+    /// Returns `Error::OutOfMemory` if the output cannot be allocated.
     pub fn cursor_state_formatted(&self) -> Result<String, Error>
         ensures text { IfText result (λ text. text ≡ bytes_of_all (cursor_state (shown self.now))) }
         ensures controls { IfText result (IsMadeOf drawing_finals drawing_controls) }
@@ -305,11 +314,11 @@ impl Screen {
     /// (SGR 0) and the change from the defaults.
     ///
     /// By `sets`, any terminal in ground state has these attributes after
-    /// reading them, and nothing else changes.
+    /// reading the output, and nothing else changes.
     ///
     /// # Errors
     ///
-    /// `Error::OutOfMemory` if the output cannot be allocated.
+    /// Returns `Error::OutOfMemory` if the output cannot be allocated.
     pub fn attributes_formatted(&self) -> Result<String, Error>
         ensures text { IfText result (λ text. text ≡ attributes_text self.now.attrs) }
         ensures controls { IfText result (IsMadeOf drawing_finals drawing_controls) }

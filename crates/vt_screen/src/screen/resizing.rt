@@ -1,4 +1,4 @@
-//! Resizing of the screen.
+//! Resizing the screen.
 
 ghost use Rattle.std.specs.Prelude.{◌≡◌, IfOk, IsErr, OnErr, OnOk, false, option_map, true};
 ghost use Rattle.vt_cells.specs.Refusals.{OnlyOutOfMemory};
@@ -20,24 +20,25 @@ use vt_cells::Error;
 use vt_grid::{Grid, Scrollback, Size};
 
 impl Screen {
-    /// Resizes both pages of the screen, as xterm does. A resize to the present
+    /// Resizes both pages of the screen, as xterm does. A resize to the current
     /// size changes nothing and allocates nothing.
     ///
-    /// - Fewer rows: rows below the cursor are removed first; if that is not
-    ///   enough, rows scroll off the top, to scrollback.
-    /// - More rows: the rows that scrolled off come back at the top, as blank
-    ///   rows if scrollback did not keep them; the rest is filled with blank
-    ///   rows at the bottom.
+    /// - Fewer rows: rows below the cursor are removed first. If that is not
+    ///   enough, rows scroll off the top into scrollback.
+    /// - More rows: rows that scrolled off come back at the top, as blank rows
+    ///   if scrollback did not keep them. Blank rows at the bottom fill the
+    ///   rest.
     /// - Columns: each row of the page is cut or extended; text is not
     ///   rewrapped.
     ///
-    /// On both pages the scroll region becomes the whole page and a pending
-    /// wrap ends. Scrollback is no longer displayed. No callbacks are invoked
-    /// for the rows that scroll off; see `Parser::set_size` for that.
+    /// On both pages, the scroll region becomes the whole page and a pending
+    /// wrap is cancelled. Scrollback is no longer displayed. No callbacks are
+    /// invoked for the rows that scroll off; `Parser::set_size` invokes them.
     ///
     /// # Errors
     ///
-    /// `Error::OutOfMemory` if an allocation fails; the screen is unchanged.
+    /// Returns `Error::OutOfMemory` if an allocation fails. On error, the
+    /// screen is unchanged.
     pub fn set_size(&mut self, rows: NonZeroU16, cols: NonZeroU16) -> Result<(), Error>
         ensures ok { OnOk result (self.new ≡ resized rows.value cols.value self.old) }
         ensures err { OnErr result (self.new ≡ self.old) }
@@ -49,14 +50,14 @@ impl Screen {
     }
 }
 
-/// Resizes the screen, as [`Screen::set_size`] does, and reports the rows that
-/// aren't kept to [`Callbacks::on_scroll`]: first those of scrollback and the
-/// main page, then those of the alternate page, older rows first.
+/// Resizes the screen, as [`Screen::set_size`] does, and passes the rows that
+/// are not kept to [`Callbacks::on_scroll`]: first the rows of scrollback and
+/// the main page, then the rows of the alternate page, oldest first.
 ///
 /// # Errors
 ///
-/// `Error::OutOfMemory` if an allocation fails; the screen is unchanged and no
-/// callbacks were invoked.
+/// Returns `Error::OutOfMemory` if an allocation fails. On error, the screen is
+/// unchanged and no callbacks are invoked.
 pub fn set_size_with_cb<CB: Callbacks>(
     screen: &mut Screen,
     rows: NonZeroU16,
@@ -89,13 +90,13 @@ fn has_size(screen: &Screen, size: Size) -> bool
     size.rows == now.rows && size.cols == now.cols
 }
 
-/// Resizes both pages to a size other than the present one; see
+/// Resizes both pages to a size other than the current one; see
 /// [`set_size_with_cb`].
 ///
 /// # Errors
 ///
-/// `Error::OutOfMemory` if an allocation fails; the screen is unchanged and no
-/// callbacks were invoked.
+/// Returns `Error::OutOfMemory` if an allocation fails. On error, the screen is
+/// unchanged and no callbacks are invoked.
 fn resize_pages<CB: Callbacks>(
     screen: &mut Screen,
     size: Size,
@@ -122,8 +123,8 @@ fn resize_pages<CB: Callbacks>(
 ///
 /// # Errors
 ///
-/// `Error::OutOfMemory` if an allocation fails; the screen is unchanged and no
-/// callbacks were invoked.
+/// Returns `Error::OutOfMemory` if an allocation fails. On error, the screen is
+/// unchanged and no callbacks are invoked.
 fn resize_below<CB: Callbacks>(
     screen: &mut Screen,
     size: Size,
@@ -160,7 +161,7 @@ fn resize_below<CB: Callbacks>(
 ///
 /// # Errors
 ///
-/// `Error::OutOfMemory` if the page cannot be allocated.
+/// Returns `Error::OutOfMemory` if the page cannot be allocated.
 fn fresh_page(page: &Option<Grid>, alloc: Global, size: Size) -> Result<Option<Grid>, Error>
     requires size { IsPageSize size.rows size.cols }
     ensures ok { IfOk result (λ fresh. fresh ≡ option_map (λ _. blank_page size.rows size.cols) page.now) }
@@ -173,8 +174,8 @@ fn fresh_page(page: &Option<Grid>, alloc: Global, size: Size) -> Result<Option<G
 }
 
 /// Resizes the alternate page into the blank page `fresh`, if there is one, and
-/// reports the rows that scroll off its top. It allocates nothing, since no row
-/// is kept above that page.
+/// reports the rows that scroll off its top. It allocates nothing, since rows
+/// of that page are never kept in scrollback.
 fn resize_alternate<CB: Callbacks>(
     page: &mut Option<Grid>,
     fresh: Option<Grid>,
@@ -200,6 +201,6 @@ fn resize_alternate<CB: Callbacks>(
     };
     let done = page.set_size(fresh, nothing, &mut reporter);
     prove!(done.is_ok());
-    // Only for the proof: the result is `Ok`, and has nothing to drop.
+    // Only for the proof: the result is `Ok` and holds nothing to drop.
     let _ = done;
 }

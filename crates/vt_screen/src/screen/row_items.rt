@@ -22,22 +22,25 @@ use vt_redraw::{write_row_diff, write_row_formatted};
 
 impl Screen {
     /// Returns an iterator over the escape sequences that draw each displayed
-    /// row on a blank row of another terminal, from the top, in `width` columns
-    /// from `start` on or as many as there are. `start` must be one of the
-    /// columns.
+    /// row, from top to bottom, on a blank row of another terminal.
     ///
-    /// There is one item for each row of the screen. An item is an error if its
-    /// output cannot be allocated; the next item is then that of the next row.
+    /// Each item draws `width` columns, or as many as there are, beginning at
+    /// column `start`. `start` must be less than the number of columns.
     ///
-    /// By `draws`, if this screen is steady (each glyph reproduces itself when
-    /// printed) and the range cuts no wide character of a row in two, that
-    /// row's output is for a plain terminal of this size whose row is blank,
-    /// with the cursor at the beginning of the range and default attributes.
-    /// After reading it, the terminal has the row's cells in the range, and
-    /// none of its other cells has changed; its cursor and attributes may have.
-    /// By `off` the row is then not wrapped. By `linked` the output of a whole
-    /// row after a wrapped one may also be read while a wrap is pending in the
-    /// row above, which is then wrapped.
+    /// The iterator yields one item for each row of the screen. An item is an
+    /// error if its output cannot be allocated; iteration then continues with
+    /// the next row.
+    ///
+    /// The clause `draws` applies if this screen is steady (each glyph
+    /// reproduces itself when printed) and the range does not cut a wide
+    /// character of the row in two. The row's output is then for a plain
+    /// terminal of this size on which that row is blank, with the cursor at the
+    /// beginning of the range and default attributes. After reading it, the
+    /// terminal has the row's cells in the range, and none of its other cells
+    /// has changed. Its cursor and attributes may have changed. By `off`, the
+    /// row is then not wrapped. By `linked`, the output of a whole row that
+    /// follows a wrapped row may also be read while a wrap is pending in the
+    /// row above, which then becomes wrapped.
     ///
     /// # Examples
     ///
@@ -60,26 +63,30 @@ impl Screen {
             EachLinked self.now (λ r. Turns (IsWrapReader (shown self.now) r) (text_at result (r + 1))
             (HasLinked r (shown_row self.now (r + 1)))) }
     {
-        // Only for the proof: it makes the screen's invariant known.
+        // Only for the proof: this call makes the screen's invariant available.
         self.sound();
         RowsFormatted::new(self, start, self.range_end(start, width))
     }
 
     /// Returns an iterator over the escape sequences that turn each displayed
-    /// row of `prev` into that of this screen, from the top, in `width` columns
-    /// from `start` on or as many as there are. `start` must be one of the
-    /// columns, and both screens must have the same size.
+    /// row of `prev`, from top to bottom, into the same row of this screen.
     ///
-    /// There is one item for each row of the screen. An item is an error if its
-    /// output cannot be allocated; the next item is then that of the next row.
+    /// Each item covers `width` columns, or as many as there are, beginning at
+    /// column `start`. `start` must be less than the number of columns, and
+    /// both screens must have the same size.
     ///
-    /// By `draws`, a row's output is read as that of
-    /// [`Screen::rows_formatted`], but by a terminal that displays the row of
-    /// `prev`, of which the range must not cut a wide character either. By
-    /// `empty` the output of a whole row is empty if and only if both screens
-    /// display the same row. By `off`, a row that isn't wrapped on this screen
-    /// is then not wrapped on the terminal; a row that is wrapped becomes so by
-    /// the output of the next row, or by what is printed there.
+    /// The iterator yields one item for each row of the screen. An item is an
+    /// error if its output cannot be allocated; iteration then continues with
+    /// the next row.
+    ///
+    /// By `draws`, the output of a row has the effect described for
+    /// [`Screen::rows_formatted`], but on a terminal that displays the row of
+    /// `prev`; the range must not cut a wide character of that row in two
+    /// either. By `empty`, the output of a whole row is empty if and only if
+    /// both screens display the same row. By `off`, a row that isn't wrapped on
+    /// this screen is then not wrapped on the terminal. A row that is wrapped
+    /// on this screen becomes wrapped when the output of the next row is read
+    /// or something is printed there.
     ///
     /// # Examples
     ///
@@ -106,7 +113,7 @@ impl Screen {
         ensures empty { IsWholeRow start width self.now.page.width → (r : ℕ) → r < length self.now.page.rows →
             (text_at result r ≡ []) ↔ (shown_row self.now r ≡ shown_row prev.now r) }
     {
-        // Only for the proof: it makes the invariants of both screens known.
+        // Only for the proof: these calls make the invariants of both screens available.
         self.sound();
         prev.sound();
         RowsDiff::new(self, prev, start, self.range_end(start, width))
@@ -118,13 +125,13 @@ impl Screen {
         ensures whole { IsScreen self.now }
         ensures colored { IsColored self.now }
     {
-        // Only for the proof: a field is read, so that the invariant is known.
+        // Only for the proof: reading a field makes the invariant available.
         let _ = &self.alloc;
         let _ = self.attrs();
     }
 
-    /// Returns the end of a range of `width` columns from `start` on, at most
-    /// the number of columns.
+    /// Returns the end of the range of `width` columns that begins at column
+    /// `start`, limited to the number of columns.
     fn range_end(&self, start: u16, width: u16) -> u16
         requires { start < self.now.page.width }
         ensures value { result ≡ range_end start width self.now.page.width }
@@ -135,13 +142,13 @@ impl Screen {
         start + width.min(cols.get() - start)
     }
 
-    /// Returns the output that draws a row on a blank row, in the columns from
-    /// `start` up to but not including `stop`.
+    /// Returns the output that draws the columns `start..stop` of a row on a
+    /// blank row.
     ///
     /// # Errors
     ///
-    /// `Error::OutOfMemory` if the output cannot be allocated; empty output
-    /// needs no allocation.
+    /// Returns `Error::OutOfMemory` if the output cannot be allocated. Empty
+    /// output needs no allocation.
     pub(crate) fn row_formatted(&self, row: u16, start: u16, stop: u16) -> Result<String, Error>
         requires inside { row < length self.now.page.rows }
         requires columns { IsColumns start stop self.now }
@@ -154,13 +161,13 @@ impl Screen {
         }
     }
 
-    /// Returns the output that turns a row of `prev` into that of this screen,
-    /// in the columns from `start` up to but not including `stop`.
+    /// Returns the output that turns a row of `prev` into the same row of this
+    /// screen in the columns `start..stop`.
     ///
     /// # Errors
     ///
-    /// `Error::OutOfMemory` if the output cannot be allocated; empty output
-    /// needs no allocation.
+    /// Returns `Error::OutOfMemory` if the output cannot be allocated. Empty
+    /// output needs no allocation.
     pub(crate) fn row_diff(
         &self,
         prev: &Screen,

@@ -1,4 +1,5 @@
-//! Control functions that may scroll rows off the page, and scrollback.
+//! Control functions that may scroll rows off the page, and access to
+//! scrollback.
 
 ghost use Rattle.std.specs.Prelude.{◌≡◌, IsErr, OnErr, OnOk, false, length};
 ghost use Rattle.vt_cells.specs.Refusals.{OnlyOutOfMemory};
@@ -13,16 +14,16 @@ use crate::callbacks::Callbacks;
 use crate::reporter::Reporter;
 use vt_cells::Error;
 
-/// Moves the cursor down by one row and keeps its column; at the bottom of the
-/// scroll region the region scrolls up instead (LF, VT, FF).
+/// Moves the cursor down by one row, keeping its column (LF, VT, FF). If the
+/// cursor is at the bottom of the scroll region, the region scrolls up instead.
 ///
-/// A row that scrolls off the top of the page moves into scrollback, and each
-/// row that isn't kept there is reported to the callbacks.
+/// A row that scrolls off the top of the page moves into scrollback. Each row
+/// that isn't kept there is reported to the callbacks.
 ///
 /// # Errors
 ///
-/// `Error::OutOfMemory` if the row cannot be kept; the screen is unchanged and
-/// no callbacks were invoked.
+/// Returns `Error::OutOfMemory` if there is not enough memory to keep the row.
+/// On error, the screen is unchanged and no callbacks are invoked.
 #[inline]
 pub fn lf<CB: Callbacks>(screen: &mut Screen, callbacks: &mut CB) -> Result<(), Error>
     ensures done { OnOk result
@@ -41,14 +42,14 @@ pub fn lf<CB: Callbacks>(screen: &mut Screen, callbacks: &mut CB) -> Result<(), 
     Ok(())
 }
 
-/// Scrolls the scroll region up by `count` rows; default blank rows come in at
-/// its bottom (SU). Rows that scroll off the page are kept or reported as by
-/// [`lf`].
+/// Scrolls the scroll region up by `count` rows and fills its bottom with
+/// default blank rows (SU). Rows that scroll off the page are kept or reported,
+/// as with [`lf`].
 ///
 /// # Errors
 ///
-/// `Error::OutOfMemory` if the rows cannot be kept; the screen is unchanged and
-/// no callbacks were invoked.
+/// Returns `Error::OutOfMemory` if there is not enough memory to keep the rows.
+/// On error, the screen is unchanged and no callbacks are invoked.
 pub fn su<CB: Callbacks>(screen: &mut Screen, count: u16, callbacks: &mut CB) -> Result<(), Error>
     ensures done { OnOk result
         (Takes CB.does (state callbacks.old screen.old) (step.ScrollUp count) (state callbacks.new screen.new)) }
@@ -66,7 +67,7 @@ pub fn su<CB: Callbacks>(screen: &mut Screen, count: u16, callbacks: &mut CB) ->
     Ok(())
 }
 
-/// Erases scrollback, and reports each of its rows to the callbacks, older rows
+/// Erases scrollback and reports each of its rows to the callbacks, oldest
 /// first (xterm, ED 3).
 pub fn erase_scrollback<CB: Callbacks>(screen: &mut Screen, callbacks: &mut CB)
     ensures { Takes CB.does (state callbacks.old screen.old) step.EraseScrollback (state callbacks.new screen.new) }
@@ -79,22 +80,22 @@ pub fn erase_scrollback<CB: Callbacks>(screen: &mut Screen, callbacks: &mut CB)
 }
 
 impl Screen {
-    /// Scrolls the display back by `rows` rows of scrollback, at most by all of
-    /// them; 0 displays the page alone.
+    /// Scrolls the display back by `rows` rows, limited to the number of rows
+    /// in scrollback. If `rows` is 0, only the page is displayed.
     ///
-    /// The number may exceed the height of the screen, which then displays as
-    /// many rows as it has room for, starting that far back. On the alternate
-    /// page, which has no scrollback, nothing happens.
+    /// `rows` may exceed the height of the screen, which then displays as many
+    /// rows as it has room for, starting that far back. On the alternate page,
+    /// which has no scrollback, nothing happens.
     ///
-    /// Displayed rows of scrollback that are shorter than the screen are
-    /// extended to its columns and are then no longer wrapped; both remain so
+    /// Displayed rows of scrollback that are narrower than the screen are
+    /// extended to its width and are then no longer wrapped. They stay that way
     /// when the display returns to the page.
     ///
     /// # Errors
     ///
-    /// `Error::OutOfMemory` if a row cannot be extended; the screen is
-    /// unchanged. Nothing is allocated if no row must be extended, as when
-    /// returning to the page alone.
+    /// Returns `Error::OutOfMemory` if a row cannot be extended. On error, the
+    /// screen is unchanged. Nothing is allocated unless a row must be extended,
+    /// so returning to the page cannot fail.
     pub fn set_scrollback(&mut self, rows: usize) -> Result<(), Error>
         ensures ok { OnOk result (self.new ≡ scrolled_back rows self.old) }
         ensures err { OnErr result (self.new ≡ self.old) }
@@ -110,18 +111,18 @@ impl Screen {
         Ok(())
     }
 
-    /// Erases scrollback and displays the page alone. No callbacks are invoked
-    /// for the rows, and none of them comes back when the screen gets more
-    /// rows. On the alternate page, which has no scrollback, nothing happens.
+    /// Erases scrollback and displays only the page. No callbacks are invoked
+    /// for the erased rows, and none of them comes back when the screen gets
+    /// more rows. On the alternate page, which has no scrollback, nothing
+    /// happens.
     pub fn clear_scrollback(&mut self)
         ensures { self.new ≡ screen_after step.EraseScrollback self.old }
     {
         self.scrollback.clear(&mut ());
     }
 
-    /// Returns by how many rows of scrollback the display is scrolled back,
-    /// which may be more than the screen has room for. It is 0 on the alternate
-    /// page.
+    /// Returns the number of rows by which the display is scrolled back, which
+    /// may exceed the height of the screen. It is 0 on the alternate page.
     pub fn scrollback(&self) -> usize
         ensures { result ≡ (above_page self.now).offset }
     {
@@ -136,7 +137,7 @@ impl Screen {
         self.scrollback.len()
     }
 
-    /// Returns the largest number of rows that scrollback keeps, which is 0 on
+    /// Returns the maximum number of rows that scrollback keeps, which is 0 on
     /// the alternate page.
     pub fn scrollback_capacity(&self) -> usize
         ensures { result ≡ (above_page self.now).capacity }

@@ -1,8 +1,8 @@
 //! Output that reproduces the whole state of a screen: its display and its
 //! input modes.
 //!
-//! The module `redraw` defines what a screen displays, and when a terminal is
-//! plain and a screen steady.
+//! The module `redraw` defines what a screen displays, when a terminal is
+//! plain, and when a screen is steady.
 
 ghost use Rattle.std.specs.Prelude.{◌≡◌, ◌++◌, [], IsOk, OnOk};
 ghost use Rattle.vt_cells.specs.Refusals.{OnlyOutOfMemory};
@@ -21,7 +21,7 @@ use vt_cells::{Error, Sink};
 impl Screen {
     /// Returns the escape sequences that redraw the screen on a plain terminal
     /// of the same size and set its input modes. They are the output of
-    /// [`Screen::contents_formatted`] followed by that of
+    /// [`Screen::contents_formatted`] followed by the output of
     /// [`Screen::input_mode_formatted`].
     ///
     /// The terminal must be plain (in ground state, with the full scroll
@@ -29,15 +29,15 @@ impl Screen {
     /// default mouse mode, mouse encoding and cursor style.
     ///
     /// By `gives`, if this screen is steady (each glyph reproduces itself when
-    /// printed), such a terminal is plain, displays this screen and has its
-    /// modes after reading the output. Reading it invokes no callbacks and
+    /// printed), such a terminal is plain after reading the output, displays
+    /// this screen and has its modes. Reading it invokes no callbacks and
     /// allocates nothing. Scrollback and the other page are unchanged; only the
     /// saved cursor, saved origin mode, saved attributes and last character may
     /// change.
     ///
     /// # Errors
     ///
-    /// `Error::OutOfMemory` if the output cannot be allocated.
+    /// Returns `Error::OutOfMemory` if the output cannot be allocated.
     ///
     /// # Examples
     ///
@@ -63,21 +63,24 @@ impl Screen {
 
     /// Returns the escape sequences that turn the display and the input modes
     /// of `prev` into those of this screen. They are the output of
-    /// [`Screen::contents_diff`] followed by that of
+    /// [`Screen::contents_diff`] followed by the output of
     /// [`Screen::input_mode_diff`]. Both screens must have the same size.
     ///
-    /// By `gives`, if this screen is steady (each glyph reproduces itself when
-    /// printed), a plain terminal (in ground state, with the full scroll
-    /// region, origin mode off and no scrollback displayed) with the display
-    /// and modes of `prev` has those of this screen after reading the output,
-    /// as with [`Screen::state_formatted`]. The output is empty if both screens
-    /// have the same display and modes, and by `empty` only then.
+    /// A terminal is plain if it is in ground state, with the full scroll
+    /// region, origin mode off and no scrollback displayed. A screen is steady
+    /// if each glyph reproduces itself when printed.
+    ///
+    /// By `gives`, if this screen is steady, a plain terminal with the display
+    /// and modes of `prev` has the display and modes of this screen after
+    /// reading the output, as with [`Screen::state_formatted`]. The output is
+    /// empty if both screens have the same display and modes; by `empty`, a
+    /// steady screen has empty output only in that case.
     ///
     /// # Errors
     ///
-    /// `Error::OutOfMemory` if the output cannot be allocated. Empty output
-    /// needs no allocation: by `never` this cannot fail if both screens have
-    /// the same display and modes.
+    /// Returns `Error::OutOfMemory` if the output cannot be allocated. By
+    /// `never`, there is no error if both screens have the same display and
+    /// modes, because empty output needs no allocation.
     ///
     /// # Examples
     ///
