@@ -6,7 +6,6 @@ use Rattle.vt_cells.specs.Op.{bytes_of_all}
 use Rattle.vt_cells.specs.declared.error.Error.{Error}
 use Rattle.vt_cells.specs.declared.error.Error.TheVariants.{NoNumber, OutOfMemory}
 use Rattle.vt_grid.specs.Page.{SameSize}
-use Rattle.vt_redraw.specs.Locality.{IsLocal}
 use Rattle.vt_redraw.specs.Moved.{IsScrolling}
 use Rattle.vt_redraw.specs.Redraw.{difference, redraw}
 use Rattle.vt_redraw.specs.Steady.{IsSteady}
@@ -14,8 +13,8 @@ use Rattle.vt_screen.specs.Again.{KeepsPlain}
 use Rattle.vt_screen.specs.MadeOf.{IsMadeOf, drawing_controls, drawing_finals, scrolling_finals}
 use Rattle.vt_screen.specs.Pages.{has_size, resized}
 use Rattle.vt_screen.specs.Screen.{IsColored, IsScreen, ScreenValue}
-use Rattle.vt_screen.specs.Shown.{IsReader, IsReaderOf, KeepsRest, Redraws, shown}
-use Rattle.vt_screen.specs.Touched.{TouchesOnly}
+use Rattle.vt_screen.specs.Shown.{IsReader, IsReaderOf, IsSameIfEmpty, KeepsRest, Redraws, shown}
+use Rattle.vt_screen.specs.Touched.{TouchesNear}
 use Rattle.vt100.specs.Calls.{ParserProcesses}
 use Rattle.vt100.specs.Parser.{quietly}
 use Rattle.vt_mirror.specs.Mirror.{MirrorValue}
@@ -85,7 +84,7 @@ pub record IsDiff (self prev : ScreenValue) (text : List ℕ) : Type 0 where
   pub size : SameSize self.page prev.page
   pub redraws : Redraws (shown self) (IsReaderOf (shown self) (shown prev)) KeepsRest text
   pub none : shown self ≡ shown prev → text ≡ []
-  pub empty : IsSteady (shown self) → text ≡ [] → shown self ≡ shown prev
+  pub empty : IsSameIfEmpty prev self text
   pub again : KeepsPlain text
 
 -- The kind of a difference: drawn only, or possibly preceded by moves of rows.
@@ -98,8 +97,7 @@ pub record IsDrawn (self prev : ScreenValue) (text : List ℕ) : Type 0 where
   pub diff : IsDiff self prev text
   pub is : text ≡ bytes_of_all (difference (shown self) (shown prev))
   pub controls : IsMadeOf drawing_finals drawing_controls text
-  pub touches : IsSteady (shown self)
-      → TouchesOnly (IsReaderOf (shown self) (shown prev)) text (IsLocal (shown self) (shown prev))
+  pub touches : TouchesNear prev self text
 
 -- The text is a difference that may move rows first. It starts from a steady screen and is never longer than the
 -- difference that moves none.

@@ -1,28 +1,31 @@
 -- How a steady glyph is recognized: by its width after each of its characters.
-use Rattle.std.proofs.Common.{◌≡◌, ◌↔◌, ℕ, zero, suc, ◌+◌, ◌<◌, ◌≤◌, ◌||◌, nat_lt, Bool, true, false, List, []}
+use Rattle.std.proofs.Common.{◌≡◌, ◌↔◌, ℕ, zero, suc, ◌+◌, ◌-◌, ◌<◌, ◌≤◌, ◌||◌, nat_lt, Bool, true, false, List, []}
 use Rattle.std.proofs.Common.{◌∷◌, ◌++◌, drop, length, take, Some, None, Option, refl, sym, ap, subst, ◌∙◌, arith}
 use Rattle.std.proofs.Common.{eqb-true, get_or, length-append, ◌≢◌, ◌&&◌}
-use Rattle.std.specs.Prelude.{All, IsTrue, chars, if◌then◌else◌, nat_eq}
+use Rattle.std.specs.Prelude.{All, IsTrue, chars, if◌then◌else◌, nat_eq, replicate}
 use Rattle.std.specs.Option.{option_eq}
 use mathlib.Core.Bool.{beq}
 use Rattle.std.specs.Char.{encode_utf8}
 use Rattle.std.specs.Int.RustNames.{bit_or}
 use Rattle.std.specs.List.{list_any, AllByRecursion}
-use Rattle.std.proofs.lemmas.List.Elements.{All-nil, All-cons, All-append, All-take, All-weaker}
-use Rattle.std.proofs.lemmas.List.{take-append-drop}
+use Rattle.std.proofs.lemmas.List.Elements.{All-nil, All-cons, All-append, All-replicate, All-take, All-weaker}
+use Rattle.std.proofs.Math.Seq.{take-add}
+use Rattle.std.proofs.lemmas.List.{get_or_default, take_all, take-append-drop}
 use Rattle.std.proofs.lemmas.Str.{chars-nil, length-encode}
 use lib.Bits.{and_le_l, and_le_r, or_add_and}
 use Rattle.vt_cells.specs.Attrs.{Attrs}
 use Rattle.vt_cells.specs.Cell.{CellValue, blank, glyph, right_half, is_blank, is_glyph, is_right_half, is_wide, text_of}
-use Rattle.vt_cells.specs.Cell.{marked, IsCell}
+use Rattle.vt_cells.specs.Cell.{attrs_of, default_blank, marked, IsCell}
 use Rattle.vt_cells.specs.Glyph.{columns_of, glyph_columns, has_room, is_selector, is_wide_text, IsGlyphText}
 use Rattle.vt_cells.specs.Glyph.{IsMark, Joins}
 use Rattle.vt_cells.proofs.Widths.{columns_of-le}
 use Rattle.vt_cells.proofs.Glyphs.{IsGlyphText-chars, IsGlyphText-length, encode_bounds}
 use Rattle.vt_cells.proofs.Glyphs.{selector_columns}
+use Rattle.vt_rows.specs.Cells.{IsPaired, at, resized}
 use Rattle.vt_rows.specs.Row.{RowValue}
-use Rattle.vt_redraw.specs.Internals.{FitsColumns}
+use Rattle.vt_redraw.specs.Internals.{FitsColumns, IsSteadyRow, IsWithin, cell_past_cut, is_split, kept_len}
 use Rattle.vt_redraw.specs.Steady.{has_selector, IsSteadyCell, IsSteadyGlyph}
+use Rattle.vt_redraw.proofs.Filling.{filled_resized}
 use Rattle.vt_redraw.proofs.Halves.{Paired}
 use Rattle.vt_redraw.proofs.Steady.{steady_prints}
 use Rattle.vt_redraw.proofs.SteadyWithout.{prints_steady, without_cell}
@@ -341,19 +344,61 @@ cell_without zero (glyph text true a) g le none = absurd (omega arith)
 cell_without zero (glyph text false a) g le none = absurd (omega arith)
 cell_without (suc n) (glyph text wide a) g le none = without_cell n text wide a g none le
 
--- A cell whose text has at most `bound` bytes.
-pub record IsWithin (bound : ℕ) (cell : CellValue) : Type 0 where
-  pub sound : IsCell cell
-  pub bytes : length (text_of cell) ≤ bound
+pub within_le : (few many : ℕ) → few ≤ many → (cell : CellValue) → IsWithin few cell → IsWithin many cell
+within_le few many le cell h = record { sound = h.sound; bytes = omega (arith, h.bytes, le) }
 
-pub within_or : (bound other : ℕ) (cell : CellValue) → IsWithin bound cell → IsWithin (bit_or bound other) cell
-within_or bound other cell h = record { sound = h.sound; bytes = omega (arith, h.bytes, or_le_left bound other) }
+pub within_left : (a b : ℕ) (cell : CellValue) → IsWithin a cell → IsWithin (bit_or a b) cell
+within_left a b cell h = within_le a (bit_or a b) (or_le_left a b) cell h
+
+pub within_right : (a b : ℕ) (cell : CellValue) → IsWithin b cell → IsWithin (bit_or a b) cell
+within_right a b cell h = within_le b (bit_or a b) (or_le_right a b) cell h
+
+-- The first cells and enough of those after them to be all of the cells.
+pub within_parts : (bound i n : ℕ) (cells : List CellValue) → length cells ≤ i + n →
+    All (IsWithin bound) (take i cells) → All (IsWithin bound) (take n (drop i cells)) → All (IsWithin bound) cells
+within_parts bound i n cells le first rest =
+    subst (All (IsWithin bound)) (sym (take-add i n cells) ∙ take_all (i + n) cells le)
+    (All-append (IsWithin bound) (take i cells) (take n (drop i cells)) first rest)
+
+pub within_both : (a b i n : ℕ) (cells : List CellValue) → length cells ≤ i + n →
+    All (IsWithin a) (take i cells) → All (IsWithin b) (take n (drop i cells)) → All (IsWithin (bit_or a b)) cells
+within_both a b i n cells le first rest =
+    within_parts (bit_or a b) i n cells le
+    (All-weaker (IsWithin a) (IsWithin (bit_or a b)) (within_left a b) (take i cells) first)
+    (All-weaker (IsWithin b) (IsWithin (bit_or a b)) (within_right a b) (take n (drop i cells)) rest)
+
+-- The first eight cells, the next eight, and the rest.
+pub within_sixteen : (a b bound n : ℕ) (cells : List CellValue) → a ≤ bound → b ≤ bound → length cells ≤ 16 + n →
+    All (IsWithin a) (take 8 cells) → All (IsWithin b) (take 8 (drop 8 cells)) →
+    All (IsWithin bound) (take n (drop 16 cells)) → All (IsWithin bound) cells
+within_sixteen a b bound n cells le_a le_b le first second rest =
+    within_parts bound 16 n cells le
+    (subst (All (IsWithin bound)) (sym (take-add 8 8 cells))
+    (All-append (IsWithin bound) (take 8 cells) (take 8 (drop 8 cells))
+    (All-weaker (IsWithin a) (IsWithin bound) (within_le a bound le_a) (take 8 cells) first)
+    (All-weaker (IsWithin b) (IsWithin bound) (within_le b bound le_b) (take 8 (drop 8 cells)) second)))
+    rest
+
+-- Exactly four cells, one by one.
+pub within_four : (bound : ℕ) (cells : List CellValue) (a b c d : CellValue) → length cells ≡ 4
+    → a ≡ get_or cells 0 a → b ≡ get_or cells 1 b
+    → c ≡ get_or cells 2 c → d ≡ get_or cells 3 d
+    → IsWithin bound a → IsWithin bound b → IsWithin bound c → IsWithin bound d → All (IsWithin bound) cells
+within_four bound cells a b c d four is_a is_b is_c is_d first second third fourth = at
+  where
+    moved : (k : ℕ) (x e : CellValue) → k < length cells → x ≡ get_or cells k x → IsWithin bound x
+        → IsWithin bound (get_or cells k e)
+    moved k x e lt is h = subst (IsWithin bound) (is ∙ get_or_default cells k x e lt) h
+
+    at : (k : ℕ) (e : CellValue) → k < length cells → IsWithin bound (get_or cells k e)
+    at zero e lt = moved 0 a e lt is_a first
+    at (suc zero) e lt = moved 1 b e lt is_b second
+    at (suc (suc zero)) e lt = moved 2 c e lt is_c third
+    at (suc (suc (suc zero))) e lt = moved 3 d e lt is_d fourth
+    at (suc (suc (suc (suc k)))) e lt = absurd (omega (arith, four))
 
 pub within_short : (bound : ℕ) → bound < 4 → (cell : CellValue) → IsWithin bound cell → has_selector cell ≡ false
 within_short bound short cell h = short_has_none cell h.sound (omega (arith, h.bytes, short))
-
-abbrev pub IsSteadyRow : ℕ → RowValue → Type 0
-IsSteadyRow width row = All (IsSteadyCell width) row.cells
 
 -- The result of a test of a row holds for an equal row.
 pub row_tells : (width : ℕ) (row other : RowValue) (test : Bool) → row ≡ other → length row.cells ≡ width →
@@ -361,3 +406,19 @@ pub row_tells : (width : ℕ) (row other : RowValue) (test : Bool) → row ≡ o
 row_tells width row other test same columns tells =
     subst (λ (r : RowValue). IsTrue test ↔ IsSteadyRow width r) same
     (subst (λ (n : ℕ). IsTrue test ↔ All (IsSteadyCell n) row.cells) columns tells)
+
+past_cut : (split : Bool) (attrs : Attrs) → has_selector (if split then blank attrs else default_blank) ≡ false
+past_cut true attrs = refl
+past_cut false attrs = refl
+
+-- A row cut to a width has no U+FE0F if the whole row has none.
+pub none_resized : (width : ℕ) (cells : List CellValue) → 0 < width → IsPaired cells →
+    All (λ (cell : CellValue). has_selector cell ≡ false) cells →
+    All (λ (cell : CellValue). has_selector cell ≡ false) (resized width cells)
+none_resized width cells some paired all =
+    let None = λ (cell : CellValue). has_selector cell ≡ false in
+    let kept = take (kept_len width cells) cells in
+    let end = cell_past_cut width cells in
+    subst (All None) (filled_resized width cells some paired)
+    (All-append None kept (replicate (width - length kept) end) (All-take None (kept_len width cells) cells all)
+    (All-replicate None (width - length kept) end (past_cut (is_split width cells) (attrs_of (at cells (width - 1))))))

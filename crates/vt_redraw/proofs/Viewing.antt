@@ -22,7 +22,7 @@ use Rattle.vt_redraw.specs.declared.band.Band.{Band}
 use Rattle.vt_redraw.specs.declared.view.Source.{Source}
 use Rattle.vt_redraw.specs.declared.view.Source.TheVariants.{InView, Blank, Moved}
 use Rattle.vt_redraw.proofs.Moving.{All-rows_moved, length-rows_moved, row_or-rows_moved, unflagged_if}
-use Rattle.vt_redraw.specs.Picture.{IsPicture, cut_rows, picture_over}
+use Rattle.vt_redraw.specs.Picture.{IsPicture, Picture, cut_rows, picture_over}
 use Rattle.vt_redraw.specs.Script.{pen_at}
 use Rattle.vt_redraw.specs.Redraw.{blank_like}
 use Rattle.vt_redraw.specs.declared.pen.Pen.{Pen}
@@ -238,6 +238,15 @@ free_is above rows width band r row h f g =
     ∙ sym (moved_seen width band seen r (length seen) (omega arith) (f (length seen))))
 
 -- ---- a row of the view
+
+pub view_row_sound : (s : Source) (above : Scrollback) (rows : List RowValue) (width : ℕ) (pen : Pen) (hidden : Bool)
+    (r : ℕ) (picture : Picture) → picture_of_source s above rows width pen hidden ≡ picture
+    → IsSource above rows width pen → r < length picture.rows
+    → IsRow picture.width (row_or picture.width picture.rows r)
+view_row_sound s above rows width pen hidden r picture e is h =
+    let size = ap (λ (p : Picture). length p.rows) (sym e) ∙ viewed_height s above rows width pen hidden in
+    subst (λ (p : Picture). IsRow p.width (row_or p.width p.rows r)) e
+    (row_sound s above rows width pen hidden r is (omega arith))
 
 pub row_in_view : (s : Source) (above : Scrollback) (rows : List RowValue) (width : ℕ)
     (pen : Pen) (hidden : Bool) (r : ℕ) (row : RowValue) →

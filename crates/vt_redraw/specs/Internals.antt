@@ -4,7 +4,7 @@ use Rattle.std.specs.Prelude.{◌≡◌, ℕ, ◌+◌, ◌-◌, ◌<◌, ◌≤�
 use Rattle.std.specs.Prelude.{List, [], ◌++◌, length, replicate, drop, All, if◌then◌else◌, Result, OnOk, IfOk}
 use Rattle.vt_cells.specs.Attrs.{Attrs, default_attrs}
 use Rattle.vt_cells.specs.Cell.{CellValue, blank, default_blank, is_blank, is_wide, is_right_half, attrs_of}
-use Rattle.vt_cells.specs.Cell.{same_cell, text_of}
+use Rattle.vt_cells.specs.Cell.{same_cell, text_of, IsCell}
 use Rattle.vt_cells.specs.Glyph.{glyph_columns}
 use Rattle.vt_cells.specs.Op.{Op, Print, bytes_of_all}
 use Rattle.vt_cells.specs.BufferInternals.{gathered}
@@ -19,6 +19,7 @@ use Rattle.vt_redraw.specs.Script.{Scripted, Linked, cells_written, behind_last_
 use Rattle.vt_redraw.specs.Script.{erase_run, placed_op}
 use Rattle.vt_redraw.specs.Redraw.{row_written, rows_below}
 use Rattle.vt_redraw.specs.Moved.{rows_moved}
+use Rattle.vt_redraw.specs.Steady.{IsSteadyCell}
 use Rattle.vt_grid.specs.Page.{row_or}
 use Rattle.vt_redraw.specs.declared.links.Link.{Link}
 use Rattle.vt_redraw.specs.declared.pen.Pen.{Pen}
@@ -238,3 +239,12 @@ abbrev pub end_ops : ℕ → Pen → Bool → RowValue → List Op
 end_ops r pen flag x =
     (break_of r pen flag x).ops
     ++ mark_of r (break_of r pen flag x).pen (break_of r pen flag x).flag x.wrapped x.cells
+
+-- A cell whose text has at most `bound` bytes.
+pub record IsWithin (bound : ℕ) (cell : CellValue) : Type 0 where
+  pub sound : IsCell cell
+  pub bytes : length (text_of cell) ≤ bound
+
+-- Every glyph of the row is steady.
+abbrev pub IsSteadyRow : ℕ → RowValue → Type 0
+IsSteadyRow width row = All (IsSteadyCell width) row.cells

@@ -10,7 +10,8 @@ ghost use Rattle.std.specs.Prelude.{if◌then◌else◌};
 ghost use Rattle.vt_cells.specs.Cell.{is_glyph, text_of, IsCell};
 ghost use Rattle.vt_cells.specs.Glyph.{is_selector, is_wide_text};
 ghost use Rattle.vt_rows.specs.Row.{IsRow};
-ghost use Rattle.vt_redraw.specs.Internals.{FitsColumns};
+ghost use Rattle.vt_grid.specs.Page.{row_or};
+ghost use Rattle.vt_redraw.specs.Internals.{FitsColumns, IsSteadyRow, IsWithin};
 ghost use Rattle.vt_redraw.specs.Steady.{IsSteady, IsSteadyCell, has_selector};
 
 use crate::picture_row::PictureRow;
@@ -34,40 +35,106 @@ pub fn is_steady(view: &View<'_>) -> bool
 {
     let rows = view.rows();
     for row in 0..rows {
-        if !is_steady_row(&view.row(row)) {
+        if !is_steady_at(view, row) {
             return false;
         }
     }
     true
 }
 
+/// Returns whether each glyph of row `row` of the picture, printed on a blank
+/// row, reproduces itself.
+#[inline]
+fn is_steady_at(view: &View<'_>, row: u16) -> bool
+    requires { row < length view.now.rows }
+    ensures { IsTrue result ↔ IsSteadyRow view.now.width (row_or view.now.width view.now.rows row) }
+{
+    if is_short_at(view, row) {
+        return true;
+    }
+    is_steady_row(&view.row(row))
+}
+
+/// Returns whether the stored cells of row `row` show that none of its texts
+/// contains [`SELECTOR`] after the first character.
+///
+/// The row is not cut to the picture's width, which would take some 60 more
+/// instructions.
+#[inline]
+fn is_short_at(view: &View<'_>, row: u16) -> bool
+    requires { row < length view.now.rows }
+    ensures { IsTrue result → IsSteadyRow view.now.width (row_or view.now.width view.now.rows row) }
+{
+    match view.uncut_cells(row) {
+        Some(cells) => are_short(cells),
+        None => false,
+    }
+}
+
 /// Returns whether each glyph of the row, printed on a blank row, reproduces
 /// itself.
 fn is_steady_row(row: &PictureRow<'_>) -> bool
-    requires sound { IsRow (length row.now.cells) row.now }
-    requires some { 0 < length row.now.cells }
-    ensures { IsTrue result ↔ All (IsSteadyCell (length row.now.cells)) row.now.cells }
+    requires { IsRow (length row.now.cells) row.now }
+    ensures { IsTrue result ↔ IsSteadyRow (length row.now.cells) row.now }
 {
-    let cells = row.own_cells();
-    if are_short(cells) {
-        return true;
-    }
-    are_steady(cells, row.cols())
+    are_steady(row.own_cells(), row.cols())
 }
 
-/// Returns whether all texts are too short to contain [`SELECTOR`] after a
+/// Returns whether all texts are too short to contain [`SELECTOR`] after the
 /// first character.
 ///
-/// The lengths are accumulated in one number without a branch, so a cell takes
-/// about five instructions.
+/// The lengths of 16 cells at a time are combined in one number without a
+/// branch, so a cell takes less than one and a half instructions.
 fn are_short(cells: &[Cell]) -> bool
     ensures { IsTrue result → All (λ cell. has_selector cell ≡ false) cells.now }
 {
     let mut lens = 0;
-    for cell in cells {
-        lens |= cell.contents().len();
+    let mut rest = cells;
+    while rest.len() >= 16 {
+        lens |= lens_of_eight(&rest[..8]) | lens_of_eight(&rest[8..16]);
+        rest = &rest[16..];
     }
+    lens |= lens_of(rest);
     lens < SELECTED_LEN
+}
+
+/// Returns the bitwise OR of the lengths, in bytes, of eight cells' texts.
+#[inline(always)]
+fn lens_of_eight(cells: &[Cell]) -> usize
+    requires { length cells.now ≡ 8 }
+    ensures { All (IsWithin result) cells.now }
+{
+    lens_of_four(&cells[..4]) | lens_of_four(&cells[4..])
+}
+
+/// Returns the bitwise OR of the lengths, in bytes, of four cells' texts.
+#[inline(always)]
+fn lens_of_four(cells: &[Cell]) -> usize
+    requires { length cells.now ≡ 4 }
+    ensures { All (IsWithin result) cells.now }
+{
+    let first = text_len(&cells[0]) | text_len(&cells[1]);
+    first | (text_len(&cells[2]) | text_len(&cells[3]))
+}
+
+/// Returns the bitwise OR of the lengths, in bytes, of the cells' texts.
+#[inline]
+fn lens_of(cells: &[Cell]) -> usize
+    ensures { All (IsWithin result) cells.now }
+{
+    let mut lens = 0;
+    for cell in cells {
+        lens |= text_len(cell);
+    }
+    lens
+}
+
+/// Returns the length of a cell's text in bytes.
+#[inline(always)]
+fn text_len(cell: &Cell) -> usize
+    ensures { IsWithin result cell.now }
+{
+    cell.contents().len()
 }
 
 /// Returns whether each glyph, printed on a blank row of `cols` columns,

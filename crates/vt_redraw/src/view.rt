@@ -1,8 +1,9 @@
 //! A view of what a screen displays, borrowed from its pages.
 
-ghost use Rattle.std.specs.Prelude.{◌≡◌, ◌<◌, ◌+◌, ◌==◌, length};
+ghost use Rattle.std.specs.Prelude.{◌≡◌, ◌<◌, ◌+◌, ◌==◌, IfSome, length};
 ghost use Rattle.vt_grid.specs.Page.{IsPage, row_or};
 ghost use Rattle.vt_grid.specs.Scrollback.{IsScrollback, visible};
+ghost use Rattle.vt_rows.specs.Cells.{IsPaired, resized};
 ghost use Rattle.vt_rows.specs.Row.{IsRow};
 ghost use Rattle.vt_redraw.specs.Internals.{IsPageUnder, row_seen};
 ghost use Rattle.vt_redraw.specs.Moved.{IsBand, moved, rows_moved};
@@ -13,8 +14,9 @@ use crate::band::Band;
 use crate::pen::Pen;
 use crate::picture_row::PictureRow;
 use std::marker::Model;
-use vt_cells::Attrs;
+use vt_cells::{Attrs, Cell};
 use vt_grid::{Grid, PageRows, Scrollback};
+use vt_rows::capture::cells_of;
 
 /// The origin of a picture's rows.
 #[derive(Clone, Copy, PartialEq, Eq, Debug)]
@@ -168,6 +170,25 @@ impl<'a> View<'a> {
             Source::Blank => PictureRow::blank(self.cols),
             Source::Moved(band) => row_moved(self.above, self.rows, self.cols, band, row),
         }
+    }
+
+    /// Returns the stored cells from which row `row` of the picture is cut, or
+    /// `None` if the picture is not that of the displayed rows themselves.
+    #[inline]
+    pub(crate) fn uncut_cells(&self, row: u16) -> Option<&[Cell]>
+        requires { row < length self.now.rows }
+        ensures cells { IfSome result (λ cells.
+            (row_or self.now.width self.now.rows row).cells ≡ resized self.now.width cells.now) }
+        ensures paired { IfSome result (λ cells. IsPaired cells.now) }
+        ensures sound { IsRow self.now.width (row_or self.now.width self.now.rows row) }
+        ensures some { 0 < self.now.width }
+    {
+        match self.source {
+            Source::InView => {}
+            _ => return None,
+        }
+        let found = self.above.visible_row(self.rows, row)?;
+        Some(cells_of(&found))
     }
 }
 

@@ -136,6 +136,10 @@ pub record Redraws (picture : Picture) (Reader : ScreenValue → Type 0)
 abbrev pub RedrawsFrom : (was new : ScreenValue) → List ℕ → Type 0
 RedrawsFrom was new text = Redraws (shown new) (IsReaderOf (shown new) (shown was)) KeepsRest text
 
+-- If the text is empty and the picture of the newer screen is steady, both screens look the same.
+abbrev pub IsSameIfEmpty : (was new : ScreenValue) → List ℕ → Type 0
+IsSameIfEmpty was new text = IsSteady (shown new) → text ≡ [] → shown new ≡ shown was
+
 -- The terminal has the cursor position and visibility of the picture. Its rows and attributes are unchanged.
 pub record TakesCursor (picture : Picture) (reader after : ScreenValue) : Type 0 where
   pub rows : after.page.rows ≡ reader.page.rows

@@ -8,10 +8,13 @@ use Rattle.vt_grid.specs.Page.{Page}
 use Rattle.vt_grid.specs.PageStep.{PageStep, ReverseIndex, EraseBelow, EraseAbove, ErasePage, EraseRest, EraseStart}
 use Rattle.vt_grid.specs.PageStep.{EraseRow, EraseChars, InsertChars, DeleteChars, InsertLines, DeleteLines, ScrollDown}
 use Rattle.vt_grid.specs.Printing.{wraps}
+use Rattle.vt_redraw.specs.Locality.{IsLocal}
+use Rattle.vt_redraw.specs.Steady.{IsSteady}
 use Rattle.vt_redraw.specs.Touching.{Changes, CharTouches}
 use Rattle.vt_scan.specs.Automaton.{Event, start, step_in}
 use Rattle.vt_screen.specs.Reading.{Terminal, terminal, quiet_step, quiet_steps, read_byte}
 use Rattle.vt_screen.specs.Screen.{ScreenValue}
+use Rattle.vt_screen.specs.Shown.{IsReaderOf, shown}
 use Rattle.vt_screen.specs.Controls.{seen_of, steps_of}
 use Rattle.vt_screen.specs.Steps.{Step, Print, LineFeed, ScrollUp, OnPage, EnterAlternate, EnterFresh}
 use Rattle.vt_screen.specs.Steps.{LeaveAlternate, LeaveRestoring, Reset}
@@ -102,3 +105,9 @@ ReadTouches May t (b ∷ bytes) =
 -- `May` holds.
 abbrev pub TouchesOnly : (ScreenValue → Type 0) → List ℕ → (ℕ → ℕ → Type 0) → Type 0
 TouchesOnly Reader text May = (reader : ScreenValue) → Reader reader → ReadTouches May (terminal start reader) text
+
+-- If the picture of the newer screen is steady, a plain terminal that displays the older one and reads the text touches
+-- only positions near a difference between the two screens.
+abbrev pub TouchesNear : (was new : ScreenValue) → List ℕ → Type 0
+TouchesNear was new text =
+    IsSteady (shown new) → TouchesOnly (IsReaderOf (shown new) (shown was)) text (IsLocal (shown new) (shown was))

@@ -9,11 +9,10 @@ ghost use Rattle.vt_cells.specs.Refusals.{OnlyOutOfMemory};
 ghost use Rattle.vt_grid.specs.Page.{SameSize};
 ghost use Rattle.vt_redraw.specs.Moved.{IsBand, IsScrolling, moved, scrolling_text};
 ghost use Rattle.vt_redraw.specs.Refusals.{RefusedOnlyIfSome};
-ghost use Rattle.vt_redraw.specs.Steady.{IsSteady};
 ghost use Rattle.vt_screen.specs.Again.{KeepsPlain};
 ghost use Rattle.vt_screen.specs.MadeOf.{IsMadeOf, drawing_controls, scrolling_finals};
 ghost use Rattle.vt_screen.specs.Screen.{IsColored, IsScreen};
-ghost use Rattle.vt_screen.specs.Shown.{RedrawsFrom, shown, shown_change};
+ghost use Rattle.vt_screen.specs.Shown.{IsSameIfEmpty, RedrawsFrom, shown, shown_change};
 ghost use Rattle.vt_screen.specs.TextResults.{IfText};
 
 use crate::screen::Screen;
@@ -61,8 +60,7 @@ impl Screen {
         ensures again { IfText result KeepsPlain }
         ensures shorter { IfText result (λ text. length text ≤ length (shown_change prev.now self.now)) }
         ensures redraws { IfText result (RedrawsFrom prev.now self.now) }
-        ensures empty { IfText result
-            (λ text. IsSteady (shown self.now) → text ≡ [] → shown self.now ≡ shown prev.now) }
+        ensures empty { IfText result (IsSameIfEmpty prev.now self.now) }
         ensures none { IfText result (λ text. shown self.now ≡ shown prev.now → text ≡ []) }
         ensures memory { OnlyOutOfMemory result }
         ensures some { RefusedOnlyIfSome result (shown_change prev.now self.now) }

@@ -15,7 +15,7 @@ ghost use Rattle.std.specs.Prelude.{◌≡◌, ◌↔◌, ◌++◌, [], IfOk, Is
 ghost use Rattle.vt_cells.specs.Op.{bytes_of_all};
 ghost use Rattle.vt_cells.specs.Refusals.{OnlyOutOfMemory};
 ghost use Rattle.vt_grid.specs.Page.{SameSize};
-ghost use Rattle.vt_redraw.specs.Locality.{IsLocal, MayPlace};
+ghost use Rattle.vt_redraw.specs.Locality.{MayPlace};
 ghost use Rattle.vt_redraw.specs.Picture.{SamePictureSize};
 ghost use Rattle.vt_redraw.specs.Redraw.{cursor_state};
 ghost use Rattle.vt_redraw.specs.Refusals.{RefusedOnlyIfSome};
@@ -24,8 +24,8 @@ ghost use Rattle.vt_screen.specs.Again.{KeepsPlain, MakesPlain};
 ghost use Rattle.vt_screen.specs.AnyRegion.{IsReaderInAnyRegion, KeepsRestButRegion, reset_text};
 ghost use Rattle.vt_screen.specs.MadeOf.{IsMadeOf, drawing_controls, drawing_finals, reset_controls};
 ghost use Rattle.vt_screen.specs.Screen.{IsColored, IsScreen, ScreenValue, above_page};
-ghost use Rattle.vt_screen.specs.Touched.{TouchesOnly};
-ghost use Rattle.vt_screen.specs.Shown.{IsReader, IsReaderOf, IsReaderOfRows, KeepsRest, Redraws, RedrawsFrom};
+ghost use Rattle.vt_screen.specs.Touched.{TouchesNear, TouchesOnly};
+ghost use Rattle.vt_screen.specs.Shown.{IsReader, IsReaderOfRows, IsSameIfEmpty, KeepsRest, Redraws, RedrawsFrom};
 ghost use Rattle.vt_screen.specs.Shown.{SetsAttrs, TakesCursor, Turns, attributes_text, shown};
 ghost use Rattle.vt_screen.specs.Shown.{shown_change, shown_text};
 ghost use Rattle.vt_screen.specs.TextResults.{IfText};
@@ -259,11 +259,9 @@ impl Screen {
         ensures controls { IfText result (IsMadeOf drawing_finals drawing_controls) }
         ensures again { IfText result KeepsPlain }
         ensures redraws { IfText result (RedrawsFrom prev.now self.now) }
-        ensures empty { IfText result
-            (λ text. IsSteady (shown self.now) → text ≡ [] → shown self.now ≡ shown prev.now) }
+        ensures empty { IfText result (IsSameIfEmpty prev.now self.now) }
         ensures none { IfText result (λ text. shown self.now ≡ shown prev.now → text ≡ []) }
-        ensures touches { IfText result (λ text. IsSteady (shown self.now) → TouchesOnly
-            (IsReaderOf (shown self.now) (shown prev.now)) text (IsLocal (shown self.now) (shown prev.now))) }
+        ensures touches { IfText result (TouchesNear prev.now self.now) }
         ensures memory { OnlyOutOfMemory result }
         ensures some { RefusedOnlyIfSome result (shown_change prev.now self.now) }
         ensures never { shown self.now ≡ shown prev.now → IsOk result }

@@ -1,6 +1,10 @@
-use Rattle.std.proofs.Common.{All, take}
-use Rattle.vt_redraw.proofs.SteadyTests.{IsWithin}
+use Rattle.std.proofs.Common.{◌≤◌, ℕ, All, length}
+use Rattle.vt_redraw.specs.Internals.{IsWithin}
 use Rattle.vt_redraw.proofs.steadiness.are_short.Given as goal
 
-abbrev pub invariant-loop-cell : goal.invariant-loop-cell
-invariant-loop-cell l = All (IsWithin l.lens) (take l.cell-index l.cells)
+abbrev pub invariant-loop-rest : goal.invariant-loop-rest
+invariant-loop-rest l =
+    (bound : ℕ) → l.lens ≤ bound → All (IsWithin bound) l.rest → All (IsWithin bound) l.cells
+
+abbrev pub decreases-loop-rest : goal.decreases-loop-rest
+decreases-loop-rest l = length l.rest
