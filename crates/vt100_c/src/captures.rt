@@ -1,4 +1,4 @@
-//! Reading of captures: their pieces outside of SGR sequences, and their rows.
+//! Reading captures: the chunks outside SGR sequences, and the rows.
 
 ghost use Rattle.std.specs.Prelude.{◌≡◌, ◌+◌, ◌<◌, ◌≤◌, ◌↔◌, List, IfSome, IsSome, drop, length};
 ghost use Rattle.vt_rows.specs.CaptureRows.{AreRowsOf};
@@ -10,17 +10,17 @@ use crate::status::{BAD_ARGUMENT, OK};
 use std::str;
 use vt100::capture::{basic_formatted_rows, basic_formatted_to_plain_indexed};
 
-/// The place that is stored when there is no next row.
+/// The index that is stored if there is no next row.
 const NO_PLACE: usize = usize::MAX;
 
-/// Finds the next piece of a capture outside of SGR sequences, from byte `at`
-/// on, and stores where it begins and ends. If there is none, both are the
-/// length of the text.
+/// Finds the next chunk of a capture outside SGR sequences, starting at byte
+/// `at`, and stores the indices of its start and end. If there is none, both
+/// are the length of the text.
 ///
 /// # Errors
 ///
-/// `BAD_ARGUMENT` if the text isn't UTF-8 or no character begins or ends at
-/// `at`; nothing is stored.
+/// Returns `BAD_ARGUMENT` if the text is not valid UTF-8 or `at` is not on a
+/// character boundary. On error, nothing is stored.
 #[unsafe(no_mangle)]
 pub extern "C" fn vt100_next_plain(text: &[u8], at: usize, start: &mut usize, end: &mut usize) -> u8
     ensures status { result ≡ OK ↔ IsPlace text.now at }
@@ -38,13 +38,13 @@ pub extern "C" fn vt100_next_plain(text: &[u8], at: usize, start: &mut usize, en
 }
 
 /// Finds the row of a capture that begins at byte `at`, for a terminal of
-/// `width` columns, and stores where it ends and where the next row begins.
-/// After the last row the latter is `SIZE_MAX`.
+/// `width` columns. Stores the index of its end in `end` and the index of the
+/// next row in `next`. If there is no next row, `next` is `SIZE_MAX`.
 ///
 /// # Errors
 ///
-/// `BAD_ARGUMENT` if the text isn't UTF-8 or no character begins or ends at
-/// `at`; nothing is stored.
+/// Returns `BAD_ARGUMENT` if the text is not valid UTF-8 or `at` is not on a
+/// character boundary. On error, nothing is stored.
 #[unsafe(no_mangle)]
 pub extern "C" fn vt100_next_row(
     text: &[u8],
@@ -67,8 +67,8 @@ pub extern "C" fn vt100_next_row(
     OK
 }
 
-/// Returns the text from byte `at` on, if the bytes are UTF-8 and a character
-/// begins there or the text ends there.
+/// Returns the text from byte `at` on if the bytes are valid UTF-8 and `at` is
+/// on a character boundary, otherwise `None`.
 fn text_from(text: &[u8], at: usize) -> Option<&str>
     ensures is { IsSome result ↔ IsPlace text.now at }
     ensures rest { IfSome result (λ rest. rest.now ≡ drop at text.now) }
@@ -83,9 +83,9 @@ fn text_from(text: &[u8], at: usize) -> Option<&str>
     }
 }
 
-/// Returns where the first piece outside of SGR sequences begins and ends, in
-/// text that begins at byte `at` of the capture. If there is none, both are
-/// `stop`.
+/// Returns the start and the end of the first chunk of `text` outside SGR
+/// sequences, where `text` begins at byte `at` of the capture. If there is
+/// none, both are `stop`.
 fn next_plain(text: &str, at: usize, stop: usize) -> (usize, usize)
     requires { at + length text.now ≤ stop }
     ensures { (pieces : List Piece) × ArePiecesOf text.now pieces
@@ -98,8 +98,8 @@ fn next_plain(text: &str, at: usize, stop: usize) -> (usize, usize)
     }
 }
 
-/// Returns where the first row ends and where the next one begins, in text that
-/// begins at byte `at` of the capture.
+/// Returns the end of the first row of `text` and the start of the next row,
+/// where `text` begins at byte `at` of the capture.
 fn next_row(text: &str, width: u16, at: usize) -> (usize, usize)
     requires { at + length text.now < 18446744073709551615 }
     ensures { (rows : List Piece) × AreRowsOf width text.now rows × IsFirstRow at rows result.0 result.1 }

@@ -1,4 +1,5 @@
-//! Writing of captures: the text of rows with SGR as the only escape sequences.
+//! Writing captures: the text of rows, with SGR sequences as the only escape
+//! sequences.
 
 ghost use Rattle.std.specs.Prelude.{◌≡◌, IfErr, IfOk, OnErr, OnOk, Some, string_bytes};
 ghost use Rattle.std.specs.List.{slice_get};
@@ -25,13 +26,12 @@ use std::alloc::Global;
 use vt100::Screen;
 use vt100::capture::{BasicFormattedCaptureRange, BasicFormattedCaptureState, RowContents};
 
-/// Creates a capture to which nothing has been written, in the empty handle
-/// `out`.
+/// Creates an empty capture in the empty handle `out`.
 ///
 /// # Errors
 ///
-/// `IN_USE` if `out` isn't empty, `OUT_OF_MEMORY` if an allocation fails;
-/// nothing has changed.
+/// Returns `IN_USE` if `out` is not empty, or `OUT_OF_MEMORY` if an allocation
+/// fails. On error, nothing is changed.
 #[unsafe(no_mangle)]
 pub extern "C" fn vt100_capture_new(alloc: Global, out: &mut Handle) -> u8
     ensures { MakesOne (λ made. made ≡ Source.Capture unwritten) out.old.held result out.new.held }
@@ -46,15 +46,16 @@ pub extern "C" fn vt100_capture_new(alloc: Global, out: &mut Handle) -> u8
     )
 }
 
-/// Appends all rows of scrollback and the page to a capture, from the screen of
-/// a parser or a saved screen. The new text is kept with the capture, and its
-/// length is stored.
+/// Appends all rows of a screen, including scrollback rows, to a capture.
+/// `handle` must hold a parser or a saved screen. Stores the new text in the
+/// handle `capture` and its length in `len`.
 ///
 /// # Errors
 ///
-/// `NO_OBJECT` if a handle is empty, `WRONG_KIND` if `handle` holds no such
-/// screen or `capture` no capture, `BAD_ARGUMENT` if the same handle is passed
-/// twice, `OUT_OF_MEMORY` if the text cannot be allocated; nothing has changed.
+/// Returns `NO_OBJECT` if a handle is empty, `WRONG_KIND` if `handle` holds
+/// neither a parser nor a saved screen or `capture` does not hold a capture,
+/// `BAD_ARGUMENT` if the same handle is passed twice, or `OUT_OF_MEMORY` if the
+/// text cannot be allocated. On error, nothing is changed.
 #[unsafe(no_mangle)]
 pub extern "C" fn vt100_capture_screen(
     alloc: Global,
@@ -81,8 +82,8 @@ pub extern "C" fn vt100_capture_screen(
 /// Appends all rows of the screen in `handle` to the capture `object`, which
 /// was taken out of its own handle.
 ///
-/// If `handle` is empty now, it is the handle of the capture, so C passed one
-/// handle twice: that is a bad argument.
+/// If `handle` is now empty, it is the handle of the capture. The same handle
+/// was then passed twice, which is a bad argument.
 fn screen_beside(alloc: Global, object: &mut Object, handle: &mut Handle, len: &mut usize) -> u8
     ensures answer { IsAnswer (due_beside_capture screen_in any_screen_is_due handle.old.held object.old) result }
     ensures some { result ≡ out_of_memory → HoldAtCapture screen_in handle.old.held (Some object.old) HaveText }
@@ -100,8 +101,8 @@ fn screen_beside(alloc: Global, object: &mut Object, handle: &mut Handle, len: &
     status
 }
 
-/// Appends all rows of the screen of `from` to a capture, if `object` holds a
-/// capture and `from` has a screen.
+/// Appends all rows of the screen of `from` to the capture `object`. Returns
+/// `WRONG_KIND` if `from` has no screen or `object` is not a capture.
 fn write_screen(alloc: Global, object: &mut Object, from: &Source, len: &mut usize) -> u8
     ensures answer { IsAnswer
         (due_behind any_screen_is_due (screen_in from.now) (state_in object.old.source)) result }
@@ -118,8 +119,8 @@ fn write_screen(alloc: Global, object: &mut Object, from: &Source, len: &mut usi
     keep(&mut object.text, made, len)
 }
 
-/// Returns the text of all rows of a screen, continuing from a capture's state,
-/// if `capture` is a capture.
+/// Returns the text that appending all rows of a screen adds to `capture`, or
+/// `WRONG_KIND` if `capture` is not a capture.
 fn screen_text(alloc: Global, screen: &Screen, capture: &mut Source) -> Result<String, u8>
     ensures text { IfOk result (λ text. OnCapture (Some screen.now) (state_in capture.old)
         (λ screen state. string_bytes text ≡ basic_texts state (all_rows screen))) }
@@ -137,12 +138,13 @@ fn screen_text(alloc: Global, screen: &Screen, capture: &mut Source) -> Result<S
     }
 }
 
-/// Returns the text of all rows of a screen, continuing from a capture state,
-/// which is updated.
+/// Returns the text that appending all rows of a screen adds to a capture with
+/// state `state`, and updates the state.
 ///
 /// # Errors
 ///
-/// `OUT_OF_MEMORY` if the text cannot be allocated; the state is unchanged.
+/// Returns `OUT_OF_MEMORY` if the text cannot be allocated. On error, the state
+/// is unchanged.
 fn rows_text(
     alloc: Global,
     screen: &Screen,
@@ -167,15 +169,16 @@ fn rows_text(
     Ok(text)
 }
 
-/// Appends to a capture a row, counted from 0, that an event of a parser
-/// reported. The new text is kept with the capture, and its length is stored.
+/// Appends a row to a capture. The row is one of those that a parser's events
+/// have reported, and `index` is its number, counted from 0. Stores the new
+/// text in the handle `capture` and its length in `len`.
 ///
 /// # Errors
 ///
-/// `NO_OBJECT` if a handle is empty, `WRONG_KIND` if `parser` holds no parser
-/// or `capture` no capture, `BAD_ARGUMENT` if the same handle is passed twice
-/// or if there is no such row, `OUT_OF_MEMORY` if the text cannot be allocated;
-/// nothing has changed.
+/// Returns `NO_OBJECT` if a handle is empty, `WRONG_KIND` if `parser` does not
+/// hold a parser or `capture` does not hold a capture, `BAD_ARGUMENT` if the
+/// same handle is passed twice or there is no such row, or `OUT_OF_MEMORY` if
+/// the text cannot be allocated. On error, nothing is changed.
 #[unsafe(no_mangle)]
 pub extern "C" fn vt100_capture_row(
     alloc: Global,
@@ -198,8 +201,8 @@ pub extern "C" fn vt100_capture_row(
     status
 }
 
-/// Appends a row that the parser in `parser` reported to the capture `object`,
-/// which was taken out of its own handle; see [`screen_beside`].
+/// Appends row `index` of the log in the handle `parser` to the capture
+/// `object`, which was taken out of its own handle. See also [`screen_beside`].
 fn row_beside(
     alloc: Global,
     object: &mut Object,
@@ -221,8 +224,9 @@ fn row_beside(
     status
 }
 
-/// Appends a row of the log of `from` to a capture, if `object` holds a capture
-/// and `from` has a log with such a row.
+/// Appends row `index` of the log of `from` to the capture `object`. Returns
+/// `WRONG_KIND` if `from` has no log or `object` is not a capture, and
+/// `BAD_ARGUMENT` if there is no such row.
 fn write_row(alloc: Global, object: &mut Object, from: &Source, index: usize, len: &mut usize) -> u8
     ensures answer { IsAnswer
         (due_behind (has_reported index) (log_in from.now) (state_in object.old.source)) result }
@@ -237,8 +241,9 @@ fn write_row(alloc: Global, object: &mut Object, from: &Source, index: usize, le
     keep(&mut object.text, made, len)
 }
 
-/// Returns the text of a reported row, continuing from a capture's state, if
-/// `capture` is a capture and there is such a row.
+/// Returns the text that appending reported row `index` adds to `capture`.
+/// Returns `WRONG_KIND` if `capture` is not a capture, and `BAD_ARGUMENT` if
+/// there is no such row.
 fn reported_text(
     alloc: Global,
     log: &Events,
@@ -260,8 +265,9 @@ fn reported_text(
     }
 }
 
-/// Returns the text of a reported row, continuing from a capture state, if
-/// there is such a row.
+/// Returns the text that appending reported row `index` adds to a capture with
+/// state `state`, and updates the state. Returns `BAD_ARGUMENT` if there is no
+/// such row.
 fn event_text(
     alloc: Global,
     log: &Events,
@@ -280,12 +286,13 @@ fn event_text(
     }
 }
 
-/// Returns the text of a row, continuing from a capture state, which is
-/// updated.
+/// Returns the text that appending a row adds to a capture with state `state`,
+/// and updates the state.
 ///
 /// # Errors
 ///
-/// `OUT_OF_MEMORY` if the text cannot be allocated; the state is unchanged.
+/// Returns `OUT_OF_MEMORY` if the text cannot be allocated. On error, the state
+/// is unchanged.
 fn row_text(
     alloc: Global,
     row: &RowContents<'_>,

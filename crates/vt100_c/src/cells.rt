@@ -1,7 +1,8 @@
-//! A cell and a screen's state, laid out for C.
+//! Cells and the state of a screen, laid out for C.
 
-/// A colour. Kind 0 is the terminal's default, 1 the palette colour whose index
-/// is `red`, and 2 the one with these red, green and blue components.
+/// A colour. Kind 0 is the terminal's default colour, kind 1 is the palette
+/// colour whose index is `red`, and kind 2 is the colour with the components
+/// `red`, `green` and `blue`.
 #[repr(C)]
 #[derive(Clone, Copy)]
 pub struct VtColor {
@@ -15,7 +16,7 @@ pub struct VtColor {
     pub blue: u8,
 }
 
-/// A cell. The first `len` bytes of `text` are its text, and the others are 0.
+/// A cell. The first `len` bytes of `text` are its text, and the rest are 0.
 #[repr(C)]
 #[derive(Drop)]
 pub struct VtCell {
@@ -23,8 +24,8 @@ pub struct VtCell {
     pub text: [u8; 30],
     /// The length of the text in bytes, from 0 to 29.
     pub len: u8,
-    /// The style from bit 0 on (bold, dim, italic, underline, inverse), bit 5
-    /// for a wide cell, and bit 6 for a continuation cell.
+    /// The flags of the cell: bold, dim, italic, underline and inverse in bits
+    /// 0 to 4, wide in bit 5, and continuation cell in bit 6.
     pub flags: u8,
     /// The foreground colour.
     pub fgcolor: VtColor,
@@ -32,8 +33,8 @@ pub struct VtCell {
     pub bgcolor: VtColor,
 }
 
-/// The state of a screen, without its cells. A test is 0 or 1, and a variant of
-/// an enum is its index, counted from 0.
+/// The state of a screen, without its cells. Boolean values are 0 or 1, and the
+/// variants of an enum are numbered from 0.
 #[repr(C)]
 #[derive(Drop)]
 pub struct VtState {
@@ -47,13 +48,13 @@ pub struct VtState {
     pub cursor_col: u16,
     /// 1 if the alternate page is active.
     pub alternate_screen: u8,
-    /// 1 if the keypad sends application sequences.
+    /// 1 if the keypad is in application mode.
     pub application_keypad: u8,
-    /// 1 if the cursor keys send application sequences.
+    /// 1 if the cursor keys are in application mode.
     pub application_cursor: u8,
     /// 1 if the cursor is hidden.
     pub hide_cursor: u8,
-    /// 1 if pasted text is bracketed.
+    /// 1 if bracketed paste mode is set.
     pub bracketed_paste: u8,
     /// The number of the mouse mode, from 0 to 4.
     pub mouse_protocol_mode: u8,
@@ -61,19 +62,19 @@ pub struct VtState {
     pub mouse_protocol_encoding: u8,
     /// The number of the cursor style, from 0 to 6.
     pub cursor_style: u8,
-    /// The style of newly printed text, from bit 0 on: bold, dim, italic,
-    /// underline, inverse.
+    /// The style of newly printed text: bold, dim, italic, underline and
+    /// inverse in bits 0 to 4.
     pub flags: u8,
-    /// Zeros.
+    /// Reserved; always 0.
     pub reserved: [u8; 3],
     /// The foreground colour of newly printed text.
     pub fgcolor: VtColor,
     /// The background colour of newly printed text.
     pub bgcolor: VtColor,
-    /// By how many rows of scrollback the display is scrolled back.
+    /// The number of rows by which the display is scrolled back.
     pub scrollback: usize,
     /// The number of rows in scrollback.
     pub scrollback_len: usize,
-    /// The largest number of rows that scrollback keeps.
+    /// The maximum number of rows that scrollback keeps.
     pub scrollback_capacity: usize,
 }

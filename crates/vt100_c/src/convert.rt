@@ -1,4 +1,4 @@
-//! Conversion of colours, cells and states for C.
+//! Conversion of colours, cells and screen states for C.
 
 ghost use Rattle.std.specs.Prelude.{◌≡◌, length};
 ghost use Rattle.vt_cells.specs.Cell.{text_of};
@@ -9,7 +9,7 @@ ghost use Rattle.vt100_c.specs.Shown.{mouse_encoding_number, mouse_mode_number, 
 use crate::cells::{VtCell, VtColor, VtState};
 use vt100::{Cell, Color, CursorStyle, MouseProtocolEncoding, MouseProtocolMode, Screen};
 
-/// Converts a colour.
+/// Converts a colour to its layout for C.
 fn color_for_c(color: Color) -> VtColor
     ensures { result ≡ color_for_c color }
 {
@@ -35,14 +35,14 @@ fn color_for_c(color: Color) -> VtColor
     }
 }
 
-/// Returns `value` if `is` holds, and 0 if not.
+/// Returns `value` if `is` is true, otherwise 0.
 pub(crate) fn bit(value: u8, is: bool) -> u8
     ensures { result ≡ bit value is }
 {
     if is { value } else { 0 }
 }
 
-/// Converts a cell.
+/// Converts a cell to its layout for C.
 pub(crate) fn cell_for_c(cell: &Cell) -> VtCell
     ensures { result ≡ cell_for_c cell.now }
 {
@@ -57,8 +57,8 @@ pub(crate) fn cell_for_c(cell: &Cell) -> VtCell
     }
 }
 
-/// Writes the text of a cell, padded with zeros, and returns its length in
-/// bytes.
+/// Writes the text of a cell into `room`, padded with zeros, and returns the
+/// length of the text in bytes.
 #[tactic(auto, using(crate::proofs::Padding::short, crate::proofs::Padding::pads))]
 fn write_text(cell: &Cell, room: &mut [u8; 30]) -> u8
     ensures len { result ≡ length (text_of cell.now) }
@@ -83,7 +83,7 @@ fn cell_flags(cell: &Cell) -> u8
     style + bit(32, cell.is_wide()) + bit(64, cell.is_wide_continuation())
 }
 
-/// Returns the flags of the style of newly printed text.
+/// Returns the flags for the style of newly printed text.
 fn style_flags(screen: &Screen) -> u8
     ensures { result ≡ style_flags screen.now.attrs }
 {
@@ -133,7 +133,7 @@ fn cursor_style_number(style: CursorStyle) -> u8
     }
 }
 
-/// Converts the state of a screen.
+/// Converts the state of a screen to its layout for C.
 pub(crate) fn state_for_c(screen: &Screen) -> VtState
     ensures { result ≡ state_for_c screen.now }
 {

@@ -1,4 +1,4 @@
-//! Copying of the last text of a handle.
+//! Copying the text that was last stored in a handle.
 
 ghost use Rattle.std.specs.Prelude.{◌≡◌, drop, length, min, take};
 ghost use Rattle.vt100_c.specs.Due.{text_at};
@@ -6,8 +6,8 @@ ghost use Rattle.vt100_c.specs.Due.{text_at};
 use crate::handle::Handle;
 use std::alloc::Global;
 
-/// Copies the last text of a handle, as far as it fits into `out`, and returns
-/// the number of bytes copied. The rest of `out` is unchanged.
+/// Copies as much of the text last stored in a handle as fits into `out`, and
+/// returns the number of bytes copied. The rest of `out` is unchanged.
 #[unsafe(no_mangle)]
 pub extern "C" fn vt100_copy(alloc: Global, handle: &mut Handle, out: &mut [u8]) -> usize
     ensures same { handle.new.held ≡ handle.old.held }
@@ -24,7 +24,7 @@ pub extern "C" fn vt100_copy(alloc: Global, handle: &mut Handle, out: &mut [u8])
     count
 }
 
-/// Copies bytes as far as they fit into `out`, and returns the number of bytes
+/// Copies as many bytes as fit into `out`, and returns the number of bytes
 /// copied.
 pub(crate) fn copy(bytes: &[u8], out: &mut [u8]) -> usize
     ensures count { result ≡ min (length bytes.now) (length out.old) }

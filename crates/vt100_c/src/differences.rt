@@ -14,16 +14,16 @@ use crate::object::{Object, Source};
 use crate::status::{BAD_ARGUMENT, NO_OBJECT};
 use std::alloc::Global;
 
-/// Makes the escape sequences that turn the display of `prev` into that of
-/// `handle`'s screen ([`vt100::Screen::contents_diff`]), keeps them with
-/// `handle`, and stores their length.
+/// Generates the escape sequences that turn the display of `prev` into that of
+/// `handle`'s screen ([`vt100::Screen::contents_diff`]). Stores them in
+/// `handle` and their length in `len`.
 ///
 /// # Errors
 ///
-/// `NO_OBJECT` if a handle is empty, `WRONG_KIND` if one holds neither a parser
-/// nor a saved screen, `OTHER_SIZE` if the screens differ in size,
-/// `BAD_ARGUMENT` if the same handle is passed twice, `OUT_OF_MEMORY` if the
-/// output cannot be allocated; nothing has changed.
+/// Returns `NO_OBJECT` if a handle is empty, `WRONG_KIND` if one holds neither
+/// a parser nor a saved screen, `OTHER_SIZE` if the two screens differ in size,
+/// `BAD_ARGUMENT` if the same handle is passed twice, or `OUT_OF_MEMORY` if the
+/// output cannot be allocated. On error, nothing is changed.
 #[unsafe(no_mangle)]
 pub extern "C" fn vt100_contents_diff(
     alloc: Global,
@@ -38,17 +38,17 @@ pub extern "C" fn vt100_contents_diff(
     make(alloc, handle, prev, Difference::Contents, len)
 }
 
-/// Makes the escape sequences that turn the display of `prev` into that of
+/// Generates the escape sequences that turn the display of `prev` into that of
 /// `handle`'s screen, moving rows first if they have scrolled
-/// ([`vt100::Screen::contents_diff_scrolling`]), keeps them with `handle`, and
-/// stores their length.
+/// ([`vt100::Screen::contents_diff_scrolling`]). Stores them in `handle` and
+/// their length in `len`.
 ///
 /// # Errors
 ///
-/// `NO_OBJECT` if a handle is empty, `WRONG_KIND` if one holds neither a parser
-/// nor a saved screen, `OTHER_SIZE` if the screens differ in size,
-/// `BAD_ARGUMENT` if the same handle is passed twice, `OUT_OF_MEMORY` if the
-/// output cannot be allocated; nothing has changed.
+/// Returns `NO_OBJECT` if a handle is empty, `WRONG_KIND` if one holds neither
+/// a parser nor a saved screen, `OTHER_SIZE` if the two screens differ in size,
+/// `BAD_ARGUMENT` if the same handle is passed twice, or `OUT_OF_MEMORY` if the
+/// output cannot be allocated. On error, nothing is changed.
 #[unsafe(no_mangle)]
 pub extern "C" fn vt100_contents_diff_scrolling(
     alloc: Global,
@@ -63,16 +63,16 @@ pub extern "C" fn vt100_contents_diff_scrolling(
     make(alloc, handle, prev, Difference::Scrolling, len)
 }
 
-/// Makes the escape sequences that turn the display and input modes of `prev`
-/// into those of `handle`'s screen ([`vt100::Screen::state_diff`]), keeps them
-/// with `handle`, and stores their length.
+/// Generates the escape sequences that turn the display and input modes of
+/// `prev` into those of `handle`'s screen ([`vt100::Screen::state_diff`]).
+/// Stores them in `handle` and their length in `len`.
 ///
 /// # Errors
 ///
-/// `NO_OBJECT` if a handle is empty, `WRONG_KIND` if one holds neither a parser
-/// nor a saved screen, `OTHER_SIZE` if the screens differ in size,
-/// `BAD_ARGUMENT` if the same handle is passed twice, `OUT_OF_MEMORY` if the
-/// output cannot be allocated; nothing has changed.
+/// Returns `NO_OBJECT` if a handle is empty, `WRONG_KIND` if one holds neither
+/// a parser nor a saved screen, `OTHER_SIZE` if the two screens differ in size,
+/// `BAD_ARGUMENT` if the same handle is passed twice, or `OUT_OF_MEMORY` if the
+/// output cannot be allocated. On error, nothing is changed.
 #[unsafe(no_mangle)]
 pub extern "C" fn vt100_state_diff(
     alloc: Global,
@@ -87,15 +87,16 @@ pub extern "C" fn vt100_state_diff(
     make(alloc, handle, prev, Difference::State, len)
 }
 
-/// Makes the escape sequences that change the input modes of `prev` to those of
-/// `handle`'s screen ([`vt100::Screen::input_mode_diff`]), keeps them with
-/// `handle`, and stores their length.
+/// Generates the escape sequences that change the input modes of `prev` to
+/// those of `handle`'s screen ([`vt100::Screen::input_mode_diff`]). Stores them
+/// in `handle` and their length in `len`.
 ///
 /// # Errors
 ///
-/// `NO_OBJECT` if a handle is empty, `WRONG_KIND` if one holds neither a parser
-/// nor a saved screen, `BAD_ARGUMENT` if the same handle is passed twice,
-/// `OUT_OF_MEMORY` if the output cannot be allocated; nothing has changed.
+/// Returns `NO_OBJECT` if a handle is empty, `WRONG_KIND` if one holds neither
+/// a parser nor a saved screen, `BAD_ARGUMENT` if the same handle is passed
+/// twice, or `OUT_OF_MEMORY` if the output cannot be allocated. On error,
+/// nothing is changed.
 #[unsafe(no_mangle)]
 pub extern "C" fn vt100_input_mode_diff(
     alloc: Global,
@@ -110,7 +111,8 @@ pub extern "C" fn vt100_input_mode_diff(
     make(alloc, handle, prev, Difference::InputMode, len)
 }
 
-/// Makes a difference, keeps it with the first handle, and stores its length.
+/// Generates a difference from the screen in `prev` to that in `handle`. Stores
+/// it in `handle` and its length in `len`.
 fn make(
     alloc: Global,
     handle: &mut Handle,
@@ -131,11 +133,11 @@ fn make(
     status
 }
 
-/// Makes the difference from the screen in `prev` for `object`, which was taken
-/// out of its own handle.
+/// Generates a difference from the screen in `prev` to that of `object`, which
+/// was taken out of its own handle.
 ///
-/// If `prev` is empty now, it is the handle of the object, so C passed one
-/// handle twice: that is a bad argument.
+/// If `prev` is now empty, it is the handle of the object. The same handle was
+/// then passed twice, which is a bad argument.
 fn make_beside(
     alloc: Global,
     object: &mut Object,
@@ -156,8 +158,8 @@ fn make_beside(
     status
 }
 
-/// Makes the difference from the screen of `prev`, keeps it with the object,
-/// and stores its length.
+/// Generates a difference from the screen of `prev` to that of `object`. Stores
+/// it in the object and its length in `len`.
 fn renew(object: &mut Object, prev: &Source, difference: Difference, len: &mut usize) -> u8
     ensures source { object.new.source ≡ object.old.source }
     ensures answer { IsAnswer

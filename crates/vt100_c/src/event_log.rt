@@ -1,4 +1,4 @@
-//! Reading and clearing of the records of a parser's events.
+//! Reading and clearing the records of a parser's events.
 
 ghost use Rattle.std.specs.Prelude.{◌≡◌, IfSome, None, Some, drop, length, min, take};
 ghost use Rattle.vt100_c.specs.Calls.{OnSource};
@@ -14,14 +14,14 @@ use crate::status::{NO_OBJECT, OK, WRONG_KIND};
 use std::alloc::Global;
 use vt100::Parser;
 
-/// Stores the length in bytes of the records since the log was last cleared,
-/// and whether it is whole: 1 if no record is missing, otherwise 0. After a
-/// missing record no more are added.
+/// Stores the length, in bytes, of the records that were added since the log
+/// was last cleared. Stores 1 in `is_whole` if no record has been lost since
+/// then, otherwise 0. After a record has been lost, no more are added.
 ///
 /// # Errors
 ///
-/// `NO_OBJECT` if the handle is empty, `WRONG_KIND` if it holds no parser;
-/// nothing is stored.
+/// Returns `NO_OBJECT` if the handle is empty, or `WRONG_KIND` if it holds no
+/// parser. On error, nothing is stored.
 #[unsafe(no_mangle)]
 pub extern "C" fn vt100_events(
     alloc: Global,
@@ -45,9 +45,9 @@ pub extern "C" fn vt100_events(
     status
 }
 
-/// Copies the records of a parser's events, as far as they fit into `out`, and
-/// returns the number of bytes copied. The rest of `out` and the log are
-/// unchanged.
+/// Copies as much of the records of a parser's events as fits into `out`, and
+/// returns the number of bytes copied. The rest of `out` is unchanged, and so
+/// is the log.
 #[unsafe(no_mangle)]
 pub extern "C" fn vt100_copy_events(alloc: Global, handle: &mut Handle, out: &mut [u8]) -> usize
     ensures same { handle.new.held ≡ handle.old.held }
@@ -64,12 +64,13 @@ pub extern "C" fn vt100_copy_events(alloc: Global, handle: &mut Handle, out: &mu
     count
 }
 
-/// Clears a parser's log: its records, the rows that they report, and the note
-/// that records are missing.
+/// Clears a parser's log: its records, the rows that they report, and the flag
+/// that records have been lost.
 ///
 /// # Errors
 ///
-/// `NO_OBJECT` if the handle is empty, `WRONG_KIND` if it holds no parser.
+/// Returns `NO_OBJECT` if the handle is empty, or `WRONG_KIND` if it holds no
+/// parser.
 #[unsafe(no_mangle)]
 pub extern "C" fn vt100_clear_events(alloc: Global, handle: &mut Handle) -> u8
     ensures { OnSource Empties handle.old.held result handle.new.held }
@@ -83,12 +84,14 @@ pub extern "C" fn vt100_clear_events(alloc: Global, handle: &mut Handle) -> u8
     status
 }
 
-/// Sets the limit of a parser's log, in bytes of records and of cells of rows
-/// that scrolled off, after which records are lost. It clears the log.
+/// Clears a parser's log and sets its limit, the number of bytes after which
+/// records are lost. The limit covers the records and the cells of the rows
+/// that they report.
 ///
 /// # Errors
 ///
-/// `NO_OBJECT` if the handle is empty, `WRONG_KIND` if it holds no parser.
+/// Returns `NO_OBJECT` if the handle is empty, or `WRONG_KIND` if it holds no
+/// parser.
 #[unsafe(no_mangle)]
 pub extern "C" fn vt100_set_event_limit(alloc: Global, handle: &mut Handle, bytes: usize) -> u8
     ensures { OnSource (Limits bytes) handle.old.held result handle.new.held }
@@ -102,7 +105,7 @@ pub extern "C" fn vt100_set_event_limit(alloc: Global, handle: &mut Handle, byte
     status
 }
 
-/// Returns the log of a source, if it is a parser.
+/// Returns the log of a source if it is a parser, otherwise `None`.
 pub(crate) fn log_of(source: &Source) -> Option<&Events>
     ensures some { IfSome result (λ log. log_in source.now ≡ Some log.now) }
     ensures none { result ≡ None → log_in source.now ≡ None }
@@ -115,8 +118,8 @@ pub(crate) fn log_of(source: &Source) -> Option<&Events>
     }
 }
 
-/// Copies the records of a source, as far as they fit into `out`, and returns
-/// the number of bytes copied, which is 0 if it is no parser.
+/// Copies as much of the records of a source as fits into `out`, and returns
+/// the number of bytes copied. It is 0 if the source is not a parser.
 fn copy_records(source: &Source, out: &mut [u8]) -> usize
     ensures count { result ≡ min (length (records_of (log_in source.now))) (length out.old) }
     ensures text { take result out.new ≡ take result (records_of (log_in source.now)) }
@@ -128,8 +131,8 @@ fn copy_records(source: &Source, out: &mut [u8]) -> usize
     }
 }
 
-/// Stores the length of the records and whether none is missing, if the source
-/// has a log.
+/// Stores the length of the records of a source, and whether none has been
+/// lost. Returns `WRONG_KIND` if the source has no log.
 fn tell(source: &Source, len: &mut usize, is_whole: &mut u8) -> u8
     ensures status { result ≡ due_to (log_in source.now) }
     ensures len { result ≡ ok → len.new ≡ length (records_of (log_in source.now)) }
@@ -147,7 +150,7 @@ fn tell(source: &Source, len: &mut usize, is_whole: &mut u8) -> u8
     }
 }
 
-/// Clears the log of a source, if it has one.
+/// Clears the log of a source. Returns `WRONG_KIND` if the source has no log.
 fn clear(source: &mut Source) -> u8
     ensures { Empties source.old result source.new }
 {
@@ -162,7 +165,8 @@ fn clear(source: &mut Source) -> u8
     }
 }
 
-/// Sets the limit of a source's log, if it has one.
+/// Clears the log of a source and sets its limit in bytes. Returns `WRONG_KIND`
+/// if the source has no log.
 fn set_limit(source: &mut Source, bytes: usize) -> u8
     ensures { Limits bytes source.old result source.new }
 {
@@ -177,7 +181,7 @@ fn set_limit(source: &mut Source, bytes: usize) -> u8
     }
 }
 
-/// Sets the limit of a parser's log.
+/// Clears the log of a parser and sets its limit in bytes.
 fn set_log_limit(parser: &mut Parser<Events>, bytes: usize)
     ensures { parser.new ≡ record parser.old { callbacks = nothing_logged parser.old.callbacks.wanted bytes } }
 {

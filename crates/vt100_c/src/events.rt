@@ -1,4 +1,4 @@
-//! The log that keeps the calls of a terminal until C reads them.
+//! The log that records a terminal's callbacks until C reads them.
 
 ghost use Rattle.std.specs.Prelude.{◌≡◌, ◌&&◌, ◌<◌, OnErr, OnOk, length};
 ghost use Rattle.std.specs.List.{slice_get};
@@ -16,12 +16,12 @@ use vt100::{Call, Callbacks, Screen};
 /// The limit of a new log in bytes, after which records are lost: 1 MiB.
 pub(crate) const DEFAULT_LIMIT: usize = 1_048_576;
 
-/// A log with the records of the calls since it was cleared, in order, and a
-/// copy of each row that they report.
+/// A log of callbacks. It has a record of each call since it was last cleared,
+/// in order, and a copy of each row that the calls report.
 ///
 /// If an allocation for a record fails, or the log has reached its limit, the
-/// record is lost. The log then isn't whole, and nothing is added until it is
-/// cleared, so no call is ever out of order.
+/// record is lost. Nothing is then added until the log is cleared, so that the
+/// records never have a gap in the middle.
 #[derive(Drop)]
 pub struct Events {
     alloc: Global,
@@ -30,12 +30,12 @@ pub struct Events {
     /// The number of bytes after which records are lost.
     limit: usize,
 
-    /// The number of bytes that are left of the limit.
+    /// The number of bytes that can still be added.
     room: usize,
     records: Vec<u8>,
 
-    /// The kept rows, followed by spare ones whose memory later rows reuse, so
-    /// that most rows need no allocation.
+    /// The reported rows, followed by spare rows. The memory of the spare rows
+    /// is reused, so that most rows need no allocation.
     rows: Vec<Row>,
     row_count: usize,
     is_whole: bool,
@@ -62,8 +62,8 @@ impl Model for Events {
 }
 
 impl Events {
-    /// Creates an empty log with a limit in bytes. Bit k of `wanted` says
-    /// whether calls of kind k are kept.
+    /// Creates an empty log with a limit in bytes. Bit `k` of `wanted` says
+    /// whether calls of kind `k` are recorded.
     pub(crate) fn new(alloc: Global, wanted: u16, limit: usize) -> Events
         ensures { result ≡ nothing_logged wanted limit }
     {
@@ -79,7 +79,7 @@ impl Events {
         }
     }
 
-    /// Returns the records.
+    /// Returns the bytes of the records.
     pub(crate) fn records(&self) -> &[u8]
         ensures { result.now ≡ self.now.records }
     {
@@ -100,7 +100,8 @@ impl Events {
         self.room
     }
 
-    /// Returns a row that a record reports, counted from 0.
+    /// Returns the reported row at `index`, counted from 0, or `None` if there
+    /// is no such row.
     #[tactic(auto, using(crate::proofs::Reported::first_sound))]
     pub(crate) fn row(&self, index: usize) -> Option<RowContents<'_>>
         ensures { result ≡ slice_get self.now.rows index }
@@ -111,22 +112,23 @@ impl Events {
         }
     }
 
-    /// Returns whether no record is missing.
+    /// Returns whether no record has been lost since the log was last cleared.
     pub(crate) fn is_whole(&self) -> bool
         ensures { result ≡ self.now.is_whole }
     {
         self.is_whole
     }
 
-    /// Returns 1 if no record is missing, and 0 otherwise.
+    /// Returns 1 if no record has been lost since the log was last cleared,
+    /// otherwise 0.
     pub(crate) fn whole_bit(&self) -> u8
         ensures { result ≡ bit_of self.now.is_whole }
     {
         if self.is_whole { 1 } else { 0 }
     }
 
-    /// Clears the records and the note that some are missing. A log that had
-    /// reached its limit also frees the memory of its rows.
+    /// Clears the records, and the flag that records have been lost. If the log
+    /// has reached its limit, also frees the memory of its rows.
     pub(crate) fn clear(&mut self)
         ensures { self.new ≡ emptied self.old }
     {
@@ -139,7 +141,7 @@ impl Events {
         self.is_whole = true;
     }
 
-    /// Clears the records, and sets the limit in bytes.
+    /// Clears the log and sets its limit in bytes.
     pub(crate) fn set_limit(&mut self, limit: usize)
         ensures { self.new ≡ nothing_logged self.old.wanted limit }
     {
@@ -147,7 +149,7 @@ impl Events {
         self.clear();
     }
 
-    /// Returns whether calls of this kind are kept at present.
+    /// Returns whether calls of the given kind are currently recorded.
     fn keeps(&self, kind: u8) -> bool
         requires { kind < 16 }
         ensures { result ≡ (self.now.is_whole && is_wanted self.now.wanted kind) }
@@ -155,8 +157,8 @@ impl Events {
         self.is_whole && records::is_wanted(self.wanted, kind)
     }
 
-    /// Adds the record of a call, if it is wanted; a call whose record cannot
-    /// be added is lost.
+    /// Adds the record of a call if its kind is wanted. If the record cannot be
+    /// added, it is lost.
     fn note(&mut self, call: Call<'_>)
         ensures { LogsIt (call_of call.entry) self.old self.new }
     {
@@ -172,7 +174,7 @@ impl Events {
     ///
     /// # Errors
     ///
-    /// If an allocation fails; the log is unchanged.
+    /// Returns an error if an allocation fails. On error, the log is unchanged.
     fn add(&mut self, call: Call<'_>) -> Result<(), AllocError>
         ensures ok { OnOk result (self.new ≡ with_record (call_of call.entry) self.old) }
         ensures err { OnErr result (self.new ≡ self.old) }
@@ -185,8 +187,8 @@ impl Events {
         Ok(())
     }
 
-    /// Adds the record of a row, if it is wanted; a row whose record cannot be
-    /// added is lost.
+    /// Adds the record of a row if rows are wanted. If the record cannot be
+    /// added, it is lost.
     fn note_row(&mut self, row: &RowContents<'_>, alternate: bool)
         ensures { LogsIt (calls.OnScroll row.now alternate) self.old self.new }
     {
@@ -202,7 +204,7 @@ impl Events {
     ///
     /// # Errors
     ///
-    /// If an allocation fails; the log is unchanged.
+    /// Returns an error if an allocation fails. On error, the log is unchanged.
     fn add_row(&mut self, row: &RowContents<'_>, alternate: bool) -> Result<(), AllocError>
         ensures ok { OnOk result (self.new ≡ with_record (calls.OnScroll row.now alternate) self.old) }
         ensures err { OnErr result (self.new ≡ self.old) }
@@ -220,8 +222,8 @@ impl Events {
     }
 }
 
-/// Callbacks that keep each wanted call once, with its arguments, and leave the
-/// screen alone.
+/// Callbacks that record each wanted call once, with its arguments, and do not
+/// change the screen.
 impl Callbacks for Events {
     ghost use Rattle.vt100_c.specs.Records.{Logs};
 

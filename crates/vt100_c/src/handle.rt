@@ -1,4 +1,4 @@
-//! The handle of an object, which C holds.
+//! The handle through which C refers to an object.
 
 ghost use Rattle.std.specs.Prelude.{◌≡◌, IsSome, is_some, Option, Some, None};
 ghost use Rattle.vt100_c.specs.Held.{held_at};
@@ -22,7 +22,7 @@ impl Model for Handle {
     ghost also_owns = { λ handle. held_at handle.at handle.held };
 }
 
-// An object may be sent to another thread, and therefore its handle may, too.
+// An object may be sent to another thread, so its handle may be, too.
 unsafe impl Send for Handle {}
 
 impl Handle {
@@ -33,8 +33,8 @@ impl Handle {
         !self.at.is_null()
     }
 
-    /// Takes the object out of the handle, which is then empty until it is put
-    /// back.
+    /// Takes the object out of the handle. The handle is then empty until the
+    /// object is put back.
     pub(crate) fn take_out(&mut self, alloc: Global) -> Box<Object>
         requires { IsSome self.old.held }
         ensures { (self.old.held ≡ Some result.value) × (self.new.held ≡ None) }
@@ -42,8 +42,8 @@ impl Handle {
         self.take(alloc).into_box()
     }
 
-    /// Puts an object into the handle, which must be empty: what it held before
-    /// could no longer be reached.
+    /// Puts an object into the handle. The handle must be empty; an object that
+    /// it held would be leaked.
     pub(crate) fn put_back(&mut self, object: Box<Object>)
         ensures { self.new.held ≡ Some object.value }
     {

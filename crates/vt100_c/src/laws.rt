@@ -1,18 +1,19 @@
-//! Laws about lists of calls. These functions do nothing when run; their
-//! clauses state what is proved.
+//! Theorems about sequences of calls. The functions do nothing when called;
+//! their clauses state what is proved.
 
 ghost use Rattle.std.specs.Prelude.{◌<◌, ℕ, List, length};
 ghost use Rattle.vt100_c.specs.Captures.{no_place};
 ghost use Rattle.vt100_c.specs.Walking.{ArePlacesOfPieces, ArePlacesOfRows, FindAllPlain, FindAllRows};
 
-/// States that calls over a whole capture find all of it, in order.
+/// States that repeated calls find all chunks and rows of a capture, in order.
 ///
-/// - `pieces`: calls of `vt100_next_plain` from byte 0 on, each from the end of
-///   the previous piece, until one finds none, find all pieces outside of SGR
-///   sequences.
-/// - `rows`: calls of `vt100_next_row` from byte 0 on, each at the place that
-///   the previous one stored, until one stores `SIZE_MAX`, find all rows. Text
-///   in memory is always shorter than `SIZE_MAX`.
+/// - `pieces`: calls to `vt100_next_plain` find all chunks outside SGR
+///   sequences. The first call starts at byte 0, each later one at the end of
+///   the previous chunk, until a call finds none.
+/// - `rows`: calls to `vt100_next_row` find all rows. The first call starts at
+///   byte 0, each later one at the index that the previous call stored, until a
+///   call stores `SIZE_MAX`. A text in memory is always shorter than `SIZE_MAX`
+///   bytes.
 pub fn whole_captures()
     ensures pieces { (text : List ℕ) (places : List (ℕ × ℕ)) →
         FindAllPlain text 0 places → ArePlacesOfPieces text places }

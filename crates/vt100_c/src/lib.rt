@@ -1,5 +1,5 @@
-//! The terminal for C: functions that take handles, which are one word each,
-//! and return a status.
+//! The C interface of the terminal: functions that take handles, each the size
+//! of a pointer, and return a status code.
 #![tactic(auto)]
 
 mod captures;

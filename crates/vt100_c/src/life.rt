@@ -1,4 +1,4 @@
-//! Creating, saving, exchanging and freeing the objects of handles.
+//! Creating, saving, swapping and freeing the objects that handles hold.
 
 ghost use Rattle.std.specs.Prelude.{◌≡◌, IfErr, IfOk, IfSome, None, Some, is_some, unwrap_or};
 ghost use Rattle.vt100_c.specs.Calls.{Fills, is_size};
@@ -18,13 +18,14 @@ use std::mem;
 use std::num::NonZeroU16;
 use vt100::{Parser, Screen};
 
-/// Creates a parser with a fresh screen in the empty handle `out`. Bit k of
-/// `wanted` says whether events of kind k are kept.
+/// Creates a parser with a fresh screen in the empty handle `out`. Bit `k` of
+/// `wanted` says whether events of kind `k` are recorded.
 ///
 /// # Errors
 ///
-/// `IN_USE` if `out` isn't empty, `BAD_ARGUMENT` if `rows` or `cols` is 0,
-/// `OUT_OF_MEMORY` if an allocation fails; nothing has changed.
+/// Returns `IN_USE` if `out` is not empty, `BAD_ARGUMENT` if `rows` or `cols`
+/// is 0, or `OUT_OF_MEMORY` if an allocation fails. On error, nothing is
+/// changed.
 #[unsafe(no_mangle)]
 pub extern "C" fn vt100_parser_new(
     alloc: Global,
@@ -49,14 +50,14 @@ pub extern "C" fn vt100_parser_new(
     }
 }
 
-/// Saves a copy in the empty handle `out`: of the screen of a parser or a saved
-/// screen, or of a capture.
+/// Saves a copy of a screen or a capture in the empty handle `out`. `handle`
+/// must hold a parser or a saved screen, whose screen is copied, or a capture.
 ///
 /// # Errors
 ///
-/// `NO_OBJECT` if `handle` is empty, `IN_USE` if `out` isn't, `WRONG_KIND` if
-/// `handle` holds a mirror, `OUT_OF_MEMORY` if the copy cannot be allocated;
-/// nothing has changed.
+/// Returns `NO_OBJECT` if `handle` is empty, `IN_USE` if `out` is not,
+/// `WRONG_KIND` if `handle` holds a mirror, or `OUT_OF_MEMORY` if the copy
+/// cannot be allocated. On error, nothing is changed.
 #[unsafe(no_mangle)]
 pub extern "C" fn vt100_save(alloc: Global, handle: &mut Handle, out: &mut Handle) -> u8
     ensures same { handle.new.held ≡ handle.old.held }
@@ -106,14 +107,14 @@ pub extern "C" fn vt100_shown_copy(alloc: Global, handle: &mut Handle, out: &mut
     }
 }
 
-/// Exchanges the screens of two handles, each of which holds a parser or a
+/// Swaps the screens of two handles, each of which must hold a parser or a
 /// saved screen.
 ///
 /// # Errors
 ///
-/// `NO_OBJECT` if a handle is empty, `WRONG_KIND` if one holds neither a parser
-/// nor a saved screen, `BAD_ARGUMENT` if the same handle is passed twice;
-/// nothing has changed.
+/// Returns `NO_OBJECT` if a handle is empty, `WRONG_KIND` if one holds neither
+/// a parser nor a saved screen, or `BAD_ARGUMENT` if the same handle is passed
+/// twice. On error, nothing is changed.
 #[unsafe(no_mangle)]
 pub extern "C" fn vt100_swap(alloc: Global, handle: &mut Handle, other: &mut Handle) -> u8
     ensures { Swaps handle.old.held other.old.held result handle.new.held other.new.held }
@@ -123,7 +124,7 @@ pub extern "C" fn vt100_swap(alloc: Global, handle: &mut Handle, other: &mut Han
     }
     let mut first = handle.take_out(alloc);
     if !other.is_full() {
-        // Both handles were full before, so this is the same handle twice.
+        // Both handles were full before, so the same handle was passed twice.
         handle.put_back(first);
         return BAD_ARGUMENT;
     }
@@ -134,7 +135,7 @@ pub extern "C" fn vt100_swap(alloc: Global, handle: &mut Handle, other: &mut Han
     status
 }
 
-/// Frees the object of a handle, which is then empty.
+/// Frees the object that a handle holds, and leaves the handle empty.
 #[unsafe(no_mangle)]
 pub extern "C" fn vt100_free(alloc: Global, handle: &mut Handle)
     ensures { handle.new.held ≡ None }
@@ -144,7 +145,8 @@ pub extern "C" fn vt100_free(alloc: Global, handle: &mut Handle)
     }
 }
 
-/// Returns the kind of the object that a handle holds, or 0 if it is empty.
+/// Returns the kind of the object that a handle holds, or 0 if the handle is
+/// empty.
 #[unsafe(no_mangle)]
 pub extern "C" fn vt100_kind(alloc: Global, handle: &mut Handle) -> u8
     ensures same { handle.new.held ≡ handle.old.held }
@@ -159,7 +161,7 @@ pub extern "C" fn vt100_kind(alloc: Global, handle: &mut Handle) -> u8
     kind
 }
 
-/// Returns `rows` and `cols` as a size, or `None` if one of them is 0.
+/// Returns `rows` and `cols` as nonzero numbers, or `None` if either is 0.
 pub(crate) fn size_of(rows: u16, cols: u16) -> Option<(NonZeroU16, NonZeroU16)>
     ensures some { is_some result ≡ is_size rows cols }
     ensures rows { IfSome result (λ size. size.0.value ≡ rows) }
@@ -174,7 +176,8 @@ pub(crate) fn size_of(rows: u16, cols: u16) -> Option<(NonZeroU16, NonZeroU16)>
     Some((some_rows, some_cols))
 }
 
-/// Puts a source with an empty text into an empty handle.
+/// Puts an object with the value `source` and an empty text into an empty
+/// handle.
 pub(crate) fn hold(alloc: Global, source: Source, out: &mut Handle) -> u8
     requires { out.old.held ≡ None }
     ensures { Fills (λ held. held ≡ source) result out.new.held }
@@ -192,12 +195,12 @@ pub(crate) fn hold(alloc: Global, source: Source, out: &mut Handle) -> u8
     }
 }
 
-/// Returns the copy of a source that is saved.
+/// Returns a copy of a source, in which a parser is replaced by its screen.
 ///
 /// # Errors
 ///
-/// `WRONG_KIND` if the source is a mirror, `OUT_OF_MEMORY` if an allocation
-/// fails.
+/// Returns `WRONG_KIND` if the source is a mirror, or `OUT_OF_MEMORY` if an
+/// allocation fails.
 fn copy_of(source: &Source) -> Result<Source, u8>
     ensures ok { IfOk result (λ copy. saved_from source.now ≡ Some copy) }
     ensures err { IfErr result (λ status. status ≡ refusal_of (saved_from source.now)) }
@@ -232,11 +235,11 @@ fn shown_copy_of(source: &Source) -> Result<Source, u8>
     }
 }
 
-/// Returns a saved screen that is a copy of a screen.
+/// Returns a copy of a screen as a saved screen.
 ///
 /// # Errors
 ///
-/// `OUT_OF_MEMORY` if an allocation fails.
+/// Returns `OUT_OF_MEMORY` if an allocation fails.
 fn saved(screen: &Screen) -> Result<Source, u8>
     ensures ok { IfOk result (λ copy. copy ≡ source.Screen screen.now) }
     ensures err { IfErr result (λ status. status ≡ out_of_memory) }
@@ -247,7 +250,7 @@ fn saved(screen: &Screen) -> Result<Source, u8>
     }
 }
 
-/// Exchanges the screens of two sources, if both have one.
+/// Swaps the screens of two sources. Returns `WRONG_KIND` if either has none.
 fn swap(first: &mut Source, second: &mut Source) -> u8
     ensures status { result ≡ swap_status (screen_in first.old) (screen_in second.old) }
     ensures first { first.new ≡ with_other (screen_in second.old) first.old }
@@ -261,7 +264,8 @@ fn swap(first: &mut Source, second: &mut Source) -> u8
     }
 }
 
-/// Exchanges a screen with that of a source, if it has one.
+/// Swaps `screen` with the screen of a source. Returns `WRONG_KIND` if the
+/// source has none.
 fn swap_with(screen: &mut Screen, source: &mut Source) -> u8
     ensures status { result ≡ swap_status (Some screen.old) (screen_in source.old) }
     ensures screen { screen.new ≡ unwrap_or (screen_in source.old) screen.old }

@@ -1,4 +1,4 @@
-//! The texts and output that are made of screens, by name.
+//! Generating the texts and the output of screens.
 
 ghost use Rattle.std.specs.Prelude.{◌≡◌, ◌<◌, ◌≤◌, ◌&&◌, IfErr, IfOk, IsErr, Ok, false, length};
 ghost use Rattle.std.specs.Prelude.{nat_lt, string_bytes, true};
@@ -16,29 +16,30 @@ use crate::object::{Source, screen_of};
 use crate::status::{BAD_ARGUMENT, OK, OTHER_SIZE, OUT_OF_MEMORY, WRONG_KIND};
 use vt100::{Error, Screen};
 
-/// The kinds of text and output that are made from one screen.
+/// The kinds of text and output that are generated from one screen.
 #[derive(Clone, Copy)]
 pub enum Text {
     /// The displayed rows, without attributes.
     Contents,
 
-    /// The text between two positions, each a row and a column, without
-    /// attributes.
+    /// The text between two positions, each given as a row and a column,
+    /// without attributes.
     Between(u16, u16, u16, u16),
 
     /// The escape sequences that redraw the screen.
     Formatted,
 
-    /// The escape sequences that redraw the screen in any scroll region.
+    /// The escape sequences that redraw the screen on a terminal with any
+    /// scroll region and origin mode.
     FormattedReset,
 
-    /// The displayed rows with SGR as the only escape sequences.
+    /// The displayed rows, with SGR sequences as the only escape sequences.
     FormattedBasic,
 
     /// The escape sequences that redraw the screen and set its input modes.
     State,
 
-    /// The escape sequences that set the cursor.
+    /// The escape sequences that move the cursor and hide or show it.
     CursorState,
 
     /// The escape sequences that set the current attributes.
@@ -51,24 +52,26 @@ pub enum Text {
 /// The kinds of output that turn one screen into another.
 #[derive(Clone, Copy)]
 pub enum Difference {
-    /// The escape sequences for the display.
+    /// The escape sequences that change the display.
     Contents,
 
-    /// The escape sequences for the display, which may move rows first.
+    /// The escape sequences that change the display, which may move rows first.
     Scrolling,
 
-    /// The escape sequences for the display and the input modes.
+    /// The escape sequences that change the display and the input modes.
     State,
 
-    /// The escape sequences for the input modes.
+    /// The escape sequences that change the input modes.
     InputMode,
 }
 
-/// Makes a text or output of this kind from a source's screen, if it has one.
+/// Generates the text or output of the given kind from a source's screen.
 ///
 /// # Errors
 ///
-/// The status of the call.
+/// Returns `WRONG_KIND` if the source has no screen, `BAD_ARGUMENT` if a range
+/// of several rows begins past the screen's columns, or `OUT_OF_MEMORY` if an
+/// allocation fails.
 pub(crate) fn text_in(source: &Source, text: Text) -> Result<String, u8>
     ensures text { IfOk result
         (λ made. OnScreen (screen_in source.now) (λ screen. string_bytes made ≡ text_of text screen)) }
@@ -82,11 +85,12 @@ pub(crate) fn text_in(source: &Source, text: Text) -> Result<String, u8>
     }
 }
 
-/// Makes a text or output of this kind from a screen.
+/// Generates the text or output of the given kind from a screen.
 ///
 /// # Errors
 ///
-/// The status of the call.
+/// Returns `BAD_ARGUMENT` if a range of several rows begins past the screen's
+/// columns, or `OUT_OF_MEMORY` if an allocation fails.
 fn text_of(screen: &Screen, text: Text) -> Result<String, u8>
     ensures text { IfOk result (λ made. string_bytes made ≡ text_of text screen.now) }
     ensures answer { IsAnswer (due_for text screen.now) (status_in result) }
@@ -108,11 +112,12 @@ fn text_of(screen: &Screen, text: Text) -> Result<String, u8>
     }
 }
 
-/// Returns the text between two positions, if the first one is on the screen.
+/// Returns the text between two positions.
 ///
 /// # Errors
 ///
-/// The status of the call.
+/// Returns `BAD_ARGUMENT` if a range of several rows begins past the screen's
+/// columns, or `OUT_OF_MEMORY` if an allocation fails.
 #[tactic(auto, using(crate::proofs::Refused::where_some))]
 fn between(screen: &Screen, start: (u16, u16), end: (u16, u16)) -> Result<String, u8>
     ensures text { IfOk result
@@ -138,12 +143,14 @@ fn is_outside(screen: &Screen, start: (u16, u16), end_row: u16) -> bool
     start.0 < end_row && cols.get() < start.1
 }
 
-/// Makes a difference of this kind from `prev` to `source`, if both have a
-/// screen.
+/// Generates the difference of the given kind from the screen of `prev` to that
+/// of `source`.
 ///
 /// # Errors
 ///
-/// The status of the call.
+/// Returns `WRONG_KIND` if either source has no screen, `OTHER_SIZE` if the two
+/// screens differ in size and the kind requires them to have the same size, or
+/// `OUT_OF_MEMORY` if an allocation fails.
 pub(crate) fn difference_in(
     source: &Source,
     prev: &Source,
@@ -166,12 +173,12 @@ pub(crate) fn difference_in(
     }
 }
 
-/// Makes a difference of this kind from `prev` to `screen`, if they have one
-/// size or the kind doesn't require it.
+/// Generates the difference of the given kind from `prev` to `screen`.
 ///
 /// # Errors
 ///
-/// The status of the call.
+/// Returns `OTHER_SIZE` if the two screens differ in size and the kind requires
+/// them to have the same size, or `OUT_OF_MEMORY` if an allocation fails.
 fn difference_of(screen: &Screen, prev: &Screen, difference: Difference) -> Result<String, u8>
     ensures text { IfOk result (λ made. IsDifference difference screen.now prev.now (string_bytes made)) }
     ensures answer { IsAnswer (due_for_both difference screen.now prev.now) (status_in result) }
@@ -187,11 +194,12 @@ fn difference_of(screen: &Screen, prev: &Screen, difference: Difference) -> Resu
 }
 
 /// Returns the escape sequences that turn the display of `prev` into that of
-/// `screen`, if they have one size.
+/// `screen`.
 ///
 /// # Errors
 ///
-/// The status of the call.
+/// Returns `OTHER_SIZE` if the two screens differ in size, or `OUT_OF_MEMORY`
+/// if an allocation fails.
 #[tactic(auto, using(crate::proofs::Refused::where_some))]
 fn contents_diff(screen: &Screen, prev: &Screen) -> Result<String, u8>
     ensures text { IfOk result (λ made. IsDifference between.Contents screen.now prev.now (string_bytes made)) }
@@ -206,11 +214,12 @@ fn contents_diff(screen: &Screen, prev: &Screen) -> Result<String, u8>
 }
 
 /// Returns the escape sequences that turn the display of `prev` into that of
-/// `screen`, moving rows first, if they have one size.
+/// `screen`, moving rows first if they have scrolled.
 ///
 /// # Errors
 ///
-/// The status of the call.
+/// Returns `OTHER_SIZE` if the two screens differ in size, or `OUT_OF_MEMORY`
+/// if an allocation fails.
 #[tactic(auto, using(crate::proofs::Refused::where_some))]
 fn contents_diff_scrolling(screen: &Screen, prev: &Screen) -> Result<String, u8>
     ensures text { IfOk result (λ made. IsDifference between.Scrolling screen.now prev.now (string_bytes made)) }
@@ -225,11 +234,12 @@ fn contents_diff_scrolling(screen: &Screen, prev: &Screen) -> Result<String, u8>
 }
 
 /// Returns the escape sequences that turn the display and the input modes of
-/// `prev` into those of `screen`, if they have one size.
+/// `prev` into those of `screen`.
 ///
 /// # Errors
 ///
-/// The status of the call.
+/// Returns `OTHER_SIZE` if the two screens differ in size, or `OUT_OF_MEMORY`
+/// if an allocation fails.
 #[tactic(auto, using(crate::proofs::Refused::where_some))]
 fn state_diff(screen: &Screen, prev: &Screen) -> Result<String, u8>
     ensures text { IfOk result (λ made. IsDifference between.State screen.now prev.now (string_bytes made)) }
@@ -248,7 +258,7 @@ fn state_diff(screen: &Screen, prev: &Screen) -> Result<String, u8>
 ///
 /// # Errors
 ///
-/// The status of the call.
+/// Returns `OUT_OF_MEMORY` if an allocation fails.
 #[tactic(auto, using(crate::proofs::Refused::where_some))]
 fn input_mode_diff(screen: &Screen, prev: &Screen) -> Result<String, u8>
     ensures text { IfOk result (λ made. IsDifference between.InputMode screen.now prev.now (string_bytes made)) }
@@ -259,7 +269,7 @@ fn input_mode_diff(screen: &Screen, prev: &Screen) -> Result<String, u8>
     or_status(screen.input_mode_diff(prev))
 }
 
-/// Returns whether two screens have one size.
+/// Returns whether two screens have the same size.
 pub(crate) fn is_sized_as(screen: &Screen, prev: &Screen) -> bool
     ensures value { result ≡ same_size screen.now.page prev.now.page }
     ensures size { result ≡ true → SameSize screen.now.page prev.now.page }
@@ -269,7 +279,7 @@ pub(crate) fn is_sized_as(screen: &Screen, prev: &Screen) -> bool
     rows.get() == prev_rows.get() && cols.get() == prev_cols.get()
 }
 
-/// Converts an error to its status.
+/// Converts an error to its status code.
 pub(crate) fn or_status(made: Result<String, Error>) -> Result<String, u8>
     requires { OnlyOutOfMemory made }
     ensures text { IfOk result (λ text. made ≡ Ok text) }
@@ -283,8 +293,8 @@ pub(crate) fn or_status(made: Result<String, Error>) -> Result<String, u8>
     }
 }
 
-/// Keeps a text in `place` and stores its length, or returns the status of the
-/// error.
+/// Stores a text in `place` and its length in `len`, or returns the status code
+/// of the error.
 pub(crate) fn keep(place: &mut String, made: Result<String, u8>, len: &mut usize) -> u8
     requires { IfErr made (λ status. ¬ (status ≡ ok)) }
     ensures status { result ≡ status_in made }

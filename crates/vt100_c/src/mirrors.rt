@@ -1,4 +1,5 @@
-//! Mirrors: a terminal, and viewers that escape sequences keep equal to it.
+//! Mirrors: terminals with viewers, which display the same screen as the
+//! terminal.
 
 ghost use Rattle.std.specs.Prelude.{◌≡◌, IfSome, None, Some};
 ghost use Rattle.vt100_c.specs.Calls.{OnObject, OnSource};
@@ -23,8 +24,9 @@ use vt_mirror::Mirror;
 ///
 /// # Errors
 ///
-/// `IN_USE` if `out` isn't empty, `BAD_ARGUMENT` if `rows` or `cols` is 0,
-/// `OUT_OF_MEMORY` if an allocation fails; nothing has changed.
+/// Returns `IN_USE` if `out` is not empty, `BAD_ARGUMENT` if `rows` or `cols`
+/// is 0, or `OUT_OF_MEMORY` if an allocation fails. On error, nothing is
+/// changed.
 #[unsafe(no_mangle)]
 pub extern "C" fn vt100_mirror_new(
     alloc: Global,
@@ -47,13 +49,13 @@ pub extern "C" fn vt100_mirror_new(
     }
 }
 
-/// Adds a viewer to a mirror, and stores its number.
+/// Adds a viewer to a mirror, and stores the number of the viewer in `viewer`.
 ///
 /// # Errors
 ///
-/// `NO_OBJECT` if the handle is empty, `WRONG_KIND` if it holds no mirror,
-/// `NO_NUMBER` if all numbers have been used, `OUT_OF_MEMORY` if an allocation
-/// fails; nothing has changed.
+/// Returns `NO_OBJECT` if the handle is empty, `WRONG_KIND` if it holds no
+/// mirror, `NO_NUMBER` if all numbers have been used, or `OUT_OF_MEMORY` if an
+/// allocation fails. On error, nothing is changed.
 #[unsafe(no_mangle)]
 pub extern "C" fn vt100_join(alloc: Global, handle: &mut Handle, viewer: &mut u64) -> u8
     ensures call { OnSource (JoinsSource viewer.old viewer.new) handle.old.held result handle.new.held }
@@ -72,13 +74,9 @@ pub extern "C" fn vt100_join(alloc: Global, handle: &mut Handle, viewer: &mut u6
 ///
 /// # Errors
 ///
-/// `NO_OBJECT` if the handle is empty, `WRONG_KIND` if it holds no mirror,
-/// `BAD_ARGUMENT` if there is no viewer with this number; nothing has changed.
-///
-/// # Errors
-///
-/// `NO_OBJECT` if the handle is empty, `WRONG_KIND` if it holds no mirror,
-/// `BAD_ARGUMENT` if there is no viewer with this number; nothing has changed.
+/// Returns `NO_OBJECT` if the handle is empty, `WRONG_KIND` if it holds no
+/// mirror, or `BAD_ARGUMENT` if there is no viewer with this number. On error,
+/// nothing is changed.
 #[unsafe(no_mangle)]
 pub extern "C" fn vt100_leave(alloc: Global, handle: &mut Handle, viewer: u64) -> u8
     ensures { OnSource (LeavesSource viewer) handle.old.held result handle.new.held }
@@ -92,15 +90,15 @@ pub extern "C" fn vt100_leave(alloc: Global, handle: &mut Handle, viewer: u64) -
     status
 }
 
-/// Makes a viewer's next update, keeps its text with the mirror, and stores its
-/// length and, for a full update, the size it is for. For a difference, `rows`
-/// and `cols` are 0.
+/// Generates the next update for a viewer. Stores its text in the handle and
+/// its length in `len`. For a full update, stores the size of the screen in
+/// `rows` and `cols`. For a difference, stores 0 in both.
 ///
 /// # Errors
 ///
-/// `NO_OBJECT` if the handle is empty, `WRONG_KIND` if it holds no mirror,
-/// `BAD_ARGUMENT` if there is no viewer with this number, `OUT_OF_MEMORY` if an
-/// allocation fails; nothing has changed.
+/// Returns `NO_OBJECT` if the handle is empty, `WRONG_KIND` if it holds no
+/// mirror, `BAD_ARGUMENT` if there is no viewer with this number, or
+/// `OUT_OF_MEMORY` if an allocation fails. On error, nothing is changed.
 #[unsafe(no_mangle)]
 pub extern "C" fn vt100_update(
     alloc: Global,
@@ -123,12 +121,12 @@ pub extern "C" fn vt100_update(
     status
 }
 
-/// Makes a viewer's next update, as [`vt100_update`] does, but with a
-/// difference that may move rows first.
+/// Generates the next update for a viewer, as [`vt100_update`] does, except
+/// that a difference may move rows first.
 ///
 /// # Errors
 ///
-/// Those of [`vt100_update`].
+/// Returns the same errors as [`vt100_update`].
 #[unsafe(no_mangle)]
 pub extern "C" fn vt100_update_scrolling(
     alloc: Global,
@@ -179,7 +177,8 @@ pub extern "C" fn vt100_mirror_is_current(
     status
 }
 
-/// Adds a viewer, if the source is a mirror.
+/// Adds a viewer to a mirror. Returns `WRONG_KIND` if the source is not a
+/// mirror.
 fn join(source: &mut Source, viewer: &mut u64) -> u8
     ensures call { JoinsSource viewer.old viewer.new source.old result source.new }
     ensures refused { ¬ (result ≡ ok) → viewer.new ≡ viewer.old }
@@ -192,7 +191,8 @@ fn join(source: &mut Source, viewer: &mut u64) -> u8
     }
 }
 
-/// Removes a viewer, if the source is a mirror.
+/// Removes a viewer from a mirror. Returns `WRONG_KIND` if the source is not a
+/// mirror.
 fn leave(source: &mut Source, viewer: u64) -> u8
     ensures { LeavesSource viewer source.old result source.new }
 {
@@ -204,7 +204,8 @@ fn leave(source: &mut Source, viewer: u64) -> u8
     }
 }
 
-/// Makes a viewer's next update, if the object is a mirror.
+/// Generates the next update for a viewer of a mirror. Returns `WRONG_KIND` if
+/// the object is not a mirror.
 fn update(object: &mut Object, viewer: u64, rows: &mut u16, cols: &mut u16, len: &mut usize) -> u8
     ensures call { UpdatesObject Drawn viewer
         (numbers rows.old cols.old len.old) (numbers rows.new cols.new len.new) object.old result object.new }
@@ -221,8 +222,8 @@ fn update(object: &mut Object, viewer: u64, rows: &mut u16, cols: &mut u16, len:
     }
 }
 
-/// Makes a viewer's next update, whose difference may move rows first, if the
-/// object is a mirror.
+/// Generates the next update for a viewer of a mirror, in which a difference
+/// may move rows first. Returns `WRONG_KIND` if the object is not a mirror.
 fn update_scrolling(
     object: &mut Object,
     viewer: u64,

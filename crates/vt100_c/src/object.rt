@@ -24,17 +24,18 @@ pub enum Source {
     Capture(BasicFormattedCaptureState),
 }
 
-/// An object that a handle holds: a value, and the text that was last made of
-/// it.
+/// An object that a handle holds: a value, and the text that was last generated
+/// from it.
 #[derive(Drop)]
 pub struct Object {
-    /// The value.
+    /// The value of the object.
     pub(crate) source: Source,
-    /// The text that was last made of the value.
+    /// The text that was last generated from the value.
     pub(crate) text: String,
 }
 
-/// Returns the screen of a source, if it is a parser or a saved screen.
+/// Returns the screen of a source if it is a parser or a saved screen,
+/// otherwise `None`.
 pub(crate) fn screen_of(source: &Source) -> Option<&Screen>
     ensures some { IfSome result (λ screen. screen_in source.now ≡ Some screen.now) }
     ensures none { result ≡ None → screen_in source.now ≡ None }

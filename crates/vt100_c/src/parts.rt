@@ -1,4 +1,4 @@
-//! The two parts of a box, while a handle's word stands for it.
+//! The two parts of a box whose pointer is stored in a handle.
 
 ghost use Rattle.std.specs.Prelude.{◌≡◌};
 ghost use Rattle.std_alloc.specs.Box.Ownership.{box_owns};
@@ -9,7 +9,8 @@ use std::marker::Model;
 /// The parts of a box: the pointer to its value, and the allocator that frees
 /// it.
 ///
-/// They cannot be dropped, only made a box again or put into a handle.
+/// The parts cannot be dropped. They can only be turned back into a box or put
+/// into a handle.
 pub struct Parts<T, A: Allocator> {
     pub(crate) at: *mut T,
     pub(crate) alloc: A,
@@ -21,7 +22,7 @@ impl<T, A: Allocator> Model for Parts<T, A> {
 }
 
 impl<T, A: Allocator> Parts<T, A> {
-    /// Takes a box apart.
+    /// Splits a box into its parts.
     pub(crate) fn of(whole: Box<T, A>) -> Parts<T, A>
     where
         T: Drop,
@@ -31,7 +32,7 @@ impl<T, A: Allocator> Parts<T, A> {
         Parts { at, alloc }
     }
 
-    /// Makes a box of the parts again.
+    /// Turns the parts back into a box.
     pub(crate) fn into_box(self) -> Box<T, A>
         ensures { result.value ≡ self.value }
     {

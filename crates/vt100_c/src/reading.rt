@@ -1,4 +1,4 @@
-//! Bytes that parsers and mirrors read.
+//! Parsing bytes with parsers and mirrors.
 
 ghost use Rattle.std.specs.Prelude.{◌≡◌, ◌<◌, None, length, true};
 ghost use Rattle.vt100_c.specs.Calls.{OnSource};
@@ -14,16 +14,17 @@ use std::alloc::Global;
 use vt_mirror::Mirror;
 use vt100::Parser;
 
-/// The number of bytes of rows after which reading stops: 64 KiB.
+/// The number of bytes of row data after which parsing stops: 64 KiB.
 const BATCH: usize = 65_536;
 
-/// Parses bytes, with a parser or a mirror.
+/// Parses bytes with a parser or a mirror.
 ///
 /// # Errors
 ///
-/// `NO_OBJECT` if the handle is empty, `WRONG_KIND` if it holds neither a
-/// parser nor a mirror, `OUT_OF_MEMORY` if an allocation fails, and `FAILED`
-/// from then on. The steps before the failing one stay applied.
+/// Returns `NO_OBJECT` if the handle is empty, `WRONG_KIND` if it holds neither
+/// a parser nor a mirror, or `OUT_OF_MEMORY` if an allocation fails. Once an
+/// allocation has failed, all later calls return `FAILED`. The steps before the
+/// one that failed remain applied.
 #[unsafe(no_mangle)]
 pub extern "C" fn vt100_process(alloc: Global, handle: &mut Handle, bytes: &[u8]) -> u8
     ensures { OnSource (Reads bytes.now) handle.old.held result handle.new.held }
@@ -37,17 +38,18 @@ pub extern "C" fn vt100_process(alloc: Global, handle: &mut Handle, bytes: &[u8]
     status
 }
 
-/// Parses bytes with a parser, up to and including the first one that leaves or
-/// loses an event, and stores how many were read.
+/// Parses bytes with a parser, up to and including the first byte that records
+/// or loses an event. Stores the number of bytes parsed in `used`.
 ///
-/// Reading continues over rows that are recorded without their texts, until
-/// those of this call take 64 KiB or the log reaches its limit.
+/// Parsing does not stop at rows that are recorded without their texts, until
+/// the rows of this call take 64 KiB or the log reaches its limit.
 ///
 /// # Errors
 ///
-/// `NO_OBJECT` if the handle is empty, `WRONG_KIND` if it holds no parser,
-/// `OUT_OF_MEMORY` if an allocation fails, and `FAILED` from then on. The
-/// number stored is then that of the bytes before the failing one.
+/// Returns `NO_OBJECT` if the handle is empty, `WRONG_KIND` if it holds no
+/// parser, or `OUT_OF_MEMORY` if an allocation fails. Once an allocation has
+/// failed, all later calls return `FAILED`. On error, `used` is the number of
+/// bytes before the one that failed.
 #[unsafe(no_mangle)]
 pub extern "C" fn vt100_process_until(
     alloc: Global,
@@ -69,7 +71,8 @@ pub extern "C" fn vt100_process_until(
     status
 }
 
-/// Parses bytes, if the source is a parser or a mirror.
+/// Parses bytes with a parser or a mirror. Returns `WRONG_KIND` if the source
+/// is neither.
 fn process(source: &mut Source, bytes: &[u8]) -> u8
     ensures { Reads bytes.now source.old result source.new }
 {
@@ -81,22 +84,22 @@ fn process(source: &mut Source, bytes: &[u8]) -> u8
     }
 }
 
-/// Parses bytes with a parser, and returns the status.
+/// Parses bytes with a parser, and returns the status code.
 fn read(parser: &mut Parser<Events>, bytes: &[u8]) -> u8
     ensures { ReadsParser parser.old bytes.now result parser.new }
 {
     answered(parser.process(bytes))
 }
 
-/// Parses bytes with a mirror, and returns the status.
+/// Parses bytes with a mirror, and returns the status code.
 fn read_mirror(mirror: &mut Mirror, bytes: &[u8]) -> u8
     ensures { ReadsMirror mirror.old bytes.now result mirror.new }
 {
     answered(mirror.process(bytes))
 }
 
-/// Parses bytes up to an event, if the source is a parser. Returns the status
-/// and the number of bytes read.
+/// Parses bytes with a parser up to an event. Returns the status code, which is
+/// `WRONG_KIND` if the source is not a parser, and the number of bytes parsed.
 fn process_until(source: &mut Source, bytes: &[u8]) -> (u8, usize)
     ensures { ReadsUntilEvent bytes.now result.1 source.old result.0 source.new }
 {
@@ -108,21 +111,21 @@ fn process_until(source: &mut Source, bytes: &[u8]) -> (u8, usize)
     }
 }
 
-/// The state of a log when reading begins.
+/// The state of a log when parsing begins.
 #[derive(Clone, Copy)]
 pub struct Mark {
     /// The length of the records in bytes.
     pub(crate) len: usize,
     /// The number of reported rows.
     pub(crate) rows: usize,
-    /// The number of bytes that are left of the limit.
+    /// The number of bytes that can still be added to the log.
     pub(crate) room: usize,
-    /// Whether no record is missing.
+    /// Whether no record has been lost.
     pub(crate) is_whole: bool,
 }
 
-/// Parses bytes with a parser up to an event. Returns the status and the number
-/// of bytes read.
+/// Parses bytes with a parser up to an event. Returns the status code and the
+/// number of bytes parsed.
 #[tactic(auto, using(crate::proofs::Answering::quiet_now))]
 fn read_until(parser: &mut Parser<Events>, bytes: &[u8]) -> (u8, usize)
     ensures { ReadsUntil bytes.now result.1 parser.old result.0 parser.new }
@@ -131,8 +134,9 @@ fn read_until(parser: &mut Parser<Events>, bytes: &[u8]) -> (u8, usize)
     read_from(parser, bytes, mark)
 }
 
-/// Parses bytes with a parser until its log has, since a mark, an event at
-/// which reading stops. Returns the status and the number of bytes read.
+/// Parses bytes with a parser until, since `mark`, its log has changed in a way
+/// that stops parsing (see [`is_quiet`]). Returns the status code and the
+/// number of bytes parsed.
 fn read_from(parser: &mut Parser<Events>, bytes: &[u8], mark: Mark) -> (u8, usize)
     requires { is_quiet mark parser.old.callbacks ≡ true }
     ensures { ReadsFrom mark bytes.now result.1 parser.old result.0 parser.new }
@@ -151,8 +155,8 @@ fn read_from(parser: &mut Parser<Events>, bytes: &[u8], mark: Mark) -> (u8, usiz
     (OK, at)
 }
 
-/// Parses the longest prefix of `bytes` of which only the last byte can leave
-/// an event. Returns the status and the number of bytes read.
+/// Parses the longest prefix of `bytes` in which only the last byte can cause
+/// an event. Returns the status code and the number of bytes parsed.
 #[inline(always)]
 fn read_unit(parser: &mut Parser<Events>, bytes: &[u8]) -> (u8, usize)
     requires { 0 < length bytes.now }
@@ -162,7 +166,7 @@ fn read_unit(parser: &mut Parser<Events>, bytes: &[u8]) -> (u8, usize)
     (answered(answer), count)
 }
 
-/// Returns the mark of a log in its present state.
+/// Returns a mark of the current state of a log.
 fn mark_of(log: &Events) -> Mark
     ensures { result ≡ mark_of log.now }
 {
@@ -174,9 +178,9 @@ fn mark_of(log: &Events) -> Mark
     }
 }
 
-/// Returns whether reading continues: since the mark the log got only rows
-/// without texts, which take less than a batch, it has not reached its limit,
-/// and it has lost nothing.
+/// Returns whether parsing continues. It does if, since the mark, only rows
+/// without texts were recorded, they take less than [`BATCH`] bytes, and the
+/// log has neither reached its limit nor lost a record.
 #[inline(always)]
 fn is_quiet(mark: Mark, log: &Events) -> bool
     ensures { result ≡ is_quiet mark log.now }
@@ -189,8 +193,8 @@ fn is_quiet(mark: Mark, log: &Events) -> bool
         && (log.is_whole() || !mark.is_whole)
 }
 
-/// Returns whether this many bytes of records are those of this many rows
-/// without texts, and of nothing else.
+/// Returns whether `bytes` is exactly the length of the records of `rows` rows
+/// without texts.
 #[inline(always)]
 fn are_bare_rows(bytes: usize, rows: usize) -> bool
     ensures { result ≡ are_bare_rows bytes rows }

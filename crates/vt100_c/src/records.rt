@@ -1,6 +1,6 @@
-//! The record of a call, as C reads it: its kind in one byte, two numbers of
-//! four bytes each, the length of its text in eight bytes, and the text.
-//! Numbers have their low byte first.
+//! The record of a call, in the format that C reads: the kind of the call in
+//! one byte, two numbers of four bytes each, the length of the text in eight
+//! bytes, and the text. Numbers are little-endian.
 
 ghost use Rattle.std.specs.Prelude.{◌≡◌, ◌+◌, ◌<◌, ◌≤◌, ◌++◌, IfOk, OnErr, OnOk};
 ghost use Rattle.std.specs.Prelude.{◌-◌, ◌*◌, ◌^◌, ◌∷◌, [], false, length, map, min, string_bytes, take};
@@ -21,13 +21,13 @@ use vt_rows::{Row, plain};
 use vt100::Call;
 use vt100::capture::RowContents;
 
-/// The number of bytes that a record has before its text.
+/// The number of bytes in a record before its text.
 pub(crate) const HEAD_LEN: usize = 17;
 
-/// The kind of the report of a row.
+/// The kind of a call that reports a row.
 pub(crate) const ON_SCROLL: u8 = 12;
 
-/// Returns whether the bit of a kind is set.
+/// Returns whether bit `kind` of `wanted` is set.
 pub(crate) fn is_wanted(wanted: u16, kind: u8) -> bool
     requires { kind < 16 }
     ensures { result ≡ is_wanted wanted kind }
@@ -42,7 +42,7 @@ pub(crate) fn is_bare(wanted: u16) -> bool
     is_wanted(wanted, 13)
 }
 
-/// Returns how many bytes the cells of a copied row take.
+/// Returns the number of bytes that the cells take in a copy of the row.
 pub(crate) fn cells_size(row: &RowContents<'_>) -> usize
     ensures { result ≡ min (length (trimmed_row row.now).cells * 40) (2 ^ 64 - 1) }
 {
@@ -74,7 +74,8 @@ pub(crate) fn kind_of(call: Call<'_>) -> u8
 ///
 /// # Errors
 ///
-/// If an allocation fails; the records are unchanged.
+/// Returns an error if an allocation fails. On error, the records are
+/// unchanged.
 pub(crate) fn write_call(
     alloc: Global,
     records: &mut Vec<u8>,
@@ -114,7 +115,8 @@ pub(crate) fn write_call(
 ///
 /// # Errors
 ///
-/// If an allocation fails; the records are unchanged.
+/// Returns an error if an allocation fails. On error, the records are
+/// unchanged.
 pub(crate) fn write_row(
     alloc: Global,
     records: &mut Vec<u8>,
@@ -144,13 +146,13 @@ pub(crate) fn write_row(
 ///
 /// # Errors
 ///
-/// If an allocation fails.
+/// Returns an error if an allocation fails.
 fn kept_row(alloc: Global, row: &RowContents<'_>) -> Result<Row, AllocError>
     ensures copy { IfOk result (λ copy. copy ≡ trimmed_row row.now) }
     ensures sound { IfOk result (λ copy. IsRow (length copy.cells) copy) }
 {
     let kept = trimmed(row);
-    // Only for the proof: a borrowed row is valid.
+    // Only for the proof: this establishes that a borrowed row is valid.
     let _ = kept.cells();
     match Row::trimmed_copy(alloc, row.cells(), row.wrapped()) {
         Ok(copy) => Ok(copy),
@@ -159,12 +161,11 @@ fn kept_row(alloc: Global, row: &RowContents<'_>) -> Result<Row, AllocError>
 }
 
 /// Stores a copy of a row, without the default blanks at its end, after the
-/// first `count` rows. It reuses the memory of the row that is stored there, if
-/// there is one.
+/// first `count` rows. If a row is already stored there, its memory is reused.
 ///
 /// # Errors
 ///
-/// If an allocation fails; the rows are unchanged.
+/// Returns an error if an allocation fails. On error, the rows are unchanged.
 pub(crate) fn hold_row(
     alloc: Global,
     rows: &mut Vec<Row>,
@@ -188,12 +189,13 @@ pub(crate) fn hold_row(
     Ok(())
 }
 
-/// Makes a row a copy of another one, without the default blanks at its end, in
-/// the memory that it has.
+/// Turns the row `place` into a copy of `row`, without the default blanks at
+/// its end, reusing its memory.
 ///
 /// # Errors
 ///
-/// If it needs more memory and the allocation fails; the row is unchanged.
+/// Returns an error if more memory is needed and the allocation fails. On
+/// error, the row is unchanged.
 fn replace(place: &mut Row, row: &RowContents<'_>) -> Result<(), AllocError>
     requires { IsRow (length place.old.cells) place.old }
     ensures ok { OnOk result (place.new ≡ trimmed_row row.now) }
@@ -201,7 +203,7 @@ fn replace(place: &mut Row, row: &RowContents<'_>) -> Result<(), AllocError>
     ensures sound { IsRow (length place.new.cells) place.new }
 {
     let kept = trimmed(row);
-    // Only for the proof: a borrowed row is valid.
+    // Only for the proof: this establishes that a borrowed row is valid.
     let _ = kept.cells();
     match place.leave_for(row.cells(), row.wrapped(), &mut ()) {
         Ok(()) => Ok(()),
@@ -213,7 +215,7 @@ fn replace(place: &mut Row, row: &RowContents<'_>) -> Result<(), AllocError>
 ///
 /// # Errors
 ///
-/// If an allocation fails.
+/// Returns an error if an allocation fails.
 fn text_of(alloc: Global, row: &RowContents<'_>) -> Result<String, AllocError>
     ensures { IfOk result
         (λ text. string_bytes text ≡ plain_text 0 (length row.now.cells) row.now.cells) }
@@ -230,7 +232,8 @@ fn text_of(alloc: Global, row: &RowContents<'_>) -> Result<String, AllocError>
 ///
 /// # Errors
 ///
-/// If an allocation fails; the records are unchanged.
+/// Returns an error if an allocation fails. On error, the records are
+/// unchanged.
 fn write(
     records: &mut Vec<u8>,
     kind: u8,
@@ -250,7 +253,7 @@ fn write(
     Ok(())
 }
 
-/// Appends bytes, for which there must be room.
+/// Appends bytes. The vector must have enough spare capacity.
 fn put(records: &mut Vec<u8>, bytes: &[u8])
     requires { vec_len records.old + length bytes.now ≤ vec_capacity records.old }
     ensures items { records.new.items ≡ records.old.items ++ bytes.now }
@@ -260,11 +263,11 @@ fn put(records: &mut Vec<u8>, bytes: &[u8])
     let _ = records.extend_from_slice(bytes);
 }
 
-/// Returns texts in sequence, each after its length.
+/// Returns the concatenation of `texts`, each preceded by its length.
 ///
 /// # Errors
 ///
-/// If an allocation fails.
+/// Returns an error if an allocation fails.
 fn parts(alloc: Global, texts: &[&[u8]]) -> Result<Vec<u8>, AllocError>
     ensures { IfOk result (λ joined. joined.items ≡ flat_map part_of (map (λ text. text.now) texts.now)) }
 {
@@ -276,11 +279,11 @@ fn parts(alloc: Global, texts: &[&[u8]]) -> Result<Vec<u8>, AllocError>
     Ok(joined)
 }
 
-/// Returns a character followed by groups of numbers.
+/// Returns the bytes of a character followed by groups of numbers.
 ///
 /// # Errors
 ///
-/// If an allocation fails.
+/// Returns an error if an allocation fails.
 fn code_and_groups(alloc: Global, code: char, groups: &[&[u16]]) -> Result<Vec<u8>, AllocError>
     ensures { IfOk result (λ joined. joined.items
         ≡ to_le_bytes w32 code ++ flat_map group_of (map (λ group. group.now) groups.now)) }
@@ -293,11 +296,11 @@ fn code_and_groups(alloc: Global, code: char, groups: &[&[u16]]) -> Result<Vec<u
     Ok(joined)
 }
 
-/// Appends the length of a group and its numbers.
+/// Appends the length of a group, followed by its numbers.
 ///
 /// # Errors
 ///
-/// If an allocation fails.
+/// Returns an error if an allocation fails.
 fn write_group(joined: &mut Vec<u8>, group: &[u16]) -> Result<(), AllocError>
     ensures { OnOk result (joined.new.items ≡ joined.old.items ++ group_of group.now) }
 {
@@ -308,7 +311,7 @@ fn write_group(joined: &mut Vec<u8>, group: &[u16]) -> Result<(), AllocError>
     Ok(())
 }
 
-/// Returns the number of an optional byte, which is 256 for none.
+/// Returns the value of an optional byte, or 256 for `None`.
 fn number(byte: Option<u8>) -> u32
     ensures { result ≡ number_of byte }
 {
@@ -318,7 +321,7 @@ fn number(byte: Option<u8>) -> u32
     }
 }
 
-/// Returns 1 if the test holds, and 0 if not.
+/// Returns 1 if `test` is true, otherwise 0.
 fn bit(test: bool) -> u32
     ensures { result ≡ bit_of test }
 {

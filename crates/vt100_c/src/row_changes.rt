@@ -16,20 +16,20 @@ use crate::status::{BAD_ARGUMENT, NO_OBJECT, OTHER_SIZE, WRONG_KIND};
 use std::alloc::Global;
 use vt100::Screen;
 
-/// Makes the escape sequences that turn each displayed row of `prev` into that
-/// of `handle`'s screen ([`Screen::rows_diff`]), in `width` columns from
-/// `start` on, keeps them in sequence with `handle`, and stores their length
-/// and where each row's output ends.
+/// Generates the escape sequences that turn each displayed row of `prev` into
+/// that of `handle`'s screen, in `width` columns starting at `start`
+/// ([`Screen::rows_diff`]). Stores their concatenation in `handle`, its length
+/// in `len`, and the index at which each row's output ends in `ends`.
 ///
-/// `ends` must have a place for each row; further places are unchanged.
+/// `ends` must have an element for each row. Further elements are unchanged.
 ///
 /// # Errors
 ///
-/// `NO_OBJECT` if a handle is empty, `WRONG_KIND` if one holds neither a parser
-/// nor a saved screen, `OTHER_SIZE` if the screens differ in size,
-/// `BAD_ARGUMENT` if the same handle is passed twice or if `start` is no column
-/// or `ends` is too short, `OUT_OF_MEMORY` if the output cannot be allocated;
-/// nothing has changed.
+/// Returns `NO_OBJECT` if a handle is empty, `WRONG_KIND` if one holds neither
+/// a parser nor a saved screen, `OTHER_SIZE` if the two screens differ in size,
+/// `BAD_ARGUMENT` if the same handle is passed twice, `start` is not a column
+/// of the screen or `ends` is too short, or `OUT_OF_MEMORY` if the output
+/// cannot be allocated. On error, nothing is changed.
 #[unsafe(no_mangle)]
 pub extern "C" fn vt100_rows_diff(
     alloc: Global,
@@ -55,10 +55,10 @@ pub extern "C" fn vt100_rows_diff(
 }
 
 /// Returns the output that turns the rows of the screen in `prev` into those of
-/// `source`, whose object was taken out of its own handle.
+/// `source`, which was taken out of its own handle.
 ///
-/// If `prev` is empty now, it is the handle of the object, so C passed one
-/// handle twice: that is a bad argument.
+/// If `prev` is now empty, it is the handle of `source`. The same handle was
+/// then passed twice, which is a bad argument.
 fn beside(
     alloc: Global,
     source: &Source,
@@ -81,8 +81,8 @@ fn beside(
     made
 }
 
-/// Returns the output that turns the rows of one source into those of another,
-/// if both have a screen.
+/// Returns the output that turns the rows of `prev` into those of `source`.
+/// Returns `WRONG_KIND` if either has no screen.
 fn changed_in(
     alloc: Global,
     source: &Source,
@@ -104,9 +104,10 @@ fn changed_in(
     }
 }
 
-/// Returns the output that turns the rows of one screen into those of another,
-/// if both have one size, `ends` has a place for each row, and the range begins
-/// at a column.
+/// Returns the output that turns the rows of `prev` into those of `screen`.
+/// Returns `OTHER_SIZE` if the two screens differ in size, and `BAD_ARGUMENT`
+/// if `ends` is too short or the range does not begin at a column of the
+/// screen.
 fn changed_of(
     alloc: Global,
     screen: &Screen,

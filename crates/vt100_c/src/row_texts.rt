@@ -1,4 +1,4 @@
-//! The texts of rows in sequence, with the places at which they end.
+//! The concatenated texts of rows, with the index at which each text ends.
 
 ghost use Rattle.std.specs.Prelude.{◌≡◌, ◌<◌, ◌≤◌, ◌++◌, IfOk, OnOk, length, slice_set, string_bytes};
 ghost use Rattle.vt_cells.specs.Refusals.{OnlyOutOfMemory};
@@ -9,12 +9,12 @@ ghost use Rattle.vt_screen.specs.RowsShown.{changed_rows, formatted_rows};
 use std::alloc::Global;
 use vt100::{Error, Screen};
 
-/// Returns the plain texts of the rows in `width` columns from `start` on, in
-/// sequence, and stores where each ends.
+/// Returns the concatenated plain texts of the rows, in `width` columns
+/// starting at `start`. Stores the index at which each text ends in `ends`.
 ///
 /// # Errors
 ///
-/// `Error::OutOfMemory` if the text cannot be allocated.
+/// Returns [`Error::OutOfMemory`] if the text cannot be allocated.
 pub(crate) fn plain(
     alloc: Global,
     screen: &Screen,
@@ -38,12 +38,12 @@ pub(crate) fn plain(
     Ok(joined)
 }
 
-/// Returns the output that draws each row on a blank row, in sequence, and
-/// stores where each row's output ends.
+/// Returns the concatenated outputs that each draw one row on a blank row.
+/// Stores the index at which each row's output ends in `ends`.
 ///
 /// # Errors
 ///
-/// `Error::OutOfMemory` if the output cannot be allocated.
+/// Returns [`Error::OutOfMemory`] if the output cannot be allocated.
 pub(crate) fn formatted(
     alloc: Global,
     screen: &Screen,
@@ -67,12 +67,12 @@ pub(crate) fn formatted(
     Ok(joined)
 }
 
-/// Returns the output that turns each row of `prev` into that of `screen`, in
-/// sequence, and stores where each row's output ends.
+/// Returns the concatenated outputs that each turn one row of `prev` into that
+/// of `screen`. Stores the index at which each row's output ends in `ends`.
 ///
 /// # Errors
 ///
-/// `Error::OutOfMemory` if the output cannot be allocated.
+/// Returns [`Error::OutOfMemory`] if the output cannot be allocated.
 pub(crate) fn changed(
     alloc: Global,
     screen: &Screen,
@@ -97,11 +97,12 @@ pub(crate) fn changed(
     Ok(joined)
 }
 
-/// Appends the text of a row, and stores where it ends.
+/// Appends the text of a row to `joined`, and stores the index at which it
+/// ends.
 ///
 /// # Errors
 ///
-/// `Error::OutOfMemory` if the text cannot be allocated.
+/// Returns [`Error::OutOfMemory`] if the text cannot be allocated.
 fn add(joined: &mut String, ends: &mut [usize], row: usize, text: &str) -> Result<(), Error>
     requires { row < length ends.old }
     ensures text { OnOk result (string_bytes joined.new ≡ string_bytes joined.old ++ text.now) }

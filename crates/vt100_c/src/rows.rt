@@ -1,4 +1,4 @@
-//! The texts of displayed rows, in sequence.
+//! The concatenated texts of the displayed rows.
 
 ghost use Rattle.std.specs.Prelude.{◌≡◌, ◌<◌, ◌≤◌, IfErr, IfOk, length, string_bytes};
 ghost use Rattle.std.specs.Prelude.{drop, if◌then◌else◌, take, true};
@@ -17,17 +17,18 @@ use crate::status::{BAD_ARGUMENT, NO_OBJECT, OUT_OF_MEMORY, WRONG_KIND};
 use std::alloc::Global;
 use vt100::Screen;
 
-/// Makes the plain texts of the displayed rows ([`Screen::rows`]) in `width`
-/// columns from `start` on, keeps them in sequence with the handle, and stores
-/// their length and where each ends.
+/// Generates the plain texts of the displayed rows, in `width` columns starting
+/// at `start` ([`Screen::rows`]). Stores their concatenation in the handle, its
+/// length in `len`, and the index at which each text ends in `ends`.
 ///
-/// `ends` must have a place for each row; further places are unchanged.
+/// `ends` must have an element for each row. Further elements are unchanged.
 ///
 /// # Errors
 ///
-/// `NO_OBJECT` if the handle is empty, `WRONG_KIND` if it holds neither a
-/// parser nor a saved screen, `BAD_ARGUMENT` if `ends` is too short,
-/// `OUT_OF_MEMORY` if the text cannot be allocated; nothing has changed.
+/// Returns `NO_OBJECT` if the handle is empty, `WRONG_KIND` if it holds neither
+/// a parser nor a saved screen, `BAD_ARGUMENT` if `ends` is too short, or
+/// `OUT_OF_MEMORY` if the text cannot be allocated. On error, nothing is
+/// changed.
 #[unsafe(no_mangle)]
 pub extern "C" fn vt100_rows(
     alloc: Global,
@@ -51,19 +52,19 @@ pub extern "C" fn vt100_rows(
     status
 }
 
-/// Makes the escape sequences that draw each displayed row on a blank row
-/// ([`Screen::rows_formatted`]), in `width` columns from `start` on, keeps them
-/// in sequence with the handle, and stores their length and where each row's
-/// output ends.
+/// Generates the escape sequences that draw each displayed row on a blank row,
+/// in `width` columns starting at `start` ([`Screen::rows_formatted`]). Stores
+/// their concatenation in the handle, its length in `len`, and the index at
+/// which each row's output ends in `ends`.
 ///
-/// `ends` must have a place for each row; further places are unchanged.
+/// `ends` must have an element for each row. Further elements are unchanged.
 ///
 /// # Errors
 ///
-/// `NO_OBJECT` if the handle is empty, `WRONG_KIND` if it holds neither a
-/// parser nor a saved screen, `BAD_ARGUMENT` if `start` is no column or `ends`
-/// is too short, `OUT_OF_MEMORY` if the output cannot be allocated; nothing has
-/// changed.
+/// Returns `NO_OBJECT` if the handle is empty, `WRONG_KIND` if it holds neither
+/// a parser nor a saved screen, `BAD_ARGUMENT` if `start` is not a column of
+/// the screen or `ends` is too short, or `OUT_OF_MEMORY` if the output cannot
+/// be allocated. On error, nothing is changed.
 #[unsafe(no_mangle)]
 pub extern "C" fn vt100_rows_formatted(
     alloc: Global,
@@ -87,7 +88,8 @@ pub extern "C" fn vt100_rows_formatted(
     status
 }
 
-/// Returns the plain texts of the rows of a source, if it has a screen.
+/// Returns the concatenated plain texts of the rows of a source. Returns
+/// `WRONG_KIND` if the source has no screen.
 fn plain_in(
     alloc: Global,
     source: &Source,
@@ -106,8 +108,8 @@ fn plain_in(
     }
 }
 
-/// Returns the plain texts of the rows of a screen, if `ends` has a place for
-/// each row.
+/// Returns the concatenated plain texts of the rows of a screen. Returns
+/// `BAD_ARGUMENT` if `ends` is too short.
 fn plain_of(
     alloc: Global,
     screen: &Screen,
@@ -128,8 +130,8 @@ fn plain_of(
     Ok(text)
 }
 
-/// Returns the output that draws the rows of a source on blank rows, if it has
-/// a screen.
+/// Returns the output that draws the rows of a source on blank rows. Returns
+/// `WRONG_KIND` if the source has no screen.
 fn formatted_in(
     alloc: Global,
     source: &Source,
@@ -148,8 +150,9 @@ fn formatted_in(
     }
 }
 
-/// Returns the output that draws the rows of a screen on blank rows, if `ends`
-/// has a place for each row and the range begins at a column.
+/// Returns the output that draws the rows of a screen on blank rows. Returns
+/// `BAD_ARGUMENT` if `ends` is too short or the range does not begin at a
+/// column of the screen.
 fn formatted_of(
     alloc: Global,
     screen: &Screen,
@@ -170,7 +173,7 @@ fn formatted_of(
     Ok(text)
 }
 
-/// Returns whether `ends` has a place for each row of a screen.
+/// Returns whether `ends` has an element for each row of a screen.
 fn has_places(screen: &Screen, ends: &[usize]) -> bool
     ensures yes { result ≡ true → length screen.now.page.rows ≤ length ends.now }
     ensures value { has_places (length ends.now) screen.now ≡ (if result then ok else bad_argument) }
@@ -179,8 +182,8 @@ fn has_places(screen: &Screen, ends: &[usize]) -> bool
     usize::from(rows.get()) <= ends.len()
 }
 
-/// Returns whether `ends` has a place for each row of a screen and a range of
-/// columns begins at one.
+/// Returns whether `ends` has an element for each row of a screen, and `start`
+/// is a column of the screen.
 pub(crate) fn has_range(screen: &Screen, start: u16, ends: &[usize]) -> bool
     ensures yes { result ≡ true → length screen.now.page.rows ≤ length ends.now }
     ensures start { result ≡ true → start < screen.now.page.width }
@@ -190,12 +193,13 @@ pub(crate) fn has_range(screen: &Screen, start: u16, ends: &[usize]) -> bool
     start < cols.get() && has_places(screen, ends)
 }
 
-/// Returns places for the ends of all rows. Ends are stored here first, so that
-/// C gets none of them if an allocation fails at a later row.
+/// Returns a vector with an element for each row of a screen. The ends of the
+/// rows are stored there first, so that C gets none of them if an allocation
+/// fails at a later row.
 ///
 /// # Errors
 ///
-/// `OUT_OF_MEMORY` if the places cannot be allocated.
+/// Returns `OUT_OF_MEMORY` if the places cannot be allocated.
 pub(crate) fn places_for(alloc: Global, screen: &Screen) -> Result<Vec<usize>, u8>
     ensures len { IfOk result (λ places. length places.items ≡ length screen.now.page.rows) }
     ensures memory { IfErr result (λ status. status ≡ out_of_memory) }
@@ -208,7 +212,8 @@ pub(crate) fn places_for(alloc: Global, screen: &Screen) -> Result<Vec<usize>, u
     }
 }
 
-/// Copies the ends of all rows to C; further places are unchanged.
+/// Copies the ends of all rows to `ends`, which C reads. Further elements are
+/// unchanged.
 pub(crate) fn write_ends(places: &[usize], ends: &mut [usize])
     requires { length places.now ≤ length ends.old }
     ensures ends { take (length places.now) ends.new ≡ places.now }

@@ -1,4 +1,4 @@
-//! Displayed cells and rows.
+//! Reading displayed cells and rows.
 
 ghost use Rattle.std.specs.Prelude.{◌≡◌, ◌<◌, drop, length};
 ghost use Rattle.vt_screen.specs.Screen.{visible_row};
@@ -16,13 +16,14 @@ use std::alloc::Global;
 use vt_cells::cell;
 use vt100::Screen;
 
-/// Stores the displayed cell at a row and column, counted from 0.
+/// Stores the displayed cell at a row and a column, both counted from 0, in
+/// `out`.
 ///
 /// # Errors
 ///
-/// `NO_OBJECT` if the handle is empty, `WRONG_KIND` if it holds neither a
-/// parser nor a saved screen, `BAD_ARGUMENT` if there is no such cell; nothing
-/// is stored.
+/// Returns `NO_OBJECT` if the handle is empty, `WRONG_KIND` if it holds neither
+/// a parser nor a saved screen, or `BAD_ARGUMENT` if there is no such cell. On
+/// error, nothing is stored.
 #[unsafe(no_mangle)]
 pub extern "C" fn vt100_get_cell(
     alloc: Global,
@@ -46,14 +47,14 @@ pub extern "C" fn vt100_get_cell(
     status
 }
 
-/// Stores the cells of a displayed row, as many as the screen has columns; the
-/// rest of `out` is unchanged.
+/// Stores the cells of a displayed row in `out`, one for each column of the
+/// screen. The rest of `out` is unchanged.
 ///
 /// # Errors
 ///
-/// `NO_OBJECT` if the handle is empty, `WRONG_KIND` if it holds neither a
-/// parser nor a saved screen, `BAD_ARGUMENT` if there is no such row or `out`
-/// is too short; nothing is stored.
+/// Returns `NO_OBJECT` if the handle is empty, `WRONG_KIND` if it holds neither
+/// a parser nor a saved screen, or `BAD_ARGUMENT` if there is no such row or
+/// `out` is too short. On error, nothing is stored.
 #[unsafe(no_mangle)]
 pub extern "C" fn vt100_get_cells(
     alloc: Global,
@@ -77,13 +78,14 @@ pub extern "C" fn vt100_get_cells(
     status
 }
 
-/// Stores whether a displayed row is wrapped, as 1 or 0.
+/// Stores 1 in `out` if a displayed row is wrapped (its text continues on the
+/// next row), otherwise 0.
 ///
 /// # Errors
 ///
-/// `NO_OBJECT` if the handle is empty, `WRONG_KIND` if it holds neither a
-/// parser nor a saved screen, `BAD_ARGUMENT` if there is no such row; nothing
-/// is stored.
+/// Returns `NO_OBJECT` if the handle is empty, `WRONG_KIND` if it holds neither
+/// a parser nor a saved screen, or `BAD_ARGUMENT` if there is no such row. On
+/// error, nothing is stored.
 #[unsafe(no_mangle)]
 pub extern "C" fn vt100_row_wrapped(
     alloc: Global,
@@ -106,7 +108,8 @@ pub extern "C" fn vt100_row_wrapped(
     status
 }
 
-/// Stores a cell of a source's screen, if there is one.
+/// Stores a displayed cell of a source's screen in `out`. Returns `WRONG_KIND`
+/// if the source has no screen, and `BAD_ARGUMENT` if there is no such cell.
 fn write_cell(source: &Source, row: u16, col: u16, out: &mut VtCell) -> u8
     ensures status { result ≡ due_on (has_cell row col) (screen_in source.now) }
     ensures cell { result ≡ ok → OnScreen (screen_in source.now)
@@ -119,7 +122,8 @@ fn write_cell(source: &Source, row: u16, col: u16, out: &mut VtCell) -> u8
     }
 }
 
-/// Stores the displayed cell of a screen at a row and column, if there is one.
+/// Stores the displayed cell of a screen at a row and a column in `out`.
+/// Returns `BAD_ARGUMENT` if there is no such cell.
 fn write_shown(screen: &Screen, row: u16, col: u16, out: &mut VtCell) -> u8
     ensures status { result ≡ has_cell row col screen.now }
     ensures cell { result ≡ ok → out.new ≡ cell_for_c (shown_cell row col screen.now) }
@@ -134,8 +138,9 @@ fn write_shown(screen: &Screen, row: u16, col: u16, out: &mut VtCell) -> u8
     }
 }
 
-/// Stores a row of a source's screen, if there is one and `out` has room for
-/// it.
+/// Stores the cells of a displayed row of a source's screen in `out`. Returns
+/// `WRONG_KIND` if the source has no screen, and `BAD_ARGUMENT` if there is no
+/// such row or `out` is too short.
 fn write_cells(source: &Source, row: u16, out: &mut [VtCell]) -> u8
     ensures status { result ≡ due_on (has_row_and_room row (length out.old)) (screen_in source.now) }
     ensures cells { result ≡ ok → OnScreen (screen_in source.now) (λ screen. IsRowForC row screen out.new) }
@@ -149,8 +154,8 @@ fn write_cells(source: &Source, row: u16, out: &mut [VtCell]) -> u8
     }
 }
 
-/// Stores a displayed row of a screen, if there is one and `out` has room for
-/// it.
+/// Stores the cells of a displayed row of a screen in `out`. Returns
+/// `BAD_ARGUMENT` if there is no such row or `out` is too short.
 fn write_row(screen: &Screen, row: u16, out: &mut [VtCell]) -> u8
     ensures status { result ≡ has_row_and_room row (length out.old) screen.now }
     ensures cells { result ≡ ok → IsRowForC row screen.now out.new }
@@ -166,7 +171,8 @@ fn write_row(screen: &Screen, row: u16, out: &mut [VtCell]) -> u8
     OK
 }
 
-/// Stores the cells of a displayed row, as many as the screen has columns.
+/// Stores the cells of a displayed row in `out`, one for each column of the
+/// screen.
 fn fill_row(screen: &Screen, row: u16, out: &mut [VtCell])
     requires shown { row < length screen.now.page.rows }
     requires room { length out.old ≡ screen.now.page.width }
@@ -191,8 +197,9 @@ fn shown_cell(screen: &Screen, row: u16, col: u16) -> VtCell
     }
 }
 
-/// Stores whether a row of a source's screen is wrapped, if there is such a
-/// row.
+/// Stores whether a displayed row of a source's screen is wrapped, as 1 or 0.
+/// Returns `WRONG_KIND` if the source has no screen, and `BAD_ARGUMENT` if
+/// there is no such row.
 fn write_wrapped(source: &Source, row: u16, out: &mut u8) -> u8
     ensures status { result ≡ due_on (has_row row) (screen_in source.now) }
     ensures wrapped { result ≡ ok → OnScreen (screen_in source.now)
@@ -205,7 +212,8 @@ fn write_wrapped(source: &Source, row: u16, out: &mut u8) -> u8
     }
 }
 
-/// Stores whether a displayed row is wrapped, if there is such a row.
+/// Stores whether a displayed row of a screen is wrapped, as 1 or 0. Returns
+/// `BAD_ARGUMENT` if there is no such row.
 fn write_goes_on(screen: &Screen, row: u16, out: &mut u8) -> u8
     ensures status { result ≡ has_row row screen.now }
     ensures wrapped { result ≡ ok → out.new ≡ bit 1 (visible_row screen.now row).wrapped }

@@ -1,4 +1,4 @@
-//! Resizing, and scrollback.
+//! Resizing screens, and scrolling back.
 
 ghost use Rattle.vt100_c.specs.Calls.{OnSource};
 ghost use Rattle.vt100_c.specs.Sizes.{Clears, OnScreen, ResizesMirror, ResizesParser, ResizesScreen};
@@ -14,14 +14,14 @@ use std::num::NonZeroU16;
 use vt_mirror::Mirror;
 use vt100::{Parser, Screen};
 
-/// Resizes the screen of a parser, a saved screen or a mirror. The events of a
-/// parser report the rows that scroll off and aren't kept.
+/// Resizes the screen of a parser, a saved screen or a mirror. For a parser,
+/// rows that scroll off and are not kept are reported as events.
 ///
 /// # Errors
 ///
-/// `NO_OBJECT` if the handle is empty, `BAD_ARGUMENT` if `rows` or `cols` is 0,
-/// `WRONG_KIND` if it holds a capture, `OUT_OF_MEMORY` if an allocation fails;
-/// nothing has changed.
+/// Returns `NO_OBJECT` if the handle is empty, `BAD_ARGUMENT` if `rows` or
+/// `cols` is 0, `WRONG_KIND` if it holds a capture, or `OUT_OF_MEMORY` if an
+/// allocation fails. On error, nothing is changed.
 #[unsafe(no_mangle)]
 pub extern "C" fn vt100_set_size(alloc: Global, handle: &mut Handle, rows: u16, cols: u16) -> u8
     ensures { OnSource (SetsSize rows cols) handle.old.held result handle.new.held }
@@ -35,13 +35,13 @@ pub extern "C" fn vt100_set_size(alloc: Global, handle: &mut Handle, rows: u16, 
     status
 }
 
-/// Resizes the screen of a parser or a saved screen without events.
+/// Resizes the screen of a parser or a saved screen without recording events.
 ///
 /// # Errors
 ///
-/// `NO_OBJECT` if the handle is empty, `BAD_ARGUMENT` if `rows` or `cols` is 0,
-/// `WRONG_KIND` if it holds neither a parser nor a saved screen,
-/// `OUT_OF_MEMORY` if an allocation fails; nothing has changed.
+/// Returns `NO_OBJECT` if the handle is empty, `BAD_ARGUMENT` if `rows` or
+/// `cols` is 0, `WRONG_KIND` if it holds neither a parser nor a saved screen,
+/// or `OUT_OF_MEMORY` if an allocation fails. On error, nothing is changed.
 #[unsafe(no_mangle)]
 pub extern "C" fn vt100_screen_set_size(
     alloc: Global,
@@ -60,14 +60,14 @@ pub extern "C" fn vt100_screen_set_size(
     status
 }
 
-/// Scrolls the display back by `rows` rows of scrollback, at most by all of
-/// them.
+/// Scrolls the display back by `rows` rows, limited to the number of scrollback
+/// rows.
 ///
 /// # Errors
 ///
-/// `NO_OBJECT` if the handle is empty, `WRONG_KIND` if it holds neither a
-/// parser nor a saved screen, `OUT_OF_MEMORY` if a row cannot be extended;
-/// nothing has changed.
+/// Returns `NO_OBJECT` if the handle is empty, `WRONG_KIND` if it holds neither
+/// a parser nor a saved screen, or `OUT_OF_MEMORY` if a row cannot be extended.
+/// On error, nothing is changed.
 #[unsafe(no_mangle)]
 pub extern "C" fn vt100_set_scrollback(alloc: Global, handle: &mut Handle, rows: usize) -> u8
     ensures { OnSource (OnScreen (ScrollsBack rows)) handle.old.held result handle.new.held }
@@ -81,12 +81,13 @@ pub extern "C" fn vt100_set_scrollback(alloc: Global, handle: &mut Handle, rows:
     status
 }
 
-/// Erases scrollback without events.
+/// Erases the scrollback of a parser or a saved screen without recording
+/// events.
 ///
 /// # Errors
 ///
-/// `NO_OBJECT` if the handle is empty, `WRONG_KIND` if it holds neither a
-/// parser nor a saved screen.
+/// Returns `NO_OBJECT` if the handle is empty, or `WRONG_KIND` if it holds
+/// neither a parser nor a saved screen.
 #[unsafe(no_mangle)]
 pub extern "C" fn vt100_clear_scrollback(alloc: Global, handle: &mut Handle) -> u8
     ensures { OnSource (OnScreen Clears) handle.old.held result handle.new.held }
@@ -100,7 +101,8 @@ pub extern "C" fn vt100_clear_scrollback(alloc: Global, handle: &mut Handle) -> 
     status
 }
 
-/// Resizes the screen of a source, if neither number is 0.
+/// Resizes the screen of a source. Returns `BAD_ARGUMENT` if `rows` or `cols`
+/// is 0.
 fn set_size(source: &mut Source, rows: u16, cols: u16) -> u8
     ensures { SetsSize rows cols source.old result source.new }
 {
@@ -110,7 +112,8 @@ fn set_size(source: &mut Source, rows: u16, cols: u16) -> u8
     resize(source, some_rows, some_cols)
 }
 
-/// Resizes the screen of a source, if it has one.
+/// Resizes the screen of a source. Returns `WRONG_KIND` if the source is a
+/// capture.
 fn resize(source: &mut Source, rows: NonZeroU16, cols: NonZeroU16) -> u8
     ensures { ResizesSource rows.value cols.value source.old result source.new }
 {
@@ -149,7 +152,8 @@ fn resize_mirror(mirror: &mut Mirror, rows: NonZeroU16, cols: NonZeroU16) -> u8
     answered(mirror.set_size(rows, cols))
 }
 
-/// Resizes the screen of a source without events, if neither number is 0.
+/// Resizes the screen of a source without recording events. Returns
+/// `BAD_ARGUMENT` if `rows` or `cols` is 0.
 fn set_screen_size(source: &mut Source, rows: u16, cols: u16) -> u8
     ensures { SetsScreenSize rows cols source.old result source.new }
 {
@@ -159,8 +163,8 @@ fn set_screen_size(source: &mut Source, rows: u16, cols: u16) -> u8
     resize_own(source, some_rows, some_cols)
 }
 
-/// Resizes the screen of a source without events, if it is a parser or a saved
-/// screen.
+/// Resizes the screen of a source without recording events. Returns
+/// `WRONG_KIND` if the source is neither a parser nor a saved screen.
 fn resize_own(source: &mut Source, rows: NonZeroU16, cols: NonZeroU16) -> u8
     ensures { OnScreen (ResizesScreen rows.value cols.value) source.old result source.new }
 {
@@ -172,7 +176,8 @@ fn resize_own(source: &mut Source, rows: NonZeroU16, cols: NonZeroU16) -> u8
     }
 }
 
-/// Scrolls back the display of a source.
+/// Scrolls the display of a source back by `rows` rows. Returns `WRONG_KIND` if
+/// the source is neither a parser nor a saved screen.
 fn set_scrollback(source: &mut Source, rows: usize) -> u8
     ensures { OnScreen (ScrollsBack rows) source.old result source.new }
 {
@@ -184,7 +189,7 @@ fn set_scrollback(source: &mut Source, rows: usize) -> u8
     }
 }
 
-/// Scrolls back the display of a screen.
+/// Scrolls the display of a screen back by `rows` rows.
 fn scroll_back(screen: &mut Screen, rows: usize) -> u8
     ensures { ScrollsBack rows screen.old result screen.new }
 {
@@ -194,7 +199,8 @@ fn scroll_back(screen: &mut Screen, rows: usize) -> u8
     }
 }
 
-/// Erases the scrollback of a source.
+/// Erases the scrollback of a source. Returns `WRONG_KIND` if the source is
+/// neither a parser nor a saved screen.
 fn clear_scrollback(source: &mut Source) -> u8
     ensures { OnScreen Clears source.old result source.new }
 {

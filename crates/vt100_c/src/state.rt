@@ -16,13 +16,14 @@ use crate::status::{NO_OBJECT, OK, WRONG_KIND};
 use std::alloc::Global;
 use vt100::Screen;
 
-/// Stores the state of a screen: its size and cursor, its modes, the attributes
-/// of newly printed text, and its scrollback.
+/// Stores the state of a screen in `out`: its size, its cursor, its modes, the
+/// attributes of newly printed text, and the size and position of its
+/// scrollback.
 ///
 /// # Errors
 ///
-/// `NO_OBJECT` if the handle is empty, `WRONG_KIND` if it holds neither a
-/// parser nor a saved screen; nothing is stored.
+/// Returns `NO_OBJECT` if the handle is empty, or `WRONG_KIND` if it holds
+/// neither a parser nor a saved screen. On error, nothing is stored.
 #[unsafe(no_mangle)]
 pub extern "C" fn vt100_get_state(alloc: Global, handle: &mut Handle, out: &mut VtState) -> u8
     ensures same { handle.new.held ≡ handle.old.held }
@@ -62,7 +63,8 @@ pub extern "C" fn vt100_is_steady(alloc: Global, handle: &mut Handle, out: &mut 
     status
 }
 
-/// Stores the state of a source's screen, if it has one.
+/// Stores the state of a source's screen in `out`. Returns `WRONG_KIND` if the
+/// source has no screen.
 fn write_state(source: &Source, out: &mut VtState) -> u8
     ensures status { result ≡ due_on any_screen (screen_in source.now) }
     ensures state { result ≡ ok → OnScreen (screen_in source.now) (λ screen. out.new ≡ state_for_c screen) }

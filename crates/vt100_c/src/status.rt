@@ -1,4 +1,4 @@
-//! The statuses that calls return.
+//! The status codes that calls return.
 
 ghost use Rattle.std.specs.Prelude.{◌≡◌};
 ghost use Rattle.vt100_c.specs.Status.{answered, status_of};
@@ -11,28 +11,28 @@ pub(crate) const OK: u8 = 0;
 /// An allocation failed.
 pub(crate) const OUT_OF_MEMORY: u8 = 1;
 
-/// The parser or mirror ran out of memory before, and reads nothing more.
+/// The parser or mirror ran out of memory earlier and accepts no more input.
 pub(crate) const FAILED: u8 = 2;
 
-/// An argument is out of its range.
+/// An argument is invalid.
 pub(crate) const BAD_ARGUMENT: u8 = 3;
 
-/// The handle holds an object of a kind that the call is not for.
+/// The handle holds an object of a kind that the call does not accept.
 pub(crate) const WRONG_KIND: u8 = 4;
 
-/// Two screens have different sizes.
+/// The two screens have different sizes.
 pub(crate) const OTHER_SIZE: u8 = 5;
 
 /// The handle is empty.
 pub(crate) const NO_OBJECT: u8 = 6;
 
-/// The handle that the call fills isn't empty.
+/// The handle that the call would fill is not empty.
 pub(crate) const IN_USE: u8 = 7;
 
-/// A mirror has no number left for a viewer.
+/// The mirror has no viewer number left.
 pub(crate) const NO_NUMBER: u8 = 8;
 
-/// Returns the status of an error.
+/// Returns the status code of an error.
 pub(crate) fn status_of(error: Error) -> u8
     ensures { result ≡ status_of error }
 {
@@ -43,7 +43,7 @@ pub(crate) fn status_of(error: Error) -> u8
     }
 }
 
-/// Returns the status of a result without a value.
+/// Returns the status code of a result that has no value.
 pub(crate) fn answered(answer: Result<(), Error>) -> u8
     ensures { result ≡ answered answer }
 {

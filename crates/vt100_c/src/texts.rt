@@ -13,15 +13,15 @@ use crate::object::Object;
 use crate::status::NO_OBJECT;
 use std::alloc::Global;
 
-/// Makes the text of the displayed rows, without attributes
-/// ([`vt100::Screen::contents`]), keeps it with the handle, and stores its
-/// length.
+/// Generates the text of the displayed rows, without attributes
+/// ([`vt100::Screen::contents`]). Stores it in the handle and its length in
+/// `len`.
 ///
 /// # Errors
 ///
-/// `NO_OBJECT` if the handle is empty, `WRONG_KIND` if it holds neither a
-/// parser nor a saved screen, `OUT_OF_MEMORY` if the text cannot be allocated;
-/// nothing has changed.
+/// Returns `NO_OBJECT` if the handle is empty, `WRONG_KIND` if it holds neither
+/// a parser nor a saved screen, or `OUT_OF_MEMORY` if the text cannot be
+/// allocated. On error, nothing is changed.
 #[unsafe(no_mangle)]
 pub extern "C" fn vt100_contents(alloc: Global, handle: &mut Handle, len: &mut usize) -> u8
     ensures answer { IsAnswer (due_at any_screen handle.old.held) result }
@@ -31,15 +31,16 @@ pub extern "C" fn vt100_contents(alloc: Global, handle: &mut Handle, len: &mut u
     make(alloc, handle, Text::Contents, len)
 }
 
-/// Makes the text between two positions ([`vt100::Screen::contents_between`]),
-/// keeps it with the handle, and stores its length.
+/// Generates the text between two positions, without attributes
+/// ([`vt100::Screen::contents_between`]). Stores it in the handle and its
+/// length in `len`.
 ///
 /// # Errors
 ///
-/// `NO_OBJECT` if the handle is empty, `WRONG_KIND` if it holds neither a
-/// parser nor a saved screen, `BAD_ARGUMENT` if a range of several rows begins
-/// past the screen's columns, `OUT_OF_MEMORY` if the text cannot be allocated;
-/// nothing has changed.
+/// Returns `NO_OBJECT` if the handle is empty, `WRONG_KIND` if it holds neither
+/// a parser nor a saved screen, `BAD_ARGUMENT` if a range of several rows
+/// begins past the screen's columns, or `OUT_OF_MEMORY` if the text cannot be
+/// allocated. On error, nothing is changed.
 #[unsafe(no_mangle)]
 pub extern "C" fn vt100_contents_between(
     alloc: Global,
@@ -58,15 +59,15 @@ pub extern "C" fn vt100_contents_between(
     make(alloc, handle, text, len)
 }
 
-/// Makes the escape sequences that redraw the screen on a plain terminal of its
-/// size ([`vt100::Screen::contents_formatted`]), keeps them with the handle,
-/// and stores their length.
+/// Generates the escape sequences that redraw the screen on a plain terminal of
+/// the same size ([`vt100::Screen::contents_formatted`]). Stores them in the
+/// handle and their length in `len`.
 ///
 /// # Errors
 ///
-/// `NO_OBJECT` if the handle is empty, `WRONG_KIND` if it holds neither a
-/// parser nor a saved screen, `OUT_OF_MEMORY` if the output cannot be
-/// allocated; nothing has changed.
+/// Returns `NO_OBJECT` if the handle is empty, `WRONG_KIND` if it holds neither
+/// a parser nor a saved screen, or `OUT_OF_MEMORY` if the output cannot be
+/// allocated. On error, nothing is changed.
 #[unsafe(no_mangle)]
 pub extern "C" fn vt100_contents_formatted(
     alloc: Global,
@@ -80,16 +81,16 @@ pub extern "C" fn vt100_contents_formatted(
     make(alloc, handle, Text::Formatted, len)
 }
 
-/// Makes the escape sequences that redraw the screen on a terminal of its size
-/// with any scroll region and origin mode
-/// ([`vt100::Screen::contents_formatted_reset`]), keeps them with the handle,
-/// and stores their length.
+/// Generates the escape sequences that redraw the screen on a terminal of the
+/// same size with any scroll region and origin mode
+/// ([`vt100::Screen::contents_formatted_reset`]). Stores them in the handle and
+/// their length in `len`.
 ///
 /// # Errors
 ///
-/// `NO_OBJECT` if the handle is empty, `WRONG_KIND` if it holds neither a
-/// parser nor a saved screen, `OUT_OF_MEMORY` if the output cannot be
-/// allocated; nothing has changed.
+/// Returns `NO_OBJECT` if the handle is empty, `WRONG_KIND` if it holds neither
+/// a parser nor a saved screen, or `OUT_OF_MEMORY` if the output cannot be
+/// allocated. On error, nothing is changed.
 #[unsafe(no_mangle)]
 pub extern "C" fn vt100_contents_formatted_reset(
     alloc: Global,
@@ -103,15 +104,15 @@ pub extern "C" fn vt100_contents_formatted_reset(
     make(alloc, handle, Text::FormattedReset, len)
 }
 
-/// Makes the text of the displayed rows with SGR as the only escape sequences
-/// ([`vt100::Screen::contents_formatted_basic`]), keeps it with the handle, and
-/// stores its length.
+/// Generates the text of the displayed rows, with SGR sequences as the only
+/// escape sequences ([`vt100::Screen::contents_formatted_basic`]). Stores it in
+/// the handle and its length in `len`.
 ///
 /// # Errors
 ///
-/// `NO_OBJECT` if the handle is empty, `WRONG_KIND` if it holds neither a
-/// parser nor a saved screen, `OUT_OF_MEMORY` if the text cannot be allocated;
-/// nothing has changed.
+/// Returns `NO_OBJECT` if the handle is empty, `WRONG_KIND` if it holds neither
+/// a parser nor a saved screen, or `OUT_OF_MEMORY` if the text cannot be
+/// allocated. On error, nothing is changed.
 #[unsafe(no_mangle)]
 pub extern "C" fn vt100_contents_formatted_basic(
     alloc: Global,
@@ -125,15 +126,15 @@ pub extern "C" fn vt100_contents_formatted_basic(
     make(alloc, handle, Text::FormattedBasic, len)
 }
 
-/// Makes the escape sequences that redraw the screen and set its input modes
-/// ([`vt100::Screen::state_formatted`]), keeps them with the handle, and stores
-/// their length.
+/// Generates the escape sequences that redraw the screen and set its input
+/// modes ([`vt100::Screen::state_formatted`]). Stores them in the handle and
+/// their length in `len`.
 ///
 /// # Errors
 ///
-/// `NO_OBJECT` if the handle is empty, `WRONG_KIND` if it holds neither a
-/// parser nor a saved screen, `OUT_OF_MEMORY` if the output cannot be
-/// allocated; nothing has changed.
+/// Returns `NO_OBJECT` if the handle is empty, `WRONG_KIND` if it holds neither
+/// a parser nor a saved screen, or `OUT_OF_MEMORY` if the output cannot be
+/// allocated. On error, nothing is changed.
 #[unsafe(no_mangle)]
 pub extern "C" fn vt100_state_formatted(alloc: Global, handle: &mut Handle, len: &mut usize) -> u8
     ensures answer { IsAnswer (due_at any_screen handle.old.held) result }
@@ -143,15 +144,16 @@ pub extern "C" fn vt100_state_formatted(alloc: Global, handle: &mut Handle, len:
     make(alloc, handle, Text::State, len)
 }
 
-/// Makes the escape sequences that set the cursor on a terminal that displays
-/// the rest of the screen ([`vt100::Screen::cursor_state_formatted`]), keeps
-/// them with the handle, and stores their length.
+/// Generates the escape sequences that move the cursor and hide or show it, for
+/// a terminal that already displays the rows of the screen
+/// ([`vt100::Screen::cursor_state_formatted`]). Stores them in the handle and
+/// their length in `len`.
 ///
 /// # Errors
 ///
-/// `NO_OBJECT` if the handle is empty, `WRONG_KIND` if it holds neither a
-/// parser nor a saved screen, `OUT_OF_MEMORY` if the output cannot be
-/// allocated; nothing has changed.
+/// Returns `NO_OBJECT` if the handle is empty, `WRONG_KIND` if it holds neither
+/// a parser nor a saved screen, or `OUT_OF_MEMORY` if the output cannot be
+/// allocated. On error, nothing is changed.
 #[unsafe(no_mangle)]
 pub extern "C" fn vt100_cursor_state_formatted(
     alloc: Global,
@@ -165,15 +167,15 @@ pub extern "C" fn vt100_cursor_state_formatted(
     make(alloc, handle, Text::CursorState, len)
 }
 
-/// Makes the escape sequences that set the current attributes
-/// ([`vt100::Screen::attributes_formatted`]), keeps them with the handle, and
-/// stores their length.
+/// Generates the escape sequences that set the current attributes
+/// ([`vt100::Screen::attributes_formatted`]). Stores them in the handle and
+/// their length in `len`.
 ///
 /// # Errors
 ///
-/// `NO_OBJECT` if the handle is empty, `WRONG_KIND` if it holds neither a
-/// parser nor a saved screen, `OUT_OF_MEMORY` if the output cannot be
-/// allocated; nothing has changed.
+/// Returns `NO_OBJECT` if the handle is empty, `WRONG_KIND` if it holds neither
+/// a parser nor a saved screen, or `OUT_OF_MEMORY` if the output cannot be
+/// allocated. On error, nothing is changed.
 #[unsafe(no_mangle)]
 pub extern "C" fn vt100_attributes_formatted(
     alloc: Global,
@@ -187,15 +189,15 @@ pub extern "C" fn vt100_attributes_formatted(
     make(alloc, handle, Text::Attributes, len)
 }
 
-/// Makes the escape sequences that set the input modes
-/// ([`vt100::Screen::input_mode_formatted`]), keeps them with the handle, and
-/// stores their length.
+/// Generates the escape sequences that set the input modes
+/// ([`vt100::Screen::input_mode_formatted`]). Stores them in the handle and
+/// their length in `len`.
 ///
 /// # Errors
 ///
-/// `NO_OBJECT` if the handle is empty, `WRONG_KIND` if it holds neither a
-/// parser nor a saved screen, `OUT_OF_MEMORY` if the output cannot be
-/// allocated; nothing has changed.
+/// Returns `NO_OBJECT` if the handle is empty, `WRONG_KIND` if it holds neither
+/// a parser nor a saved screen, or `OUT_OF_MEMORY` if the output cannot be
+/// allocated. On error, nothing is changed.
 #[unsafe(no_mangle)]
 pub extern "C" fn vt100_input_mode_formatted(
     alloc: Global,
@@ -209,8 +211,8 @@ pub extern "C" fn vt100_input_mode_formatted(
     make(alloc, handle, Text::InputMode, len)
 }
 
-/// Makes a text of the screen that a handle holds, keeps it with the handle,
-/// and stores its length.
+/// Generates a text of the screen in a handle. Stores it in the handle and its
+/// length in `len`.
 fn make(alloc: Global, handle: &mut Handle, text: Text, len: &mut usize) -> u8
     ensures answer { IsAnswer (due_at (due_for text) handle.old.held) result }
     ensures text { MakesText text handle.old.held result handle.new.held }
@@ -225,8 +227,8 @@ fn make(alloc: Global, handle: &mut Handle, text: Text, len: &mut usize) -> u8
     status
 }
 
-/// Makes a text of an object's screen, keeps it with the object, and stores its
-/// length.
+/// Generates a text of an object's screen. Stores it in the object and its
+/// length in `len`.
 fn renew(object: &mut Object, text: Text, len: &mut usize) -> u8
     ensures answer { IsAnswer (due_on (due_for text) (screen_in object.old.source)) result }
     ensures text { MakesText text (Some object.old) result (Some object.new) }

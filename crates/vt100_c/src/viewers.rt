@@ -1,4 +1,4 @@
-//! The viewers of a mirror, and the updates that they get.
+//! The viewers of a mirror, and the updates that they receive.
 
 ghost use Rattle.std.specs.Prelude.{◌≡◌, string_bytes};
 ghost use Rattle.vt100_c.specs.Mirrors.{Joins, LeavesIt, status_after, text_after, numbers, numbers_after};
@@ -9,7 +9,7 @@ use crate::status::{BAD_ARGUMENT, OK, status_of};
 use vt_mirror::{Mirror, Update};
 use vt100::Error;
 
-/// Adds a viewer, and stores its number.
+/// Adds a viewer to a mirror, and stores the number of the viewer in `viewer`.
 pub(crate) fn join(mirror: &mut Mirror, viewer: &mut u64) -> u8
     ensures call { Joins result viewer.old viewer.new mirror.old mirror.new }
     ensures refused { ¬ (result ≡ ok) → viewer.new ≡ viewer.old }
@@ -23,7 +23,8 @@ pub(crate) fn join(mirror: &mut Mirror, viewer: &mut u64) -> u8
     }
 }
 
-/// Removes a viewer, if there is one with this number.
+/// Removes the viewer with the given number. Returns `BAD_ARGUMENT` if there is
+/// none.
 pub(crate) fn leave(mirror: &mut Mirror, viewer: u64) -> u8
     ensures { LeavesIt viewer result mirror.old mirror.new }
 {
@@ -41,7 +42,8 @@ pub(crate) fn current_bit(mirror: &Mirror, viewer: u64) -> u8
     if mirror.is_current(viewer) { 1 } else { 0 }
 }
 
-/// Keeps the text of an update, and stores its length and the size it is for.
+/// Stores the text and the length of an update. For a full update, stores the
+/// size of the screen in `rows` and `cols`. For a difference, stores 0 in both.
 pub(crate) fn hand_over(
     answer: Result<Option<Update>, Error>,
     text: &mut String,

@@ -37,7 +37,7 @@ pub enum Intensity {
 /// and inverse video (ECMA-48, SGR).
 ///
 /// All six are packed into one word: five bits of style and 26 bits for each colour. Two values are
-/// equal exactly if their words are.
+/// equal if and only if their words are.
 #[derive(Clone, Copy, Debug)]
 pub struct Attrs {
     word: u64,
@@ -71,7 +71,8 @@ impl Model for Attrs {
 }
 
 impl Attrs {
-    /// Returns the attributes of a new screen: default colours and no style.
+    /// Returns the attributes of a new screen: default colours, normal intensity and no other
+    /// style.
     #[inline]
     pub fn new() -> Self
         ensures { result ≡ default_attrs }
@@ -188,7 +189,7 @@ impl Attrs {
         self.back().is_same(&other.back())
     }
 
-    /// Returns whether everything but the colours equals that of `other`.
+    /// Returns whether all attributes except the colours equal those of `other`.
     #[inline]
     #[tactic(auto, using(crate::proofs::Packing::bits_same))]
     pub fn has_style_of(&self, other: &Attrs) -> bool
@@ -241,7 +242,7 @@ impl Attrs {
         self.intensity() == Intensity::Dim
     }
 
-    /// Returns whether characters are in italics.
+    /// Returns whether characters are italic.
     #[inline]
     pub fn italic(&self) -> bool
         ensures { result ≡ self.now.italic }
@@ -257,7 +258,7 @@ impl Attrs {
         self.word / UNDERLINE % 2 == 1
     }
 
-    /// Returns whether foreground and background colours are exchanged (inverse video).
+    /// Returns whether the foreground and background colours are swapped (inverse video).
     #[inline]
     pub fn inverse(&self) -> bool
         ensures { result ≡ self.now.inverse }
@@ -363,7 +364,7 @@ impl Default for Attrs {
     }
 }
 
-/// Returns the five low bits of a packed [`Attrs`] word, which hold everything but the colours.
+/// Returns the low five bits of a packed [`Attrs`] word, which hold everything except the colours.
 #[inline]
 #[tactic(auto, using(crate::proofs::Packing::style_back, crate::proofs::Packing::style_small))]
 fn style_bits(intensity: Intensity, italic: bool, underline: bool, inverse: bool) -> u64
@@ -382,7 +383,7 @@ fn style_bits(intensity: Intensity, italic: bool, underline: bool, inverse: bool
         + switch_bits(inverse, INVERSE)
 }
 
-/// Returns the two low bits of a packed [`Attrs`] word, which hold the intensity.
+/// Returns the low two bits of a packed [`Attrs`] word, which hold the intensity.
 #[inline]
 fn intensity_bits(intensity: Intensity) -> u64
     ensures { result ≡ intensity_bits intensity }

@@ -1,4 +1,4 @@
-//! A buffer that gathers short strings before they are written to a sink.
+//! A buffer that collects short strings before they are written to a sink.
 
 ghost use Rattle.std.specs.Prelude.{◌≡◌, ◌+◌, ◌++◌, ◌<◌, ◌≤◌, [], length, IsErr, OnErr, OnOk};
 ghost use Rattle.vt_cells.specs.BufferInternals.{gathered};
@@ -13,8 +13,8 @@ const ROOM: usize = 128;
 
 /// A buffer of at most 128 bytes in front of a [`Sink`].
 ///
-/// Short strings are gathered and written together. Call [`Buffer::flush`] at the end: only then is
-/// everything that was added sure to have reached the sink.
+/// Short strings are collected and written together. Call [`Buffer::flush`] at the end: only then
+/// is everything guaranteed to have reached the sink.
 #[derive(Drop)]
 pub struct Buffer {
     bytes: [u8; ROOM],
@@ -44,8 +44,8 @@ impl Buffer {
         }
     }
 
-    /// Appends `text`. If it does not fit, writes the buffered bytes and then `text` to `sink`;
-    /// otherwise writes nothing.
+    /// Appends `text` to the buffer. If it does not fit, writes the buffered bytes and then `text`
+    /// to `sink` instead.
     ///
     /// # Errors
     ///
@@ -104,7 +104,7 @@ impl Buffer {
         unsafe { str::from_utf8_unchecked(&self.bytes[..self.len]) }
     }
 
-    /// Returns the number of bytes that still fit.
+    /// Returns the number of bytes that still fit in the buffer.
     #[inline]
     fn room(&self) -> usize
         ensures { length self.now + result ≡ 128 }
@@ -112,7 +112,7 @@ impl Buffer {
         ROOM - self.len
     }
 
-    /// Appends `text`, which must fit.
+    /// Appends `text`, which must fit in the buffer.
     #[inline(always)]
     fn push(&mut self, text: &str)
         requires { length self.old + length text.now ≤ 128 }
@@ -123,7 +123,7 @@ impl Buffer {
         self.len = end;
     }
 
-    /// Appends a string of one byte, the length of most glyphs; it must fit.
+    /// Appends a one-byte string, the length of most glyphs. It must fit in the buffer.
     #[inline(always)]
     fn push_one(&mut self, text: &str)
         requires room { length self.old + 1 ≤ 128 }
@@ -144,7 +144,7 @@ impl Buffer {
     }
 }
 
-/// Copies the single byte of `from` to `to`.
+/// Copies the single byte of `from` into `to`.
 #[inline(always)]
 #[tactic(auto, using(crate::proofs::Buffers::one_set))]
 fn copy_one(to: &mut [u8], from: &[u8])
@@ -155,10 +155,10 @@ fn copy_one(to: &mut [u8], from: &[u8])
     to[0] = from[0];
 }
 
-/// Copies `from` to `to`, which has the same length.
+/// Copies `from` into `to`, which must have the same length.
 ///
 /// Two or three bytes, the length of most glyphs outside ASCII, are copied inline instead of by a
-/// call of `memcpy`.
+/// call to `memcpy`.
 #[inline(always)]
 #[tactic(auto, using(crate::proofs::Buffers::two_set, crate::proofs::Buffers::three_set))]
 fn copy(to: &mut [u8], from: &[u8])

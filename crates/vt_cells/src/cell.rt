@@ -20,16 +20,16 @@ use std::marker::Model;
 use std::str;
 use unicode_width::UnicodeWidthStr;
 
-/// The length of a text in bytes at which its cell stops accepting combining characters.
+/// The text length, in bytes, at which a cell stops accepting combining characters.
 pub const MARK_LIMIT: u8 = 26;
 
-/// The size of a cell's text array in bytes: [`MARK_LIMIT`] and one more character.
+/// The size of a cell's text array in bytes: [`MARK_LIMIT`] bytes and one more character.
 const TEXT_ROOM: usize = 30;
 
 /// A cell of the screen: a blank, a glyph, or the continuation cell of the wide glyph before it.
 ///
-/// A glyph is one character of width 1 or 2 with the combining characters added to it, at most 29
-/// bytes of UTF-8.
+/// A glyph is one character of width 1 or 2, followed by any combining characters added to it. Its
+/// text is at most 29 bytes of UTF-8.
 #[derive(Clone, Copy, Debug)]
 pub struct Cell {
     head: Head,
@@ -56,8 +56,8 @@ impl Model for Cell {
 }
 
 impl Cell {
-    /// Returns the cell's text: a character with its combining characters, 1 to 29 bytes of UTF-8.
-    /// Empty for a blank and for a continuation cell.
+    /// Returns the cell's text: a character and its combining characters, 1 to 29 bytes of UTF-8.
+    /// The text of a blank or a continuation cell is empty.
     #[inline]
     pub fn contents(&self) -> &str
         ensures value { result.now ≡ text_of self.now }
@@ -91,7 +91,7 @@ impl Cell {
         self.head.shape().is_right_half()
     }
 
-    /// Returns whether both cells have the same text, width, kind and attributes.
+    /// Returns whether the two cells have the same text, width, kind and attributes.
     #[inline]
     fn is_same(&self, other: &Cell) -> bool
         ensures { result ≡ same_cell self.now other.now }
@@ -102,8 +102,8 @@ impl Cell {
         self.has_text_of(other)
     }
 
-    /// Returns whether both cells agree in everything but the bytes of their text: its length and
-    /// width, whether they are continuation cells, and the attributes.
+    /// Returns whether the two cells agree in everything except the bytes of their text: the length
+    /// and width of the text, whether the cell is a continuation cell, and the attributes.
     #[inline]
     fn has_head_of(&self, other: &Cell) -> bool
         ensures value { result ≡ same_head (head_of_cell self.now) (head_of_cell other.now) }
@@ -113,7 +113,7 @@ impl Cell {
         self.head.is_same(&other.head)
     }
 
-    /// Returns whether both cells, which have text of the same length, have the same text.
+    /// Returns whether the two cells have the same text. The texts must have the same length.
     ///
     /// The first eight bytes are compared as one word; few cells have more.
     #[inline]
@@ -130,7 +130,7 @@ impl Cell {
         self.has_bytes_of(other)
     }
 
-    /// Returns whether both cells have the same text, comparing all its bytes.
+    /// Returns whether the two cells have the same text, comparing every byte.
     #[inline(never)]
     fn has_bytes_of(&self, other: &Cell) -> bool
         ensures { result ≡ bytes_eq (text_of self.now) (text_of other.now) }
@@ -138,9 +138,10 @@ impl Cell {
         self.contents() == other.contents()
     }
 
-    /// Returns a bit set that is 0 only if both cells are equal.
+    /// Returns a bit mask that is 0 only if the two cells are equal.
     ///
-    /// It is also nonzero if a text has more than seven bytes, because only so many are compared.
+    /// It is also nonzero if the text is longer than seven bytes, because the rest of the text is
+    /// not compared.
     #[inline(always)]
     pub(crate) fn odd_bits(&self, other: &Cell) -> u64
         ensures { result ≡ 0 → self.now ≡ other.now }
@@ -148,8 +149,8 @@ impl Cell {
         self.head.odd_bits(&other.head) | (self.front_word() ^ other.front_word())
     }
 
-    /// Returns the first eight bytes of the text array, text followed by zeros, as a little-endian
-    /// word.
+    /// Returns the first eight bytes of the text array as a little-endian word. Bytes after the end
+    /// of the text are zero.
     #[inline(always)]
     fn front_word(&self) -> u64
         ensures { to_le_bytes w64 result ≡ front (text_of self.now) }
@@ -192,7 +193,7 @@ impl Cell {
         self.head.attrs().dim()
     }
 
-    /// Returns whether the cell is in italics.
+    /// Returns whether the cell is italic.
     #[inline]
     pub fn italic(&self) -> bool
         ensures { result ≡ (attrs_of self.now).italic }
@@ -208,7 +209,7 @@ impl Cell {
         self.head.attrs().underline()
     }
 
-    /// Returns whether foreground and background colours are exchanged (inverse video).
+    /// Returns whether the cell's foreground and background colours are swapped (inverse video).
     #[inline]
     pub fn inverse(&self) -> bool
         ensures { result ≡ (attrs_of self.now).inverse }
@@ -227,7 +228,7 @@ impl PartialEq for Cell {
 
     ghost laws = { partial_equiv_from_equiv cell_eq_equiv };
 
-    /// Returns whether both cells have the same text, width, kind and attributes.
+    /// Returns whether the two cells have the same text, width, kind and attributes.
     #[inline]
     fn eq(&self, other: &Self) -> bool
         ensures value { result ≡ cell_eq self.now other.now }
@@ -252,7 +253,7 @@ pub fn is_blank(cell: &Cell) -> bool
     cell.head.shape().is_blank()
 }
 
-/// Returns whether `unicode_width` counts more than one column for the whole text of the cell.
+/// Returns whether the cell's whole text is more than one column wide according to `unicode_width`.
 #[tactic(auto, unfolding(crate::specs::Glyph::is_wide_text))]
 pub fn is_wide_text(cell: &Cell) -> bool
     ensures { result ≡ is_wide_text (text_of cell.now) }
@@ -260,7 +261,7 @@ pub fn is_wide_text(cell: &Cell) -> bool
     cell.contents().width() > 1
 }
 
-/// Returns the attributes of the cell; a continuation cell has the default ones.
+/// Returns the attributes of the cell. A continuation cell has default attributes.
 #[inline]
 pub fn attrs(cell: &Cell) -> Attrs
     ensures { result ≡ attrs_of cell.now }
@@ -268,7 +269,7 @@ pub fn attrs(cell: &Cell) -> Attrs
     cell.head.attrs()
 }
 
-/// Returns whether the cell has these attributes.
+/// Returns whether the attributes of the cell equal `attrs`.
 #[inline]
 pub fn has_attrs(cell: &Cell, attrs: &Attrs) -> bool
     ensures { result ≡ same_attrs attrs.now (attrs_of cell.now) }

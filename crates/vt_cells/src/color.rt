@@ -7,7 +7,7 @@ pub enum Color {
     #[default]
     Default,
 
-    /// A colour of the 256-colour palette, by its index.
+    /// A colour of the 256-colour palette, given by its index.
     Idx(u8),
 
     /// A colour given by its red, green and blue components.

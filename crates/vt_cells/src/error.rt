@@ -12,11 +12,11 @@ pub enum Error {
     /// The parser ran out of memory earlier and accepts no more input.
     Failed,
 
-    /// The mirror has already assigned the largest viewer number, `u64::MAX`.
+    /// No viewer number is left: the mirror has already assigned `u64::MAX`.
     NoNumber,
 }
 
-/// Converts a failed allocation to [`Error::OutOfMemory`], for the operator `?`.
+/// Converts a failed allocation to [`Error::OutOfMemory`], for use with the `?` operator.
 impl From<AllocError> for Error {
     ghost use Rattle.std.specs.Prelude.{◌≡◌};
     ghost use Rattle.vt_cells.specs.declared.error.Error.TheVariants.{OutOfMemory};
@@ -28,8 +28,8 @@ impl From<AllocError> for Error {
     }
 }
 
-/// Converts an error for code that does input and output: [`Error::OutOfMemory`] to the kind
-/// `OutOfMemory`, any other to the kind `Other`.
+/// Converts [`Error::OutOfMemory`] to an I/O error of kind `OutOfMemory`, and any other error to
+/// one of kind `Other`.
 impl From<Error> for io::Error {
     ghost use Rattle.std.specs.IoError.{error_kind};
     ghost use Rattle.std.specs.Prelude.{◌≡◌};

@@ -1,4 +1,4 @@
-//! Everything about a cell but the bytes of its text, in one word.
+//! Everything about a cell except the bytes of its text, packed into one word.
 
 ghost use Rattle.std.specs.Prelude.{◌≡◌, ◌<◌, false, IsTrue};
 ghost use Rattle.vt_cells.specs.Attrs.{default_attrs};
@@ -8,8 +8,8 @@ use crate::attrs::Attrs;
 use crate::shape::Shape;
 use std::marker::Model;
 
-/// The shape of a cell in the seven low bits of a word, and its attributes in the higher ones. Two
-/// heads are equal exactly if their words are.
+/// The shape and the attributes of a cell, packed into one word: the shape in the low seven bits,
+/// the attributes above them. Two heads are equal if and only if their words are.
 #[derive(Clone, Copy, Debug)]
 pub struct Head {
     word: u64,
@@ -42,8 +42,7 @@ impl Head {
         }
     }
 
-    /// Creates the head of a cell with `len` bytes of text; it is the head of a blank if `len` is
-    /// 0.
+    /// Creates the head of a cell with `len` bytes of text. If `len` is 0, the cell is a blank.
     #[inline]
     pub fn text(len: u8, wide: bool, attrs: Attrs) -> Self
         requires { len < 32 }
@@ -55,7 +54,7 @@ impl Head {
         Head::of(Shape::text(len, wide), attrs)
     }
 
-    /// Creates the head of a continuation cell: default attributes and no text.
+    /// Creates the head of a continuation cell, which has default attributes and no text.
     #[inline]
     pub fn right_half() -> Self
         ensures { result ≡ record { attrs = default_attrs; shape = half_shape } }
@@ -63,7 +62,7 @@ impl Head {
         Head::of(Shape::right_half(), Attrs::new())
     }
 
-    /// Returns the shape.
+    /// Returns the shape of the cell.
     #[inline]
     pub fn shape(&self) -> Shape
         ensures { result ≡ self.now.shape }
@@ -71,7 +70,7 @@ impl Head {
         Shape::of_bits((self.word % 128) as u8)
     }
 
-    /// Returns the attributes.
+    /// Returns the attributes of the cell.
     #[inline]
     pub fn attrs(&self) -> Attrs
         ensures { result ≡ self.now.attrs }
@@ -79,7 +78,7 @@ impl Head {
         Attrs::of_word(self.word / 128)
     }
 
-    /// Returns whether the text has more than seven bytes.
+    /// Returns whether the text is longer than seven bytes.
     #[inline]
     #[tactic(auto, using(crate::proofs::Shapes::short_head, crate::proofs::Shapes::long_head))]
     pub fn is_long(&self) -> bool
@@ -89,11 +88,11 @@ impl Head {
         self.word / 8 % 4 != 0
     }
 
-    /// Returns a bit set that is 0 only if both heads are equal and the text has at most seven
+    /// Returns a bit mask that is 0 only if the two heads are equal and the text has at most seven
     /// bytes.
     ///
-    /// It consists of the bits in which the words differ and the two bits of the length that are 0
-    /// below eight.
+    /// The mask contains the bits in which the words differ, and the upper two bits of the length,
+    /// which are 0 for lengths below eight.
     #[inline(always)]
     #[tactic(auto, using(crate::proofs::Words::heads_even, crate::proofs::Words::short_even))]
     pub fn odd_bits(&self, other: &Head) -> u64
@@ -103,7 +102,7 @@ impl Head {
         (self.word ^ other.word) | self.word % 32 / 8 * 8
     }
 
-    /// Returns whether both heads are equal.
+    /// Returns whether the two heads are equal.
     #[inline]
     #[tactic(auto, using(crate::proofs::Shapes::heads_same))]
     pub fn is_same(&self, other: &Head) -> bool

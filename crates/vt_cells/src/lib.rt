@@ -1,5 +1,5 @@
 //! The values that a terminal screen is made of (colours, attributes, cells, positions and modes),
-//! and the short escape sequences that describe changes of them.
+//! and the short escape sequences that describe changes to them.
 #![tactic(auto)]
 
 pub mod attrs;

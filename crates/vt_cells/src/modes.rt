@@ -1,4 +1,4 @@
-//! Modes for mouse reporting and for the cursor style.
+//! Mouse reporting modes and cursor styles.
 
 /// The mouse events that the terminal reports (xterm, DEC private modes 9, 1000, 1002 and 1003).
 #[derive(Clone, Copy, PartialEq, Eq, Debug, Default)]
@@ -13,24 +13,25 @@ pub enum MouseProtocolMode {
     /// Button presses and releases are reported (mode 1000).
     PressRelease,
 
-    /// Button presses and releases are reported, and motion while a button is down (mode 1002).
+    /// Button presses, button releases, and motion while a button is held down are reported (mode
+    /// 1002).
     ButtonMotion,
 
-    /// Button presses and releases are reported, and all motion (mode 1003).
+    /// Button presses, button releases and all motion are reported (mode 1003).
     AnyMotion,
 }
 
 /// The encoding of reported mouse events (xterm, DEC private modes 1005 and 1006).
 #[derive(Clone, Copy, PartialEq, Eq, Debug, Default)]
 pub enum MouseProtocolEncoding {
-    /// Each number is one byte.
+    /// Each number is encoded as one byte.
     #[default]
     Default,
 
-    /// Each number is one character in UTF-8 (mode 1005).
+    /// Each number is encoded as one UTF-8 character (mode 1005).
     Utf8,
 
-    /// Numbers are decimal, in an SGR-like sequence (mode 1006).
+    /// Numbers are encoded in decimal, in a sequence that resembles SGR (mode 1006).
     Sgr,
 }
 

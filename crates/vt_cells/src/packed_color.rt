@@ -8,8 +8,9 @@ ghost use Rattle.vt_cells.specs.declared.color.Color.TheVariants as color;
 use crate::color::Color;
 use std::marker::Model;
 
-/// A colour packed into 26 bits: its kind in the two low bits and three components of eight bits
-/// above them, 0 if the kind does not use them. Two colours are equal exactly if their bits are.
+/// A colour packed into 26 bits: its kind in the low two bits, and above them three components of
+/// eight bits. Components that the kind does not use are 0. Two colours are equal if and only if
+/// their bits are.
 #[derive(Clone, Copy, Debug)]
 pub struct PackedColor {
     bits: u32,
@@ -43,7 +44,7 @@ impl PackedColor {
         }
     }
 
-    /// Packs a colour of the palette.
+    /// Packs a palette colour, given by its index.
     #[inline]
     fn index(i: u8) -> Self
         ensures { result ≡ color.Idx i }
@@ -63,7 +64,7 @@ impl PackedColor {
         }
     }
 
-    /// Unpacks the colour.
+    /// Returns the unpacked colour.
     #[inline]
     pub fn color(&self) -> Color
         ensures { result ≡ self.now }
@@ -98,7 +99,7 @@ impl PackedColor {
         PackedColor { bits }
     }
 
-    /// Returns whether both colours are equal.
+    /// Returns whether the two colours are equal.
     #[inline]
     #[tactic(auto, using(crate::proofs::Packing::packed_same))]
     pub fn is_same(&self, other: &PackedColor) -> bool

@@ -6,6 +6,6 @@ pub struct Pos {
     /// The row, counted from the top.
     pub row: u16,
 
-    /// The column, counted from the left. One past the last column means that a wrap is pending.
+    /// The column, counted from the left. A column one past the last means that a wrap is pending.
     pub col: u16,
 }

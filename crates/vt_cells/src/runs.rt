@@ -5,10 +5,10 @@ ghost use Rattle.vt_cells.specs.Cell.{CellValue};
 
 use crate::cell::Cell;
 
-/// Returns a number of leading cells in which both rows are equal.
+/// Returns a lower bound on the number of leading cells that the two rows have in common.
 ///
-/// It is a lower bound: cells are compared in groups of four, and a cell whose text has more than
-/// seven bytes ends the run.
+/// Cells are compared in groups of four, and a cell whose text is longer than seven bytes ends the
+/// run.
 pub fn same_run(own: &[Cell], others: &[Cell]) -> usize
     ensures own { result ≤ length own.now }
     ensures others { result ≤ length others.now }
@@ -23,9 +23,10 @@ pub fn same_run(own: &[Cell], others: &[Cell]) -> usize
     count
 }
 
-/// Returns `true` only if two groups of four cells are equal and no text has more than seven bytes.
+/// Returns `true` only if the two groups of four cells are equal and no text is longer than seven
+/// bytes.
 ///
-/// The differences are gathered in one word, so that the compiler can vectorize the comparison.
+/// The differences are combined into one word so that the compiler can vectorize the comparison.
 #[inline(always)]
 fn four_same(own: &[Cell], others: &[Cell]) -> bool
     requires own { length own.now ≡ 4 }

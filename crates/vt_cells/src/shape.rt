@@ -34,8 +34,7 @@ impl Model for Shape {
 }
 
 impl Shape {
-    /// Creates the shape of a cell with `len` bytes of text; it is the shape of a blank if `len` is
-    /// 0.
+    /// Creates the shape of a cell with `len` bytes of text. If `len` is 0, the cell is a blank.
     #[inline]
     #[tactic(auto, using(crate::proofs::Shapes::text_back))]
     pub fn text(len: u8, wide: bool) -> Self

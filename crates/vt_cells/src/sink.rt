@@ -18,16 +18,16 @@ pub trait Sink {
     ///
     /// # Errors
     ///
-    /// Returns the sink's own error. Each sink states by `refuses`, a relation on the contents
-    /// before, `s` and the contents after, what a failed write leaves: a `String` is unchanged, a
-    /// sink that keeps what fits has a prefix of `s` appended, and for a sink that states nothing
-    /// nothing is promised.
+    /// Returns the sink's own error. Each sink specifies the effect of a failed write, by the
+    /// relation `refuses` on the contents before the write, `s`, and the contents after it. A
+    /// `String` is unchanged. A sink that stores as much as fits has a prefix of `s` appended. A
+    /// sink may also promise nothing.
     fn write_str(&mut self, s: &str) -> Result<(), Self::Error>
         ensures ok { OnOk result (text self.new ≡ text self.old ++ s.now) }
         ensures err { OnErr result (refuses (text self.old) s.now (text self.new)) };
 }
 
-/// Strings are sinks: a write fails only if the string cannot grow.
+/// A string is a sink to which a write fails only if the string cannot grow.
 impl Sink for String {
     type Error = Error;
 
@@ -39,8 +39,8 @@ impl Sink for String {
     ///
     /// # Errors
     ///
-    /// Returns [`Error::OutOfMemory`] if the string must grow and the allocation fails; the string
-    /// is unchanged.
+    /// Returns [`Error::OutOfMemory`] if the string must grow and the allocation fails. The string
+    /// is then unchanged.
     fn write_str(&mut self, s: &str) -> Result<(), Error>
         ensures ok { OnOk result (string_bytes self.new ≡ string_bytes self.old ++ s.now) }
         ensures err { OnErr result (string_bytes self.new ≡ string_bytes self.old) }

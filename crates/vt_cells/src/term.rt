@@ -1,5 +1,5 @@
-//! The short escape sequences that a redraw is made of, each with its exact bytes (ECMA-48, the
-//! VT510 manual and xterm's control sequences).
+//! The short escape sequences that make up a redraw, each with its exact bytes (ECMA-48, the VT510
+//! manual and xterm's control sequences).
 
 ghost use Rattle.std.specs.Prelude.{◌≡◌, ◌++◌, ◌<◌, ℕ, List, length, OnErr, OnOk};
 
@@ -32,8 +32,8 @@ pub trait BufWrite {
     ///
     /// # Errors
     ///
-    /// Returns the sink's error; part of the sequence may have been written by then. An empty
-    /// sequence never fails.
+    /// Returns the sink's error. Part of the sequence may have been written by then. Writing an
+    /// empty sequence never fails.
     fn write_buf<S: Sink>(&self, sink: &mut S) -> Result<(), S::Error>
         ensures text { OnOk result (S.text sink.new ≡ S.text sink.old ++ bytes self.now) }
         ensures some { OnErr result (0 < length (bytes self.now)) };

@@ -1,4 +1,4 @@
-//! The number of columns that a character takes on the screen.
+//! The width of a character: the number of columns that it takes on the screen.
 
 ghost use Rattle.std.specs.Prelude.{◌≡◌, IsTrue, Some};
 ghost use Rattle.vt_cells.specs.Glyph.{columns_of};
@@ -8,8 +8,8 @@ use unicode_width::UnicodeWidthChar;
 /// Returns the number of columns that a character takes, 0 to 2, or `None` for a control character
 /// (UAX #11).
 ///
-/// A character for which `unicode_width` returns more than two columns takes two. One for which it
-/// returns `None` takes one column from U+0100 on.
+/// A character for which `unicode_width` returns more than two columns takes two. A character for
+/// which it returns `None` takes one column if it is U+0100 or above.
 #[inline]
 pub fn columns(c: char) -> Option<u8>
     ensures { result ≡ columns_of c }

@@ -1,5 +1,5 @@
 //! The storage of a page: one vector with the cells of all rows, and a table that maps each row to
-//! its place in it.
+//! its place in the vector.
 
 ghost use Rattle.std.specs.Prelude.{◌≡◌, ◌≢◌, ◌+◌, ◌*◌, ◌<◌, ◌≤◌, ℕ, IfOk};
 ghost use Rattle.std.specs.Prelude.{false, length, slice_set};
@@ -38,7 +38,7 @@ impl Flat {
     ghost use Rattle.vt_grid.specs.Flat.{IsFlat, cells_at, in_order, rows_of};
     ghost use Rattle.vt_grid.specs.Page.{row_or};
 
-    /// Creates rows of default blanks, row `k` at place `k`.
+    /// Creates rows of default blanks, with row `k` at place `k`.
     ///
     /// # Errors
     ///
@@ -57,7 +57,7 @@ impl Flat {
         })
     }
 
-    /// Returns a copy with the same places.
+    /// Returns a copy in which each row has the same place.
     ///
     /// # Errors
     ///
@@ -77,8 +77,8 @@ impl Flat {
         })
     }
 
-    /// Returns the range of a row's cells in the vector: its first index, and the index after its
-    /// last.
+    /// Returns the range of a row's cells in the vector, as the index of the first cell and the
+    /// index after the last.
     #[tactic(auto, using(crate::proofs::Flats::rows_counted))]
     #[inline]
     pub fn part(&self, row: usize) -> (usize, usize)
@@ -105,7 +105,7 @@ impl Flat {
         self.lines[row].wrapped
     }
 
-    /// Sets the wrapped flag of a row. No cell changes.
+    /// Sets the wrapped flag of a row. The cells are unchanged.
     #[inline]
     pub fn wrap(&mut self, row: usize, wrapped: bool)
         requires { row < length self.old.lines.items }
@@ -117,8 +117,8 @@ impl Flat {
         self.lines[row].wrapped = wrapped;
     }
 
-    /// Rotates the rows from `from` up to but excluding `to` up by `count`, with their wrapped
-    /// flags. No cell changes.
+    /// Rotates rows `from..to` upward by `count`, together with their wrapped flags. The cells are
+    /// unchanged.
     #[tactic(auto, using(crate::proofs::Flats::rows_counted))]
     pub fn rotate(&mut self, from: usize, to: usize, count: usize)
         requires in_order { from + count ≤ to }
@@ -132,7 +132,7 @@ impl Flat {
         turn(&mut self.lines, from, to, count);
     }
 
-    /// Makes a row blank and no longer wrapped. The cells at all other places are unchanged.
+    /// Blanks a row and clears its wrapped flag. The cells at all other places are unchanged.
     #[tactic(auto, using(crate::proofs::Flats::rows_counted))]
     pub fn blank(&mut self, row: usize, attrs: Attrs)
         requires flat { IsFlat self.old }
@@ -152,7 +152,7 @@ impl Flat {
         self.wrap(row, false);
     }
 
-    /// Makes all rows blank and no longer wrapped.
+    /// Blanks all rows and clears their wrapped flags.
     pub fn blank_all(&mut self, attrs: Attrs)
         ensures cells { self.new.cells.items ≡ blanks attrs (length self.old.cells.items) }
         ensures width { self.new.width ≡ self.old.width }

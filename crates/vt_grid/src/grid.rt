@@ -20,7 +20,7 @@ use vt_cells::{Attrs, Error, Pos};
 /// A page of the screen: rows of cells, a cursor, a saved cursor, a scroll region and origin mode
 /// (VT510 manual: DECSC, DECSTBM, DECOM).
 ///
-/// The cursor's column is at most the number of columns; if it is equal to that, a wrap is pending.
+/// The cursor's column is at most the number of columns. If the two are equal, a wrap is pending.
 #[derive(Debug, Drop)]
 pub struct Grid {
     page_rows: PageRows,
@@ -47,8 +47,8 @@ impl Model for Grid {
 }
 
 impl Grid {
-    /// Creates a page of default blanks with the cursor at the top left and the whole page as
-    /// scroll region.
+    /// Creates a page of default blanks, with the cursor in the top left corner and the whole page
+    /// as the scroll region.
     ///
     /// # Errors
     ///
@@ -93,7 +93,7 @@ impl Grid {
         })
     }
 
-    /// Resets the page to a new one of its size. Allocates nothing.
+    /// Resets the page to the state of a new page of the same size. Allocates nothing.
     pub fn clear(&mut self)
         ensures { self.new ≡ blank_page (length self.old.rows) self.old.width }
     {
@@ -133,8 +133,8 @@ impl Grid {
         &self.page_rows
     }
 
-    /// Returns whether a row is wrapped (its text continues on the next row); `false` past the last
-    /// row.
+    /// Returns whether a row is wrapped (its text continues on the next row), or `false` if there
+    /// is no such row.
     #[inline]
     pub fn row_wrapped(&self, row: u16) -> bool
         ensures { result ≡ (row_at self.now row).wrapped }

@@ -27,10 +27,10 @@ use vt_cells::{Attrs, Cell, Error};
 use vt_rows::capture::lent;
 use vt_rows::{Leaving, RowContents, cells, shifts};
 
-/// The rows of a page, all of one width, which are edited in place and reordered by scrolling.
+/// The rows of a page, all of the same width. Rows are edited in place and reordered by scrolling.
 ///
-/// A row is no longer wrapped after an edit that leaves its last column blank, or after columns are
-/// inserted or deleted.
+/// An edit that leaves the last column of a row blank clears the row's wrapped flag, and so does
+/// inserting or deleting columns.
 #[derive(Debug, Drop)]
 pub struct PageRows {
     flat: Flat,
@@ -95,7 +95,7 @@ impl PageRows {
         self.flat.lines.len()
     }
 
-    /// Borrows a row.
+    /// Returns the contents of a row, borrowed from the page.
     #[inline]
     pub fn row(&self, row: usize) -> RowContents<'_>
         requires inside { row < length self.now.rows }
@@ -146,7 +146,8 @@ impl PageRows {
         self.flat.wrap(row, wrapped);
     }
 
-    /// Sets the wrapped flag of the row that a wrap left, if there is one.
+    /// Sets the wrapped flag of `left`, the row that the cursor left by a wrap, to `goes_on`. Does
+    /// nothing if `left` is `None`.
     pub fn wrap_left(&mut self, left: Option<u16>, goes_on: bool)
         requires { IfSome left (λ row. row < length self.old.rows) }
         ensures { self.new ≡ with_page_row_flag left goes_on self.old }
@@ -205,7 +206,7 @@ impl PageRows {
         });
     }
 
-    /// Puts a narrow glyph at consecutive columns of a row for each byte of printable ASCII, as
+    /// Puts the bytes of `text` at consecutive columns of a row as narrow glyphs, as
     /// [`cells::put_text`] does.
     #[inline]
     pub fn put_text(&mut self, row: u16, col: u16, text: &[u8], attrs: Attrs)
@@ -221,7 +222,7 @@ impl PageRows {
         });
     }
 
-    /// Puts a wide glyph at consecutive pairs of columns of a row for each character, as
+    /// Puts the characters of `text` at consecutive pairs of columns of a row as wide glyphs, as
     /// [`cells::put_wide_text`] does.
     #[inline]
     pub fn put_wide_text(&mut self, row: u16, col: u16, text: &[char], attrs: Attrs)
@@ -238,7 +239,7 @@ impl PageRows {
         });
     }
 
-    /// Puts a wide glyph at a column of a row and the next, as [`cells::put_wide`] does.
+    /// Puts a wide glyph at a column of a row and the next column, as [`cells::put_wide`] does.
     #[inline(always)]
     pub fn put_wide(&mut self, row: u16, col: u16, c: char, attrs: Attrs)
         requires inside { row < length self.old.rows }
@@ -301,8 +302,8 @@ impl PageRows {
         self.edit_row(row, |cells| cells::lift(cells, usize::from(col), attrs))
     }
 
-    /// Puts a removed cell back at a column of a row, and sets the row's wrapped flag. The cells
-    /// beside it are unchanged.
+    /// Puts a removed cell back at a column of a row, and sets the row's wrapped flag to `goes_on`.
+    /// The other cells are unchanged.
     pub fn put_back(&mut self, row: u16, col: u16, cell: Cell, goes_on: bool)
         requires inside { row < length self.old.rows }
         requires column { col < length (page_row self.old row).cells }
@@ -315,7 +316,7 @@ impl PageRows {
         });
     }
 
-    /// Puts a wide cell at a column of a row and its continuation cell at the next, as
+    /// Puts a wide glyph at a column of a row and its continuation cell at the next column, as
     /// [`cells::put_wide_cell`] does.
     pub fn put_wide_cell(&mut self, row: u16, col: u16, cell: Cell)
         requires inside { row < length self.old.rows }
@@ -330,8 +331,7 @@ impl PageRows {
         });
     }
 
-    /// Makes the columns of a row from `from` up to but excluding `to` blanks, as [`cells::erase`]
-    /// does.
+    /// Sets columns `from..to` of a row to blanks, as [`cells::erase`] does.
     pub fn erase(&mut self, row: u16, from: u16, to: u16, attrs: Attrs)
         requires inside { row < length self.old.rows }
         requires paired { IsPaired (page_row self.old row).cells }
@@ -345,8 +345,8 @@ impl PageRows {
         });
     }
 
-    /// Inserts default blanks at a column of a row, as [`shifts::insert`] does. The row is no
-    /// longer wrapped.
+    /// Inserts default blanks at a column of a row, as [`shifts::insert`] does, and clears the
+    /// row's wrapped flag.
     pub fn insert(&mut self, row: u16, col: u16, count: u16)
         requires inside { row < length self.old.rows }
         requires paired { IsPaired (page_row self.old row).cells }
@@ -358,7 +358,7 @@ impl PageRows {
         });
     }
 
-    /// Deletes columns of a row, as [`shifts::delete`] does. The row is no longer wrapped.
+    /// Deletes columns of a row, as [`shifts::delete`] does, and clears the row's wrapped flag.
     pub fn delete(&mut self, row: u16, col: u16, count: u16)
         requires inside { row < length self.old.rows }
         requires paired { IsPaired (page_row self.old row).cells }
@@ -370,7 +370,7 @@ impl PageRows {
         });
     }
 
-    /// Makes a row blank and no longer wrapped.
+    /// Blanks a row and clears its wrapped flag.
     pub fn clear_row(&mut self, row: usize, attrs: Attrs)
         requires inside { row < length self.old.rows }
         ensures { self.new ≡ with_page_row row (blank_row attrs self.old.width) self.old }
@@ -378,7 +378,7 @@ impl PageRows {
         self.flat.blank(row, attrs);
     }
 
-    /// Makes all rows blank and no longer wrapped.
+    /// Blanks all rows and clears their wrapped flags.
     pub fn clear_all(&mut self, attrs: Attrs)
         requires sound { All (IsRow self.old.width) self.old.rows }
         ensures { self.new
@@ -387,7 +387,7 @@ impl PageRows {
         self.flat.blank_all(attrs);
     }
 
-    /// Makes the rows above a row blank and no longer wrapped.
+    /// Blanks the rows above `row` and clears their wrapped flags.
     pub fn clear_above(&mut self, row: u16, attrs: Attrs)
         requires inside { row < length self.old.rows }
         requires sound { All (IsRow self.old.width) self.old.rows }
@@ -397,7 +397,7 @@ impl PageRows {
         self.clear_rows(0, usize::from(row), attrs);
     }
 
-    /// Makes the rows below a row blank and no longer wrapped.
+    /// Blanks the rows below `row` and clears their wrapped flags.
     pub fn clear_below(&mut self, row: u16, attrs: Attrs)
         requires inside { row < length self.old.rows }
         requires sound { All (IsRow self.old.width) self.old.rows }
@@ -412,10 +412,10 @@ impl PageRows {
         self.clear_rows(usize::from(row) + 1, end, attrs);
     }
 
-    /// Moves the rows from `top` through `bottom` up by `count`; blank rows come in at the bottom,
-    /// and rows that pass `top` are lost.
+    /// Moves rows `top..=bottom` up by `count`. Blank rows enter at the bottom, and rows that move
+    /// past the top are lost.
     ///
-    /// Only the row table changes for the rows that stay; their cells are not moved.
+    /// For rows that are not lost, only the row table changes; their cells are not moved.
     pub fn scroll_up(&mut self, top: u16, bottom: u16, count: u16)
         requires in_order { top ≤ bottom }
         requires inside { bottom < length self.old.rows }
@@ -429,10 +429,10 @@ impl PageRows {
         self.clear_rows(end - count, end, Attrs::new());
     }
 
-    /// Moves the rows from `top` through `bottom` down by `count`; blank rows come in at the top,
-    /// and rows that pass `bottom` are lost. The row at `bottom` is no longer wrapped.
+    /// Moves rows `top..=bottom` down by `count`. Blank rows enter at the top, and rows that move
+    /// past the bottom are lost. The wrapped flag of row `bottom` is cleared.
     ///
-    /// Only the row table changes for the rows that stay; their cells are not moved.
+    /// For rows that are not lost, only the row table changes; their cells are not moved.
     pub fn scroll_down(&mut self, top: u16, bottom: u16, count: u16)
         requires in_order { top ≤ bottom }
         requires inside { bottom < length self.old.rows }
@@ -447,13 +447,13 @@ impl PageRows {
         self.wrap(usize::from(bottom), false);
     }
 
-    /// Moves the rows from the first through `bottom` up by `count`, as [`PageRows::scroll_up`]
-    /// does, and passes those that leave to scrollback. `size` must be the size of the page.
+    /// Moves rows `0..=bottom` up by `count`, as [`PageRows::scroll_up`] does, and passes the rows
+    /// that scroll off to scrollback. `size` must be the size of the page.
     ///
     /// # Errors
     ///
-    /// Returns [`Error::OutOfMemory`] if memory for scrollback cannot be allocated; nothing has
-    /// changed and nothing was reported.
+    /// Returns [`Error::OutOfMemory`] if memory for scrollback cannot be allocated. On error,
+    /// nothing is changed and no row is reported.
     pub fn send_up<L: Leaving>(
         &mut self,
         bottom: u16,
@@ -473,7 +473,7 @@ impl PageRows {
         Ok(())
     }
 
-    /// Makes the rows from `from` up to but excluding `to` blank and no longer wrapped.
+    /// Blanks rows `from..to` and clears their wrapped flags.
     fn clear_rows(&mut self, from: usize, to: usize, attrs: Attrs)
         requires in_order { from ≤ to }
         requires inside { to ≤ length self.old.rows }

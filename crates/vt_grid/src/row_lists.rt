@@ -1,4 +1,4 @@
-//! Lists of rows: created in one step, recycled, and reported.
+//! Creating, recycling and reporting lists of rows.
 
 ghost use Rattle.std.specs.Prelude.{◌≡◌, ◌<◌, ◌++◌, [], IfOk, IsErr, OnErr, OnOk};
 ghost use Rattle.std.specs.Prelude.{drop, length, map, replicate, take};
@@ -17,7 +17,7 @@ use vt_cells::Error;
 use vt_rows::capture::trimmed;
 use vt_rows::{Leaving, Row};
 
-/// Creates a list of rows of default blanks.
+/// Creates a list of `count` rows of default blanks.
 ///
 /// # Errors
 ///
@@ -34,8 +34,8 @@ pub fn blank_rows(alloc: Global, columns: usize, count: usize) -> Result<Vec<Row
     Ok(rows)
 }
 
-/// Creates a list of copies of the first `count` rows of a page, without the default blanks at
-/// their ends.
+/// Creates a list of copies of the first `count` rows of a page, each without the default blanks at
+/// its end.
 ///
 /// # Errors
 ///
@@ -74,7 +74,7 @@ pub fn copied_rows(rows: &VecDeque<Row>, alloc: Global) -> Result<VecDeque<Row>,
 ///
 /// # Errors
 ///
-/// Returns [`Error::OutOfMemory`] if the copy cannot be allocated; nothing has changed.
+/// Returns [`Error::OutOfMemory`] if the copy cannot be allocated. On error, nothing is changed.
 pub fn push_copy(alloc: Global, rows: &mut VecDeque<Row>, page: &PageRows) -> Result<(), Error>
     requires { HasRows 1 page.now }
     ensures rows { OnOk result (rows.new.items ≡ rows.old.items ++ map trimmed_row (take 1 page.now.rows)) }
@@ -89,12 +89,12 @@ pub fn push_copy(alloc: Global, rows: &mut VecDeque<Row>, page: &PageRows) -> Re
 }
 
 /// Passes the oldest row to `leaving`, and reuses its memory for a copy of the first row of a page,
-/// which becomes the newest row. The copy is without the default blanks at its end.
+/// which becomes the newest row. The default blanks at the end of the row are not copied.
 ///
 /// # Errors
 ///
-/// Returns [`Error::OutOfMemory`] if the copy is longer than the oldest row and the allocation
-/// fails; nothing has changed and nothing was passed to `leaving`.
+/// Returns [`Error::OutOfMemory`] if the copy is wider than the oldest row and the allocation
+/// fails. On error, nothing is changed and no row is passed to `leaving`.
 pub fn turn_over<L: Leaving>(
     rows: &mut VecDeque<Row>,
     page: &PageRows,
@@ -114,7 +114,7 @@ pub fn turn_over<L: Leaving>(
     Ok(())
 }
 
-/// Removes and reports all rows, oldest first.
+/// Removes all rows and passes them to `leaving`, oldest first.
 pub fn report_all<L: Leaving>(rows: &mut VecDeque<Row>, leaving: &mut L)
     requires { AreRows rows.old.items }
     ensures rows { rows.new.items ≡ [] }
@@ -125,7 +125,8 @@ pub fn report_all<L: Leaving>(rows: &mut VecDeque<Row>, leaving: &mut L)
     }
 }
 
-/// Reports the first `count` rows of a page, without the default blanks at their ends.
+/// Passes the first `count` rows of a page to `leaving`, each without the default blanks at its
+/// end.
 pub fn report_trimmed<L: Leaving>(page: &PageRows, count: usize, leaving: &mut L)
     requires { HasRows count page.now }
     ensures { FoldsTo L.leaves leaving.old (map trimmed_row (take count page.now.rows)) leaving.new }

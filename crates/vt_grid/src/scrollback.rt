@@ -1,5 +1,4 @@
-//! Scrollback: the rows that scrolled off the top of a page, as far as they are kept (xterm's saved
-//! lines).
+//! Scrollback: the rows that scrolled off the top of a page and are kept (xterm's saved lines).
 
 ghost use Rattle.std.specs.Prelude.{◌≡◌, ◌+◌, ◌-◌, ◌^◌, ◌==◌, ◌<◌, ◌≤◌, ◌↔◌, ◌++◌, ◌∷◌, [], ℕ};
 ghost use Rattle.std.specs.Prelude.{List, All, IfOk, IfSome, IsErr, IsSome, OnErr, OnOk, if◌then◌else◌};
@@ -30,11 +29,11 @@ use std::mem;
 use vt_cells::Error;
 use vt_rows::{Leaving, Row, RowContents};
 
-/// The rows that scrolled off the top of a page, at most as many as its capacity, and the offset,
+/// The newest rows that scrolled off the top of a page, limited to the capacity, and the offset,
 /// which is the number of rows by which the display is scrolled back.
 ///
-/// The display consists of the newest rows of scrollback, as many as the offset, followed by the
-/// rows of the page, as many as fit.
+/// With an offset of `n`, the display consists of the newest `n` scrollback rows followed by the
+/// rows of the page, limited to the height of the page.
 #[derive(Debug, Drop)]
 pub struct Scrollback {
     alloc: Global,
@@ -104,8 +103,8 @@ impl Scrollback {
         self.capacity
     }
 
-    /// Returns the number of rows that have scrolled off and not come back since scrollback was
-    /// last cleared, whether kept or not.
+    /// Returns the number of rows that have scrolled off since scrollback was last cleared and have
+    /// not come back, whether they were kept or not.
     #[inline]
     pub fn theoretical_len(&self) -> usize
         ensures value { result ≡ self.now.theoretical }
@@ -123,20 +122,22 @@ impl Scrollback {
         self.offset
     }
 
-    /// Appends copies of the first `count` rows of a page, which are about to scroll off it, oldest
-    /// first and without the default blanks at their ends. `size` must be the size of the page.
+    /// Appends copies of the first `count` rows of a page, which are about to scroll off, oldest
+    /// first. The default blanks at the end of each row are not copied. `size` must be the size of
+    /// the page.
     ///
-    /// Rows in excess of the capacity are reported, oldest first. An offset other than 0 grows with
-    /// the rows, at most to the number of rows kept, so that the displayed rows stay in place while
-    /// they are kept. Displayed rows that are shorter than the page are extended to its width.
+    /// Rows in excess of the capacity are reported, oldest first. If the offset is not 0, it grows
+    /// by `count`, limited to the number of rows kept, so that the displayed rows stay in place as
+    /// long as they are kept. Displayed rows that are narrower than the page are extended to its
+    /// width.
     ///
-    /// No memory is allocated if `count` or the capacity is 0, or if one row replaces one that is
-    /// not shorter and the offset is 0.
+    /// No memory is allocated if `count` or the capacity is 0, or if the offset is 0 and a single
+    /// row replaces one that is at least as wide.
     ///
     /// # Errors
     ///
-    /// Returns [`Error::OutOfMemory`] if an allocation fails; nothing has changed and nothing was
-    /// reported.
+    /// Returns [`Error::OutOfMemory`] if an allocation fails. On error, nothing is changed and no
+    /// row is reported.
     pub fn push<L: Leaving>(
         &mut self,
         page: &PageRows,
@@ -162,12 +163,12 @@ impl Scrollback {
         self.keep(page, count, size, leaving)
     }
 
-    /// Appends rows as [`Scrollback::push`] does, after the offset is set to 0.
+    /// Sets the offset to 0, and then appends rows as [`Scrollback::push`] does.
     ///
     /// # Errors
     ///
-    /// Returns [`Error::OutOfMemory`] if an allocation fails; nothing has changed, not even the
-    /// offset, and nothing was reported.
+    /// Returns [`Error::OutOfMemory`] if an allocation fails. On error, nothing is changed, not
+    /// even the offset, and no row is reported.
     pub fn push_out_of_view<L: Leaving>(
         &mut self,
         page: &PageRows,
@@ -189,10 +190,10 @@ impl Scrollback {
         Ok(())
     }
 
-    /// Moves the newest `up` rows back into the first rows of a blank page, in their order. If
-    /// fewer rows are kept, the topmost of these rows of the page stay blank.
+    /// Moves the newest `up` rows back into the first `up` rows of a blank page, in order. If fewer
+    /// rows are kept, the topmost rows of the page stay blank.
     ///
-    /// All `up` rows count as returned, even those that were not kept. The offset must be 0.
+    /// All `up` rows count as having come back, even rows that were not kept. The offset must be 0.
     pub fn give_back(&mut self, page: &mut PageRows, up: usize)
         requires hidden { self.old.offset ≡ 0 }
         requires inside { up ≤ length page.old.rows }
@@ -207,7 +208,8 @@ impl Scrollback {
         give_rows(&mut self.rows, page, up);
     }
 
-    /// Reports rows that scroll off when the capacity is 0; a part of [`Scrollback::push`].
+    /// Reports the first `count` rows of a page, which are about to scroll off.
+    /// [`Scrollback::push`] calls this if the capacity is 0.
     fn pass<L: Leaving>(&mut self, page: &PageRows, count: usize, leaving: &mut L)
         requires none { self.old.capacity ≡ 0 }
         requires some { 0 < count }
@@ -219,12 +221,13 @@ impl Scrollback {
         self.theoretical = self.theoretical.saturating_add(count);
     }
 
-    /// Keeps rows that scroll off when the capacity is not 0; a part of [`Scrollback::push`].
+    /// Keeps copies of the first `count` rows of a page, which are about to scroll off.
+    /// [`Scrollback::push`] calls this if the capacity is not 0.
     ///
     /// # Errors
     ///
-    /// Returns [`Error::OutOfMemory`] if an allocation fails; nothing has changed and nothing was
-    /// reported.
+    /// Returns [`Error::OutOfMemory`] if an allocation fails. On error, nothing is changed and no
+    /// row is reported.
     fn keep<L: Leaving>(
         &mut self,
         page: &PageRows,
@@ -253,8 +256,8 @@ impl Scrollback {
         Ok(())
     }
 
-    /// Returns an upper bound for the number of displayed rows that are too short once `count` rows
-    /// have been appended.
+    /// Returns an upper bound on the number of displayed rows that are narrower than the screen
+    /// once `count` rows have been appended.
     fn allocations(&self, count: usize, size: Size) -> usize
         requires { count < 2 ^ 63 }
         ensures { (gone : List RowValue) → length gone ≡ count →
@@ -270,14 +273,14 @@ impl Scrollback {
         narrow_rows(&self.rows, first, size) + below.min(end).saturating_sub(len)
     }
 
-    /// Sets the offset to `n`, at most the number of rows kept. Rows that a screen of this size
-    /// then displays are extended to its width if they are shorter.
+    /// Sets the offset to `n`, limited to the number of rows kept. Rows that a screen of this size
+    /// then displays are extended to its width if they are narrower.
     ///
     /// No memory is allocated if no row needs to be extended.
     ///
     /// # Errors
     ///
-    /// Returns [`Error::OutOfMemory`] if an allocation fails; nothing has changed.
+    /// Returns [`Error::OutOfMemory`] if an allocation fails. On error, nothing is changed.
     pub fn set_offset(&mut self, n: usize, size: Size) -> Result<(), Error>
         ensures ok { OnOk result (self.new ≡ with_view size.rows size.cols n self.old) }
         ensures err { OnErr result (self.new ≡ self.old) }
@@ -292,14 +295,15 @@ impl Scrollback {
         Ok(())
     }
 
-    /// Sets the offset to 0, so that no row of scrollback is displayed.
+    /// Sets the offset to 0, so that no scrollback row is displayed.
     pub fn leave_view(&mut self)
         ensures { self.new ≡ out_of_view self.old }
     {
         self.offset = 0;
     }
 
-    /// Removes and reports all rows, oldest first, and resets the counts and the offset to 0.
+    /// Removes all rows and passes them to `leaving`, oldest first, and resets the row counts and
+    /// the offset to 0.
     pub fn clear<L: Leaving>(&mut self, leaving: &mut L)
         ensures rows { self.new ≡ cleared self.old }
         ensures reported { FoldsTo L.leaves leaving.old self.old.rows leaving.new }
@@ -309,8 +313,8 @@ impl Scrollback {
         self.offset = 0;
     }
 
-    /// Returns the displayed row at an index, or `None` past the height of the page. The newest
-    /// rows of scrollback, as many as the offset, come first, then those of the page.
+    /// Returns the displayed row at index `row`, or `None` if the page has no such row. With an
+    /// offset of `n`, the newest `n` scrollback rows come first, followed by the rows of the page.
     pub fn visible_row<'a>(&'a self, page: &'a PageRows, row: u16) -> Option<RowContents<'a>>
         requires { All (IsRow page.now.width) page.now.rows }
         ensures inside { IsSome result ↔ (row < length page.now.rows) }
@@ -327,7 +331,7 @@ impl Scrollback {
         Some(page.row(row - self.offset))
     }
 
-    /// Returns the number of rows of scrollback and of the page together.
+    /// Returns the total number of rows in scrollback and on the page.
     pub fn stacked_len(&self, page: &PageRows) -> usize
         requires { length page.now.rows < 2 ^ 16 }
         ensures { result ≡ length self.now.rows + length page.now.rows }
@@ -335,8 +339,8 @@ impl Scrollback {
         self.rows.len() + page.len()
     }
 
-    /// Returns the row at an index into the rows of scrollback, oldest first, followed by the rows
-    /// of the page.
+    /// Returns the row at `index`, counting the scrollback rows first, from the oldest on, and then
+    /// the rows of the page.
     pub fn stacked_row<'a>(&'a self, page: &'a PageRows, index: usize) -> RowContents<'a>
         requires inside { index < length self.now.rows + length page.now.rows }
         requires sound { All (IsRow page.now.width) page.now.rows }
@@ -351,7 +355,7 @@ impl Scrollback {
     }
 }
 
-/// Appends rows to those that are kept, as [`push_row`] does with each.
+/// Appends each row of `gone` to the kept rows, as [`push_row`] does.
 fn push_rows<L: Leaving>(gone: Vec<Row>, kept: &mut VecDeque<Row>, capacity: usize, leaving: &mut L)
     requires some { 0 < capacity }
     requires inside { length kept.old.items ≤ capacity }
@@ -367,8 +371,7 @@ fn push_rows<L: Leaving>(gone: Vec<Row>, kept: &mut VecDeque<Row>, capacity: usi
     }
 }
 
-/// Appends a row to those that are kept. If they are at capacity, the oldest row is removed and
-/// reported.
+/// Appends a row to the kept rows. If they are at capacity, the oldest row is removed and reported.
 fn push_row<L: Leaving>(row: Row, kept: &mut VecDeque<Row>, capacity: usize, leaving: &mut L)
     requires some { 0 < capacity }
     requires inside { length kept.old.items ≤ capacity }
@@ -388,7 +391,7 @@ fn push_row<L: Leaving>(row: Row, kept: &mut VecDeque<Row>, capacity: usize, lea
     kept.push_back_reserved(row);
 }
 
-/// Moves the newest rows into the first rows of a blank page, as [`Scrollback::give_back`]
+/// Moves the newest `up` rows into the first rows of a blank page, as [`Scrollback::give_back`]
 /// describes.
 fn give_rows(kept: &mut VecDeque<Row>, page: &mut PageRows, up: usize)
     requires inside { up ≤ length page.old.rows }
@@ -410,7 +413,7 @@ fn give_rows(kept: &mut VecDeque<Row>, page: &mut PageRows, up: usize)
     }
 }
 
-/// Returns the offset after `count` rows were appended and `len` rows are kept.
+/// Returns the new offset after `count` rows have been appended. `len` is the number of rows kept.
 fn followed(offset: usize, count: usize, len: usize) -> usize
     ensures { result ≡ (if offset == 0 then 0 else min (offset + count) len) }
 {
@@ -421,8 +424,8 @@ fn followed(offset: usize, count: usize, len: usize) -> usize
     }
 }
 
-/// Returns how many of the rows that a screen of this size displays from `first` on are narrower
-/// than the screen.
+/// Returns how many of the rows that a screen of this size displays, starting with row `first` of
+/// `rows`, are narrower than the screen.
 fn narrow_rows(rows: &VecDeque<Row>, first: usize, size: Size) -> usize
     requires { first < 2 ^ 64 - 2 ^ 16 }
     ensures value { result ≡ narrow_rows size.cols (window_from first size.rows rows.now.items) }
@@ -444,7 +447,7 @@ fn narrow(row: &Row, columns: usize) -> usize
 }
 
 /// Extends the rows that a screen of this size displays at this offset, if they are narrower than
-/// the screen. The spare rows are blank and as wide as the screen.
+/// the screen. The rows in `spare` must be blank and as wide as the screen.
 fn grow_in_view(rows: &mut VecDeque<Row>, offset: usize, size: Size, mut spare: Vec<Row>)
     requires inside { offset ≤ length rows.old.items }
     requires sound { AreRows rows.old.items }
@@ -460,7 +463,7 @@ fn grow_in_view(rows: &mut VecDeque<Row>, offset: usize, size: Size, mut spare: 
     }
 }
 
-/// Extends a row that has fewer than `columns` columns: a spare row takes over its cells.
+/// Extends a row that has fewer than `columns` columns by moving its cells into a spare row.
 fn grow_row(row: &mut Row, columns: usize, spare: &mut Vec<Row>)
     requires sound { IsRow (length row.old.cells) row.old }
     requires spare { AreSpare columns (row.old ∷ []) spare.old.items }

@@ -4,8 +4,7 @@ ghost use Rattle.std.specs.Prelude.{◌≡◌, ◌<◌, ℕ, true, unwrap_or};
 ghost use Rattle.vt_redraw.specs.Moved.{IsBand, band_source, last_moved};
 
 /// A band of rows that move up or down within a range of rows. Rows that move
-/// past the end of the range are lost, and the rows they leave behind become
-/// blank.
+/// past the end of the range are lost, and blank rows enter at its other end.
 #[derive(Clone, Copy, PartialEq, Eq, Debug)]
 pub struct Band {
     /// The first row of the range, counted from 0.
@@ -22,8 +21,8 @@ pub struct Band {
 }
 
 impl Band {
-    /// Returns whether the band lies within a picture of `height` rows and some
-    /// row is left after it has moved.
+    /// Returns whether the band moves, lies within a picture of `height` rows,
+    /// and keeps at least one row after the move.
     pub fn is_within(&self, height: u16) -> bool
         ensures { result ≡ true → IsBand height self.now }
     {
@@ -32,8 +31,8 @@ impl Band {
             && self.bottom <= height
     }
 
-    /// Returns the row that the last sequence of the move addresses, in a
-    /// picture of `height` rows.
+    /// Returns the row at which the last escape sequence of the move deletes or
+    /// inserts rows, in a picture of `height` rows.
     pub(crate) fn last_moved(&self, height: u16) -> u16
         requires { IsBand height self.now }
         ensures value { result ≡ last_moved height self.now }

@@ -1,10 +1,10 @@
-//! The output that the cells of a row need, given those that the terminal
+//! The output that the cells of a row need, given the cells that the terminal
 //! displays.
 //!
-//! Throughout this crate, *the terminal* is the one that reads the output, and
-//! `over` is the row that it displays. A cell *needs output* if the terminal
-//! does not display it already. A `flag` says whether the terminal's row is
-//! wrapped.
+//! Throughout this crate, *the terminal* is the terminal that reads the output,
+//! and `over` is the row that it displays. A cell *needs output* if the
+//! terminal does not display it already. A `flag` says whether the terminal's
+//! row is wrapped.
 
 ghost use Rattle.std.specs.Prelude.{◌≡◌, ◌++◌, ◌+◌, ◌<◌, ◌≤◌};
 ghost use Rattle.std.specs.Prelude.{false, OnOk, drop, length};
@@ -28,11 +28,11 @@ pub fn columns(cell: &Cell) -> u16
     if cell.is_wide() { 2 } else { 1 }
 }
 
-/// Writes a string to the sink, which is not called if the string is empty.
+/// Writes a string to the sink. Does not call the sink if the string is empty.
 ///
 /// # Errors
 ///
-/// The error of the sink.
+/// Returns the sink's error.
 pub fn write_text<S: Sink>(sink: &mut S, text: &str) -> Result<(), S::Error>
     ensures text { OnOk result (S.text sink.new ≡ S.text sink.old ++ text.now) }
     ensures some { RefusedOnlyIfSome result text.now }
@@ -43,12 +43,12 @@ pub fn write_text<S: Sink>(sink: &mut S, text: &str) -> Result<(), S::Error>
     sink.write_str(text)
 }
 
-/// Writes a glyph at a position. The caller must set the pen's position
-/// afterwards.
+/// Writes a glyph at a position. The caller must then update the pen's
+/// position.
 ///
 /// # Errors
 ///
-/// The error of the sink; part of the output may have been written.
+/// Returns the sink's error. Part of the output may have been written by then.
 #[inline]
 pub fn print_at<S: Sink>(sink: &mut S, pen: &mut Pen, pos: Pos, cell: &Cell) -> Result<(), S::Error>
     ensures ops { AppendsOrStops result (S.text sink.old) (S.text sink.new) (glyph_ops pen.old pos cell.now) }
@@ -59,8 +59,8 @@ pub fn print_at<S: Sink>(sink: &mut S, pen: &mut Pen, pos: Pos, cell: &Cell) -> 
     write_text(sink, cell.contents())
 }
 
-/// Buffers a glyph at a position. The caller must set the pen's position
-/// afterwards.
+/// Buffers a glyph at a position. The caller must then update the pen's
+/// position.
 #[inline]
 fn gather_at<S: Sink>(
     sink: &mut S,
@@ -78,7 +78,7 @@ fn gather_at<S: Sink>(
     buffer.add(sink, cell.contents())
 }
 
-/// Buffers a glyph at a position, and moves the pen after it.
+/// Buffers a glyph at a position, and moves the pen past it.
 #[inline]
 fn gather_glyph<S: Sink>(
     sink: &mut S,
@@ -97,8 +97,8 @@ fn gather_glyph<S: Sink>(
     Ok(())
 }
 
-/// Writes an erasure of `count` columns, or of the rest of the row if these
-/// columns are all of it.
+/// Writes the sequence that erases `count` columns (ECH), or the rest of the
+/// row (EL) if the columns extend to its end. `end` is the column after them.
 #[tactic(auto, using(crate::proofs::Filling::erase_run_counted))]
 fn write_erase<S: Sink>(
     sink: &mut S,
@@ -118,11 +118,12 @@ fn write_erase<S: Sink>(
     }
 }
 
-/// Writes a run of blanks at a position; the pen remains at its first column.
+/// Writes a run of `count` blanks at a position. The pen remains at the first
+/// column of the run.
 ///
 /// # Errors
 ///
-/// The error of the sink; part of the output may have been written.
+/// Returns the sink's error. Part of the output may have been written by then.
 pub fn write_run<S: Sink>(
     sink: &mut S,
     pen: &mut Pen,
@@ -142,16 +143,18 @@ pub fn write_run<S: Sink>(
     write_erase(sink, count, end, over)
 }
 
-/// Returns whether the terminal's row is still wrapped after a glyph was
-/// printed that ends before column `col`.
+/// Returns whether the terminal's row is still wrapped after printing a glyph
+/// that ends just before column `col`. `flag` says whether the row was wrapped,
+/// and `wide` whether the glyph is wide.
 pub fn flag_behind(flag: bool, wide: bool, over: &PictureRow<'_>, col: u16) -> bool
     ensures { result ≡ flag_behind flag wide (drop col over.now.cells) }
 {
     flag && !(wide && over.is_torn(col))
 }
 
-/// Returns whether the terminal's row is still wrapped after a run of blanks
-/// was erased that ends before column `col`.
+/// Returns whether the terminal's row is still wrapped after erasing a run of
+/// columns that ends just before column `col`. `flag` says whether the row was
+/// wrapped.
 #[tactic(auto, using(crate::proofs::Filling::nil_at))]
 pub fn flag_past(flag: bool, over: &PictureRow<'_>, col: u16) -> bool
     requires { col ≤ length over.now.cells }
@@ -163,8 +166,9 @@ pub fn flag_past(flag: bool, over: &PictureRow<'_>, col: u16) -> bool
     flag && !over.is_torn(col)
 }
 
-/// Returns whether the cell at a column needs no output: the terminal displays
-/// it already, or it is the continuation cell of a wide character.
+/// Returns whether the cell at a column needs no output, because the terminal
+/// already displays it or because it is the continuation cell of a wide
+/// character.
 #[inline(always)]
 fn stands(cells: &PictureRow<'_>, over: &PictureRow<'_>, col: u16) -> bool
     requires inside { col < length cells.now.cells }
@@ -175,8 +179,8 @@ fn stands(cells: &PictureRow<'_>, over: &PictureRow<'_>, col: u16) -> bool
     *cell == *over.cell(col) || cell.is_wide_continuation()
 }
 
-/// Returns the first column from `col` on and before `stop` whose cell needs
-/// output, or else the column at which the search stopped.
+/// Returns the first column in `col..stop` whose cell needs output, or the
+/// column at which the search stopped if there is none.
 #[inline(always)]
 fn pass(cells: &PictureRow<'_>, over: &PictureRow<'_>, col: u16, stop: usize) -> u16
     requires inside { stop ≤ length cells.now.cells }
@@ -193,8 +197,8 @@ fn pass(cells: &PictureRow<'_>, over: &PictureRow<'_>, col: u16, stop: usize) ->
     next
 }
 
-/// Returns a column at or after `col` before which all cells of both rows are
-/// equal, so that they need no output.
+/// Returns a column at or after `col` such that, from `col` up to it, the cells
+/// of the two rows are equal and need no output.
 #[inline]
 fn pass_same(cells: &PictureRow<'_>, over: &PictureRow<'_>, col: u16) -> u16
     requires short { length cells.now.cells < 65536 }
@@ -205,11 +209,11 @@ fn pass_same(cells: &PictureRow<'_>, over: &PictureRow<'_>, col: u16) -> u16
     col + cells.same_run(over, col) as u16
 }
 
-/// Returns the first column from `col` on whose cell needs output, or else a
-/// column past the end of the row.
+/// Returns the first column at or after `col` whose cell needs output, or a
+/// column past the end of the row if there is none.
 ///
-/// It has one loop over slices for the columns where both rows have stored
-/// cells, and one for those where only `cells` has.
+/// One loop over slices handles the columns in which both rows have stored
+/// cells, and another one the columns in which only `cells` has them.
 fn next_other(cells: &PictureRow<'_>, over: &PictureRow<'_>, col: u16) -> u16
     requires range { IsRange cells.now.cells over.now.cells }
     ensures order { col ≤ result }
@@ -224,8 +228,9 @@ fn next_other(cells: &PictureRow<'_>, over: &PictureRow<'_>, col: u16) -> u16
     pass(cells, over, alone, cols)
 }
 
-/// Buffers the glyph at a position, or writes the buffer and a run of blanks
-/// that begins there. Returns the number of columns that are done.
+/// Buffers the cell at a position if it is a glyph. If it is a blank, writes
+/// the buffer and the run of blanks that begins there. Returns the number of
+/// columns handled.
 fn write_next<S: Sink>(
     sink: &mut S,
     buffer: &mut Buffer,
@@ -254,12 +259,12 @@ fn write_next<S: Sink>(
     Ok(count)
 }
 
-/// Writes the output that the cells of a row need from a column on, and returns
-/// early if they need none.
+/// Writes the output that the cells of a row need, starting at a column.
+/// Returns early if they need none.
 ///
 /// # Errors
 ///
-/// The error of the sink; part of the output may have been written.
+/// Returns the sink's error. Part of the output may have been written by then.
 pub fn write_cells<S: Sink>(
     sink: &mut S,
     pen: &mut Pen,
@@ -281,8 +286,8 @@ pub fn write_cells<S: Sink>(
     write_others(sink, pen, flag, Pos { row, col: first }, cells, over)
 }
 
-/// Writes the output that the cells of a row need from a column on, if they
-/// need some. Consecutive glyphs are buffered and written together.
+/// Writes the output that the cells of a row need, starting at a column.
+/// Consecutive glyphs are buffered and written together.
 #[tactic(auto, using(vt_cells::proofs::Buffers::nothing_gathered))]
 fn write_others<S: Sink>(
     sink: &mut S,

@@ -17,7 +17,8 @@ use crate::view::View;
 use vt_cells::term::{Backspace, BufWrite, EraseChar, LineFeed, MoveTo, RestoreCursor, SaveCursor};
 use vt_cells::{Attrs, Pos, Sink, cell};
 
-/// Returns the nearest row, at or above `row`, whose last column is not blank.
+/// Returns the nearest row at or above `row` whose last column is not blank, or
+/// `None` if there is none.
 pub fn nearest(view: &View<'_>, row: u16) -> Option<u16>
     requires { row < length view.now.rows }
     ensures value { result ≡ nearest view.now.width view.now.rows row }
@@ -37,7 +38,7 @@ pub fn nearest(view: &View<'_>, row: u16) -> Option<u16>
 ///
 /// # Errors
 ///
-/// The error of the sink; part of the output may have been written.
+/// Returns the sink's error. Part of the output may have been written by then.
 pub fn write_feeds<S: Sink>(sink: &mut S, count: u16) -> Result<(), S::Error>
     ensures { AppendsOrStops result (S.text sink.old) (S.text sink.new) (replicate count op.LineFeed) }
 {
@@ -47,13 +48,14 @@ pub fn write_feeds<S: Sink>(sink: &mut S, count: u16) -> Result<(), S::Error>
     Ok(())
 }
 
-/// Writes the sequences that leave a wrap pending when the cursor is on the
-/// last column, which is blank in `attrs`: a space is printed over it and
-/// erased again while the wrap stays pending.
+/// Writes the sequences that leave a wrap pending if the cursor is on the last
+/// column and that column is a blank with attributes `attrs`. They print a
+/// space over the blank and erase it again, while the wrap remains pending.
+/// `was` are the terminal's attributes before and after.
 ///
 /// # Errors
 ///
-/// The error of the sink; part of the output may have been written.
+/// Returns the sink's error. Part of the output may have been written by then.
 pub fn write_passed<S: Sink>(sink: &mut S, was: Attrs, attrs: Attrs) -> Result<(), S::Error>
     ensures { OnOk result (S.text sink.new ≡ S.text sink.old ++ bytes_of_all (blank_passed was attrs)) }
 {
@@ -67,7 +69,7 @@ pub fn write_passed<S: Sink>(sink: &mut S, was: Attrs, attrs: Attrs) -> Result<(
 }
 
 /// Writes the sequences that leave a wrap pending at the end of row `row`, by
-/// printing the last glyph of row `found` and moving down from there by line
+/// printing the last glyph of row `found` and moving down from there with line
 /// feeds.
 #[tactic(auto, unfolding(crate::specs::Redraw::under_last))]
 fn write_under_last<S: Sink>(
@@ -120,12 +122,12 @@ fn write_pending<S: Sink>(sink: &mut S, pen: Pen, view: &View<'_>, row: u16) -> 
     }
 }
 
-/// Writes the sequences that move the cursor to its position in the picture;
-/// the pen's attributes are unchanged.
+/// Writes the sequences that move the cursor to its position in the picture.
+/// Afterward, the terminal's attributes are again those of `pen`.
 ///
 /// # Errors
 ///
-/// The error of the sink; part of the output may have been written.
+/// Returns the sink's error. Part of the output may have been written by then.
 #[tactic(auto, unfolding(crate::specs::Redraw::cursor_written))]
 pub fn write_cursor<S: Sink>(sink: &mut S, pen: Pen, view: &View<'_>) -> Result<(), S::Error>
     ensures { AppendsOrStops result (S.text sink.old) (S.text sink.new)
@@ -143,8 +145,8 @@ pub fn write_cursor<S: Sink>(sink: &mut S, pen: Pen, view: &View<'_>) -> Result<
 }
 
 /// Writes the sequences that leave a wrap pending at the end of row `row`, by
-/// printing the last glyph of row `found`, on a terminal with default
-/// attributes and its cursor anywhere.
+/// printing the last glyph of row `found`. The terminal must have default
+/// attributes; its cursor may be anywhere.
 fn write_under_last_alone<S: Sink>(
     sink: &mut S,
     view: &View<'_>,
@@ -168,8 +170,8 @@ fn write_under_last_alone<S: Sink>(
 }
 
 /// Writes the sequences that leave a wrap pending at the end of row `row`,
-/// whose last column is blank, on a terminal with default attributes and its
-/// cursor anywhere.
+/// whose last column is blank. The terminal must have default attributes; its
+/// cursor may be anywhere.
 fn write_over_blank_alone<S: Sink>(sink: &mut S, view: &View<'_>, row: u16) -> Result<(), S::Error>
     requires { row < length view.now.rows }
     ensures { OnOk result
@@ -182,8 +184,8 @@ fn write_over_blank_alone<S: Sink>(sink: &mut S, view: &View<'_>, row: u16) -> R
     write_passed(sink, Attrs::new(), attrs)
 }
 
-/// Writes the sequences that leave a wrap pending at the end of row `row`, on a
-/// terminal with default attributes and its cursor anywhere.
+/// Writes the sequences that leave a wrap pending at the end of row `row`. The
+/// terminal must have default attributes; its cursor may be anywhere.
 fn write_pending_alone<S: Sink>(sink: &mut S, view: &View<'_>, row: u16) -> Result<(), S::Error>
     requires { row < length view.now.rows }
     ensures { OnOk result (S.text sink.new
@@ -196,12 +198,12 @@ fn write_pending_alone<S: Sink>(sink: &mut S, view: &View<'_>, row: u16) -> Resu
     }
 }
 
-/// Writes the sequences that move the cursor to its position in the picture, on
-/// a terminal with default attributes and its cursor anywhere.
+/// Writes the sequences that move the cursor to its position in the picture.
+/// The terminal must have default attributes; its cursor may be anywhere.
 ///
 /// # Errors
 ///
-/// The error of the sink; part of the output may have been written.
+/// Returns the sink's error. Part of the output may have been written by then.
 pub fn write_cursor_alone<S: Sink>(sink: &mut S, view: &View<'_>) -> Result<(), S::Error>
     ensures { OnOk result (S.text sink.new ≡ S.text sink.old ++ bytes_of_all (cursor_alone view.now)) }
 {

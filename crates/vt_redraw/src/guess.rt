@@ -1,5 +1,5 @@
-//! A guess at the rows that have moved from one picture to another. No promise
-//! depends on it: after any band has moved, the difference draws the rest.
+//! A guess at the rows that have moved between two pictures. Correctness does
+//! not depend on it: after any band has moved, the difference draws the rest.
 
 ghost use Rattle.std.specs.Prelude.{◌≡◌, ◌+◌, ◌<◌, ◌≤◌, IfSome, IsSome, length};
 ghost use Rattle.vt_redraw.specs.Moved.{IsBand};
@@ -10,38 +10,40 @@ use crate::picture_row::PictureRow;
 use crate::view::View;
 use vt_cells::Attrs;
 
-/// The number of rows, from the top, that are examined.
+/// The maximum number of rows that are examined, starting at the top.
 const MOST_ROWS: u16 = 256;
 
-/// The number of columns on the left that may change in a row that moves, such
-/// as line numbers.
+/// The number of columns at the left edge that are ignored when rows are
+/// compared, because they may hold line numbers.
 const MARGIN: u16 = 8;
 
-/// The approximate number of bytes that moving the cursor within a row takes.
+/// The approximate number of bytes that it takes to move the cursor within a
+/// row.
 const RUN: i32 = 4;
 
-/// The smallest length of output, in bytes, that moving rows could shorten.
+/// The length, in bytes, of the shortest output that moving rows could shorten.
 const LEAST_TEXT: usize = 20;
 
-/// The number of columns after the margin by which rows are told apart at
-/// first.
+/// The number of columns after the margin from which the key of a row is
+/// computed.
 const KEYED: u16 = 16;
 
-/// A number for each examined row.
+/// One number for each examined row.
 type Numbers = [i32; 256];
 
-/// A key for each examined row, by which rows are told apart at first.
+/// One key for each examined row. Rows are compared only if their keys are
+/// equal.
 type Keys = [u32; 256];
 
-/// The direction and number of rows of a move.
+/// The direction of a move, and the number of rows by which it moves.
 #[derive(Clone, Copy)]
 struct Shift {
     count: u16,
     up: bool,
 }
 
-/// A range of rows that a shift moves to the right place, and approximately how
-/// many bytes that saves.
+/// A range of rows that a shift moves to the right place, and the approximate
+/// number of bytes that this saves.
 #[derive(Clone, Copy)]
 struct Stretch {
     gain: i32,
@@ -49,9 +51,9 @@ struct Stretch {
     behind: u16,
 }
 
-/// Returns the band that has most likely moved from `prev` to `view`, if moving
-/// it before the rest is drawn is worthwhile. `text` is the difference without
-/// a move. Only the first 256 rows are examined.
+/// Returns the band of rows that has most likely moved between `prev` and
+/// `view`, or `None` if a move is not expected to save output. `text` is the
+/// difference without a move. Only the first 256 rows are examined.
 pub fn likely_band(view: &View<'_>, prev: &View<'_>, text: &str) -> Option<Band>
     requires { SamePictureSize view.now prev.now }
     ensures band { IfSome result (λ band. IsBand (length prev.now.rows) band) }
@@ -72,8 +74,8 @@ pub fn likely_band(view: &View<'_>, prev: &View<'_>, text: &str) -> Option<Band>
     }
 }
 
-/// Returns the approximate number of bytes that each row needs over the same
-/// row of `prev`.
+/// Returns, for each row of `view`, the approximate number of bytes that it
+/// takes to draw it over the same row of `prev`.
 fn costs(view: &View<'_>, prev: &View<'_>, height: u16) -> Numbers
     requires size { SamePictureSize view.now prev.now }
     requires inside { height ≤ length view.now.rows }
@@ -86,8 +88,9 @@ fn costs(view: &View<'_>, prev: &View<'_>, height: u16) -> Numbers
     costs
 }
 
-/// Returns the approximate number of bytes that a row needs over another: those
-/// of the columns that differ, and of a cursor movement to each run of them.
+/// Returns the approximate number of bytes that it takes to draw the row
+/// `cells` over the row `over`. The columns that differ are counted, and a
+/// cursor movement to each run of such columns.
 fn cost(cells: &PictureRow<'_>, over: &PictureRow<'_>) -> i32 {
     let cols = cells.cols().min(over.cols());
     let mut bytes = 0_i32;
@@ -109,7 +112,7 @@ fn cost(cells: &PictureRow<'_>, over: &PictureRow<'_>) -> i32 {
     bytes
 }
 
-/// Returns a column up to which two rows are equal from `col` on.
+/// Returns a column such that the two rows are equal from `col` up to it.
 fn same_up_to(cells: &PictureRow<'_>, over: &PictureRow<'_>, col: u16) -> u16 {
     let same = cells.same_run(over, col);
     col.saturating_add(u16::try_from(same).unwrap_or(0))
@@ -143,7 +146,8 @@ fn key(cells: &PictureRow<'_>) -> u32 {
     key
 }
 
-/// Returns the shift that would move most of what differs to the right place.
+/// Returns the shift that would move the largest part of the changed text to
+/// the right place.
 fn likely_shift(view: &View<'_>, prev: &View<'_>, height: u16, here: &Numbers) -> Option<Shift>
     requires size { SamePictureSize view.now prev.now }
     requires inside { height ≤ length view.now.rows }
@@ -160,8 +164,8 @@ fn likely_shift(view: &View<'_>, prev: &View<'_>, height: u16, here: &Numbers) -
     heaviest(&votes)
 }
 
-/// Adds a vote of this weight for each shift that would move a row of `prev` to
-/// `row`, if the row has text.
+/// Adds a vote of the given weight for each shift that would move a row of
+/// `prev` like `cells` to `row`. Adds none if `cells` has no text.
 fn vote(
     votes: &mut [i32; 512],
     cells: &PictureRow<'_>,
@@ -188,8 +192,9 @@ fn vote(
     }
 }
 
-/// Returns the column from which a row is compared with others: the margin if
-/// there is text after it, otherwise 0, or `None` if the row has no text.
+/// Returns the first column that is used to compare a row with others: the
+/// first one after the margin if there is text from there on, otherwise 0.
+/// Returns `None` if the row has no text.
 fn compared_from(cells: &PictureRow<'_>) -> Option<u16> {
     let cols = cells.cols();
     let margin = MARGIN.min(cols);
@@ -202,7 +207,7 @@ fn compared_from(cells: &PictureRow<'_>) -> Option<u16> {
     }
 }
 
-/// Returns whether there is text in a range of columns.
+/// Returns whether there is text in columns `start..stop`.
 fn has_text(cells: &PictureRow<'_>, start: u16, stop: u16) -> bool
     requires { stop ≤ length cells.now.cells }
 {
@@ -214,7 +219,7 @@ fn has_text(cells: &PictureRow<'_>, start: u16, stop: u16) -> bool
     false
 }
 
-/// Returns whether two rows are equal from a column on.
+/// Returns whether two rows are equal from column `start` to the end.
 fn are_alike(cells: &PictureRow<'_>, over: &PictureRow<'_>, start: u16) -> bool {
     let cols = cells.cols().min(over.cols());
     let same = cells.same_run(over, start);
@@ -227,7 +232,8 @@ fn are_alike(cells: &PictureRow<'_>, over: &PictureRow<'_>, start: u16) -> bool 
     true
 }
 
-/// Returns the shift with the most votes; on a tie, the one furthest down.
+/// Returns the shift with the most votes. In a tie, returns the one that moves
+/// rows furthest down.
 fn heaviest(votes: &[i32; 512]) -> Option<Shift> {
     let mut best = 0;
     let mut shift = None;
@@ -244,8 +250,8 @@ fn heaviest(votes: &[i32; 512]) -> Option<Shift> {
     shift
 }
 
-/// Returns, for the rows before each row, how many bytes less they would need
-/// in all if the terminal's rows were blank.
+/// Returns, for each row, the total number of bytes that the rows above it
+/// would save if the terminal's rows were blank.
 fn savings(view: &View<'_>, height: u16, here: &Numbers) -> [i32; 257]
     requires inside { height ≤ length view.now.rows }
     requires few { height ≤ 256 }
@@ -263,8 +269,8 @@ fn savings(view: &View<'_>, height: u16, here: &Numbers) -> [i32; 257]
     savings
 }
 
-/// Returns how many bytes less the rows from `first` up to but not including
-/// `behind` would need if the terminal's rows were blank.
+/// Returns the number of bytes that rows `first..behind` would save if the
+/// terminal's rows were blank.
 fn between(savings: &[i32; 257], first: u16, behind: u16) -> i32
     requires first { first ≤ 256 }
     requires behind { behind ≤ 256 }
@@ -272,8 +278,8 @@ fn between(savings: &[i32; 257], first: u16, behind: u16) -> i32
     savings[usize::from(behind)].saturating_sub(savings[usize::from(first)])
 }
 
-/// Returns the range of rows for which the shift saves most; on a tie, the
-/// longest.
+/// Returns the range of rows for which the shift saves the most bytes. In a
+/// tie, returns the longest.
 fn best_stretch(
     view: &View<'_>,
     prev: &View<'_>,
@@ -322,8 +328,8 @@ impl Shift {
         if from < height { Some(from) } else { None }
     }
 
-    /// Returns how many bytes are saved because rows become blank above a range
-    /// that begins with `row`.
+    /// Returns the number of bytes saved by the rows that become blank above a
+    /// range that begins with `row`.
     fn opening(&self, savings: &[i32; 257], from: u16, row: u16) -> i32
         requires from { from ≤ 256 }
         requires row { row ≤ 256 }
@@ -337,7 +343,8 @@ impl Shift {
 }
 
 impl Stretch {
-    /// Returns the range extended by `row`, or a new one that begins with it.
+    /// Returns the range extended by `row`, or a new range that begins with
+    /// `row` if that saves more.
     fn and_row(&self, row: u16, opening: i32, gain: i32) -> Stretch
         requires { row < 65535 }
         ensures { result.behind ≡ row + 1 }
@@ -357,9 +364,9 @@ impl Stretch {
         }
     }
 
-    /// Returns how many bytes a move of the range saves if the range ends here.
-    /// Rows that become blank below it count as savings, and the sequences of
-    /// the move as costs.
+    /// Returns the number of bytes that moving the range saves if the range
+    /// ends here. Rows below it that become blank count as savings, and the
+    /// escape sequences of the move as costs.
     fn closed(
         &self,
         shift: Shift,
@@ -403,8 +410,9 @@ impl Stretch {
     }
 }
 
-/// Returns the approximate number of bytes that the sequences of a move take:
-/// at both ends if rows remain below, and a change of attributes.
+/// Returns the approximate number of bytes in the escape sequences of a move.
+/// They are needed at one end of the band, or at both ends if there are rows
+/// below it, and may include a change of attributes.
 fn sequences(both: bool, attrs: Attrs) -> i32 {
     let ends = if both { 15 } else { 6 };
     let change = if attrs == Attrs::new() { 0 } else { 3 };

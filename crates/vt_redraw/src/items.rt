@@ -1,5 +1,5 @@
-//! Output for one row of a picture: a range of its columns, for a terminal with
-//! default attributes and its cursor at the beginning of the range.
+//! Output for a range of columns in one row of a picture, for a terminal with
+//! default attributes and its cursor at the start of the range.
 
 ghost use Rattle.std.specs.Prelude.{◌≡◌, ◌++◌, ◌+◌, ◌<◌, ◌≤◌, ◌&&◌, false};
 ghost use Rattle.std.specs.Prelude.{IfOk, OnOk, length};
@@ -21,8 +21,8 @@ use crate::view::View;
 use vt_cells::{Attrs, Pos, Sink};
 
 /// Writes a continuation cell in the first column of a range as a default
-/// blank, unless the terminal has a continuation cell there. Returns the column
-/// at which the other cells continue.
+/// blank, unless the terminal has a continuation cell there, too. Returns the
+/// column at which the remaining cells begin.
 fn write_begin<S: Sink>(
     sink: &mut S,
     pen: &mut Pen,
@@ -53,8 +53,8 @@ fn write_begin<S: Sink>(
     Ok(col + count)
 }
 
-/// Writes a range of columns of a row, with `cells` cut to its end. `flag` says
-/// whether the terminal's row is wrapped, before and after.
+/// Writes a range of columns of a row. `cells` must be cut to the end of the
+/// range. `flag` says whether the terminal's row is wrapped, and is updated.
 fn write_range<S: Sink>(
     sink: &mut S,
     pen: &mut Pen,
@@ -96,8 +96,8 @@ fn write_mark<S: Sink>(
     write_last(sink, pen, row, cells)
 }
 
-/// Writes the output that a whole row needs after its cells: the break, or its
-/// last glyph again.
+/// Writes the output that a whole row needs after its cells: a break, or the
+/// last glyph again to make the terminal's row wrapped.
 fn write_end<S: Sink>(
     sink: &mut S,
     pen: &mut Pen,
@@ -113,16 +113,16 @@ fn write_end<S: Sink>(
     write_mark(sink, pen, row, on, cells)
 }
 
-/// Writes the columns from `start` up to but not including `stop` of a row of a
-/// picture, for a terminal that displays that row of another picture. If that
-/// is the whole row, it is also made wrapped or not.
+/// Writes columns `start..stop` of a row of `view`, for a terminal that
+/// displays the same row of `prev`. If these columns are the whole row, the
+/// output also makes the terminal's row wrapped or not wrapped.
 ///
-/// The terminal's cursor must be at the first of these columns, and its
-/// attributes must be the default ones.
+/// The terminal's cursor must be in column `start` of the row, and the terminal
+/// must have default attributes.
 ///
 /// # Errors
 ///
-/// The error of the sink; part of the output may have been written.
+/// Returns the sink's error. Part of the output may have been written by then.
 pub fn write_row_diff<S: Sink>(
     sink: &mut S,
     view: &View<'_>,
@@ -162,8 +162,8 @@ fn is_whole(start: u16, stop: u16, cells: &PictureRow<'_>) -> bool
     start == 0 && stop == cells.cols()
 }
 
-/// Writes a whole row after a wrapped row: its first cell as if a wrap were
-/// pending in the row above, and then the other cells.
+/// Writes a whole row that follows a wrapped row: its first cell for a terminal
+/// on which a wrap is pending in the row above, and then the other cells.
 fn write_linked<S: Sink>(sink: &mut S, row: u16, cells: &PictureRow<'_>) -> Result<(), S::Error>
     requires some { 0 < length cells.now.cells }
     requires paired { IsPaired cells.now.cells }
@@ -224,16 +224,17 @@ fn needs_link(view: &View<'_>, row: u16, start: u16, stop: u16, cells: &PictureR
     is_whole(start, stop, cells) && is_linked(view, row)
 }
 
-/// Writes the columns from `start` up to but not including `stop` of a row of a
-/// picture, for a terminal whose row is blank, or that has a wrap pending in
-/// the row above.
+/// Writes columns `start..stop` of a row of `view`, for a terminal whose row is
+/// blank.
 ///
-/// The terminal's cursor must be at the first of these columns, and its
-/// attributes must be the default ones.
+/// The terminal's cursor must be in column `start` of the row, and the terminal
+/// must have default attributes. If these columns are the whole row and the row
+/// above is wrapped, a wrap may instead be pending in the row above, which then
+/// becomes wrapped.
 ///
 /// # Errors
 ///
-/// The error of the sink; part of the output may have been written.
+/// Returns the sink's error. Part of the output may have been written by then.
 pub fn write_row_formatted<S: Sink>(
     sink: &mut S,
     view: &View<'_>,

@@ -1,5 +1,5 @@
-//! Laws about redraws and differences. These functions do nothing when run;
-//! their clauses state what is proved.
+//! Theorems about redraws and differences. The functions do nothing when
+//! called; their clauses state what is proved.
 
 ghost use Rattle.std.specs.Prelude.{◌≡◌, ◌+◌, ◌<◌, ◌≤◌, ◌↔◌, ◌++◌, ℕ, [], Bool, List, Some, false, length, true};
 ghost use Rattle.std.specs.List.{AllByRecursion};
@@ -21,50 +21,51 @@ ghost use Rattle.vt_redraw.specs.Redraw.{cursor_state, difference, differences, 
 ghost use Rattle.vt_redraw.specs.Steady.{HasNoSelector, IsOfSize, IsSteady, IsSteadyCell, heart_text};
 ghost use Rattle.vt_redraw.specs.Touching.{Touches};
 
-/// States that the difference of two pictures, drawn on any plain canvas that
-/// displays the second, displays the first; besides, only what is saved may
-/// change.
+/// States that the difference between `self` and `prev`, drawn on any plain
+/// canvas that displays `prev`, makes it display `self`. Apart from that, only
+/// the saved cursor, origin mode and attributes may change.
 pub fn difference_draws()
     ensures { (self prev : Picture) → (any : Canvas) → IsPicture self → IsSteady self →
         IsPicture prev → SamePictureSize self prev → IsPlainPage any.page → picture_of any ≡ prev →
         (saved : Saved) × (drawn_all (difference self prev) any ≡ Some (with_saved saved (with_picture self any))) }
 {}
 
-/// States that the difference of two pictures touches only positions near a
-/// difference, and the end of one row.
+/// States that the difference between two pictures touches only positions in or
+/// near what differs, and possibly the end of one row.
 pub fn difference_local()
     ensures { (self prev : Picture) → (any : Canvas) → IsPicture self → IsSteady self →
         IsPicture prev → SamePictureSize self prev → IsPlainPage any.page →
         picture_of any ≡ prev → Touches (IsLocal self prev) (difference self prev) any }
 {}
 
-/// States that the difference of a picture and itself is empty.
+/// States that the difference between a picture and itself is empty.
 pub fn difference_self()
     ensures { (picture : Picture) → difference picture picture ≡ [] }
 {}
 
-/// States that two pictures are equal if their difference is empty.
+/// States that two pictures are equal if the difference between them is empty.
 pub fn empty_only()
     ensures { (self prev : Picture) → IsPicture self → IsSteady self → IsPicture prev →
         SamePictureSize self prev → difference self prev ≡ [] → self ≡ prev }
 {}
 
-/// States that the redraw of a picture, drawn on any plain canvas of its size,
-/// displays it.
+/// States that the redraw of a picture, drawn on any plain canvas of the same
+/// size, makes it display the picture.
 pub fn redraw_draws()
     ensures { (self : Picture) → (any : Canvas) → IsPicture self → IsSteady self →
         IsPicture (picture_of any) → IsPlainPage any.page → SamePictureSize self (picture_of any) →
         (saved : Saved) × (drawn_all (redraw self) any ≡ Some (with_saved saved (with_picture self any))) }
 {}
 
-/// States that pictures of one size with equal redraws are equal.
+/// States that two pictures of the same size are equal if their redraws are
+/// equal.
 pub fn redraws_only()
     ensures { (a b : Picture) → IsPicture a → IsSteady a → IsPicture b →
         IsSteady b → SamePictureSize a b → redraw a ≡ redraw b → a ≡ b }
 {}
 
-/// States that a redraw followed by any chain of differences displays the last
-/// picture.
+/// States that a redraw, followed by the differences between consecutive
+/// pictures of any list, makes a plain canvas display the last picture.
 pub fn chain_draws()
     ensures { (self : Picture) → (nexts : List Picture) → (any : Canvas) →
         IsOfSize any.page.width (length any.page.rows) self →
@@ -75,27 +76,28 @@ pub fn chain_draws()
         ≡ Some (with_saved saved (with_picture (last_picture self nexts) any))) }
 {}
 
-/// States that each operation of a difference has only numbers and text that a
-/// terminal reads back unchanged.
+/// States that each operation in a difference contains only numbers and text
+/// that a terminal parses back unchanged.
 pub fn difference_fits()
     ensures { (self prev : Picture) → IsPicture self → IsColoredPicture self →
         FitsAttrs prev.attrs → AllByRecursion Fits (difference self prev) }
 {}
 
-/// States that each operation of a redraw has only numbers and text that a
-/// terminal reads back unchanged.
+/// States that each operation in a redraw contains only numbers and text that a
+/// terminal parses back unchanged.
 pub fn redraw_fits()
     ensures { (self : Picture) → IsPicture self → IsColoredPicture self → AllByRecursion Fits (redraw self) }
 {}
 
-/// States that each operation of the output for the cursor has only numbers and
-/// text that a terminal reads back unchanged.
+/// States that each operation in the output for the cursor contains only
+/// numbers and text that a terminal parses back unchanged.
 pub fn cursor_state_fits()
     ensures { (self : Picture) → IsPicture self → IsColoredPicture self → AllByRecursion Fits (cursor_state self) }
 {}
 
-/// States that the output for the cursor sets the cursor and whether it is
-/// hidden, on a plain canvas that displays the rows and has default attributes.
+/// States that the output for the cursor sets the cursor position and hides or
+/// shows the cursor, on a plain canvas that displays the rows and has default
+/// attributes.
 pub fn cursor_state_draws()
     ensures { (self : Picture) → (any : Canvas) → IsPicture self → IsSteady self → IsPlainPage any.page →
         any.page.rows ≡ self.rows → any.page.width ≡ self.width → any.attrs ≡ default_attrs →
@@ -110,25 +112,27 @@ pub fn cursor_state_local()
 {}
 
 /// States that a picture without U+FE0F in its glyphs is steady, whatever the
-/// widths of its characters are.
+/// widths of its characters.
 pub fn steady_without_selectors()
     ensures { (picture : Picture) → IsPicture picture → HasNoSelector picture → IsSteady picture }
 {}
 
-/// States that U+2764 followed by U+FE0F is steady on two columns or more.
+/// States that the glyph U+2764 U+FE0F is steady in a row of two or more
+/// columns.
 pub fn heart_steady()
     ensures { (width : ℕ) → (attrs : Attrs) → 1 < width → IsSteadyCell width (glyph heart_text true attrs) }
 {}
 
-/// States that the range of a whole row cuts no wide character.
+/// States that a range that covers a whole row cuts no wide character in two.
 pub fn whole_cuts_none()
     ensures { (self : Picture) → (r : ℕ) → IsPicture self → r < length self.rows →
         CutsNone 0 self.width (row_of_picture self r).cells }
 {}
 
-/// States that a row's item of a difference, drawn on a plain canvas over the
-/// row that it starts from, gives that row the cells of its range; besides,
-/// only whether the row is wrapped, the cursor and the attributes may change.
+/// States that the difference for a range of columns in a row, drawn on a plain
+/// canvas that displays the old row, gives the row the new cells in that range.
+/// Apart from that, only the row's wrapped flag, the cursor and the attributes
+/// may change.
 pub fn difference_item_draws()
     ensures { (self : Picture) → (r start stop : ℕ) → (y : RowValue) → (any : Canvas) → IsPicture self → IsSteady self →
         AwaitsItem self r start y any → start ≤ stop → stop ≤ self.width →
@@ -138,15 +142,15 @@ pub fn difference_item_draws()
         (item_of_difference r start stop (row_of_picture self r) y).pen any) }
 {}
 
-/// States that an item of a difference over a whole row leaves the row not
-/// wrapped if it is not wrapped in the picture.
+/// States that the difference for a whole row leaves the row not wrapped if it
+/// is not wrapped in the picture.
 pub fn difference_item_off()
     ensures { (r width : ℕ) → (x y : RowValue) → length x.cells ≡ width →
         x.wrapped ≡ false → (changed_row r 0 width x y).wrapped ≡ false }
 {}
 
-/// States that an item of a difference over a whole row is empty if and only if
-/// both pictures have the same row.
+/// States that the difference for a whole row is empty if and only if the two
+/// pictures have the same row.
 pub fn difference_item_empty()
     ensures { (self prev : Picture) → (r : ℕ) → IsPicture self → IsPicture prev → SamePictureSize self prev →
         r < length self.rows →
@@ -154,9 +158,9 @@ pub fn difference_item_empty()
         ↔ (row_of_picture self r ≡ row_of_picture prev r) }
 {}
 
-/// States that a row's item of a redraw, drawn on a plain canvas over a row of
-/// default blanks, gives that row the cells of its range; besides, only the
-/// cursor and the attributes change.
+/// States that the redraw for a range of columns in a row, drawn on a plain
+/// canvas over a row of default blanks, gives the row the cells in that range.
+/// Apart from that, only the cursor and the attributes change.
 pub fn redraw_item_draws()
     ensures { (self : Picture) → (r start stop : ℕ) → (linked : Bool) → (any : Canvas) → IsPicture self →
         IsSteady self → AwaitsItem self r start (blank_row default_attrs self.width) any → start ≤ stop →
@@ -166,9 +170,9 @@ pub fn redraw_item_draws()
         (item_of_redraw r start stop linked (row_of_picture self r)).pen any) }
 {}
 
-/// States that a whole row's item of a redraw, drawn with a wrap pending after
-/// a glyph at the end of the row above, gives the same row and makes the row
-/// above wrapped.
+/// States that the redraw for a whole row, drawn while a wrap is pending after
+/// a glyph at the end of the row above, draws the row and makes the row above
+/// wrapped.
 pub fn redraw_item_wraps()
     ensures { (self : Picture) → (r : ℕ) → (above : RowValue) → (any : Canvas) → IsPicture self → IsSteady self →
         AwaitsItem self r self.width above any → ends_blank above.cells ≡ false → r + 1 < length self.rows →
@@ -178,16 +182,16 @@ pub fn redraw_item_wraps()
         (item_of_redraw (r + 1) 0 self.width true (row_of_picture self (r + 1))).pen (going_on r any)) }
 {}
 
-/// States that each operation of an item of a difference has only numbers and
-/// text that a terminal reads back unchanged.
+/// States that each operation in the difference for a range of columns contains
+/// only numbers and text that a terminal parses back unchanged.
 pub fn difference_item_fits()
     ensures { (self : Picture) → (r start stop : ℕ) → (y : RowValue) → IsPicture self →
         IsColoredPicture self → r < length self.rows → start ≤ stop → stop ≤ self.width →
         AllByRecursion Fits (item_of_difference r start stop (row_of_picture self r) y).ops }
 {}
 
-/// States that each operation of an item of a redraw has only numbers and text
-/// that a terminal reads back unchanged.
+/// States that each operation in the redraw for a range of columns contains
+/// only numbers and text that a terminal parses back unchanged.
 pub fn redraw_item_fits()
     ensures { (self : Picture) → (r start stop : ℕ) → (linked : Bool) → IsPicture self →
         IsColoredPicture self → r < length self.rows → start ≤ stop → stop ≤ self.width →

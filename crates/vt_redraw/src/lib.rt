@@ -1,6 +1,6 @@
 //! Pictures of what a screen displays, and the output that displays them on
-//! another terminal: a full redraw, and the difference from what that terminal
-//! displays already.
+//! another terminal: a full redraw, or the difference from what that terminal
+//! already displays.
 #![tactic(auto)]
 
 pub mod band;

@@ -1,4 +1,4 @@
-//! The sequences by which a terminal moves a band of its rows.
+//! The escape sequences that make a terminal move a band of its rows.
 
 ghost use Rattle.std.specs.Prelude.{◌≡◌, ◌++◌, OnOk, length};
 ghost use Rattle.vt_redraw.specs.Moved.{IsBand, band_text, down_text, lines_deleted_text};
@@ -10,7 +10,7 @@ use crate::view::View;
 use vt_cells::term::{BufWrite, DeleteLines, InsertLines, MoveTo};
 use vt_cells::{Attrs, Pos, Sink};
 
-/// Writes the deletion of `count` rows at `row` (DL).
+/// Writes the sequences that delete `count` rows at `row` (DL).
 fn write_deleted<S: Sink>(sink: &mut S, row: u16, count: u16) -> Result<(), S::Error>
     ensures { OnOk result (S.text sink.new ≡ S.text sink.old ++ lines_deleted_text row count) }
 {
@@ -21,7 +21,7 @@ fn write_deleted<S: Sink>(sink: &mut S, row: u16, count: u16) -> Result<(), S::E
     DeleteLines { count }.write_buf(sink)
 }
 
-/// Writes the insertion of `count` blank rows at `row` (IL).
+/// Writes the sequences that insert `count` blank rows at `row` (IL).
 fn write_inserted<S: Sink>(sink: &mut S, row: u16, count: u16) -> Result<(), S::Error>
     ensures { OnOk result (S.text sink.new ≡ S.text sink.old ++ lines_inserted_text row count) }
 {
@@ -82,12 +82,12 @@ fn write_band<S: Sink>(sink: &mut S, height: u16, band: Band) -> Result<(), S::E
     }
 }
 
-/// Writes the sequences that move a band of a terminal's rows. Afterwards the
+/// Writes the sequences that move a band of the terminal's rows. Afterward, the
 /// terminal has default attributes.
 ///
 /// # Errors
 ///
-/// The error of the sink; part of the output may have been written.
+/// Returns the sink's error. Part of the output may have been written by then.
 pub fn write_moves<S: Sink>(sink: &mut S, prev: &View<'_>, band: Band) -> Result<(), S::Error>
     requires { IsBand (length prev.now.rows) band }
     ensures { OnOk result (S.text sink.new ≡ S.text sink.old ++ moving_text band prev.now) }

@@ -1,8 +1,7 @@
 //! Links between rows, and breaks between them.
 //!
-//! A *link* makes the terminal wrap from one row into the next, so that the
-//! upper row becomes wrapped. A *break* prints the end of a wrapped row again,
-//! so that it ceases to be wrapped.
+//! A *link* makes the terminal wrap from one row into the next, so that the upper row becomes
+//! wrapped. A *break* prints the end of a wrapped row again, so that the row is no longer wrapped.
 
 ghost use Rattle.std.specs.Prelude.{◌≡◌, ◌<◌, ◌&&◌, ◌||◌, [], ◌∷◌, not, nat_le, true, IfOk, OnOk, length};
 ghost use Rattle.vt_cells.specs.Cell.{is_blank, is_glyph};
@@ -19,24 +18,23 @@ use crate::picture_row::PictureRow;
 use vt_cells::term::{Backspace, BufWrite, EraseChar};
 use vt_cells::{Cell, Pos, Sink, cell};
 
-/// The state after a link: whether the terminal's lower row is wrapped itself,
-/// and how many of its first cells are done.
+/// The state after a link: whether the terminal's lower row is itself wrapped, and how many of its
+/// leading cells need no more output.
 #[derive(Clone, Copy, Debug)]
 pub struct Link {
     /// Whether the terminal's lower row is wrapped.
     pub flag: bool,
 
-    /// The number of first cells of the terminal's lower row that need no more
-    /// output.
+    /// The number of leading cells of the terminal's lower row that need no more output.
     pub settled: u16,
 }
 
-/// Prints the last glyph of a row again, unless the pen is after it already.
-/// The terminal then has a wrap pending.
+/// Prints the last glyph of a row again, unless the pen is already after it. A wrap is then pending
+/// on the terminal.
 ///
 /// # Errors
 ///
-/// The error of the sink; part of the output may have been written.
+/// Returns the sink's error. Part of the output may have been written by then.
 pub fn write_last<S: Sink>(
     sink: &mut S,
     pen: &mut Pen,
@@ -58,8 +56,8 @@ pub fn write_last<S: Sink>(
     Ok(())
 }
 
-/// Writes a blank first cell while a wrap is pending: a space, which is erased
-/// again.
+/// Writes a blank in the first column of a row while a wrap is pending in the row above, by
+/// printing a space and erasing it again.
 fn write_first_blank<S: Sink>(
     sink: &mut S,
     pen: &mut Pen,
@@ -85,8 +83,8 @@ fn write_first_blank<S: Sink>(
     })
 }
 
-/// Returns whether a row is still wrapped after its first cell was erased: not
-/// if that is its last column.
+/// Returns whether the terminal's row is still wrapped after its first cell has been erased.
+/// Erasing the only cell of a row clears the row's wrapped flag.
 fn goes_on(flag: bool, over: &PictureRow<'_>) -> bool
     ensures { result ≡ (flag && not (nat_le (length over.now.cells) 1)) }
 {
@@ -123,7 +121,7 @@ fn write_first_glyph<S: Sink>(
 ///
 /// # Errors
 ///
-/// The error of the sink; part of the output may have been written.
+/// Returns the sink's error. Part of the output may have been written by then.
 pub fn write_first<S: Sink>(
     sink: &mut S,
     pen: &mut Pen,
@@ -138,17 +136,16 @@ pub fn write_first<S: Sink>(
 {
     let cell = cells.cell(0);
     if cell::is_blank(cell) {
-        // Only for the proof: a value in tail position, so that its clause is found.
+        // Only for the proof: the prover finds the clause about a value in tail position.
         let link = write_first_blank(sink, pen, row, flag, cell, over)?;
         return Ok(link);
     }
-    // Only for the proof: a value in tail position, so that its clause is found.
+    // Only for the proof: the prover finds the clause about a value in tail position.
     let link = write_first_glyph(sink, pen, row, flag, cell, over)?;
     Ok(link)
 }
 
-/// Returns whether a row begins with a glyph that the terminal does not display
-/// there.
+/// Returns whether the row `cells` begins with a glyph that the row `over` does not begin with.
 fn starts_other(cells: &PictureRow<'_>, over: &PictureRow<'_>) -> bool
     requires some { 0 < length cells.now.cells }
     requires over { 0 < length over.now.cells }
@@ -158,9 +155,9 @@ fn starts_other(cells: &PictureRow<'_>, over: &PictureRow<'_>) -> bool
     cell.has_contents() && !(cell == over.cell(0))
 }
 
-/// Returns whether a row after a wrapped row needs a link: the terminal's upper
-/// row is not wrapped, or it has a wrap pending and the row begins with a
-/// different glyph.
+/// Returns whether a row below a wrapped row needs a link. It does if the terminal's upper row is
+/// not wrapped (`on` is false). It also does if a wrap is pending there and the terminal's lower
+/// row begins with a different glyph.
 fn needs_link(
     pen: &Pen,
     row: u16,
@@ -177,13 +174,13 @@ fn needs_link(
     !on || (pen.is_at(row, above.cols()) && starts_other(cells, over))
 }
 
-/// Writes the link between row `row` and the next row, if row `row` is wrapped;
-/// `on` says whether the terminal's row is. The terminal then wraps into the
-/// next row.
+/// Writes the link between row `row` and the next row, if row `row` is wrapped and a link is
+/// needed. The link makes the terminal wrap into the next row. `on` says whether row `row` of the
+/// terminal is already wrapped.
 ///
 /// # Errors
 ///
-/// The error of the sink; part of the output may have been written.
+/// Returns the sink's error. Part of the output may have been written by then.
 #[tactic(auto, unfolding(crate::specs::Script::row_link))]
 pub fn write_link<S: Sink>(
     sink: &mut S,
@@ -206,18 +203,17 @@ pub fn write_link<S: Sink>(
         return Ok(Link { flag, settled: 0 });
     }
     write_last(sink, pen, row, above)?;
-    // Only for the proof: a value in tail position, so that its clause is found.
+    // Only for the proof: the prover finds the clause about a value in tail position.
     let link = write_first(sink, pen, row + 1, flag, cells, over)?;
     Ok(link)
 }
 
-/// Writes the break after a row if the terminal's row is wrapped and must not
-/// be: its last glyph is erased and printed again. Returns whether the
-/// terminal's row is wrapped then.
+/// Writes the break after a row if the terminal's row is wrapped but must not be, by erasing the
+/// last glyph and printing it again. Returns whether the terminal's row is then wrapped.
 ///
 /// # Errors
 ///
-/// The error of the sink; part of the output may have been written.
+/// Returns the sink's error. Part of the output may have been written by then.
 #[tactic(auto, unfolding(crate::specs::Script::row_break))]
 pub fn write_break<S: Sink>(
     sink: &mut S,

@@ -1,4 +1,4 @@
-//! What the writer knows of the terminal that reads its output.
+//! What the writer knows about the terminal that reads its output.
 
 ghost use Rattle.std.specs.Prelude.{◌≡◌, ◌≤◌, ◌++◌, OnOk, length};
 ghost use Rattle.vt_cells.specs.Attrs.{default_attrs};
@@ -14,14 +14,15 @@ use vt_cells::{Attrs, Buffer, Cell, Pos, Sink, cell};
 
 /// The position of the terminal's cursor, and the terminal's attributes.
 ///
-/// A call that writes returns the error of the sink; part of the output may
-/// then have been written.
+/// Methods that write return the sink's error; part of the output may have been
+/// written by then.
 #[derive(Clone, Copy, PartialEq, Eq, Debug)]
 pub struct Pen {
     /// The row, counted from 0.
     pub row: u16,
 
-    /// The column, counted from 0; one past the last column is a pending wrap.
+    /// The column, counted from 0. A column one past the last means that a wrap
+    /// is pending.
     pub col: u16,
 
     /// The terminal's current attributes.
@@ -29,8 +30,8 @@ pub struct Pen {
 }
 
 impl Pen {
-    /// Creates the pen after a clear: in the top left corner, with default
-    /// attributes.
+    /// Creates the pen for a terminal that was just cleared: in the top left
+    /// corner, with default attributes.
     pub fn new() -> Self
         ensures { result ≡ pen_at 0 0 default_attrs }
     {
@@ -41,7 +42,7 @@ impl Pen {
         }
     }
 
-    /// Returns whether the pen is at this position.
+    /// Returns whether the pen is at the given position.
     #[inline]
     pub fn is_at(&self, row: u16, col: u16) -> bool
         ensures { result ≡ is_at self.now row col }
@@ -49,19 +50,12 @@ impl Pen {
         self.row == row && self.col == col
     }
 
-    /// Moves to a position, and writes the move.
+    /// Moves the pen to a position, and writes the cursor movement.
     ///
     /// # Errors
     ///
-    /// The error of the sink; part of the output may have been written.
-    ///
-    /// # Errors
-    ///
-    /// The error of the sink; part of the output may have been written.
-    ///
-    /// # Errors
-    ///
-    /// The error of the sink; part of the output may have been written.
+    /// Returns the sink's error. Part of the output may have been written by
+    /// then.
     #[inline]
     pub fn move_to<S: Sink>(&mut self, sink: &mut S, to: Pos) -> Result<(), S::Error>
         ensures ops { AppendsOrStops result (S.text sink.old) (S.text sink.new) (move_ops self.old to.row to.col) }
@@ -73,7 +67,7 @@ impl Pen {
         self.jump(sink, to)
     }
 
-    /// Moves to a different position, and writes the move.
+    /// Moves the pen to a different position, and writes the cursor movement.
     #[inline(never)]
     #[tactic(auto, unfolding(crate::specs::Script::move_ops))]
     fn jump<S: Sink>(&mut self, sink: &mut S, to: Pos) -> Result<(), S::Error>
@@ -90,11 +84,12 @@ impl Pen {
         Ok(())
     }
 
-    /// Changes the attributes, and writes the change.
+    /// Changes the pen's attributes to `new`, and writes the change.
     ///
     /// # Errors
     ///
-    /// The error of the sink; part of the output may have been written.
+    /// Returns the sink's error. Part of the output may have been written by
+    /// then.
     #[inline]
     pub fn change_attrs<S: Sink>(&mut self, sink: &mut S, new: Attrs) -> Result<(), S::Error>
         ensures ops { AppendsOrStops result (S.text sink.old) (S.text sink.new) (attr_ops self.old.attrs new) }
@@ -108,11 +103,13 @@ impl Pen {
         Ok(())
     }
 
-    /// Moves to a position, and writes the buffer and then the move.
+    /// Moves the pen to a position, and writes the buffer and then the cursor
+    /// movement.
     ///
     /// # Errors
     ///
-    /// The error of the sink; part of the output may have been written.
+    /// Returns the sink's error. Part of the output may have been written by
+    /// then.
     #[inline]
     pub fn move_behind<S: Sink>(
         &mut self,
@@ -130,7 +127,8 @@ impl Pen {
         self.jump_behind(sink, buffer, to)
     }
 
-    /// Moves to a different position, and writes the buffer and then the move.
+    /// Moves the pen to a different position, and writes the buffer and then
+    /// the cursor movement.
     #[inline(never)]
     #[tactic(auto, using(vt_cells::proofs::Buffers::nothing_gathered))]
     fn jump_behind<S: Sink>(
@@ -147,11 +145,12 @@ impl Pen {
         self.jump(sink, to)
     }
 
-    /// Changes the attributes to those of a cell, and buffers the change.
+    /// Changes the pen's attributes to those of a cell, and buffers the change.
     ///
     /// # Errors
     ///
-    /// The error of the sink; part of the output may have been written.
+    /// Returns the sink's error. Part of the output may have been written by
+    /// then.
     #[inline]
     pub fn draw_as<S: Sink>(
         &mut self,
@@ -198,7 +197,7 @@ fn add_change<S: Sink>(
 ///
 /// # Errors
 ///
-/// The error of the sink; part of the output may have been written.
+/// Returns the sink's error. Part of the output may have been written by then.
 #[inline(never)]
 #[tactic(auto, using(crate::proofs::Writing::change_written))]
 pub fn write_change<S: Sink>(sink: &mut S, was: Attrs, new: Attrs) -> Result<(), S::Error>

@@ -1,4 +1,4 @@
-//! The rows of a picture, borrowed from the pages they are stored in.
+//! The rows of a picture, borrowed from where they are stored.
 
 ghost use Rattle.std.specs.Prelude.{◌≡◌, ◌+◌, ◌<◌, ◌≤◌, ◌&&◌, ℕ, drop, false};
 ghost use Rattle.std.specs.Prelude.{All, length, not, take, true};
@@ -15,11 +15,11 @@ use vt_cells::{Attrs, Cell, cell};
 use vt_rows::RowContents;
 use vt_rows::capture::cells_of;
 
-/// A row of a picture: the stored cells of a row of a page or of scrollback, as
-/// far as the picture has columns for them, followed by blanks of one kind.
+/// A row of a picture: the stored cells of a page row or scrollback row,
+/// limited to the columns of the picture, followed by identical blanks.
 ///
-/// No cell is copied. If the cut leaves one column of a wide character, that
-/// column is the blank after the stored cells.
+/// No cell is copied. If the picture is only wide enough for one column of a
+/// wide character, that column is the blank after the stored cells.
 #[derive(Drop)]
 pub struct PictureRow<'a> {
     cells: &'a [Cell],
@@ -52,9 +52,9 @@ impl<'a> PictureRow<'a> {
         }
     }
 
-    /// Creates a row that is cut or extended to `cols` columns. It is wrapped
-    /// if `row` is, unless its last column is then blank or it is the last row
-    /// of the picture.
+    /// Creates a picture row from `row`, cut or extended to `cols` columns. It
+    /// is wrapped if `row` is wrapped, unless its last column is then blank or
+    /// it is the last row of the picture.
     #[tactic(auto, using(crate::proofs::Filling::resized_columns))]
     pub fn cut(row: &RowContents<'a>, cols: u16, is_last: bool) -> PictureRow<'a>
         requires some { 0 < cols }
@@ -67,7 +67,8 @@ impl<'a> PictureRow<'a> {
         cut
     }
 
-    /// Returns whether a row that was wrapped or not is wrapped after the cut.
+    /// Returns whether the row is wrapped after it has been cut. `wrapped` says
+    /// whether it was wrapped before.
     fn keeps_flag(&self, wrapped: bool, is_last: bool) -> bool
         requires { 0 < length self.now.cells }
         ensures { result ≡ (not is_last && (wrapped && not (ends_blank self.now.cells))) }
@@ -75,8 +76,8 @@ impl<'a> PictureRow<'a> {
         !is_last && wrapped && !self.ends_blank()
     }
 
-    /// Creates a row that is cut or extended to `cols` columns and is not
-    /// wrapped.
+    /// Creates a picture row from `cells`, cut or extended to `cols` columns.
+    /// It is not wrapped.
     #[tactic(auto, using(crate::proofs::Filling::filled_resized, crate::proofs::Filling::kept_inside))]
     fn unwrapped(cells: &'a [Cell], cols: u16) -> PictureRow<'a>
         requires some { 0 < cols }
@@ -118,8 +119,8 @@ impl<'a> PictureRow<'a> {
         self.cols
     }
 
-    /// Returns the number of stored cells of the row; the columns after them
-    /// are blanks of one kind.
+    /// Returns the number of stored cells of the row. The columns after them
+    /// are identical blanks.
     #[inline]
     pub fn own_len(&self) -> usize
         ensures { result ≤ length self.now.cells }
@@ -127,7 +128,7 @@ impl<'a> PictureRow<'a> {
         self.cells.len()
     }
 
-    /// Returns the stored cells of the row; all columns after them are blanks.
+    /// Returns the stored cells of the row. All columns after them are blanks.
     #[inline]
     pub fn own_cells(&self) -> &'a [Cell]
         ensures inside { length result.now ≤ length self.now.cells }
@@ -151,9 +152,9 @@ impl<'a> PictureRow<'a> {
         }
     }
 
-    /// Returns how many cells from a column on are equal to those of another
-    /// row, as far as both have stored cells. Further cells may be equal, too.
-    /// Four cells are compared at once.
+    /// Returns a lower bound on the number of consecutive cells, starting at
+    /// column `col`, in which this row and `other` agree. Only stored cells are
+    /// compared, four at a time.
     pub fn same_run(&self, other: &PictureRow<'_>, col: u16) -> usize
         ensures inside { 0 < result → col + result ≤ length self.now.cells }
         ensures same { (k : ℕ) → k < result
@@ -184,7 +185,7 @@ impl<'a> PictureRow<'a> {
         cell::is_blank(self.cell(self.cols - 1))
     }
 
-    /// Returns the column at which the glyph begins that covers the last
+    /// Returns the first column of the glyph or blank that covers the last
     /// column.
     pub fn last_col(&self) -> u16
         requires some { 0 < length self.now.cells }
@@ -199,8 +200,7 @@ impl<'a> PictureRow<'a> {
         last
     }
 
-    /// Returns whether the columns from `col` on are a single continuation
-    /// cell, in the last column.
+    /// Returns whether `col` is the last column and holds a continuation cell.
     #[inline]
     #[tactic(auto, using(crate::proofs::Filling::torn_at))]
     pub fn is_torn(&self, col: u16) -> bool
@@ -209,8 +209,8 @@ impl<'a> PictureRow<'a> {
         usize::from(col) + 1 == usize::from(self.cols()) && self.cell(col).is_wide_continuation()
     }
 
-    /// Returns how many consecutive blanks with these attributes begin at a
-    /// column.
+    /// Returns the number of consecutive blanks with attributes `attrs`,
+    /// starting at column `col`.
     pub fn run(&self, col: u16, attrs: Attrs) -> u16
         requires { col ≤ length self.now.cells }
         ensures value { result ≡ blank_run attrs (drop col self.now.cells) }
@@ -225,7 +225,8 @@ impl<'a> PictureRow<'a> {
     }
 }
 
-/// Returns the cells that are unchanged in a row cut to `cols` columns.
+/// Returns the cells of a row that are unchanged when the row is cut to `cols`
+/// columns.
 fn kept_cells<'a>(cells: &'a [Cell], cols: u16) -> &'a [Cell]
     requires { 0 < cols }
     ensures { result.now ≡ take (kept_len cols cells.now) cells.now }
@@ -240,9 +241,9 @@ fn kept_cells<'a>(cells: &'a [Cell], cols: u16) -> &'a [Cell]
     &cells[..cols]
 }
 
-/// Returns the cell after the unchanged cells of a cut row: a blank with the
-/// attributes of the wide character that is cut in two, or else a default
-/// blank.
+/// Returns the cell that follows the unchanged cells when a row is cut to
+/// `cols` columns. It is a blank with the attributes of the wide character that
+/// is cut in two, or a default blank if there is none.
 fn end_cell(cells: &[Cell], cols: u16) -> Cell
     requires { 0 < cols }
     ensures { result ≡ cell_past_cut cols cells.now }
@@ -254,7 +255,7 @@ fn end_cell(cells: &[Cell], cols: u16) -> Cell
     cell::default_blank()
 }
 
-/// Returns whether a cell is a blank with these attributes.
+/// Returns whether a cell is a blank with attributes `attrs`.
 #[inline]
 pub fn is_blank_of(cell: &Cell, attrs: Attrs) -> bool
     ensures { result ≡ is_blank_of attrs cell.now }

@@ -12,12 +12,12 @@ use crate::view::View;
 use vt_cells::Sink;
 use vt_cells::term::{BufWrite, ClearAttrs, ClearScreen, HideCursor};
 
-/// Writes the full redraw of a picture: whether the cursor is hidden, a clear,
-/// and the script from a blank screen.
+/// Writes the full redraw of a picture. It hides or shows the cursor, clears
+/// the screen, and draws the picture on the blank screen.
 ///
 /// # Errors
 ///
-/// The error of the sink; part of the output may have been written.
+/// Returns the sink's error. Part of the output may have been written by then.
 #[tactic(auto, unfolding(crate::specs::Redraw::redraw))]
 pub fn write_contents_formatted<S: Sink>(sink: &mut S, view: &View<'_>) -> Result<(), S::Error>
     ensures { OnOk result (S.text sink.new ≡ S.text sink.old ++ bytes_of_all (redraw view.now)) }
@@ -32,12 +32,12 @@ pub fn write_contents_formatted<S: Sink>(sink: &mut S, view: &View<'_>) -> Resul
     write_script(sink, view, &blank)
 }
 
-/// Writes the output that turns the display of `prev` into that of `view`,
-/// which is nothing if they are equal.
+/// Writes the output that turns the display of `prev` into the display of
+/// `view`. Writes nothing if the two are equal.
 ///
 /// # Errors
 ///
-/// The error of the sink; part of the output may have been written.
+/// Returns the sink's error. Part of the output may have been written by then.
 #[tactic(auto, unfolding(crate::specs::Redraw::difference))]
 pub fn write_contents_diff<S: Sink>(
     sink: &mut S,
@@ -52,8 +52,8 @@ pub fn write_contents_diff<S: Sink>(
     write_script(sink, view, prev)
 }
 
-/// Writes the sequence that hides or shows the cursor, if that differs between
-/// two pictures.
+/// Writes the sequence that hides or shows the cursor if the cursor is hidden
+/// in only one of the two pictures.
 fn write_hiding<S: Sink>(sink: &mut S, view: &View<'_>, prev: &View<'_>) -> Result<(), S::Error>
     ensures text { OnOk result (S.text sink.new ≡ S.text sink.old ++ bytes_of_all (hiding view.now prev.now)) }
     ensures some { RefusedOnlyIfSome result (bytes_of_all (hiding view.now prev.now)) }
@@ -65,12 +65,13 @@ fn write_hiding<S: Sink>(sink: &mut S, view: &View<'_>, prev: &View<'_>) -> Resu
     HideCursor { state }.write_buf(sink)
 }
 
-/// Writes the sequences that hide or show the cursor and move it, on a terminal
-/// that displays the rows of the picture already and has default attributes.
+/// Writes the sequences that hide or show the cursor and move it, for a
+/// terminal that already displays the rows of the picture and has default
+/// attributes.
 ///
 /// # Errors
 ///
-/// The error of the sink; part of the output may have been written.
+/// Returns the sink's error. Part of the output may have been written by then.
 #[tactic(auto, unfolding(crate::specs::Redraw::cursor_state))]
 pub fn write_cursor_state<S: Sink>(sink: &mut S, view: &View<'_>) -> Result<(), S::Error>
     ensures { OnOk result (S.text sink.new ≡ S.text sink.old ++ bytes_of_all (cursor_state view.now)) }

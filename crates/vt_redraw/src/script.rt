@@ -1,4 +1,4 @@
-//! The rows of a picture, from the top, and the whole script.
+//! The script that turns the display of one picture into that of another.
 
 ghost use Rattle.std.specs.Prelude.{◌≡◌, IfOk, OnOk};
 ghost use Rattle.vt_cells.specs.Op.{bytes_of_all};
@@ -15,9 +15,9 @@ use crate::picture_row::PictureRow;
 use crate::view::View;
 use vt_cells::{Pos, Sink};
 
-/// Writes the output for a row, except for its first cells that are done
-/// already: its cells and the break. Returns whether the terminal's row is
-/// wrapped then.
+/// Writes the output for the cells of a row, except for the leading ones that
+/// `link` has settled, and then the break. Returns whether the terminal's row
+/// is then wrapped.
 #[tactic(auto, using(crate::proofs::CellSteps::range_of))]
 fn write_row<S: Sink>(
     sink: &mut S,
@@ -38,13 +38,14 @@ fn write_row<S: Sink>(
         col: link.settled,
     };
     write_cells(sink, pen, &mut flag, pos, cells, over)?;
-    // Only for the proof: a value in tail position, so that its clause is found.
+    // Only for the proof: the prover finds the clause about a value in tail
+    // position.
     let on = write_break(sink, pen, row, flag, cells)?;
     Ok(on)
 }
 
 /// Writes the output for the first row. Returns whether the terminal's row is
-/// wrapped then.
+/// then wrapped.
 fn write_top<S: Sink>(
     sink: &mut S,
     pen: &mut Pen,
@@ -61,7 +62,8 @@ fn write_top<S: Sink>(
         flag: over.wrapped(),
         settled: 0,
     };
-    // Only for the proof: a value in tail position, so that its clause is found.
+    // Only for the proof: the prover finds the clause about a value in tail
+    // position.
     let on = write_row(sink, pen, 0, link, cells, over)?;
     Ok(on)
 }
@@ -94,12 +96,12 @@ fn write_rows<S: Sink>(
     Ok(())
 }
 
-/// Writes the script that turns the display of one picture into that of
-/// another: the rows, the cursor and the attributes.
+/// Writes the script that turns the display of `prev` into that of `view`: the
+/// rows, the cursor and the attributes.
 ///
 /// # Errors
 ///
-/// The error of the sink; part of the output may have been written.
+/// Returns the sink's error. Part of the output may have been written by then.
 #[tactic(auto, unfolding(crate::specs::Redraw::script))]
 pub fn write_script<S: Sink>(sink: &mut S, view: &View<'_>, prev: &View<'_>) -> Result<(), S::Error>
     requires size { SamePictureSize view.now prev.now }

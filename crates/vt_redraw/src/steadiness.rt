@@ -1,9 +1,9 @@
-//! Whether a picture is steady: whether each of its glyphs, printed character
-//! by character on a blank row, reproduces itself.
+//! A test of whether a picture is steady, that is, whether each of its glyphs
+//! reproduces itself when it is printed character by character on a blank row.
 //!
 //! Only U+FE0F changes the width of a glyph after its first character, so a
-//! glyph without it is steady. One with it is printed here on a cell of its
-//! own.
+//! glyph without it is steady. A glyph with U+FE0F is tested by printing it
+//! into a separate cell.
 
 ghost use Rattle.std.specs.Prelude.{◌≡◌, ◌↔◌, ◌&&◌, ◌<◌, All, IsTrue, false, length, nat_lt, true};
 ghost use Rattle.std.specs.Prelude.{if◌then◌else◌};
@@ -18,17 +18,17 @@ use crate::picture_row::PictureRow;
 use crate::view::View;
 use vt_cells::{Attrs, Cell, cell, columns};
 
-/// U+FE0F, variation selector 16, which asks for emoji presentation.
+/// U+FE0F, variation selector 16, which requests emoji presentation.
 const SELECTOR: char = '\u{FE0F}';
 
 /// The smallest length, in bytes, of a text with [`SELECTOR`] after its first
 /// character.
 const SELECTED_LEN: usize = 4;
 
-/// Returns whether each glyph of the picture, printed on a blank row,
-/// reproduces itself.
+/// Returns whether each glyph of the picture reproduces itself when it is
+/// printed on a blank row.
 ///
-/// Of a row whose texts all have fewer than four bytes, only their lengths are
+/// If all texts in a row have fewer than four bytes, only their lengths are
 /// read.
 pub fn is_steady(view: &View<'_>) -> bool
     ensures { IsTrue result ↔ IsSteady view.now }
@@ -71,8 +71,8 @@ fn is_short_at(view: &View<'_>, row: u16) -> bool
     }
 }
 
-/// Returns whether each glyph of the row, printed on a blank row, reproduces
-/// itself.
+/// Returns whether each glyph of the row reproduces itself when it is printed
+/// on a blank row.
 fn is_steady_row(row: &PictureRow<'_>) -> bool
     requires { IsRow (length row.now.cells) row.now }
     ensures { IsTrue result ↔ IsSteadyRow (length row.now.cells) row.now }
@@ -137,8 +137,8 @@ fn text_len(cell: &Cell) -> usize
     cell.contents().len()
 }
 
-/// Returns whether each glyph, printed on a blank row of `cols` columns,
-/// reproduces itself.
+/// Returns whether each glyph reproduces itself when it is printed on a blank
+/// row of `cols` columns.
 fn are_steady(cells: &[Cell], cols: u16) -> bool
     requires { All (FitsColumns cols) cells.now }
     ensures { IsTrue result ↔ All (IsSteadyCell cols) cells.now }
@@ -151,8 +151,8 @@ fn are_steady(cells: &[Cell], cols: u16) -> bool
     true
 }
 
-/// Returns whether a cell is no glyph, or one that reproduces itself when
-/// printed on a blank row of `cols` columns.
+/// Returns whether a cell is not a glyph, or is a glyph that reproduces itself
+/// when it is printed on a blank row of `cols` columns.
 #[inline]
 fn is_steady_cell(cell: &Cell, cols: u16) -> bool
     requires { FitsColumns cols cell.now }
@@ -185,8 +185,9 @@ fn has_selector(cell: &Cell) -> bool
 /// Returns whether the characters of a glyph's text, printed on a blank row of
 /// `cols` columns, reproduce the glyph.
 ///
-/// Its width starts as that of the first character and follows the whole text
-/// at each [`SELECTOR`]. A glyph that becomes narrow leaves a blank after it.
+/// The printed glyph starts with the width of its first character, and takes
+/// the width of its whole text at each [`SELECTOR`]. A glyph that becomes
+/// narrow leaves a blank after it.
 fn prints_itself(cell: &Cell, cols: u16) -> bool
     requires glyph { is_glyph cell.now ≡ true }
     requires fits { FitsColumns cols cell.now }
@@ -209,8 +210,9 @@ fn prints_itself(cell: &Cell, cols: u16) -> bool
     wide == cell.is_wide()
 }
 
-/// Returns whether a glyph that was `wide` is wide after the combining
-/// character `mark`, which is the last character of `printed`.
+/// Returns whether a glyph is wide after the combining character `mark` has
+/// been added. `printed` is the glyph with `mark`, and `wide` says whether it
+/// was wide before.
 fn width_after(printed: &Cell, mark: char, wide: bool, cols: u16) -> bool
     ensures { result ≡ (if is_selector mark then is_wide_text (text_of printed.now) && nat_lt 1 cols else wide) }
 {

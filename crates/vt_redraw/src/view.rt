@@ -24,7 +24,7 @@ pub(crate) enum Source {
     /// The displayed rows of a screen.
     InView,
 
-    /// Default blank rows, as many as the screen has rows.
+    /// Default blank rows, one for each row of the screen.
     Blank,
 
     /// The displayed rows of a screen after a band of them has moved.
@@ -32,8 +32,8 @@ pub(crate) enum Source {
 }
 
 /// A borrowed picture of a screen: its displayed rows, each cut to the screen's
-/// columns, the cursor, the attributes and whether the cursor is hidden.
-/// Nothing of it is copied.
+/// columns, the cursor, the attributes, and whether the cursor is hidden. No
+/// rows are copied.
 #[derive(Drop)]
 pub struct View<'a> {
     above: &'a Scrollback,
@@ -82,8 +82,8 @@ impl<'a> View<'a> {
         }
     }
 
-    /// Creates a view of what a terminal displays that displayed a page with
-    /// scrollback above it and then moved a band of its rows.
+    /// Creates a view of what a terminal displays after it has displayed a page
+    /// with scrollback above it and has then moved a band of its rows.
     pub fn moved(above: &'a Scrollback, grid: &'a Grid, hidden: bool, band: Band) -> View<'a>
         requires above { IsScrollback above.now }
         requires page { IsPage grid.now }
@@ -108,8 +108,8 @@ impl<'a> View<'a> {
         }
     }
 
-    /// Creates a blank view of the same size: default blanks, the cursor in the
-    /// top left corner, default attributes.
+    /// Creates a view of the same size that has default blanks, default
+    /// attributes, and the cursor in the top left corner.
     pub fn blanked(&self) -> View<'a>
         ensures { result ≡ blank_like self.now }
     {
@@ -192,8 +192,8 @@ impl<'a> View<'a> {
     }
 }
 
-/// Returns a displayed row, cut to a picture's columns, or a blank row past the
-/// last one. As the last row of a picture it is not wrapped.
+/// Returns a displayed row, cut or extended to `cols` columns, or a blank row
+/// if there is no such row. If `is_last` is true, the result is not wrapped.
 fn row_seen<'a>(
     above: &'a Scrollback,
     rows: &'a PageRows,
@@ -218,8 +218,8 @@ fn ends(rows: &PageRows, row: u16) -> bool
     usize::from(row) + 1 == rows.len()
 }
 
-/// Returns a row of a picture after a band has moved, borrowed from where it
-/// was before.
+/// Returns a row of a picture after a band has moved. The row is borrowed from
+/// where it was before the move.
 fn row_moved<'a>(
     above: &'a Scrollback,
     rows: &'a PageRows,

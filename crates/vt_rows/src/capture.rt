@@ -27,7 +27,7 @@ use vt_cells::Cell;
 /// The contents of a row: a reference to its cells, and whether the row is wrapped (its text
 /// continues on the next row).
 ///
-/// The row has its own width, which need not be that of the page.
+/// The row has its own width, which may differ from that of the page.
 #[derive(Drop)]
 pub struct RowContents<'a> {
     cells: &'a [Cell],
@@ -58,8 +58,8 @@ impl<'a> RowContents<'a> {
         self.cells
     }
 
-    /// Returns whether the row is wrapped, that is, its text continues on the row that was below
-    /// it.
+    /// Returns whether the row is wrapped, that is, whether its text continues on the row that was
+    /// below it.
     #[inline]
     pub fn wrapped(&self) -> bool
         ensures { result ≡ self.now.wrapped }
@@ -85,7 +85,7 @@ pub fn cells_of<'a>(row: &RowContents<'a>) -> &'a [Cell]
     row.cells
 }
 
-/// Returns the cell at a column of a row, or `None` if the row has no such column.
+/// Returns the cell at `column` of a row, or `None` if the row has no such column.
 #[inline]
 pub fn cell_of<'a>(row: &RowContents<'a>, column: usize) -> Option<&'a Cell>
     ensures inside { IsSome result ↔ (column < length row.now.cells) }
@@ -98,7 +98,7 @@ pub fn cell_of<'a>(row: &RowContents<'a>, column: usize) -> Option<&'a Cell>
     }
 }
 
-/// Returns a row without the default blanks at its end.
+/// Returns the row without the default blanks at its end.
 pub fn trimmed<'a>(row: &RowContents<'a>) -> RowContents<'a>
     ensures { result ≡ trimmed_row row.now }
 {

@@ -1,8 +1,8 @@
 //! In-place edits of the cells of a row.
 //!
 //! A wide glyph takes two columns: its first cell holds the text, and the next column is its
-//! continuation cell. No edit leaves one without the other; each function says what becomes of the
-//! partner of a cell that it overwrites.
+//! continuation cell. No edit leaves one without the other. If an edit overwrites only one of the
+//! two cells, the documentation of the function says what the other one becomes.
 
 ghost use Rattle.std.specs.Prelude.{◌≡◌, ◌≢◌, ◌<◌, ◌≤◌, ◌+◌, ◌-◌, ◌*◌, ◌&&◌, ◌∷◌, [], All};
 ghost use Rattle.std.specs.Prelude.{Some, encode_utf8, false, true, length, not};
@@ -47,12 +47,13 @@ pub fn put_narrow(cells: &mut [Cell], column: usize, c: char, attrs: Attrs)
     cell::set_glyph(cell, c, false, attrs);
 }
 
-/// Puts a narrow glyph at consecutive columns for each byte of printable ASCII.
+/// Puts the bytes of `text`, which must be printable ASCII, at consecutive columns as narrow
+/// glyphs.
 ///
-/// The result is that of [`put_narrow`] for each byte. If the first column held the continuation
-/// cell of a wide glyph, the first cell of that glyph becomes a blank with its own attributes. If
-/// the last column held the first cell of one, its continuation cell becomes a space with
-/// attributes `attrs`.
+/// The result is the same as that of calling [`put_narrow`] for each byte. If the first column held
+/// the continuation cell of a wide glyph, the first cell of that glyph becomes a blank with its own
+/// attributes. If the last column held the first cell of one, its continuation cell becomes a space
+/// with attributes `attrs`.
 #[inline]
 pub fn put_text(cells: &mut [Cell], column: usize, text: &[u8], attrs: Attrs)
     requires paired { IsPaired cells.old }
@@ -69,7 +70,8 @@ pub fn put_text(cells: &mut [Cell], column: usize, text: &[u8], attrs: Attrs)
     write_text(&mut cells[column..end], text, attrs);
 }
 
-/// Makes each cell the narrow glyph of a byte of printable ASCII, in groups of [`GLYPHS`].
+/// Sets each cell to the narrow glyph for the corresponding byte of `text`, which must be printable
+/// ASCII. The cells are written in groups of [`GLYPHS`].
 #[inline]
 fn write_text(cells: &mut [Cell], text: &[u8], attrs: Attrs)
     requires same { length cells.old ≡ length text.now }
@@ -86,7 +88,8 @@ fn write_text(cells: &mut [Cell], text: &[u8], attrs: Attrs)
     write_each(&mut cells[done..len], &text[done..len], attrs);
 }
 
-/// Makes each cell the narrow glyph of a byte of printable ASCII, one by one.
+/// Sets each cell to the narrow glyph for the corresponding byte of `text`, which must be printable
+/// ASCII. The cells are written one by one.
 #[inline(always)]
 fn write_each(cells: &mut [Cell], text: &[u8], attrs: Attrs)
     requires same { length cells.old ≡ length text.now }
@@ -99,7 +102,7 @@ fn write_each(cells: &mut [Cell], text: &[u8], attrs: Attrs)
     }
 }
 
-/// Puts a wide glyph at a column and the next.
+/// Puts a wide glyph at `column` and the next column.
 ///
 /// If the first column held the continuation cell of a wide glyph, the first cell of that glyph
 /// becomes a blank with its own attributes. If the second column held the first cell of one, its
@@ -117,9 +120,10 @@ pub fn put_wide(cells: &mut [Cell], column: usize, c: char, attrs: Attrs)
     put_wide_cell(cells, column, cell::glyph(c, true, attrs));
 }
 
-/// Puts a wide cell at a column and its continuation cell at the next.
+/// Puts a wide glyph at `column` and its continuation cell at the next column.
 ///
-/// Wide glyphs that are cut are treated as by [`put_wide`], with the attributes of `cell`.
+/// Wide glyphs that are partly overwritten are handled as in [`put_wide`], with the attributes of
+/// `cell`.
 #[inline(always)]
 pub fn put_wide_cell(cells: &mut [Cell], column: usize, cell: Cell)
     requires paired { IsPaired cells.old }
@@ -135,12 +139,12 @@ pub fn put_wide_cell(cells: &mut [Cell], column: usize, cell: Cell)
     cells[column + 1] = cell::right_half();
 }
 
-/// Puts a wide glyph at consecutive pairs of columns for each character of a text.
+/// Puts the characters of `text` at consecutive pairs of columns as wide glyphs.
 ///
-/// The result is that of [`put_wide`] for each character. If the first column held the continuation
-/// cell of a wide glyph, the first cell of that glyph becomes a blank with its own attributes. If
-/// the last column held the first cell of one, its continuation cell becomes a blank with
-/// attributes `attrs`.
+/// The result is the same as that of calling [`put_wide`] for each character. If the first column
+/// held the continuation cell of a wide glyph, the first cell of that glyph becomes a blank with
+/// its own attributes. If the last column held the first cell of one, its continuation cell becomes
+/// a blank with attributes `attrs`.
 #[inline]
 pub fn put_wide_text(cells: &mut [Cell], column: usize, text: &[char], attrs: Attrs)
     requires paired { IsPaired cells.old }
@@ -157,7 +161,8 @@ pub fn put_wide_text(cells: &mut [Cell], column: usize, text: &[char], attrs: At
     write_wide(&mut cells[column..end], text, attrs);
 }
 
-/// Makes each pair of cells the wide glyph of a character and its continuation cell.
+/// Sets each pair of cells to the wide glyph for the corresponding character of `text` and its
+/// continuation cell.
 #[inline]
 fn write_wide(cells: &mut [Cell], text: &[char], attrs: Attrs)
     requires same { length cells.old ≡ 2 * length text.now }
@@ -190,8 +195,8 @@ pub fn lift(cells: &mut [Cell], column: usize, attrs: Attrs) -> Cell
 
 /// Adds the combining character `mark`, of width 0, to the cell at a column.
 ///
-/// A blank first becomes a glyph of a space with the same attributes. A cell with
-/// [`MARK_LIMIT`](vt_cells::MARK_LIMIT) bytes of text or more stays as it is.
+/// A blank first becomes a space with the same attributes. A cell that already has
+/// [`MARK_LIMIT`](vt_cells::MARK_LIMIT) or more bytes of text is unchanged.
 pub fn append(cells: &mut [Cell], column: usize, mark: char)
     requires inside { column < length cells.old }
     requires shown { is_right_half (at cells.old column) ≡ false }
@@ -204,7 +209,7 @@ pub fn append(cells: &mut [Cell], column: usize, mark: char)
     cell::append(cell, mark);
 }
 
-/// Makes the glyph at a column wide, and the next column its continuation cell.
+/// Makes the glyph at a column wide, and turns the next column into its continuation cell.
 ///
 /// If the next column held the first cell of a wide glyph, the continuation cell of that glyph
 /// becomes a blank with attributes `attrs`.
@@ -240,7 +245,7 @@ pub fn narrow(cells: &mut [Cell], column: usize, attrs: Attrs)
     cell::set_wide(cell, false);
 }
 
-/// Makes all cells blanks with attributes `attrs`.
+/// Sets all cells to blanks with attributes `attrs`.
 #[inline]
 pub fn clear(cells: &mut [Cell], attrs: Attrs)
     ensures { cells.new ≡ blanks attrs (length cells.old) }
@@ -252,9 +257,10 @@ pub fn clear(cells: &mut [Cell], attrs: Attrs)
     }
 }
 
-/// Makes all cells default blanks, [`RUN`] at a time.
+/// Sets all cells to default blanks, [`RUN`] at a time.
 ///
-/// It is kept out of line: inlined into a caller, the loop is compiled to one large unrolled block.
+/// This function is kept out of line: when it is inlined, the loop is compiled to one large
+/// unrolled block.
 #[inline(never)]
 fn clear_default(cells: &mut [Cell])
     ensures { cells.new ≡ blanks default_attrs (length cells.old) }
@@ -268,7 +274,7 @@ fn clear_default(cells: &mut [Cell])
     clear_each(&mut cells[done..len], Attrs::new());
 }
 
-/// Makes all cells blanks, one by one.
+/// Sets all cells to blanks with attributes `attrs`, one by one.
 #[inline]
 fn clear_each(cells: &mut [Cell], attrs: Attrs)
     ensures { cells.new ≡ blanks attrs (length cells.old) }
@@ -278,7 +284,7 @@ fn clear_each(cells: &mut [Cell], attrs: Attrs)
     }
 }
 
-/// Makes the columns from `start` up to but excluding `end` blanks with attributes `attrs`.
+/// Sets columns `start..end` to blanks with attributes `attrs`.
 ///
 /// If one cell of a wide glyph is erased, the other one becomes a blank with its own attributes.
 pub fn erase(cells: &mut [Cell], start: usize, end: usize, attrs: Attrs)
@@ -294,7 +300,7 @@ pub fn erase(cells: &mut [Cell], start: usize, end: usize, attrs: Attrs)
     clear(&mut cells[start..end], attrs);
 }
 
-/// Returns whether the last cell is a blank. A row without columns counts as ending with one.
+/// Returns whether the last cell is a blank. Also returns `true` if there are no cells.
 #[inline]
 pub fn ends_blank(cells: &[Cell]) -> bool
     ensures { result ≡ ends_blank cells.now }
@@ -305,8 +311,8 @@ pub fn ends_blank(cells: &[Cell]) -> bool
     }
 }
 
-/// Returns the wrapped flag of a row after a print or an erase has left these cells: a row whose
-/// last cell is blank is no longer wrapped.
+/// Returns the wrapped flag of a row after printing or erasing: `wrapped`, unless the last of the
+/// resulting `cells` is a blank.
 #[inline]
 pub fn flag_left(cells: &[Cell], wrapped: bool) -> bool
     ensures { result ≡ (wrapped && not (ends_blank cells.now)) }
@@ -314,8 +320,8 @@ pub fn flag_left(cells: &[Cell], wrapped: bool) -> bool
     wrapped && !ends_blank(cells)
 }
 
-/// Prepares a column to be overwritten: if it holds a continuation cell, makes the first cell of
-/// that wide glyph a blank.
+/// Prepares a column to be overwritten: if it holds the continuation cell of a wide glyph, turns
+/// the first cell of that glyph into a blank with its own attributes.
 #[tactic(auto, unfolding(crate::specs::Internals::left_blanked))]
 #[inline]
 pub(crate) fn blank_left(cells: &mut [Cell], column: usize)
@@ -329,8 +335,8 @@ pub(crate) fn blank_left(cells: &mut [Cell], column: usize)
     }
 }
 
-/// Prepares a column to be overwritten: if it holds the first cell of a wide glyph, makes its
-/// continuation cell a space with attributes `attrs`.
+/// Prepares a column to be overwritten: if it holds the first cell of a wide glyph, turns its
+/// continuation cell into a space with attributes `attrs`.
 #[tactic(auto, unfolding(crate::specs::Internals::right_replaced))]
 #[inline]
 fn space_right(cells: &mut [Cell], column: usize, attrs: Attrs)
@@ -343,8 +349,8 @@ fn space_right(cells: &mut [Cell], column: usize, attrs: Attrs)
     }
 }
 
-/// Prepares a column to be overwritten: if it holds the first cell of a wide glyph, makes its
-/// continuation cell a blank with attributes `attrs`.
+/// Prepares a column to be overwritten: if it holds the first cell of a wide glyph, turns its
+/// continuation cell into a blank with attributes `attrs`.
 #[tactic(auto, unfolding(crate::specs::Internals::right_replaced))]
 #[inline]
 pub(crate) fn blank_right(cells: &mut [Cell], column: usize, attrs: Attrs)

@@ -47,7 +47,7 @@ pub fn blank_cells(alloc: Global, count: usize) -> Result<Vec<Cell>, Error>
     Ok(cells)
 }
 
-/// Appends copies of the cells `from`. The vector must have the capacity for them.
+/// Appends copies of the cells in `from`. The vector must have enough spare capacity.
 pub fn push_copies(cells: &mut Vec<Cell>, from: &[Cell])
     requires { vec_len cells.old + length from.now ≤ vec_capacity cells.old }
     ensures { cells.new.items ≡ cells.old.items ++ from.now }
@@ -60,7 +60,7 @@ pub fn push_copies(cells: &mut Vec<Cell>, from: &[Cell])
     }
 }
 
-/// Overwrites `cells` with the cells `from`, which are as many.
+/// Overwrites `cells` with copies of the cells in `from`. The two slices must have the same length.
 pub fn copy_over(cells: &mut [Cell], from: &[Cell])
     requires { length cells.old ≡ length from.now }
     ensures { cells.new ≡ from.now }

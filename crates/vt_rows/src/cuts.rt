@@ -1,4 +1,4 @@
-//! Rows made shorter or longer.
+//! Trimming and resizing of rows.
 
 ghost use Rattle.std.specs.Prelude.{◌≡◌, ◌≤◌, IsTrue, length, take};
 ghost use Rattle.vt_cells.specs.Attrs.{default_attrs};
@@ -10,7 +10,7 @@ ghost use Rattle.vt_rows.specs.Row.{trimmed};
 use crate::copies::copy_over;
 use vt_cells::{Attrs, Cell, cell};
 
-/// Returns the number of columns without the default blanks at the end.
+/// Returns the number of columns, not counting the default blanks at the end.
 pub fn trimmed_len(cells: &[Cell]) -> usize
     ensures inside { result ≤ length cells.now }
     ensures value { take result cells.now ≡ trimmed cells.now }
@@ -25,7 +25,7 @@ pub fn trimmed_len(cells: &[Cell]) -> usize
     len
 }
 
-/// Returns whether eight cells are all default blanks. It tests all of them, without branches in
+/// Returns whether all eight cells are default blanks. All of them are tested, without branches in
 /// between.
 #[inline(always)]
 fn eight_default(cells: &[Cell]) -> bool
@@ -35,7 +35,7 @@ fn eight_default(cells: &[Cell]) -> bool
     four_default(&cells[..4]) & four_default(&cells[4..])
 }
 
-/// Returns whether four cells are all default blanks.
+/// Returns whether all four cells are default blanks.
 #[inline(always)]
 fn four_default(cells: &[Cell]) -> bool
     requires { length cells.now ≡ 4 }
@@ -44,7 +44,8 @@ fn four_default(cells: &[Cell]) -> bool
     is_default(&cells[0]) & is_default(&cells[1]) & is_default(&cells[2]) & is_default(&cells[3])
 }
 
-/// Copies the cells of a row into another row, a blank one of any width, up to the shorter width.
+/// Copies the cells of a row into a blank row, which may have a different width. Copies as many
+/// cells as both rows have.
 ///
 /// If the last column then holds the first cell of a wide glyph, it becomes a blank with its own
 /// attributes.
@@ -58,7 +59,8 @@ pub fn refit(cells: &mut [Cell], from: &[Cell])
     blank_end(cells);
 }
 
-/// Makes the last cell a blank with its own attributes if it is the first cell of a wide glyph.
+/// If the last cell is the first cell of a wide glyph, turns it into a blank with its own
+/// attributes.
 #[tactic(auto, unfolding(crate::specs::Internals::end_blanked))]
 pub fn blank_end(cells: &mut [Cell])
     ensures { cells.new ≡ end_blanked cells.old }

@@ -6,21 +6,21 @@ ghost use Rattle.vt_rows.specs.Plain.{has_glyph, plain_text};
 
 use vt_cells::{Buffer, Cell, Sink};
 
-/// The spaces that are written at a time.
+/// The spaces that are written at once.
 const SPACES: &str = "                ";
 
-/// Writes the plain text of the columns from `start` up to but excluding `stop`, without
-/// attributes. Columns beyond the row are ignored.
+/// Writes the plain text of columns `start..stop`, without attributes. Columns past the end of the
+/// row are ignored.
 ///
-/// The text ends with the last glyph that begins in these columns; a column without a glyph before
-/// that is written as a space. A wide glyph that begins in the last of these columns is written
+/// The text ends with the last glyph that begins in these columns. Columns without a glyph before
+/// it are written as spaces. A wide glyph that begins in the last of these columns is written
 /// whole. The continuation cell of a wide glyph that begins before the first column is written as a
 /// space.
 ///
 /// # Errors
 ///
-/// Returns the sink's error. Part of the text may have been written by then. An empty text never
-/// fails.
+/// Returns the sink's error. Part of the text may have been written by then. Writing an empty text
+/// never fails.
 #[tactic(auto, unfolding(crate::specs::Plain::plain_text), using(crate::proofs::PlainTexts::plain_rows))]
 pub fn write_contents<S: Sink>(
     sink: &mut S,
@@ -39,7 +39,7 @@ pub fn write_contents<S: Sink>(
     }
 }
 
-/// Returns whether a glyph begins in the columns from `start` up to but excluding `stop`.
+/// Returns whether a glyph begins in columns `start..stop`.
 pub fn has_contents(cells: &[Cell], start: usize, stop: usize) -> bool
     ensures { result ≡ has_glyph start stop cells.now }
 {
@@ -52,8 +52,7 @@ pub fn has_contents(cells: &[Cell], start: usize, stop: usize) -> bool
     false
 }
 
-/// Returns the cells of the columns from `start` up to but excluding `stop`, limited to those that
-/// the row has.
+/// Returns the cells of columns `start..stop`, limited to the columns that the row has.
 #[inline]
 #[tactic(auto, using(std::proofs::lemmas::List::take_min, std::proofs::lemmas::List::drop_min))]
 fn columns_between(cells: &[Cell], start: usize, stop: usize) -> &[Cell]
@@ -63,7 +62,7 @@ fn columns_between(cells: &[Cell], start: usize, stop: usize) -> &[Cell]
     &left[start.min(left.len())..]
 }
 
-/// Writes the text of cells that follow `gap` columns without a glyph.
+/// Writes the plain text of cells that follow `gap` columns without a glyph.
 #[tactic(auto, using(vt_cells::proofs::Buffers::nothing_gathered))]
 fn write_behind<S: Sink>(sink: &mut S, cells: &[Cell], gap: usize) -> Result<(), S::Error>
     requires { gap + length cells.now ≤ 18446744073709551615 }
@@ -79,8 +78,9 @@ fn write_behind<S: Sink>(sink: &mut S, cells: &[Cell], gap: usize) -> Result<(),
     Ok(())
 }
 
-/// Appends a cell that follows `gap` columns without a glyph, if it is a glyph. Returns the number
-/// of such columns after the cell.
+/// Appends `gap` spaces and the text of a cell if the cell is a glyph. `gap` is the number of
+/// columns without a glyph directly before the cell. Returns the number of such columns before the
+/// next cell.
 #[inline(always)]
 fn add_cell<S: Sink>(
     sink: &mut S,
@@ -105,7 +105,7 @@ fn add_cell<S: Sink>(
     }
 }
 
-/// Appends `count` spaces. The usual count is 0, which is handled inline.
+/// Appends `count` spaces. The most common count, 0, is handled inline.
 #[inline(always)]
 fn add_spaces<S: Sink>(sink: &mut S, buffer: &mut Buffer, count: usize) -> Result<(), S::Error>
     ensures added { OnOk result
@@ -118,7 +118,7 @@ fn add_spaces<S: Sink>(sink: &mut S, buffer: &mut Buffer, count: usize) -> Resul
     add_gap(sink, buffer, count)
 }
 
-/// Appends `count` spaces, 16 at a time while that many are left.
+/// Appends `count` spaces, up to 16 at a time.
 #[inline(never)]
 fn add_gap<S: Sink>(sink: &mut S, buffer: &mut Buffer, count: usize) -> Result<(), S::Error>
     ensures added { OnOk result

@@ -91,7 +91,7 @@ impl Row {
         &self.cells
     }
 
-    /// Returns whether the row is wrapped, that is, its text continues on the next row.
+    /// Returns whether the row is wrapped, that is, whether its text continues on the next row.
     #[inline]
     pub fn wrapped(&self) -> bool
         ensures { result ≡ self.now.wrapped }
@@ -104,8 +104,8 @@ impl Row {
     ///
     /// # Errors
     ///
-    /// Returns [`Error::OutOfMemory`] if more cells are needed than the row has and the allocation
-    /// fails. The row is then unchanged and was not passed to `leaving`.
+    /// Returns [`Error::OutOfMemory`] if the row must grow and the allocation fails. The row is
+    /// then unchanged and was not passed to `leaving`.
     pub fn leave_for<L: Leaving>(
         &mut self,
         cells: &[Cell],
@@ -129,11 +129,11 @@ impl Row {
         Ok(())
     }
 
-    /// Takes over the cells of the row `from`, up to the shorter width. This row must be blank and
-    /// may have any width.
+    /// Takes over the cells of `from`, cut or extended to the width of this row. This row must be
+    /// blank.
     ///
     /// If the last column then holds the first cell of a wide glyph, it becomes a blank with its
-    /// own attributes. The row is wrapped if `from` is and both widths are equal.
+    /// own attributes. The row is wrapped if `from` is wrapped and has the same width.
     pub fn refit(&mut self, from: Row)
         requires blank { self.old ≡ blank_row default_attrs (length self.old.cells) }
         requires paired { IsPaired from.cells }
@@ -144,7 +144,7 @@ impl Row {
     }
 }
 
-/// Returns the wrapped flag of a row that was resized; `same` says whether its width is unchanged.
+/// Returns the wrapped flag of a resized row. `same` says whether its width is unchanged.
 pub fn flag_kept(wrapped: bool, same: bool) -> bool
     ensures { result ≡ (wrapped && same) }
 {

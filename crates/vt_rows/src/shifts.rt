@@ -8,7 +8,8 @@ ghost use Rattle.vt_rows.specs.Internals.{turn_source};
 use crate::{cells, cuts};
 use vt_cells::{Attrs, Cell};
 
-/// Inserts `count` default blanks at a column; cells that are pushed past the end are lost (ICH).
+/// Inserts `count` default blanks at a column (ICH). Cells that are pushed past the end of the row
+/// are lost.
 ///
 /// If the column holds a continuation cell, the blanks are inserted after it. If the last column
 /// then holds the first cell of a wide glyph, it becomes a blank with its own attributes.
@@ -27,8 +28,8 @@ pub fn insert(cells: &mut [Cell], column: usize, count: usize)
     cuts::blank_end(cells);
 }
 
-/// Deletes `count` columns, at most to the end of the row; the cells after them move left, and
-/// default blanks fill the end (DCH).
+/// Deletes `count` columns starting at `column`, stopping at the end of the row (DCH). The cells
+/// after them move left, and default blanks fill the end of the row.
 ///
 /// If one cell of a wide glyph is deleted, the other one becomes a blank with its own attributes.
 pub fn delete(cells: &mut [Cell], column: usize, count: usize)
@@ -49,7 +50,7 @@ pub fn delete(cells: &mut [Cell], column: usize, count: usize)
     cells::clear(&mut cells[len - count..len], Attrs::new());
 }
 
-/// Rotates the items from index `from` up to but excluding `to` left by `count`.
+/// Rotates `items[from..to]` left by `count`.
 pub fn turn<T>(items: &mut [T], from: usize, to: usize, count: usize)
     requires in_order { from + count ≤ to }
     requires inside { to ≤ length items.old }

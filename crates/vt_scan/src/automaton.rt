@@ -1,4 +1,4 @@
-//! The scanner, which turns bytes into events.
+//! The scanner, which parses bytes and returns events.
 
 ghost use Rattle.std.specs.Prelude.{◌≡◌, ◌≢◌, ◌≤◌, ◌<◌, ◌⊎◌, ℕ};
 ghost use Rattle.std.specs.Prelude.{List, [], ◌∷◌, ◌++◌, IfOk, length};
@@ -23,12 +23,12 @@ use std::alloc::Global;
 use std::marker::Model;
 use vt_cells::Error;
 
-/// A parser that reads the bytes of a terminal one by one and returns events.
+/// A parser that reads terminal output byte by byte and returns events.
 ///
 /// It follows Paul Williams' parser for ANSI terminals, with UTF-8 as in Table 3-7 of the Unicode
-/// Standard. Of a sequence it keeps the first 32 numbers, each at most 65535; the first two bytes
-/// among the private marker and the intermediates; and the first 16 parts of an operating system
-/// command. Only the text of such a command allocates memory.
+/// Standard. For a control sequence it returns the first 32 numbers, each limited to 65535. Of the
+/// private marker and the intermediates it returns the first two bytes. For an operating system
+/// command it returns the first 16 parts. Only the text of such a command allocates memory.
 pub struct Scanner {
     kind: Kind,
     unfinished: Unfinished,
@@ -52,8 +52,8 @@ impl Model for Scanner {
         ∥ ((state : State) × StandsFor (held s.kind s.unfinished s.parameters s.intermediates s.text.items) state) ∥₁ };
 }
 
-// Dropping a scanner is one call: the steps of a derived drop would be repeated, field by field, at
-// each exit of each caller's proof.
+// With this implementation, dropping a scanner is one call in a proof. A derived drop would repeat
+// its steps, field by field, at each exit in the proof of each caller.
 impl Drop for Scanner {
     fn drop(self) {
         let Scanner {
@@ -67,7 +67,7 @@ impl Drop for Scanner {
 }
 
 impl Scanner {
-    /// Creates a scanner that has read nothing. Allocates nothing.
+    /// Creates a scanner in the ground state. Allocates nothing.
     pub fn new(alloc: Global) -> Self
         ensures { StandsFor result start }
     {
@@ -82,13 +82,13 @@ impl Scanner {
 
     /// Parses one byte and returns its events, at most two.
     ///
-    /// Until the next byte, `parameters`, `intermediates` and `parts` return the lists of the
-    /// sequence that an event ended.
+    /// If an event reports a sequence, `parameters`, `intermediates` and `parts` return its
+    /// contents until the next byte is parsed.
     ///
     /// # Errors
     ///
     /// Returns [`Error::OutOfMemory`] if the byte belongs to the text of an operating system
-    /// command and the allocation fails. The scanner is unchanged, and the same byte may be passed
+    /// command and the allocation fails. The scanner is then unchanged, and the byte may be passed
     /// again.
     #[inline]
     pub fn feed(&mut self, byte: u8) -> Result<Events, Error>
@@ -103,8 +103,7 @@ impl Scanner {
         }
     }
 
-    /// States that the scanner represents at least one state of the automaton, as every scanner
-    /// does.
+    /// States that every scanner represents at least one state of the automaton.
     pub fn stands(&self)
         ensures { ∥ ((state : State) × StandsFor self.now state) ∥₁ }
     {
@@ -112,7 +111,7 @@ impl Scanner {
         let _kind = self.kind;
     }
 
-    /// Returns the numbers of the control sequence that the last event ended.
+    /// Returns the numbers of the control sequence that the last event reported.
     #[inline]
     pub fn parameters(&self) -> &Parameters
         ensures { result.now ≡ self.now.table }
@@ -120,8 +119,8 @@ impl Scanner {
         &self.parameters
     }
 
-    /// Returns the private marker and the intermediates of the sequence that the last event ended,
-    /// at most the first two of these bytes.
+    /// Returns the private marker and the intermediates of the sequence that the last event
+    /// reported, limited to the first two bytes.
     #[inline]
     pub fn intermediates(&self) -> &[u8]
         ensures { result.now ≡ self.now.intermediates }
@@ -129,7 +128,7 @@ impl Scanner {
         self.intermediates.as_slice()
     }
 
-    /// Returns the first 16 parts of the operating system command that the last event ended.
+    /// Returns the first 16 parts of the operating system command that the last event reported.
     #[inline]
     pub fn parts(&self) -> Parts<'_>
         ensures { result ≡ parts_of self.now.text }
@@ -137,9 +136,11 @@ impl Scanner {
         Parts::of(&self.text)
     }
 
-    /// Returns the number of bytes kept of an incomplete operating system command, those after its
-    /// introducer. Returns 0 outside such a command: other strings are dropped as they are read, and
-    /// other sequences take a fixed amount of memory.
+    /// Returns the number of bytes stored for an incomplete operating system command, not counting
+    /// its introducer.
+    ///
+    /// Returns 0 outside such a command: other strings are dropped as they are read, and other
+    /// sequences take a fixed amount of memory.
     #[inline]
     pub fn pending_len(&self) -> usize
         ensures held { result ≡ length (unfinished_command self.now.kind self.now.text) }
@@ -167,7 +168,7 @@ impl Scanner {
         }
     }
 
-    /// Parses a byte outside sequences.
+    /// Parses a byte in the ground state.
     #[inline]
     fn feed_ground(&mut self, byte: u8) -> Events
         requires { self.old.kind ≡ Kind.Ground }
@@ -186,7 +187,7 @@ impl Scanner {
         }
     }
 
-    /// Parses a byte outside sequences when no character is incomplete.
+    /// Parses a byte in the ground state when no character is incomplete.
     #[inline]
     fn feed_fresh(&mut self, byte: u8) -> Events
         requires kind { self.old.kind ≡ Kind.Ground }
@@ -215,7 +216,7 @@ impl Scanner {
     /// # Errors
     ///
     /// Returns [`Error::OutOfMemory`] if the byte belongs to the text of an operating system
-    /// command and the allocation fails; nothing has changed.
+    /// command and the allocation fails. The scanner is then unchanged.
     fn feed_sequence(&mut self, byte: u8) -> Result<Events, Error>
         requires { self.old.kind ≢ Kind.Ground }
         ensures fed { IfOk result (Feeds self.old byte self.new) }
@@ -242,7 +243,7 @@ impl Scanner {
     /// # Errors
     ///
     /// Returns [`Error::OutOfMemory`] if the byte belongs to the text of an operating system
-    /// command and the allocation fails; nothing has changed.
+    /// command and the allocation fails. The scanner is then unchanged.
     fn collect(&mut self, kind: Kind, byte: u8) -> Result<(), Error>
         requires { Fits self.old.kind (Turn.Collect kind) }
         ensures kind { OnOk result (self.new.kind ≡ kind) }
@@ -267,7 +268,7 @@ impl Scanner {
         Ok(())
     }
 
-    /// Enters the state `kind` with nothing collected. Fields that this state does not use are
+    /// Enters the state `kind` with nothing collected. Fields that the new state does not use are
     /// unchanged.
     fn begin(&mut self, kind: Kind)
         ensures { Begins self.old self.new kind }
@@ -303,7 +304,7 @@ fn release(text: &mut Vec<u8>)
     text.shrink_to_fit();
 }
 
-/// Returns the events that the byte `byte` causes by ending what was collected.
+/// Returns the events of `ending` when it is caused by `byte`.
 #[inline]
 fn answer(ending: Ending, byte: u8) -> Events
     ensures { result ≡ answer_of ending byte }

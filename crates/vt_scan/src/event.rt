@@ -4,8 +4,8 @@ ghost use Rattle.std.specs.Prelude.{◌≡◌, None, Some};
 
 /// An event of the scanner: a character, a control character, or a complete sequence.
 ///
-/// The numbers, intermediates and parts of a sequence can be read from the scanner until its next
-/// byte.
+/// The numbers, intermediates and parts of a sequence can be read from the scanner until it parses
+/// the next byte.
 #[derive(Clone, Copy, PartialEq, Eq, Debug)]
 pub enum Event {
     /// A character to print.
@@ -14,23 +14,23 @@ pub enum Event {
     /// A control character to execute.
     Executed(u8),
 
-    /// An escape sequence with its last byte. The scanner holds its intermediates.
+    /// An escape sequence, with its final byte. The scanner holds its intermediates.
     Escape(u8),
 
-    /// A control sequence with its final byte. The scanner holds its numbers and intermediates.
+    /// A control sequence, with its final byte. The scanner holds its numbers and intermediates.
     Csi(u8),
 
     /// An operating system command. The scanner holds its parts.
     Osc,
 }
 
-/// The events of one byte, at most two.
+/// The events that one byte causes, at most two.
 #[derive(Clone, Copy, PartialEq, Eq, Debug)]
 pub struct Events {
     /// The first event.
     pub first: Option<Event>,
 
-    /// The second event; `None` if there is no first one.
+    /// The second event. It is `None` if there is no first event.
     pub second: Option<Event>,
 }
 

@@ -4,11 +4,12 @@ ghost use Rattle.std.specs.Prelude.{◌≡◌, ℕ, ◌<◌, ◌≤◌, List, []
 
 use std::marker::Model;
 
-/// The maximum number of parameters that are kept of a control sequence, and so of groups.
+/// The maximum number of parameters kept for a control sequence, and therefore of its groups.
 pub(crate) const MAX_NUMBERS: usize = 32;
 
-/// The parameter groups of a control sequence as slices, at most 32. Held in an array; nothing is
-/// allocated.
+/// The parameter groups of a control sequence as slices, at most 32.
+///
+/// The slices are stored in a fixed-size array, so no memory is allocated.
 #[derive(Drop)]
 pub struct Groups<'a> {
     table: [&'a [u16]; MAX_NUMBERS],
@@ -35,7 +36,7 @@ impl<'a> Groups<'a> {
         }
     }
 
-    /// Appends a group. There must be fewer than 32.
+    /// Appends a group. The list must have fewer than 32 groups.
     #[inline]
     pub fn push(&mut self, group: &'a [u16])
         requires { length self.old < 32 }

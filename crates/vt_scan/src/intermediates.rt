@@ -4,10 +4,11 @@ ghost use Rattle.std.specs.Prelude.{◌≡◌, ℕ, ◌≤◌, List, [], ◌∷�
 
 use std::marker::Model;
 
-/// The maximum number of intermediates that are kept, private marker included.
+/// The maximum number of intermediates kept, including the private marker.
 const MAX_MARKS: usize = 2;
 
-/// The first two of the intermediates that were pushed, private marker included.
+/// A list of the first two intermediates that were pushed, including the
+/// private marker.
 #[derive(Drop)]
 pub struct Intermediates {
     bytes: [u8; MAX_MARKS],
@@ -41,7 +42,7 @@ impl Intermediates {
         self.len = 0;
     }
 
-    /// Appends an intermediate, unless there are two already.
+    /// Appends an intermediate unless the list already has two.
     #[inline]
     pub fn push(&mut self, byte: u8)
         ensures { (all : List ℕ) → self.old ≡ take 2 all → self.new ≡ take 2 (all ++ byte ∷ []) }
@@ -52,7 +53,7 @@ impl Intermediates {
         }
     }
 
-    /// Returns the intermediates in their order.
+    /// Returns the intermediates in order.
     #[inline]
     pub fn as_slice(&self) -> &[u8]
         ensures { result.now ≡ self.now }

@@ -1,7 +1,7 @@
 //! Theorems about the byte automaton. The functions do nothing; a proof may cite their clauses.
 //!
 //! `run` parses bytes from a state and returns the state after them with all events. `start` is the
-//! ground state with nothing incomplete. `back_with` says that this state is reached again, with
+//! ground state with nothing incomplete. `back_with` is the result of returning to this state with
 //! the given events.
 
 ghost use Rattle.std.specs.Char.{IsScalar, encode_utf8};
@@ -23,10 +23,11 @@ pub fn pieces()
         (run state (a ++ b)).events ≡ (run state a).events ++ (run (run state a).state b).events }
 {}
 
-/// States that what a scanner holds determines all that follows.
+/// States that the contents of a scanner determine how it parses all further input.
 ///
-/// All states that a scanner may represent yield the same events for the same bytes, and a scanner
-/// that represents one of them after these bytes represents the others.
+/// All states that a scanner represents yield the same events for the same bytes. A scanner that
+/// represents the state reached from one of them also represents the states reached from the
+/// others.
 pub fn futures()
     ensures events { (held : Held) (s t : State) (bytes : List ℕ) → StandsFor held s →
         StandsFor held t → (run s bytes).events ≡ (run t bytes).events }
@@ -34,7 +35,8 @@ pub fn futures()
         StandsFor held t → StandsFor after (run s bytes).state → StandsFor after (run t bytes).state }
 {}
 
-/// States that a character in UTF-8 is read as itself, and so is a control character.
+/// States that a character encoded in UTF-8 is parsed as that character, and a control character
+/// other than ESC is executed.
 pub fn characters()
     ensures ascii { (b : ℕ) → 0x20 ≤ b → b ≤ 0x7F → run start (b ∷ []) ≡ back_with (Character b ∷ []) }
     ensures unicode { (c : ℕ) → IsScalar c → 0x20 ≤ c → run start (encode_utf8 c) ≡ back_with (Character c ∷ []) }
@@ -49,8 +51,8 @@ pub fn selectors()
     ensures { (bytes : List ℕ) → SpellsNoSelector bytes → ReadsNoSelector start bytes }
 {}
 
-/// States that a complete sequence is read as it was written: ESC with a last byte that introduces
-/// no other sequence, and CSI with or without `?`, any parameter bytes and a final byte.
+/// States that complete sequences are parsed as written: ESC with a final byte that introduces no
+/// other sequence, and CSI with an optional `?`, any parameter bytes and a final byte.
 pub fn sequences()
     ensures escape { (b : ℕ) → 0x30 ≤ b → b ≤ 0x7E → b ≢ 0x5B → b ≢ 0x5D → b ≢ 0x50 → b ≢ 0x58 →
         b ≢ 0x5E → b ≢ 0x5F → run start (0x1B ∷ b ∷ []) ≡ back_with (EscDispatch [] b ∷ []) }
@@ -60,8 +62,8 @@ pub fn sequences()
         run start (csi (0x3F ∷ text) final) ≡ back_with (CsiDispatch (table_of text).groups (0x3F ∷ []) final ∷ []) }
 {}
 
-/// States that decimal numbers up to 65535 are read as they were written: an empty parameter as 0,
-/// and numbers joined by `;` each as a group of its own.
+/// States that decimal numbers up to 65535 are parsed as written. An empty parameter is 0, and
+/// numbers joined by `;` are each in a group of their own.
 pub fn numbers()
     ensures empty { (table_of []).groups ≡ (0 ∷ []) ∷ [] }
     ensures one { (n : ℕ) → n ≤ 65535 → (table_of (decimal n)).groups ≡ (n ∷ []) ∷ [] }
@@ -71,7 +73,7 @@ pub fn numbers()
         (table_of (place row col)).groups ≡ place_groups row col }
 {}
 
-/// States that decimal numbers joined by `;` are parameter bytes.
+/// States that decimal numbers joined by `;` consist of parameter bytes.
 pub fn parameter_texts()
     ensures one { (n : ℕ) → n ≤ 65535 → IsParameterText (decimal n) }
     ensures several { (ns : List ℕ) → All (λ n. n ≤ 65535) ns → IsParameterText (joined ns) }

@@ -11,8 +11,8 @@ ghost use Rattle.vt_scan.specs.Texts.{IsParameterText};
 use crate::groups::{Groups, MAX_NUMBERS};
 use std::marker::Model;
 
-/// The first 32 numbers of the parameters of a control sequence, each at most 65535, in their
-/// groups (ECMA-48, section 5.4.2).
+/// The parameters of a control sequence: its first 32 numbers, each limited to 65535, in groups
+/// (ECMA-48, section 5.4.2).
 #[derive(Drop)]
 pub struct Parameters {
     numbers: [u16; MAX_NUMBERS],
@@ -60,8 +60,8 @@ impl Parameters {
         self.is_cut = false;
     }
 
-    /// Reads one parameter byte: a digit, `:` or `;`. Numbers above 65535 become 65535, and numbers
-    /// after the 32nd are dropped.
+    /// Parses one parameter byte: a digit, `:` or `;`. Numbers above 65535 become 65535, and
+    /// numbers after the 32nd are dropped.
     #[inline]
     pub fn push(&mut self, byte: u8)
         requires from { 0x30 ≤ byte }
@@ -114,7 +114,7 @@ impl Parameters {
         self.len += 1;
     }
 
-    /// Reads the leading bytes that are parameter bytes, and returns their number.
+    /// Parses the leading bytes that are parameter bytes, and returns their number.
     #[inline]
     pub fn push_all(&mut self, bytes: &[u8]) -> usize
         ensures inside { result ≤ length bytes.now }
@@ -132,8 +132,9 @@ impl Parameters {
         count
     }
 
-    /// Reads a parameter byte and the leading digits of `bytes`, and returns the number of digits
-    /// read. If there is no room for the number of a new group, its digits may be left unread.
+    /// Parses the parameter byte `byte` and then leading digits of `bytes`, and returns the number
+    /// of digits parsed. If `byte` begins a new group and there is no room for its number, the
+    /// digits may be left unparsed.
     #[inline(always)]
     fn push_some(&mut self, byte: u8, bytes: &[u8]) -> usize
         requires from { 0x30 ≤ byte }
@@ -150,8 +151,8 @@ impl Parameters {
         self.push_digits(bytes)
     }
 
-    /// Begins a new number in a new group, if there is room, and reads its digits from the start of
-    /// `bytes`. Returns the number of digits read.
+    /// Begins a new number in a new group, if there is room, and parses its digits from the start
+    /// of `bytes`. Returns the number of digits parsed.
     ///
     /// The group is stored only after its number is complete.
     #[inline(always)]
@@ -179,8 +180,8 @@ impl Parameters {
         count
     }
 
-    /// Reads the leading digits and returns their number. The value is stored only once, after the
-    /// last digit.
+    /// Appends the leading digits of `bytes` to the last number, and returns how many there are.
+    /// The value is stored only once, after the last digit.
     #[inline(always)]
     fn push_digits(&mut self, bytes: &[u8]) -> usize
         ensures inside { result ≤ length bytes.now }
@@ -232,7 +233,7 @@ impl Parameters {
         self.numbers[group_start(&self.ends, i)]
     }
 
-    /// Returns the numbers as one slice if each group has exactly one, or `None` otherwise.
+    /// Returns all numbers as one slice if each group has exactly one number, otherwise `None`.
     #[inline(always)]
     pub fn lone_numbers(&self) -> Option<&[u16]>
         ensures some { IfSome result (λ numbers. self.now.groups ≡ map (λ number. number ∷ []) numbers.now) }
@@ -245,7 +246,7 @@ impl Parameters {
         Some(&self.numbers[..count])
     }
 
-    /// Returns the groups, which borrow the numbers.
+    /// Returns the groups as slices that borrow the numbers.
     pub fn groups(&self) -> Groups<'_>
         ensures { result ≡ self.now.groups }
     {
@@ -295,7 +296,7 @@ fn is_digit_byte(byte: u8) -> bool
     byte >= 0x30 && byte <= 0x39
 }
 
-/// Returns `number` with `digit` appended, at most 65535.
+/// Returns `number` with the decimal digit `digit` appended, limited to 65535.
 #[inline]
 fn with_digit(number: u16, digit: u8) -> u16
     ensures { result ≡ min 65535 (10 * number + digit) }

@@ -5,11 +5,12 @@ ghost use Rattle.vt_scan.specs.Automaton.{parts_of};
 
 use std::marker::Model;
 
-/// The maximum number of parts that are kept of an operating system command.
+/// The maximum number of parts kept for an operating system command.
 const MAX_PARTS: usize = 16;
 
-/// The parts of an operating system command as slices, at most 16. Held in an array; nothing is
-/// allocated.
+/// The parts of an operating system command as slices, at most 16.
+///
+/// The slices are stored in a fixed-size array, so no memory is allocated.
 #[derive(Drop)]
 pub struct Parts<'a> {
     table: [&'a [u8]; MAX_PARTS],
@@ -25,7 +26,7 @@ impl<'a> Model for Parts<'a> {
 }
 
 impl<'a> Parts<'a> {
-    /// Splits a text at `;` and returns the first 16 parts.
+    /// Splits `text` at each `;` and returns the first 16 parts.
     pub fn of(text: &'a [u8]) -> Parts<'a>
         ensures { result ≡ parts_of text.now }
     {
@@ -44,7 +45,7 @@ impl<'a> Parts<'a> {
         parts
     }
 
-    /// Appends a part, unless there are 16 already.
+    /// Appends a part unless the list already has 16.
     fn push(&mut self, part: &'a [u8])
         ensures { (all : List (List ℕ)) → self.old ≡ take 16 all → self.new ≡ take 16 (all ++ part.now ∷ []) }
     {
@@ -54,7 +55,7 @@ impl<'a> Parts<'a> {
         }
     }
 
-    /// Returns the parts in their order.
+    /// Returns the parts in order.
     #[inline]
     pub fn as_slice(&self) -> &[&'a [u8]]
         ensures { map (λ r. r.now) result.now ≡ self.now }

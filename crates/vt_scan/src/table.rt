@@ -4,10 +4,10 @@ ghost use Rattle.std.specs.Prelude.{◌≡◌};
 ghost use Rattle.vt_scan.specs.Internals.{Fits};
 ghost use Rattle.vt_scan.specs.Table.{class_of, turn_of};
 
-/// The state of the automaton.
+/// A state of the automaton.
 #[derive(Clone, Copy, PartialEq, Eq, Debug)]
 pub enum Kind {
-    /// Outside sequences.
+    /// Outside any sequence.
     Ground,
 
     /// After ESC.
@@ -38,47 +38,48 @@ pub enum Kind {
 /// A class of bytes that the transition table treats alike.
 #[derive(Clone, Copy, PartialEq, Eq, Debug)]
 pub enum Class {
-    /// `00` to `1F`, except those with a class of their own.
+    /// 0x00 to 0x1F, except bytes with a class of their own.
     Control,
 
-    /// BEL, `07`.
+    /// BEL (0x07).
     Bell,
 
-    /// CAN and SUB, `18` and `1A`.
+    /// CAN (0x18) and SUB (0x1A).
     Cancel,
 
-    /// ESC, `1B`.
+    /// ESC (0x1B).
     Introducer,
 
-    /// `20` to `2F`.
+    /// 0x20 to 0x2F: intermediates.
     Intermediate,
 
-    /// `30` to `3B`: digits, `:` and `;`.
+    /// 0x30 to 0x3B: digits, `:` and `;`.
     Parameter,
 
-    /// `3C` to `3F`: private markers.
+    /// 0x3C to 0x3F: private markers.
     Marker,
 
-    /// `40` to `7E`, except those with a class of their own.
+    /// 0x40 to 0x7E, except bytes with a class of their own.
     Final,
 
-    /// `[`.
+    /// `[`, which introduces a control sequence after ESC.
     CsiStart,
 
-    /// `]`.
+    /// `]`, which introduces an operating system command after ESC.
     OscStart,
 
-    /// `P`, `X`, `^` and `_`.
+    /// `P`, `X`, `^` and `_`, which introduce strings that are ignored (DCS,
+    /// SOS, PM and APC).
     SkipStart,
 
-    /// DEL, `7F`.
+    /// DEL (0x7F).
     Delete,
 
-    /// `80` to `FF`.
+    /// 0x80 to 0xFF.
     High,
 }
 
-/// The event or events that a byte causes by ending what was collected.
+/// The events that a byte causes when it ends a character or a sequence.
 #[derive(Clone, Copy, PartialEq, Eq, Debug)]
 pub enum Ending {
     /// No event.
@@ -106,7 +107,7 @@ pub enum Ending {
 /// A transition of the automaton.
 #[derive(Clone, Copy, PartialEq, Eq, Debug)]
 pub enum Turn {
-    /// Collects the byte and enters the state.
+    /// Collects the byte and enters the given state.
     Collect(Kind),
 
     /// Ignores the byte.
@@ -115,7 +116,8 @@ pub enum Turn {
     /// Executes the byte as a control character; the state is unchanged.
     Execute,
 
-    /// Ends what was collected and enters the state with nothing collected.
+    /// Ends what was collected, causing the given events, and enters the given
+    /// state with nothing collected.
     End(Kind, Ending),
 }
 

@@ -10,7 +10,7 @@ ghost use Rattle.vt_scan.specs.WideTexts.{AreWideThrees, IsWideThree};
 use std::marker::Model;
 use vt_cells::columns;
 
-/// The bytes read so far of an incomplete character.
+/// The bytes of an incomplete character read so far.
 #[derive(Clone, Copy, PartialEq, Eq, Debug)]
 enum Bytes {
     Zero,
@@ -32,7 +32,7 @@ pub enum Extended {
     Broken,
 }
 
-/// The bytes read so far of an incomplete UTF-8 character, or none.
+/// The bytes of an incomplete UTF-8 character read so far; empty if no character is incomplete.
 #[derive(Drop)]
 pub struct Unfinished {
     bytes: Bytes,
@@ -47,7 +47,7 @@ impl Model for Unfinished {
 }
 
 impl Unfinished {
-    /// Creates the value for no incomplete character.
+    /// Creates an empty value: no character is incomplete.
     pub fn new() -> Self
         ensures { result ≡ [] }
     {
@@ -62,7 +62,7 @@ impl Unfinished {
         self.bytes = Bytes::Zero;
     }
 
-    /// Returns whether there are no bytes.
+    /// Returns whether no character is incomplete.
     #[inline]
     pub fn is_empty(&self) -> bool
         ensures { result ≡ (length self.now == 0) }
@@ -74,7 +74,7 @@ impl Unfinished {
     }
 
     /// Stores `byte` if it is the first byte of a character of more than one byte, and returns
-    /// whether it is.
+    /// whether it was stored.
     pub fn begin(&mut self, byte: u8) -> bool
         requires { self.old ≡ [] }
         ensures answers { result ≡ is_beginning (byte ∷ []) }
@@ -87,7 +87,8 @@ impl Unfinished {
         is_first
     }
 
-    /// Adds one byte. No bytes are left if the character is complete or cannot be continued.
+    /// Adds `byte` to the incomplete character. No bytes are left if the character is then
+    /// complete, or if `byte` cannot continue it.
     pub fn extend(&mut self, byte: u8) -> Extended
         requires { self.old ≢ [] }
         ensures { Extends self.old byte result self.new }
@@ -98,8 +99,8 @@ impl Unfinished {
     }
 }
 
-/// Returns the first character and its length in bytes, if it takes more than one byte and all of
-/// them are present.
+/// Returns the first character of `bytes` and its length in bytes, if it has more than one byte and
+/// all of them are present.
 pub fn first_character(bytes: &[u8]) -> Option<(char, usize)>
     ensures inside { IfSome result (λ found. (1 < found.1) × (found.1 ≤ length bytes.now)) }
     ensures is { IfSome result (λ found. is_character (take found.1 bytes.now) ≡ true) }
@@ -124,8 +125,8 @@ pub fn first_character(bytes: &[u8]) -> Option<(char, usize)>
     Some((join_four(bytes[0], bytes[1], bytes[2], bytes[3]), 4))
 }
 
-/// Decodes leading characters of three bytes and two columns each into `text`, as many as fit, and
-/// returns their number.
+/// Decodes leading characters that take three bytes and two columns each into `text`, as many as
+/// fit, and returns their number.
 ///
 /// Characters below U+3000 end the run, even wide ones.
 #[inline]
@@ -148,7 +149,7 @@ pub fn wide_characters(bytes: &[u8], text: &mut [char]) -> usize
     done
 }
 
-/// Decodes a character of three bytes, if it is U+3000 or above and takes two columns.
+/// Decodes a three-byte character if it is U+3000 or above and takes two columns.
 #[inline(always)]
 fn wide_character(a: u8, b: u8, c: u8) -> Option<char>
     ensures { IfSome result (IsWideThree (a ∷ b ∷ c ∷ [])) }
@@ -163,7 +164,7 @@ fn wide_character(a: u8, b: u8, c: u8) -> Option<char>
     }
 }
 
-/// Adds a byte to those of an incomplete character, and returns the bytes that are left with the
+/// Adds `byte` to the bytes of an incomplete character. Returns the bytes that are left, and the
 /// result.
 fn extend_bytes(bytes: Bytes, byte: u8) -> (Bytes, Extended)
     requires begun { is_beginning (bytes_in bytes) ≡ true }
@@ -178,7 +179,7 @@ fn extend_bytes(bytes: Bytes, byte: u8) -> (Bytes, Extended)
     }
 }
 
-/// Adds a byte to a character of which one byte was read.
+/// Adds `byte` to an incomplete character of one byte.
 fn extend_one(first: u8, byte: u8) -> (Bytes, Extended)
     requires { is_beginning (first ∷ []) ≡ true }
     ensures extends { Extends (first ∷ []) byte result.1 (bytes_in result.0) }
@@ -193,7 +194,7 @@ fn extend_one(first: u8, byte: u8) -> (Bytes, Extended)
     (Bytes::Two(first, byte), Extended::Further)
 }
 
-/// Adds a byte to a character of which two bytes were read.
+/// Adds `byte` to an incomplete character of two bytes.
 fn extend_two(first: u8, second: u8, byte: u8) -> (Bytes, Extended)
     requires { is_beginning (first ∷ second ∷ []) ≡ true }
     ensures extends { Extends (first ∷ second ∷ []) byte result.1 (bytes_in result.0) }
@@ -211,7 +212,7 @@ fn extend_two(first: u8, second: u8, byte: u8) -> (Bytes, Extended)
     (Bytes::Three(first, second, byte), Extended::Further)
 }
 
-/// Adds a byte to a character of which three bytes were read.
+/// Adds `byte` to an incomplete character of three bytes.
 fn extend_three(first: u8, second: u8, third: u8, byte: u8) -> (Bytes, Extended)
     requires { is_beginning (first ∷ second ∷ third ∷ []) ≡ true }
     ensures extends { Extends (first ∷ second ∷ third ∷ []) byte result.1 (bytes_in result.0) }
@@ -226,7 +227,7 @@ fn extend_three(first: u8, second: u8, third: u8, byte: u8) -> (Bytes, Extended)
     )
 }
 
-/// Returns whether `byte` can be the second byte after `first`.
+/// Returns whether `byte` can follow `first` as the second byte of a character.
 fn may_be_second(first: u8, byte: u8) -> bool
     ensures { result ≡ is_second first byte }
 {
@@ -239,14 +240,14 @@ fn may_be_second(first: u8, byte: u8) -> bool
     }
 }
 
-/// Returns whether `byte` can be a third or fourth byte.
+/// Returns whether `byte` can be the third or fourth byte of a character.
 fn may_continue(byte: u8) -> bool
     ensures { result ≡ continues byte }
 {
     byte >= 0x80 && byte <= 0xBF
 }
 
-/// Decodes a character of two bytes.
+/// Decodes a two-byte character.
 fn join_two(a: u8, b: u8) -> char
     requires { is_character (a ∷ b ∷ []) ≡ true }
     ensures { result ≡ character_of (a ∷ b ∷ []) }
@@ -255,7 +256,7 @@ fn join_two(a: u8, b: u8) -> char
     char::from_u32(code).unwrap()
 }
 
-/// Decodes a character of three bytes.
+/// Decodes a three-byte character.
 fn join_three(a: u8, b: u8, c: u8) -> char
     requires { is_character (a ∷ b ∷ c ∷ []) ≡ true }
     ensures { result ≡ character_of (a ∷ b ∷ c ∷ []) }
@@ -264,7 +265,7 @@ fn join_three(a: u8, b: u8, c: u8) -> char
     char::from_u32(code).unwrap()
 }
 
-/// Decodes a character of four bytes.
+/// Decodes a four-byte character.
 fn join_four(a: u8, b: u8, c: u8, d: u8) -> char
     requires { is_character (a ∷ b ∷ c ∷ d ∷ []) ≡ true }
     ensures { result ≡ character_of (a ∷ b ∷ c ∷ d ∷ []) }

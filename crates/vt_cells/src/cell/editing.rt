@@ -10,7 +10,7 @@ use super::{Cell, MARK_LIMIT, attrs, is_blank};
 use crate::attrs::Attrs;
 use crate::head::Head;
 
-/// Makes the cell a blank with the given attributes.
+/// Turns the cell into a blank with the given attributes.
 #[inline]
 pub fn clear(cell: &mut Cell, attrs: Attrs)
     ensures { cell.new ≡ blank attrs }
@@ -18,7 +18,7 @@ pub fn clear(cell: &mut Cell, attrs: Attrs)
     *cell = blank(attrs);
 }
 
-/// Makes the cell a glyph of the character `c`, as [`glyph`] does.
+/// Turns the cell into the glyph that [`glyph`] creates from the same arguments.
 #[inline(always)]
 pub fn set_glyph(cell: &mut Cell, c: char, wide: bool, attrs: Attrs)
     requires reported { c ≢ 0xFFFD }
@@ -30,8 +30,8 @@ pub fn set_glyph(cell: &mut Cell, c: char, wide: bool, attrs: Attrs)
 
 /// Adds the combining character `c`, of width 0, to the cell.
 ///
-/// A blank first becomes a glyph of a space with the same attributes. A cell with [`MARK_LIMIT`]
-/// bytes of text or more stays as it is. The cell must not be a continuation cell: a combining
+/// A blank first becomes a space with the same attributes. A cell that already has [`MARK_LIMIT`]
+/// or more bytes of text is unchanged. The cell must not be a continuation cell: a combining
 /// character belongs to the first cell of a wide glyph.
 pub fn append(cell: &mut Cell, c: char)
     requires shown { is_right_half cell.old ≡ false }
@@ -42,7 +42,7 @@ pub fn append(cell: &mut Cell, c: char)
     put_mark(cell, c);
 }
 
-/// Turns a blank into the glyph of a space; leaves any other cell unchanged.
+/// Turns a blank into a space; leaves any other cell unchanged.
 fn fill_blank(cell: &mut Cell)
     ensures { cell.new ≡ spaced cell.old }
 {
@@ -51,7 +51,7 @@ fn fill_blank(cell: &mut Cell)
     }
 }
 
-/// Adds a combining character to a glyph, if its text has less than [`MARK_LIMIT`] bytes.
+/// Adds a combining character to a glyph if its text has fewer than [`MARK_LIMIT`] bytes.
 fn put_mark(cell: &mut Cell, c: char)
     requires glyph { is_blank cell.old ≡ false }
     requires shown { is_right_half cell.old ≡ false }
@@ -68,8 +68,8 @@ fn put_mark(cell: &mut Cell, c: char)
 
 /// Makes a glyph wide or narrow; leaves any other cell unchanged.
 ///
-/// The width is that of the first character, except that U+FE0F (variation selector 16) allows
-/// either.
+/// The new width must be that of the glyph's first character. If the glyph contains U+FE0F
+/// (variation selector 16), either width is allowed.
 pub fn set_wide(cell: &mut Cell, wide: bool)
     requires { IsCell (widened wide cell.old) }
     ensures { cell.new ≡ widened wide cell.old }

@@ -29,7 +29,7 @@ pub fn blank(attrs: Attrs) -> Cell
     }
 }
 
-/// Creates the continuation cell of a wide glyph: no text, default attributes.
+/// Creates the continuation cell of a wide glyph, which has no text and default attributes.
 #[inline]
 pub fn right_half() -> Cell
     ensures { result ≡ right_half }
@@ -40,10 +40,10 @@ pub fn right_half() -> Cell
     }
 }
 
-/// Creates a glyph of one character, which takes two columns if `wide` and one otherwise.
+/// Creates a glyph of one character, which takes two columns if `wide` is true, otherwise one.
 ///
-/// `wide` must be what [`columns`](crate::columns) returns for `c`. `c` must not be U+FFFD, which
-/// is never drawn.
+/// `wide` must agree with the width that [`columns`](crate::columns) returns for `c`. `c` must not
+/// be U+FFFD, which is never drawn.
 #[inline]
 pub fn glyph(c: char, wide: bool, attrs: Attrs) -> Cell
     requires reported { c ≢ 0xFFFD }
@@ -73,7 +73,7 @@ pub fn ascii(byte: u8, attrs: Attrs) -> Cell
     }
 }
 
-/// Creates the glyph of a space.
+/// Creates a space: a glyph whose text is U+0020.
 #[inline]
 pub fn space(attrs: Attrs) -> Cell
     ensures { result ≡ glyph (0x20 ∷ []) false attrs }
@@ -81,8 +81,8 @@ pub fn space(attrs: Attrs) -> Cell
     ascii(b' ', attrs)
 }
 
-/// Writes a character in UTF-8 after the first `len` bytes and returns the new length (Unicode,
-/// Table 3-6).
+/// Encodes `c` in UTF-8 after the first `len` bytes of `contents` and returns the new length
+/// (Unicode, Table 3-6).
 #[inline]
 pub(super) fn push_char(contents: &mut [u8; TEXT_ROOM], len: u8, c: char) -> u8
     requires { len < MARK_LIMIT }
@@ -110,7 +110,7 @@ pub(super) fn push_char(contents: &mut [u8; TEXT_ROOM], len: u8, c: char) -> u8
     }
 }
 
-/// Writes a byte after the first `len` bytes and returns the new length.
+/// Writes `byte` after the first `len` bytes of `contents` and returns the new length.
 #[inline]
 fn push_byte(contents: &mut [u8; TEXT_ROOM], len: u8, byte: u8) -> u8
     requires { len < TEXT_ROOM }
@@ -123,7 +123,7 @@ fn push_byte(contents: &mut [u8; TEXT_ROOM], len: u8, byte: u8) -> u8
     len + 1
 }
 
-/// Returns the UTF-8 continuation byte with the six low bits of `bits`.
+/// Returns the UTF-8 continuation byte that encodes the low six bits of `bits`.
 #[inline]
 fn low_bits(bits: u32) -> u8
     ensures { result ≡ 0x80 + bits % 64 }

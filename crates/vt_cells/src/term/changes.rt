@@ -24,7 +24,8 @@ impl BufWrite for ClearAttrs {
     }
 }
 
-/// The sequence that changes the attributes from one set to another (SGR); empty if both are equal.
+/// The sequence that changes the attributes from one set to another (SGR); empty if the two are
+/// equal.
 #[derive(Clone, Copy, Debug)]
 pub struct ChangeAttrs {
     /// The attributes before the change.
@@ -35,8 +36,8 @@ pub struct ChangeAttrs {
 }
 
 impl ChangeAttrs {
-    /// Appends the change to `buffer`, which is in front of `sink`. Appends nothing if both sets of
-    /// attributes are equal.
+    /// Appends the sequence to `buffer`, which is flushed to `sink` when it is full. Appends
+    /// nothing if the two sets of attributes are equal.
     ///
     /// # Errors
     ///
@@ -60,8 +61,8 @@ impl ChangeAttrs {
         }
     }
 
-    /// Appends an SGR sequence with the parameters of each attribute that differs, and without
-    /// parameters if none does.
+    /// Appends an SGR sequence with the parameters of each attribute that differs. The sequence has
+    /// no parameters if no attribute differs.
     ///
     /// # Errors
     ///
@@ -79,8 +80,8 @@ impl ChangeAttrs {
         buffer.add(sink, text.as_str())
     }
 
-    /// Writes an SGR sequence with the parameters of each attribute that differs, and without
-    /// parameters if none does.
+    /// Writes an SGR sequence with the parameters of each attribute that differs. The sequence has
+    /// no parameters if no attribute differs.
     ///
     /// # Errors
     ///

@@ -18,7 +18,7 @@ impl BufWrite for Crlf {
     }
 }
 
-/// The control that moves the cursor down one row, scrolling at the bottom (LF).
+/// The control character that moves the cursor down one row, scrolling at the bottom (LF).
 #[derive(Clone, Copy, Debug)]
 pub struct LineFeed;
 
@@ -30,7 +30,7 @@ impl BufWrite for LineFeed {
     }
 }
 
-/// The control that moves the cursor left one column (BS).
+/// The control character that moves the cursor left one column (BS).
 #[derive(Clone, Copy, Debug)]
 pub struct Backspace;
 
@@ -69,7 +69,7 @@ impl BufWrite for RestoreCursor {
 /// The sequence that hides or shows the cursor (DECTCEM).
 #[derive(Clone, Copy, Debug)]
 pub struct HideCursor {
-    /// Whether the cursor is hidden afterward.
+    /// Whether the sequence hides the cursor.
     pub state: bool,
 }
 

@@ -1,4 +1,4 @@
-//! Sequences that erase. Only [`ClearScreen`] moves the cursor.
+//! Sequences that erase parts of the screen. Only [`ClearScreen`] moves the cursor.
 
 ghost use Rattle.std.specs.Prelude.{[], ◌∷◌};
 ghost use Rattle.vt_cells.specs.Op as op;
@@ -32,7 +32,7 @@ impl BufWrite for ClearRowForward {
     }
 }
 
-/// The sequence that erases `count` columns from the cursor on (ECH); empty if `count` is 0.
+/// The sequence that erases `count` columns, starting at the cursor (ECH); empty if `count` is 0.
 #[derive(Clone, Copy, Debug)]
 pub struct EraseChar {
     /// The number of columns to erase.

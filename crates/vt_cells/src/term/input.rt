@@ -10,7 +10,7 @@ use crate::term::BufWrite;
 /// The sequence that switches the keypad between application and numeric mode (DECKPAM, DECKPNM).
 #[derive(Clone, Copy, Debug)]
 pub struct ApplicationKeypad {
-    /// Whether the keypad is in application mode afterward.
+    /// Whether the sequence selects application mode.
     pub state: bool,
 }
 
@@ -25,7 +25,7 @@ impl BufWrite for ApplicationKeypad {
 /// The sequence that sets or resets application cursor keys (DECCKM).
 #[derive(Clone, Copy, Debug)]
 pub struct ApplicationCursor {
-    /// Whether the cursor keys are in application mode afterward.
+    /// Whether the sequence sets application cursor keys.
     pub state: bool,
 }
 
@@ -40,7 +40,7 @@ impl BufWrite for ApplicationCursor {
 /// The sequence that sets or resets bracketed paste mode (xterm, DEC private mode 2004).
 #[derive(Clone, Copy, Debug)]
 pub struct BracketedPaste {
-    /// Whether bracketed paste mode is set afterward.
+    /// Whether the sequence sets bracketed paste mode.
     pub state: bool,
 }
 
@@ -58,8 +58,8 @@ impl BufWrite for BracketedPaste {
 
 /// The sequence that changes which mouse events are reported.
 ///
-/// It is empty if the mode stays, sets the new mode, or resets the old mode if no events are
-/// reported afterward.
+/// It is empty if the mode does not change. It resets the old mode if the new one is `None`;
+/// otherwise it sets the new mode.
 #[derive(Clone, Copy, Debug)]
 pub struct MouseProtocolMode {
     /// The mode before the change.
@@ -95,8 +95,8 @@ impl BufWrite for MouseProtocolMode {
 
 /// The sequence that changes the encoding of mouse events.
 ///
-/// It is empty if the encoding stays, sets the new encoding, or resets the old one if the new one
-/// is the default.
+/// It is empty if the encoding does not change. It resets the old encoding if the new one is the
+/// default; otherwise it sets the new encoding.
 #[derive(Clone, Copy, Debug)]
 pub struct MouseProtocolEncoding {
     /// The encoding before the change.
@@ -122,7 +122,7 @@ impl BufWrite for MouseProtocolEncoding {
     }
 }
 
-/// The sequence that changes the cursor style (DECSCUSR); empty if the style stays.
+/// The sequence that changes the cursor style (DECSCUSR); empty if the style does not change.
 #[derive(Clone, Copy, Debug)]
 pub struct CursorStyle {
     /// The cursor style before the change.

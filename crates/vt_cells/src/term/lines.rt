@@ -6,8 +6,8 @@ use crate::sink::Sink;
 use crate::term::BufWrite;
 use crate::term::decimal::write_decimal;
 
-/// The sequence that deletes `count` rows from the cursor's row on, moving the rows below up (DL);
-/// empty if `count` is 0.
+/// The sequence that deletes `count` rows, starting at the cursor's row, and moves the rows below
+/// them up (DL); empty if `count` is 0.
 #[derive(Clone, Copy, Debug)]
 pub struct DeleteLines {
     /// The number of rows to delete.
@@ -30,8 +30,8 @@ impl BufWrite for DeleteLines {
     }
 }
 
-/// The sequence that inserts `count` blank rows at the cursor's row, moving that row and the rows
-/// below down (IL); empty if `count` is 0.
+/// The sequence that inserts `count` blank rows at the cursor's row, and moves that row and the
+/// rows below it down (IL); empty if `count` is 0.
 #[derive(Clone, Copy, Debug)]
 pub struct InsertLines {
     /// The number of rows to insert.

@@ -9,7 +9,7 @@ use crate::term::BufWrite;
 use crate::term::cursor::Crlf;
 use crate::term::decimal::write_decimal;
 
-/// The sequence that moves the cursor to a position (CUP, whose parameters count from 1).
+/// The sequence that moves the cursor to a position (CUP, whose parameters are 1-based).
 #[derive(Clone, Copy, Debug)]
 pub struct MoveTo {
     /// The position of the cursor afterward.
@@ -32,7 +32,8 @@ impl BufWrite for MoveTo {
     }
 }
 
-/// The sequence that moves the cursor right within its row (CUF); empty if `count` is 0.
+/// The sequence that moves the cursor right by `count` columns within its row (CUF); empty if
+/// `count` is 0.
 #[derive(Clone, Copy, Debug)]
 pub struct MoveRight {
     /// The number of columns to move.
@@ -55,9 +56,10 @@ impl BufWrite for MoveRight {
     }
 }
 
-/// The sequence that moves the cursor from one position to another: CR and LF to the first column
-/// of the next row, CUF to a column further right in the same row, CUP otherwise. Empty if both
-/// positions are equal.
+/// The sequence that moves the cursor from one position to another.
+///
+/// It is CR and LF if the target is the first column of the next row, CUF if the target is further
+/// right in the same row, empty if the two positions are equal, and CUP otherwise.
 #[derive(Clone, Copy, Debug)]
 pub struct MoveFromTo {
     /// The position of the cursor before the move.

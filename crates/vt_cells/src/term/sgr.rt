@@ -13,12 +13,12 @@ use itoa::write_digits;
 use std::marker::Model;
 use std::str;
 
-/// The size of the array in bytes. It exceeds the longest change: 14 numbers of three digits, 13
-/// separators, and three bytes around them.
+/// The size of the array in bytes. It exceeds the length of the longest sequence, which has 14
+/// numbers of three digits, 13 separators, and three bytes around them.
 const ROOM: usize = 64;
 
-/// An SGR sequence that is written backward, from its last byte to its first, because the digits of
-/// a number are produced in that order.
+/// An SGR sequence that is built backward, from its last byte to its first, because the digits of a
+/// number are computed in that order.
 #[derive(Drop)]
 pub struct ChangeText {
     bytes: [u8; ROOM],
@@ -37,7 +37,7 @@ impl Model for ChangeText {
 }
 
 impl ChangeText {
-    /// Creates an empty text.
+    /// Creates an empty sequence.
     #[inline(always)]
     pub fn new() -> Self
         ensures { result ≡ [] }
@@ -50,8 +50,8 @@ impl ChangeText {
 
     /// Writes the SGR sequence that changes the attributes from `was` to `new`.
     ///
-    /// Its parameters are those of the attributes that differ, in this order: foreground,
-    /// background, intensity, italics, underline, inverse. It has none if nothing differs.
+    /// Only attributes that differ have parameters, in this order: foreground, background,
+    /// intensity, italics, underline, inverse. If none differs, the sequence has no parameters.
     #[inline(always)]
     pub fn write(&mut self, was: &Attrs, new: &Attrs)
         requires { self.old ≡ [] }
@@ -64,7 +64,7 @@ impl ChangeText {
         self.begin();
     }
 
-    /// Returns the text.
+    /// Returns the sequence as a string.
     #[inline]
     pub fn as_str(&self) -> &str
         ensures { result.now ≡ self.now }
@@ -72,7 +72,7 @@ impl ChangeText {
         unsafe { str::from_utf8_unchecked(&self.bytes[self.start..]) }
     }
 
-    /// Completes the sequence: replaces the `;` in front of the first number, if any, by the
+    /// Completes the sequence by replacing the `;` before the first number, if any, with the
     /// introducer `ESC [`.
     #[inline]
     fn begin(&mut self)
@@ -139,7 +139,7 @@ impl ChangeText {
         }
     }
 
-    /// Prepends the parameters of the style, which is everything but the colours, if it differs.
+    /// Prepends the parameters of the style, which is everything except the colours, if it differs.
     #[inline]
     #[tactic(auto, using(crate::proofs::ChangeTexts::no_style_put))]
     fn put_style(&mut self, was: &Attrs, new: &Attrs)
@@ -152,7 +152,7 @@ impl ChangeText {
         }
     }
 
-    /// Prepends the parameters of the intensity, italics, underline and inverse that differ.
+    /// Prepends the parameters of those of intensity, italics, underline and inverse that differ.
     #[inline(never)]
     fn put_switches(&mut self, was: &Attrs, new: &Attrs)
         requires { length self.old + 16 ≤ 64 }
@@ -183,7 +183,7 @@ impl ChangeText {
         }
     }
 
-    /// Prepends `on` or `off`, according to `new`, if `was` and `new` differ.
+    /// If `was` and `new` differ, prepends the parameter `on` if `new` is true, otherwise `off`.
     #[inline]
     fn put_switch(&mut self, was: bool, new: bool, on: u8, off: u8)
         requires { length self.old + 4 ≤ 64 }

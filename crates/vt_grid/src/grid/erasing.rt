@@ -8,7 +8,7 @@ use super::Grid;
 use vt_cells::Attrs;
 
 impl Grid {
-    /// Erases `count` columns from the cursor on, at most to the end of the row (ECH). Erases
+    /// Erases `count` columns starting at the cursor, stopping at the end of the row (ECH). Erases
     /// nothing if a wrap is pending.
     #[tactic(auto, using(crate::proofs::Pages::erasing), unfolding(crate::specs::Erasing::erased_chars))]
     pub fn erase_cells(&mut self, count: u16, attrs: Attrs)

@@ -18,8 +18,8 @@ impl Grid {
         self.pos.col = 0;
     }
 
-    /// Moves the cursor left by `count` columns, at most to the first one (CUB, BS). With a pending
-    /// wrap it starts one past the last column.
+    /// Moves the cursor left by `count` columns, stopping at the first column (CUB, BS). When a
+    /// wrap is pending, the cursor starts one past the last column.
     #[inline]
     pub fn col_dec(&mut self, count: u16)
         ensures { self.new ≡ moved_left count self.old }
@@ -27,8 +27,8 @@ impl Grid {
         self.pos.col = self.pos.col.saturating_sub(count);
     }
 
-    /// Moves the cursor right by `count` columns, at most to the last one (CUF). A pending wrap
-    /// becomes the last column.
+    /// Moves the cursor right by `count` columns, stopping at the last column (CUF). When a wrap is
+    /// pending, the cursor moves to the last column.
     #[inline]
     pub fn col_inc_clamp(&mut self, count: u16)
         ensures { self.new ≡ moved_right count self.old }
@@ -36,7 +36,7 @@ impl Grid {
         self.pos.col = self.pos.col.saturating_add(count).min(self.size.cols - 1);
     }
 
-    /// Moves the cursor to a column, counted from 0 and limited to the last one (CHA, HPA).
+    /// Moves the cursor to a column, counted from 0 and limited to the last column (CHA, HPA).
     #[inline]
     pub fn col_set(&mut self, col: u16)
         ensures { self.new ≡ moved_to_column col self.old }
@@ -44,8 +44,8 @@ impl Grid {
         self.pos.col = col.min(self.size.cols - 1);
     }
 
-    /// Moves the cursor to the next column that is a multiple of 8, at most to the last one (HT). A
-    /// pending wrap becomes the last column.
+    /// Moves the cursor to the next column that is a multiple of 8, stopping at the last column
+    /// (HT). When a wrap is pending, the cursor moves to the last column.
     #[inline]
     pub fn col_tab(&mut self)
         ensures { self.new ≡ tabbed self.old }
@@ -56,7 +56,8 @@ impl Grid {
 
     /// Moves the cursor up by `count` rows; the column is unchanged (CUU).
     ///
-    /// From inside the scroll region it stops at the region's top, otherwise at the first row.
+    /// If the cursor starts inside the scroll region, it stops at the top of the region, otherwise
+    /// at the first row of the page.
     #[tactic(auto, unfolding(crate::specs::Regions::moved_up))]
     #[inline]
     pub fn row_dec_clamp(&mut self, count: u16)
@@ -67,7 +68,8 @@ impl Grid {
 
     /// Moves the cursor down by `count` rows; the column is unchanged (CUD).
     ///
-    /// From inside the scroll region it stops at the region's bottom, otherwise at the last row.
+    /// If the cursor starts inside the scroll region, it stops at the bottom of the region,
+    /// otherwise at the last row of the page.
     #[tactic(auto, unfolding(crate::specs::Regions::moved_down))]
     #[inline]
     pub fn row_inc_clamp(&mut self, count: u16)
@@ -76,7 +78,7 @@ impl Grid {
         self.pos.row = self.pos.row.saturating_add(count).min(self.lower_edge());
     }
 
-    /// Moves the cursor to a row, counted from 0 and limited to the last one; the column is
+    /// Moves the cursor to a row, counted from 0 and limited to the last row; the column is
     /// unchanged (VPA).
     #[inline]
     pub fn row_set(&mut self, row: u16)
@@ -85,7 +87,8 @@ impl Grid {
         self.pos.row = row.min(self.size.rows - 1);
     }
 
-    /// Moves the cursor down as [`Grid::row_inc_clamp`] does, and to the first column (CNL).
+    /// Moves the cursor down by `count` rows, as [`Grid::row_inc_clamp`] does, and to the first
+    /// column (CNL).
     #[inline]
     pub fn next_line(&mut self, count: u16)
         ensures { self.new ≡ next_line count self.old }
@@ -94,7 +97,8 @@ impl Grid {
         self.cr();
     }
 
-    /// Moves the cursor up as [`Grid::row_dec_clamp`] does, and to the first column (CPL).
+    /// Moves the cursor up by `count` rows, as [`Grid::row_dec_clamp`] does, and to the first
+    /// column (CPL).
     #[inline]
     pub fn previous_line(&mut self, count: u16)
         ensures { self.new ≡ previous_line count self.old }
@@ -103,9 +107,9 @@ impl Grid {
         self.cr();
     }
 
-    /// Moves the cursor to a row and a column, counted from 0 and limited to the last ones (CUP).
+    /// Moves the cursor to a row and a column, both counted from 0 and limited to the page (CUP).
     ///
-    /// In origin mode the row counts from the top of the scroll region and is limited to the
+    /// In origin mode, the row is relative to the top of the scroll region and limited to the
     /// region.
     #[inline]
     pub fn move_to(&mut self, row: u16, col: u16)
@@ -118,8 +122,8 @@ impl Grid {
         };
     }
 
-    /// Sets the scroll region to the rows from `top` through `bottom`, counted from 0, and moves
-    /// the cursor to its first row and column (DECSTBM).
+    /// Sets the scroll region to rows `top..=bottom`, counted from 0, and moves the cursor to the
+    /// first column of the region's first row (DECSTBM).
     ///
     /// `bottom` is limited to the last row. If the region would have fewer than two rows, the whole
     /// page becomes the region.
@@ -163,8 +167,8 @@ impl Grid {
         self.origin_mode = self.saved_origin_mode;
     }
 
-    /// Sets the scroll region to the rows from `top` through `bottom`, and moves the cursor to its
-    /// first row and column.
+    /// Sets the scroll region to rows `top..=bottom`, and moves the cursor to the first column of
+    /// the region's first row.
     fn enter_region(&mut self, top: u16, bottom: u16)
         requires inside { bottom < length self.old.rows }
         requires region { (top < bottom) ⊎ ((top ≡ 0) × (bottom + 1 ≡ length self.old.rows)) }
@@ -207,7 +211,8 @@ impl Grid {
         }
     }
 
-    /// Returns the row of the page that a row of CUP stands for, according to origin mode.
+    /// Returns the row of the page to which CUP moves the cursor for its parameter `row`, taking
+    /// origin mode into account.
     #[inline]
     fn target_row(&self, row: u16) -> u16
         ensures { result ≡ target_row row self.now }

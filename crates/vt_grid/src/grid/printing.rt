@@ -22,19 +22,20 @@ use vt_cells::{Attrs, Cell, Error, MARK_LIMIT, cell};
 use vt_rows::Leaving;
 
 impl Grid {
-    /// Prints a character at the cursor (VT510 manual, DECAWM set). `width` is its number of
-    /// columns, or `None` for a control.
+    /// Prints a character at the cursor (VT510 manual, DECAWM set). `width` is the width of the
+    /// character in columns, or `None` for a control character.
     ///
-    /// A character of one or two columns becomes a glyph, after a wrap if it does not fit; if the
-    /// page is narrower than it, nothing is printed. A combining character is added to the glyph
-    /// before the cursor, whose width may change after U+FE0F. A control prints nothing.
+    /// A character of one or two columns becomes a glyph. If it does not fit on the cursor's row,
+    /// the cursor wraps first; if it does not fit on the page, nothing is printed. A combining
+    /// character is added to the glyph before the cursor. U+FE0F may change the width of that
+    /// glyph. A control character prints nothing.
     ///
     /// A wrap at the bottom of the scroll region scrolls it, as [`Grid::scroll_up`] does.
     ///
     /// # Errors
     ///
-    /// Returns [`Error::OutOfMemory`] if memory for scrollback cannot be allocated; nothing has
-    /// changed and nothing was reported.
+    /// Returns [`Error::OutOfMemory`] if memory for scrollback cannot be allocated. On error,
+    /// nothing is changed and no row is reported.
     #[tactic(auto, using(crate::proofs::Dispatch::printed_cases, crate::proofs::Outgoing::out_cases))]
     #[inline(always)]
     pub fn print_columns<L: Leaving>(
@@ -62,8 +63,8 @@ impl Grid {
         }
     }
 
-    /// Returns the number of columns from the cursor to the end of its row, which can be printed to
-    /// without a wrap.
+    /// Returns the number of columns from the cursor to the end of its row, which is how many can
+    /// be printed without a wrap.
     #[inline]
     pub fn room(&self) -> u16
         ensures { result ≡ self.now.width - self.now.column }
@@ -71,10 +72,10 @@ impl Grid {
         self.size.cols - self.pos.col
     }
 
-    /// Prints ASCII characters that fit on the cursor's row, in one edit of the row. No row scrolls
-    /// off the page.
+    /// Prints `text`, printable ASCII that must fit on the cursor's row, in one edit of the row. No
+    /// row scrolls off the page.
     ///
-    /// The result is that of [`Grid::print_columns`] for each character.
+    /// The result is the same as that of calling [`Grid::print_columns`] for each character.
     #[inline]
     pub fn print_text(&mut self, text: &[u8], attrs: Attrs)
         requires some { 0 < length text.now }
@@ -85,7 +86,7 @@ impl Grid {
         self.put_text(text, attrs);
     }
 
-    /// Puts a narrow glyph for each byte of a text at the cursor, and moves the cursor past them.
+    /// Puts the bytes of `text` at the cursor as narrow glyphs, and moves the cursor past them.
     #[inline]
     fn put_text(&mut self, text: &[u8], attrs: Attrs)
         requires some { 0 < length text.now }
@@ -99,10 +100,10 @@ impl Grid {
         self.pos.col += text.len() as u16;
     }
 
-    /// Prints wide characters that fit on the cursor's row, in one edit of the row. No row scrolls
-    /// off the page.
+    /// Prints `text`, wide characters that must fit on the cursor's row, in one edit of the row. No
+    /// row scrolls off the page.
     ///
-    /// The result is that of [`Grid::print_columns`] for each character.
+    /// The result is the same as that of calling [`Grid::print_columns`] for each character.
     #[inline]
     pub fn print_wide_text(&mut self, text: &[char], attrs: Attrs)
         requires some { 0 < length text.now }
@@ -113,8 +114,7 @@ impl Grid {
         self.put_wide_text(text, attrs);
     }
 
-    /// Puts a wide glyph for each character of a text at the cursor, and moves the cursor past
-    /// them.
+    /// Puts the characters of `text` at the cursor as wide glyphs, and moves the cursor past them.
     #[inline]
     fn put_wide_text(&mut self, text: &[char], attrs: Attrs)
         requires some { 0 < length text.now }
@@ -128,7 +128,7 @@ impl Grid {
         self.pos.col += 2 * text.len() as u16;
     }
 
-    /// Prints a character of one column.
+    /// Prints a character that takes one column.
     #[inline(always)]
     fn print_narrow<L: Leaving>(
         &mut self,
@@ -148,7 +148,7 @@ impl Grid {
         Ok(())
     }
 
-    /// Wraps if fewer than `columns` columns are left on the cursor's row.
+    /// Wraps to the next row if fewer than `columns` columns are left on the cursor's row.
     #[tactic(auto, unfolding(crate::specs::Printing::room_made))]
     #[inline(always)]
     fn make_room<L: Leaving>(
@@ -168,7 +168,8 @@ impl Grid {
         Ok(())
     }
 
-    /// Prints a combining character: adds it to the glyph before the cursor.
+    /// Prints a combining character by adding it to the glyph before the cursor. Does nothing in
+    /// column 0.
     #[inline(never)]
     fn print_mark<L: Leaving>(
         &mut self,
@@ -193,8 +194,8 @@ impl Grid {
         Ok(())
     }
 
-    /// Returns whether U+FE0F makes the narrow glyph before a pending wrap wide, so that it must
-    /// move to the next row.
+    /// Returns whether adding `mark` makes the narrow glyph before a pending wrap wide, so that the
+    /// glyph must move to the next row.
     #[tactic(auto, unfolding(crate::specs::Printing::carries))]
     fn carries(&self, mark: char) -> bool
         requires mark { columns_of mark ≡ Some 0 }
@@ -208,7 +209,7 @@ impl Grid {
     }
 
     /// Returns whether the glyph before the cursor is narrow, has room for the combining character
-    /// `mark`, and takes more than one column with it.
+    /// `mark`, and takes more than one column once `mark` is added.
     fn grows_wide(&self, mark: char) -> bool
         requires mark { columns_of mark ≡ Some 0 }
         requires some { 0 < self.now.column }
@@ -221,8 +222,8 @@ impl Grid {
         self.takes_mark(col) && !self.is_wide(col) && self.is_wide_with(col, mark)
     }
 
-    /// Returns whether the cell at a column of the cursor's row takes more than one column with the
-    /// combining character `mark` added.
+    /// Returns whether the cell at a column of the cursor's row takes more than one column once the
+    /// combining character `mark` is added.
     fn is_wide_with(&self, col: u16, mark: char) -> bool
         requires mark { columns_of mark ≡ Some 0 }
         requires inside { col < length (cursor_row self.now).cells }
@@ -234,8 +235,8 @@ impl Grid {
         cell::is_wide_text(&cell)
     }
 
-    /// Adds a combining character to the glyph before the cursor if there is room. After U+FE0F the
-    /// glyph gets the width of its text.
+    /// Adds a combining character to the glyph before the cursor if the glyph has room for it. If
+    /// the character is U+FE0F, the glyph is then given the width of its text.
     #[tactic(auto, unfolding(crate::specs::Printing::mark_printed))]
     fn mark_cell(&mut self, mark: char, attrs: Attrs)
         requires mark { columns_of mark ≡ Some 0 }
@@ -252,7 +253,8 @@ impl Grid {
         }
     }
 
-    /// Returns the column of the glyph before the cursor: the first of its columns, if it is wide.
+    /// Returns the column of the glyph before the cursor, which is its first column if the glyph is
+    /// wide.
     fn mark_col(&self) -> u16
         requires { 0 < self.now.column }
         ensures value { result ≡ mark_column self.now }
@@ -288,8 +290,8 @@ impl Grid {
         self.page_rows.append(self.pos.row, col, mark);
     }
 
-    /// Returns whether the glyph at a column of the cursor's row has a text of more than one
-    /// column, and the page is wide enough for it.
+    /// Returns whether the text of the glyph at a column of the cursor's row takes more than one
+    /// column, and the page has more than one column.
     fn wants_wide(&self, col: u16) -> bool
         requires { col < length (cursor_row self.now).cells }
         ensures { result ≡ (is_wide_text (text_of (at (cursor_row self.now).cells col)) && nat_lt 1 self.now.width) }
@@ -305,7 +307,8 @@ impl Grid {
         self.page_rows.cell(self.pos.row, col).is_wide()
     }
 
-    /// Makes the glyph at a column as wide as its text. On a page of one column it stays narrow.
+    /// Makes the glyph at a column of the cursor's row as wide as its text. On a page of one
+    /// column, the glyph stays narrow.
     #[tactic(auto, unfolding(crate::specs::Printing::width_followed, crate::specs::Printing::made_wide))]
     fn follow_width(&mut self, col: u16, attrs: Attrs)
         requires selected { IsSelected self.old col }
@@ -327,8 +330,8 @@ impl Grid {
     /// Moves the glyph before a pending wrap to the start of the next row, as a wide glyph with
     /// U+FE0F added.
     ///
-    /// The glyph is removed before the wrap, because on a page of one row that row scrolls off
-    /// without it. If the wrap fails, the glyph is put back.
+    /// The glyph is removed before the wrap, because on a page of one row the row scrolls off
+    /// during the wrap and must not contain the glyph. If the wrap fails, the glyph is put back.
     fn carry<L: Leaving>(
         &mut self,
         mark: char,
@@ -386,7 +389,7 @@ impl Grid {
         self.pos.col += 2;
     }
 
-    /// Makes the glyph at a column of the cursor's row narrow; the cursor stays.
+    /// Makes the glyph at a column of the cursor's row narrow. The cursor does not move.
     fn make_narrow(&mut self, col: u16, attrs: Attrs)
         requires { IsSelected self.old col }
         ensures { self.new ≡ made_narrow col attrs self.old }
@@ -420,7 +423,7 @@ impl Grid {
         self.pos.col += 1;
     }
 
-    /// Prints a character of two columns. Prints nothing on a page of one column.
+    /// Prints a character that takes two columns. Prints nothing on a page of one column.
     #[inline(always)]
     fn print_wide<L: Leaving>(
         &mut self,

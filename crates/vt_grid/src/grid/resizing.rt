@@ -1,4 +1,4 @@
-//! Resizing a page as xterm does: rows scroll off at the top, and come back there.
+//! Resizing a page as xterm does: rows scroll off the top, and come back at the top.
 
 ghost use Rattle.std.specs.Prelude.{◌≡◌, ◌^◌, ◌-◌, ◌<◌, length, min};
 ghost use Rattle.vt_grid.specs.Page.{blank_page};
@@ -14,22 +14,24 @@ use vt_cells::{Error, Pos};
 use vt_rows::Leaving;
 
 impl Grid {
-    /// Resizes the page to the size of `fresh`, a new page that takes over its rows (xterm).
+    /// Resizes the page to the size of `fresh`, a new page into which the rows are moved (xterm).
     ///
-    /// If rows must go, those below the cursor go first. If they are not enough, rows scroll off
-    /// the top into scrollback, and those that it does not keep are reported. If rows are added,
-    /// rows that scrolled off come back at the top, at most as many as have scrolled off since
-    /// scrollback was last cleared and are not back yet: the newest rows of scrollback, and blank
-    /// rows for those that were not kept. Blank rows at the bottom fill what is left.
+    /// If the new page has fewer rows, the rows below the cursor are dropped first. If these are
+    /// not enough, rows scroll off the top into scrollback, and rows that scrollback does not keep
+    /// are reported.
     ///
-    /// Each row is cut or extended. The cursor and the saved cursor move with their rows, limited
-    /// to the new page. The scroll region becomes the whole page, no wrap is pending, and no row of
-    /// scrollback is displayed.
+    /// If the new page has more rows, rows that have scrolled off since scrollback was last cleared
+    /// come back at the top, as many as fit. They are the newest scrollback rows, and blank rows in
+    /// place of rows that were not kept. Blank rows at the bottom fill the rest of the page.
+    ///
+    /// Each row is cut or extended to the new width. The cursor and the saved cursor move with
+    /// their rows, limited to the new page. The scroll region becomes the whole page, no wrap is
+    /// pending, and no scrollback row is displayed.
     ///
     /// # Errors
     ///
-    /// Returns [`Error::OutOfMemory`] if memory for scrollback cannot be allocated; nothing has
-    /// changed and nothing was reported.
+    /// Returns [`Error::OutOfMemory`] if memory for scrollback cannot be allocated. On error,
+    /// nothing is changed and no row is reported.
     pub fn set_size<L: Leaving>(
         &mut self,
         fresh: Grid,
@@ -44,8 +46,8 @@ impl Grid {
         Ok(())
     }
 
-    /// Moves the rows of the page into a new page of default blanks, and takes over its size, as
-    /// [`Grid::set_size`] describes.
+    /// Moves the rows of the page into `fresh`, a new page of default blanks, and adopts its size,
+    /// as [`Grid::set_size`] describes.
     fn fill<L: Leaving>(
         &mut self,
         fresh: PageRows,
@@ -81,15 +83,15 @@ impl Grid {
     }
 }
 
-/// Returns the smaller of two numbers of rows.
+/// Returns the smaller of two row counts.
 fn at_most(rows: u16, count: usize) -> u16
     ensures { result ≡ min rows count }
 {
     usize::from(rows).min(count) as u16
 }
 
-/// Returns the position of a cursor after `down` rows scrolled off at the top and `up` rows came
-/// back there: in the same row, limited to the new size.
+/// Returns the position of a cursor after `down` rows have scrolled off the top and `up` rows have
+/// come back at the top. The cursor moves with its row, limited to the new size.
 fn resized(pos: Pos, down: u16, up: u16, size: Size) -> Pos
     ensures row { result.row ≡ row_resized size.rows down up pos.row }
     ensures col { result.col ≡ min pos.col (size.cols - 1) }

@@ -15,16 +15,17 @@ use vt_cells::Error;
 use vt_rows::Leaving;
 
 impl Grid {
-    /// Scrolls the scroll region up by `count` rows, at most by its height (SU). Blank rows come in
-    /// at its bottom.
+    /// Scrolls the scroll region up by `count` rows, limited to its height (SU). Blank rows enter
+    /// at the bottom.
     ///
     /// If the region begins at the top of the page, the rows that scroll off go to scrollback, and
-    /// those that it does not keep are reported. Otherwise they are lost.
+    /// rows that scrollback does not keep are reported. Otherwise the rows that scroll off are
+    /// lost.
     ///
     /// # Errors
     ///
-    /// Returns [`Error::OutOfMemory`] if memory for scrollback cannot be allocated; nothing has
-    /// changed and nothing was reported.
+    /// Returns [`Error::OutOfMemory`] if memory for scrollback cannot be allocated. On error,
+    /// nothing is changed and no row is reported.
     #[tactic(auto, using(crate::proofs::Prints::region_order))]
     pub fn scroll_up<L: Leaving>(
         &mut self,
@@ -47,13 +48,13 @@ impl Grid {
 
     /// Moves the cursor down by one row; the column is unchanged (LF).
     ///
-    /// At the bottom of the scroll region the region scrolls up by one row instead, as
-    /// [`Grid::scroll_up`] does. At the last row of the page, outside the region, nothing happens.
+    /// At the bottom of the scroll region, the region scrolls up by one row instead, as
+    /// [`Grid::scroll_up`] does. In the last row of the page, outside the region, nothing happens.
     ///
     /// # Errors
     ///
-    /// Returns [`Error::OutOfMemory`] if memory for scrollback cannot be allocated; nothing has
-    /// changed and nothing was reported.
+    /// Returns [`Error::OutOfMemory`] if memory for scrollback cannot be allocated. On error,
+    /// nothing is changed and no row is reported.
     #[tactic(auto, unfolding(crate::specs::Moves::line_feed))]
     pub fn line_feed<L: Leaving>(
         &mut self,
@@ -82,10 +83,10 @@ impl Grid {
         }
     }
 
-    /// Moves the cursor to the first column of the next row by a line feed, and sets the wrapped
-    /// flag of the row that it leaves.
+    /// Moves the cursor to the first column of the next row with a line feed, and sets the wrapped
+    /// flag of the row that the cursor leaves.
     ///
-    /// That row is wrapped if its last cell is not a blank and the cursor is then on the row below
+    /// That row is then wrapped if its last cell is not a blank and the cursor is on the row below
     /// it.
     #[tactic(auto, using(crate::proofs::Prints::page_left), unfolding(crate::specs::Printing::wrapped_page))]
     #[inline(never)]
@@ -104,7 +105,7 @@ impl Grid {
         Ok(())
     }
 
-    /// Returns whether a wrap now marks the cursor's row as wrapped.
+    /// Returns whether a wrap would mark the cursor's row as wrapped.
     fn goes_on(&self) -> bool
         ensures { result ≡ (goes_down self.now && not (ends_blank (cursor_row self.now).cells)) }
     {
@@ -112,7 +113,8 @@ impl Grid {
             && !self.page_rows.ends_blank(self.pos.row)
     }
 
-    /// Sets the wrapped flag of the row that a wrap left, and moves the cursor to the first column.
+    /// Sets the wrapped flag of `left`, the row that the cursor left by a wrap, and moves the
+    /// cursor to the first column.
     fn leave(&mut self, left: Option<u16>, goes_on: bool)
         requires page { IsPage (flagged_left left goes_on self.old) }
         requires inside { IfSome left (λ row. row < length self.old.rows) }
@@ -123,8 +125,9 @@ impl Grid {
     }
 }
 
-/// Returns the index after a wrap of the row that it leaves: one less if the region scrolls, and
-/// `None` if the region has one row, which is then gone.
+/// Returns the index that `row`, the row that the cursor leaves by a wrap, has after the wrap. It
+/// is one less if the region scrolls. It is `None` if the region consists of this row, which is
+/// then gone.
 fn left_row(row: u16, top: u16, bottom: u16) -> Option<u16>
     requires { top ≤ bottom }
     ensures { result ≡ (if row == bottom then (if row == top then None else Some (row - 1)) else Some row) }

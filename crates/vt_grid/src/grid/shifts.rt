@@ -9,8 +9,8 @@ use super::Grid;
 impl Grid {
     /// Moves the cursor up by one row; the column is unchanged (RI).
     ///
-    /// At the top of the scroll region, and in the first row of the page, the region scrolls down
-    /// by one row instead.
+    /// At the top of the scroll region or in the first row of the page, the region scrolls down by
+    /// one row instead.
     #[tactic(auto, using(crate::proofs::Shifting::moving_down), unfolding(crate::specs::Shifts::reverse_index))]
     pub fn reverse_index(&mut self)
         ensures { self.new ≡ reverse_index self.old }
@@ -23,10 +23,10 @@ impl Grid {
         }
     }
 
-    /// Scrolls the scroll region down by `count` rows (SD). Blank rows come in at its top, and rows
-    /// that pass its bottom are lost.
+    /// Scrolls the scroll region down by `count` rows (SD). Blank rows enter at the top, and rows
+    /// that move past the bottom are lost.
     ///
-    /// The bottom row of the region is no longer wrapped.
+    /// The wrapped flag of the region's bottom row is cleared.
     #[tactic(auto, using(crate::proofs::Prints::region_order))]
     pub fn scroll_down(&mut self, count: u16)
         ensures { self.new ≡ scrolled_down count self.old }
@@ -35,10 +35,10 @@ impl Grid {
             .scroll_down(self.scroll_top, self.scroll_bottom, count);
     }
 
-    /// Inserts `count` blank rows at the cursor's row; rows that pass the bottom of the scroll
-    /// region are lost (IL). Does nothing outside the region.
+    /// Inserts `count` blank rows at the cursor's row (IL). Rows that move past the bottom of the
+    /// scroll region are lost. Does nothing if the cursor is outside the region.
     ///
-    /// The bottom row of the region is no longer wrapped.
+    /// The wrapped flag of the region's bottom row is cleared.
     #[tactic(auto, using(crate::proofs::Shifting::moving_down), unfolding(crate::specs::Shifts::lines_inserted))]
     pub fn insert_lines(&mut self, count: u16)
         ensures { self.new ≡ lines_inserted count self.old }
@@ -49,8 +49,8 @@ impl Grid {
         }
     }
 
-    /// Deletes `count` rows from the cursor's row on; blank rows come in at the bottom of the
-    /// scroll region (DL). Does nothing outside the region.
+    /// Deletes `count` rows starting at the cursor's row (DL). Blank rows enter at the bottom of
+    /// the scroll region. Does nothing if the cursor is outside the region.
     #[tactic(auto, using(crate::proofs::Shifting::page_lines_deleted), unfolding(crate::specs::Shifts::lines_deleted))]
     pub fn delete_lines(&mut self, count: u16)
         ensures { self.new ≡ lines_deleted count self.old }
@@ -61,10 +61,11 @@ impl Grid {
         }
     }
 
-    /// Inserts `count` default blanks at the cursor, or after the wide glyph whose continuation
-    /// cell the cursor is on; cells that pass the last column are lost (ICH).
+    /// Inserts `count` default blanks at the cursor (ICH). If the cursor is on the continuation
+    /// cell of a wide glyph, the blanks are inserted after that glyph. Cells that move past the
+    /// last column are lost.
     ///
-    /// The row is no longer wrapped.
+    /// The wrapped flag of the row is cleared.
     #[tactic(auto, using(crate::proofs::Pages::cursor_paired, crate::proofs::Pages::cursor_columns))]
     pub fn insert_cells(&mut self, count: u16)
         ensures { self.new ≡ chars_inserted count self.old }
@@ -72,10 +73,10 @@ impl Grid {
         self.page_rows.insert(self.pos.row, self.pos.col, count);
     }
 
-    /// Deletes `count` columns from the cursor on; default blanks come in at the end of the row
-    /// (DCH).
+    /// Deletes `count` columns starting at the cursor (DCH). Default blanks enter at the end of the
+    /// row.
     ///
-    /// The row is no longer wrapped.
+    /// The wrapped flag of the row is cleared.
     #[tactic(auto, using(crate::proofs::Pages::cursor_paired, crate::proofs::Pages::cursor_columns))]
     pub fn delete_cells(&mut self, count: u16)
         ensures { self.new ≡ chars_deleted count self.old }

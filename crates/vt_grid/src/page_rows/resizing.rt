@@ -1,4 +1,4 @@
-//! Resizing the rows of a page: new rows take over the old ones.
+//! Resizing the rows of a page: the old rows are copied into new ones.
 
 ghost use Rattle.std.specs.Prelude.{◌≡◌, ◌<◌, ◌≤◌, ℕ, All, length, slice_index_or};
 ghost use Rattle.vt_cells.specs.Attrs.{default_attrs};
@@ -15,9 +15,9 @@ use vt_rows::cuts;
 use vt_rows::row::flag_kept;
 
 impl PageRows {
-    /// Replaces the page by `fresh`, a page of default blanks, and fills it: with the newest `up`
-    /// rows of scrollback at its top, and below them the rows of the page without the first `down`.
-    /// The last row is no longer wrapped.
+    /// Replaces the page with `fresh`, a page of default blanks, and fills it with the newest `up`
+    /// scrollback rows and, below them, the rows of the old page after its first `down` rows. The
+    /// wrapped flag of the last row is cleared.
     pub fn refit(&mut self, mut fresh: PageRows, down: u16, up: u16, above: &mut Scrollback)
         requires blank { fresh ≡ blank_page_rows (length fresh.rows) fresh.width }
         requires either { 0 < up → down ≡ 0 }
@@ -52,8 +52,8 @@ impl PageRows {
         self.edit_row_and_flag(row, goes_on, |cells| cuts::refit(cells, from));
     }
 
-    /// Copies the rows of another page from `down` on into the blank rows from `up` on, as many as
-    /// fit.
+    /// Copies the rows of `rows`, starting at row `down`, into the blank rows of this page,
+    /// starting at row `up`, as many as fit.
     fn take_rows(&mut self, rows: &PageRows, down: usize, up: usize)
         requires blank { (k : ℕ) (d : RowValue) → up ≤ k → k < length self.old.rows →
             slice_index_or self.old.rows k d
@@ -75,8 +75,8 @@ impl PageRows {
     }
 }
 
-/// Fills a page of blank rows with the newest `up` rows of scrollback and, below them, the rows of
-/// another page without the first `down`.
+/// Fills `fresh`, a page of blank rows, with the newest `up` scrollback rows and, below them, the
+/// rows of `rows` after its first `down` rows.
 fn fill(fresh: &mut PageRows, rows: &PageRows, down: usize, up: usize, above: &mut Scrollback)
     requires blank { fresh.old ≡ blank_page_rows (length fresh.old.rows) fresh.old.width }
     requires inside { up ≤ length fresh.old.rows }

@@ -1,4 +1,4 @@
-//! A single row that scrolls off when no row of scrollback is displayed: no list is created for it.
+//! Appending a single row while no scrollback row is displayed, without creating a list for it.
 
 ghost use Rattle.std.specs.Prelude.{◌≡◌, ◌<◌, ℕ, IsErr, OnErr, OnOk, length, take};
 ghost use Rattle.vt_cells.specs.Refusals.{OnlyOutOfMemory};
@@ -13,13 +13,13 @@ use vt_cells::Error;
 use vt_rows::Leaving;
 
 impl Scrollback {
-    /// Appends a copy of the first row of a page when the offset is 0; a part of
-    /// [`Scrollback::push`].
+    /// Appends a copy of the first row of a page. [`Scrollback::push`] calls this for a single row
+    /// if the offset is 0.
     ///
     /// # Errors
     ///
-    /// Returns [`Error::OutOfMemory`] if an allocation fails; nothing has changed and nothing was
-    /// reported.
+    /// Returns [`Error::OutOfMemory`] if an allocation fails. On error, nothing is changed and no
+    /// row is reported.
     pub(super) fn push_one<L: Leaving>(
         &mut self,
         page: &PageRows,
@@ -38,11 +38,12 @@ impl Scrollback {
         self.add(page)
     }
 
-    /// Appends a copy of the first row of a page when there is room and the offset is 0.
+    /// Appends a copy of the first row of a page. There must be room for it, and the offset must be
+    /// 0.
     ///
     /// # Errors
     ///
-    /// Returns [`Error::OutOfMemory`] if an allocation fails; nothing has changed.
+    /// Returns [`Error::OutOfMemory`] if an allocation fails. On error, nothing is changed.
     fn add(&mut self, page: &PageRows) -> Result<(), Error>
         requires room { length self.old.rows < self.old.capacity }
         requires hidden { self.old.offset ≡ 0 }
@@ -57,13 +58,13 @@ impl Scrollback {
         Ok(())
     }
 
-    /// Reports the oldest row and reuses its memory for a copy of the first row of a page, when the
-    /// rows are at capacity and the offset is 0.
+    /// Reports the oldest row and reuses its memory for a copy of the first row of a page. The rows
+    /// must be at capacity, and the offset must be 0.
     ///
     /// # Errors
     ///
-    /// Returns [`Error::OutOfMemory`] if the copy is longer than the oldest row and the allocation
-    /// fails; nothing has changed and nothing was reported.
+    /// Returns [`Error::OutOfMemory`] if the copy is wider than the oldest row and the allocation
+    /// fails. On error, nothing is changed and no row is reported.
     fn turn_over<L: Leaving>(&mut self, page: &PageRows, leaving: &mut L) -> Result<(), Error>
         requires full { length self.old.rows ≡ self.old.capacity }
         requires some { 0 < self.old.capacity }

@@ -17,18 +17,19 @@ use vt_cells::{Attrs, Buffer, Cell, Sink, cell};
 impl RowContents<'_> {
     /// Writes the row's basic text: its text with SGR sequences, and no other escape sequences.
     ///
-    /// A `\n` comes first unless this is the first row or the row before is wrapped. Default blanks
-    /// at the end of the row are dropped. Any other default blank is a space, written with the
-    /// attributes of the text before it. A blank with attributes is a space written with them.
+    /// The text begins with `\n` unless this is the first row or the row before it is wrapped.
+    /// Default blanks at the end of the row are dropped. Any other default blank is written as a
+    /// space with the attributes of the text before it. A blank with other attributes is written as
+    /// a space with its own attributes.
     ///
-    /// `state` carries what was written from one row to the next. Pass the same state for each row
-    /// of a capture.
+    /// `state` carries the attributes written last, and whether a line end is pending, from one row
+    /// to the next. Pass the same state for each row of a capture.
     ///
     /// # Errors
     ///
-    /// Returns the sink's error; `state` is unchanged. The sink took a prefix of the text and
-    /// failed on the string offered next; it says itself what it holds then. Nothing is written
-    /// after a failure. An empty text never fails.
+    /// Returns the sink's error, and leaves `state` unchanged. The sink has then accepted a prefix
+    /// of the text and failed to write the next string; each sink specifies the effect of a failed
+    /// write. Nothing is written after a failure. Writing an empty text never fails.
     pub fn write_formatted_basic<S: Sink>(
         &self,
         sink: &mut S,
@@ -49,7 +50,7 @@ impl RowContents<'_> {
     }
 }
 
-/// Writes the pending line end, if there is one.
+/// Writes a line end if one is due.
 fn write_line_end<S: Sink>(sink: &mut S, is_due: bool) -> Result<(), S::Error>
     ensures text { OnOk result (S.text sink.new ≡ S.text sink.old ++ (if is_due then 0x0A ∷ [] else [])) }
     ensures stopped { OnErr result
@@ -59,7 +60,8 @@ fn write_line_end<S: Sink>(sink: &mut S, is_due: bool) -> Result<(), S::Error>
     if is_due { sink.write_str("\n") } else { Ok(()) }
 }
 
-/// Writes cells after text with attributes `attrs`, and returns the attributes of the last text.
+/// Writes the text of `cells`, where `attrs` are the attributes written last, and returns the
+/// attributes written last after that.
 #[tactic(auto, using(vt_cells::proofs::Buffers::nothing_gathered))]
 fn write_cells<S: Sink>(sink: &mut S, cells: &[Cell], attrs: Attrs) -> Result<Attrs, S::Error>
     ensures text { OnOk result (S.text sink.new ≡ S.text sink.old ++ cells_text attrs cells.now) }
@@ -77,8 +79,8 @@ fn write_cells<S: Sink>(sink: &mut S, cells: &[Cell], attrs: Attrs) -> Result<At
     Ok(last)
 }
 
-/// Appends a cell after text with attributes `attrs`, and updates `attrs` to those of the new text.
-/// Appends nothing for a continuation cell.
+/// Appends the text of a cell. `attrs` are the attributes written last, which are updated. Appends
+/// nothing for a continuation cell.
 #[inline]
 #[tactic(auto, using(crate::proofs::BasicTexts::right_adds, crate::proofs::BasicTexts::right_keeps))]
 fn add_cell<S: Sink>(
@@ -106,7 +108,7 @@ fn add_cell<S: Sink>(
     buffer.add(sink, shown_text(cell))
 }
 
-/// Returns whether the cell is written without a change of attributes: a default blank, a
+/// Returns whether the cell is written without changing the attributes: it is a default blank, a
 /// continuation cell, or a cell with attributes `attrs`.
 #[inline]
 #[tactic(auto, using(crate::proofs::BasicTexts::attrs_kept))]
@@ -124,7 +126,7 @@ fn keeps_attrs(cell: &Cell, attrs: &Attrs) -> bool
     cuts::is_default(cell)
 }
 
-/// Returns the text that is written for a cell: a space for a blank.
+/// Returns the text that is written for a cell, which is a space for a blank.
 #[inline]
 fn shown_text(cell: &Cell) -> &str
     ensures { result.now ≡ shown_text cell.now }

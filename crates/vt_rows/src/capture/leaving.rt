@@ -8,12 +8,12 @@ pub trait Leaving {
 
     ghost leaves: { Self → RowValue → Self → Type 0 };
 
-    /// Receives a row that scrolls off the top. Older rows come first.
+    /// Receives a row that scrolls off the top. Rows are passed oldest first.
     fn leave(&mut self, row: RowContents<'_>)
         ensures { leaves self.old row.entry self.new };
 }
 
-/// The receiver that drops rows.
+/// A receiver that drops all rows.
 impl Leaving for () {
     ghost use Rattle.std.specs.Prelude.{◌≡◌};
 

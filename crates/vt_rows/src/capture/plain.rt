@@ -9,7 +9,8 @@ ghost use Rattle.vt_rows.specs.Pieces.{ArePiecesOf, Piece, texts_of, without_str
 use std::iter::FusedIterator;
 use std::marker::Model;
 
-/// An iterator over the chunks of a capture outside its SGR sequences, each with its byte index.
+/// An iterator over the chunks of a capture that are outside SGR sequences, each with its byte
+/// index.
 ///
 /// It borrows the capture and allocates nothing. Created by [`basic_formatted_to_plain_indexed`].
 #[derive(Drop)]
@@ -33,11 +34,11 @@ impl<'a> Model for BasicFormattedToPlainIndexed<'a> {
     ghost invariant = { λ it. length it.rest.now ≤ it.len };
 }
 
-/// Returns the chunks of `capture` outside its SGR sequences, in order, each with its byte index in
-/// `capture`.
+/// Returns an iterator over the chunks of `capture` that are outside SGR sequences, in order, each
+/// with its byte index in `capture`.
 ///
-/// A sequence extends from ESC through the next `m`, or to the end if there is none. No chunk is
-/// empty.
+/// An SGR sequence extends from ESC through the next `m`, or to the end of the capture if there is
+/// none. No chunk is empty.
 ///
 /// ```
 /// use vt100::capture::basic_formatted_to_plain_indexed;
@@ -79,8 +80,8 @@ impl<'a> Iterator for BasicFormattedToPlainIndexed<'a> {
 
 impl<'a> FusedIterator for BasicFormattedToPlainIndexed<'a> {}
 
-/// Splits a text at its first SGR sequence. Returns the text before and the text after the
-/// sequence.
+/// Splits `text` at its first SGR sequence. Returns the text before the sequence and the text after
+/// it.
 fn split_at_sgr(text: &str) -> (&str, &str)
     ensures pieces { (at : ℕ) →
         pieces_from at text.now
@@ -93,7 +94,7 @@ fn split_at_sgr(text: &str) -> (&str, &str)
     }
 }
 
-/// Returns the text after the end of the SGR sequence inside which `text` begins.
+/// Returns the part of `text` after an SGR sequence, where `text` begins inside that sequence.
 fn behind_sgr(text: &str) -> &str
     ensures pieces { (at : ℕ) →
         pieces_within at text.now ≡ pieces_from (at + (length text.now - length result.now)) result.now }
@@ -105,7 +106,7 @@ fn behind_sgr(text: &str) -> &str
     }
 }
 
-/// An iterator over the chunks of a capture outside its SGR sequences.
+/// An iterator over the chunks of a capture that are outside SGR sequences.
 ///
 /// It borrows the capture and allocates nothing. Created by [`basic_formatted_to_plain`].
 #[derive(Drop)]
@@ -123,8 +124,8 @@ impl<'a> Model for BasicFormattedToPlain<'a> {
     ghost view = { λ it. texts_of it.indexed };
 }
 
-/// Returns the chunks of `capture` outside its SGR sequences, in order. Joined, they are the plain
-/// text of the capture.
+/// Returns an iterator over the chunks of `capture` that are outside SGR sequences, in order.
+/// Concatenated, they are the plain text of the capture.
 ///
 /// [`basic_formatted_to_plain_indexed`] also returns the byte index of each chunk.
 pub fn basic_formatted_to_plain(capture: &str) -> BasicFormattedToPlain<'_>

@@ -5,10 +5,12 @@ use super::BasicFormattedCaptureState;
 /// The rows of a screen that a capture contains.
 #[derive(Debug, Drop)]
 pub enum BasicFormattedCaptureRange<'a> {
-    /// The rows of scrollback and then the rows of the active page, whatever is displayed.
+    /// All scrollback rows, followed by the rows of the active page, regardless of what is
+    /// displayed.
     ///
-    /// The state carries what was written from one capture to the next.
+    /// The state carries the attributes written last, and whether a line end is pending, from one
+    /// capture to the next.
     Full(&'a mut BasicFormattedCaptureState),
-    /// The displayed rows, as a capture of its own.
+    /// The displayed rows, as a self-contained capture.
     Visible,
 }

@@ -33,17 +33,17 @@ impl<'a> Model for BasicFormattedRows<'a> {
     ghost view = { λ it. option_map_or (λ rest. rows_of it.width rest.now) it.rest [] };
 }
 
-/// Returns the rows of `capture` on a terminal of `screen_width` columns, in order.
+/// Returns an iterator over the rows that `capture` has on a terminal of `screen_width` columns, in
+/// order.
 ///
 /// A row ends at a `\n` outside SGR sequences, which is dropped, or before a character that would
-/// make it wider than `screen_width`; a row takes at least one character that has columns. The rest
-/// is the last row, even if it is empty.
+/// make the row wider than `screen_width`. The first character in a row that takes any columns
+/// never ends it. The text after the last row end is the last row, even if it is empty.
 ///
-/// An SGR sequence extends from ESC through the next `m`, or to the end if there is none. It takes
-/// no columns and stays where it is: in front of a cut it belongs to the earlier row. A character
-/// takes the columns that [`UnicodeWidthChar`] returns, but at most two, and one if that returns
-/// `None`. A character without columns begins a row only at the start of the capture or after a
-/// `\n`.
+/// An SGR sequence extends from ESC through the next `m`, or to the end of the capture if there is
+/// none. It takes no columns. Between two rows, it belongs to the earlier one. A character takes as
+/// many columns as [`UnicodeWidthChar`] returns, but at most two, and one column if that returns
+/// `None`. A zero-width character begins a row only at the start of the capture or after a `\n`.
 ///
 /// ```
 /// use vt100::capture::basic_formatted_rows;
@@ -80,8 +80,8 @@ impl<'a> Iterator for BasicFormattedRows<'a> {
 
 impl<'a> FusedIterator for BasicFormattedRows<'a> {}
 
-/// Splits off the first row of a text. Returns the row and the text of the remaining rows, or
-/// `None` if it was the last.
+/// Splits off the first row of a text. Returns the row, and the text of the remaining rows, which
+/// is `None` if there are no more rows.
 fn split_row(text: &str, width: u16) -> (&str, Option<&str>)
     ensures { rows_of width text.now ≡ result.0.now ∷ option_map_or (λ rest. rows_of width rest.now) result.1 [] }
 {
@@ -98,7 +98,7 @@ fn split_row(text: &str, width: u16) -> (&str, Option<&str>)
     (text, None)
 }
 
-/// The extent of a row's text: its columns, and whether it ends inside an SGR sequence.
+/// The extent of a row's text: its width in columns, and whether it ends inside an SGR sequence.
 #[derive(Clone, Copy)]
 struct Reach {
     columns: u32,
@@ -125,7 +125,7 @@ impl Reach {
         !self.is_within && c == '\n'
     }
 
-    /// Returns whether the row would be too wide with the character `c` added.
+    /// Returns whether adding the character `c` would make the row wider than `width`.
     fn is_overflow(self, c: char, width: u16) -> bool
         requires { self.columns ≤ width + 2 }
         ensures { result ≡ is_beyond width self.columns (columns_added self.is_within c) }
@@ -161,15 +161,15 @@ impl Reach {
     }
 }
 
-/// Returns whether a text ends inside an SGR sequence after the character `c`; `within` says
-/// whether it did so before.
+/// Returns whether a text that ends with the character `c` ends inside an SGR sequence. `within`
+/// says whether the text before `c` does.
 fn is_within_after(within: bool, c: char) -> bool
     ensures { result ≡ is_within_after within c }
 {
     if within { c != 'm' } else { c == '\x1b' }
 }
 
-/// Returns the number of columns of a character outside SGR sequences.
+/// Returns the number of columns that a character outside SGR sequences takes.
 fn shown_columns(c: char) -> u32
     ensures value { result ≡ shown_columns c }
     ensures most { result ≤ 2 }

@@ -1,4 +1,4 @@
-//! What the basic text carries from one row to the next.
+//! The state that a capture carries from one row to the next.
 
 ghost use Rattle.std.specs.Prelude.{◌≡◌};
 ghost use Rattle.vt_rows.specs.Basic.{unwritten};
@@ -6,7 +6,7 @@ ghost use Rattle.vt_rows.specs.Basic.{unwritten};
 use std::marker::Model;
 use vt_cells::Attrs;
 
-/// The state between the rows of a capture: the attributes written last, and whether a line end is
+/// The state of a capture between two rows: the attributes written last, and whether a line end is
 /// pending.
 #[derive(Clone, Debug, Drop)]
 pub struct BasicFormattedCaptureState {

@@ -1,4 +1,4 @@
-//! Shortcuts for bytes that need not be fed one by one.
+//! Shortcuts for bytes that do not have to be fed one by one.
 
 ghost use Rattle.std.specs.Prelude.{◌≡◌, ◌≢◌, ◌≤◌, ◌<◌, ◌-◌, ◌*◌, ◌==◌, ◌&&◌, ◌↔◌, ◌⊎◌, ℕ};
 ghost use Rattle.std.specs.Prelude.{[], ◌∷◌, All, IfOk, IfSome};
@@ -28,9 +28,9 @@ use std::simd::prelude::*;
 use vt_cells::Error;
 
 impl Scanner {
-    /// Returns whether `byte` is a printable ASCII character that would be read as itself: no
-    /// sequence and no character is incomplete.
-    /// Feeding such a byte leaves the scanner unchanged, so the caller can skip it.
+    /// Returns whether `byte` is printable ASCII and would be parsed as that character, because no
+    /// sequence or character is incomplete. Feeding such a byte leaves the scanner unchanged, so
+    /// the caller can skip it.
     #[inline(always)]
     pub fn is_text(&self, byte: u8) -> bool
         ensures feeds { IsTrue result
@@ -40,9 +40,9 @@ impl Scanner {
         is_printable(byte) && self.is_fresh()
     }
 
-    /// Returns the number of leading bytes that are printable ASCII and would each be read as
-    /// itself. It is 0 if a sequence or a character is incomplete.
-    /// Feeding these bytes leaves the scanner unchanged, so the caller can skip them.
+    /// Returns the number of leading bytes that are printable ASCII and would each be parsed as
+    /// that character. It is 0 if a sequence or a character is incomplete. Feeding these bytes
+    /// leaves the scanner unchanged, so the caller can skip them.
     #[inline]
     pub fn text_len(&self, bytes: &[u8]) -> usize
         ensures inside { result ≤ length bytes.now }
@@ -56,8 +56,8 @@ impl Scanner {
         }
     }
 
-    /// Parses the leading bytes that introduce a sequence, and returns their number: ESC outside
-    /// sequences, then an intermediate, or `[` and parameter bytes.
+    /// Parses the leading bytes that introduce a sequence, and returns their number. Such bytes are
+    /// ESC in the ground state, and after it either an intermediate or `[` and parameter bytes.
     /// These bytes cause no event and allocate nothing. If all bytes are parsed, the next call
     /// continues where this one stopped.
     #[inline]
@@ -75,8 +75,8 @@ impl Scanner {
         }
     }
 
-    /// Parses `byte` if it is the final byte of a control sequence without intermediates, and
-    /// returns whether it is. Its only event is then the control sequence.
+    /// Parses `byte` if it is the final byte of a control sequence without intermediates. Returns
+    /// whether it was parsed. If so, that sequence is the only event.
     #[inline(always)]
     pub fn final_byte(&mut self, byte: u8) -> bool
         ensures answers { result ≡ ends_sequence self.old.kind byte }
@@ -90,8 +90,8 @@ impl Scanner {
         }
     }
 
-    /// Parses `byte` if it is the last byte of an escape sequence, and returns whether it is. Its
-    /// only event is then the escape sequence.
+    /// Parses `byte` if it is the final byte of an escape sequence. Returns whether it was parsed.
+    /// If so, that sequence is the only event.
     #[inline]
     pub fn escape_byte(&mut self, byte: u8) -> bool
         ensures answers { IsTrue result ↔ EndsEscape self.old.kind byte }
@@ -108,9 +108,9 @@ impl Scanner {
         }
     }
 
-    /// Returns whether `byte` is a C0 control character other than ESC that would be executed: no
-    /// sequence and no character is incomplete. Feeding such a byte leaves the scanner unchanged,
-    /// so the caller can skip it.
+    /// Returns whether `byte` is a C0 control character other than ESC that would be executed as
+    /// the only event, because no sequence or character is incomplete. Feeding such a byte leaves
+    /// the scanner unchanged, so the caller can skip it.
     #[inline(always)]
     pub fn is_control(&self, byte: u8) -> bool
         ensures feeds { IsTrue result
@@ -120,9 +120,9 @@ impl Scanner {
         is_control_byte(byte) && self.is_fresh()
     }
 
-    /// Returns the number of leading bytes that are ignored inside a string whose text is not kept
-    /// (DCS, SOS, PM, APC): all up to the first that may end it. It is 0 outside such a string.
-    /// Feeding these bytes leaves the scanner unchanged, so the caller can skip them.
+    /// Returns the number of leading bytes that do not end a string whose text is not kept (DCS,
+    /// SOS, PM or APC), or 0 outside such a string. Feeding these bytes leaves the scanner
+    /// unchanged, so the caller can skip them.
     #[inline]
     pub fn skipped_len(&self, bytes: &[u8]) -> usize
         ensures inside { result ≤ length bytes.now }
@@ -137,13 +137,13 @@ impl Scanner {
         }
     }
 
-    /// Collects the leading bytes that belong to the text of an operating system command, all up to
-    /// the first C0 control character, and returns their number. It is 0 outside such a command.
+    /// Collects the leading bytes that belong to the text of an operating system command, up to the
+    /// first C0 control character, and returns their number. It is 0 outside such a command.
     ///
     /// # Errors
     ///
-    /// Returns [`Error::OutOfMemory`] if the bytes cannot be stored. The scanner is unchanged, and
-    /// the same bytes may be passed again.
+    /// Returns [`Error::OutOfMemory`] if the bytes cannot be stored. The scanner is then unchanged,
+    /// and the bytes may be passed again.
     #[inline]
     pub fn command_text(&mut self, bytes: &[u8]) -> Result<usize, Error>
         ensures inside { IfOk result (λ count. count ≤ length bytes.now) }
@@ -162,9 +162,10 @@ impl Scanner {
         }
     }
 
-    /// Returns the first character and its length in bytes, if it takes more than one byte, all of
-    /// them are present, and no sequence and no character is incomplete (Unicode 3.9, Table 3-7).
-    /// Feeding them causes that one event and leaves the scanner unchanged: they can be skipped.
+    /// Returns the first character and its length if it is complete and has more than one byte
+    /// (Unicode 3.9, Table 3-7). Returns `None` if a sequence or a character is already incomplete.
+    /// Feeding the bytes causes one event and leaves the scanner unchanged, so the caller can skip
+    /// them.
     #[inline(always)]
     pub fn whole_character(&self, bytes: &[u8]) -> Option<(char, usize)>
         ensures inside { IfSome result (λ found. (1 < found.1) × (found.1 ≤ length bytes.now)) }
@@ -181,9 +182,9 @@ impl Scanner {
         }
     }
 
-    /// Decodes leading characters of three bytes and two columns into `text`, as many as fit, and
-    /// returns their number. It is 0 if a sequence or a character is incomplete.
-    /// Feeding them causes one event each and leaves the scanner unchanged: they can be skipped.
+    /// Decodes leading characters of three bytes and two columns each into `text`, as many as fit,
+    /// and returns their number. It is 0 if a sequence or a character is incomplete. Feeding their
+    /// bytes causes one event each and leaves the scanner unchanged.
     #[inline]
     pub fn wide_text(&self, bytes: &[u8], text: &mut [char]) -> usize
         ensures room { result ≤ length text.new }
@@ -199,7 +200,7 @@ impl Scanner {
         }
     }
 
-    /// Parses leading bytes that introduce a sequence, outside sequences; returns their number.
+    /// Parses the bytes that introduce a sequence in the ground state, and returns their number.
     #[inline(always)]
     fn lead_from_text(&mut self, bytes: &[u8]) -> usize
         requires { self.old.kind ≡ Kind.Ground }
@@ -215,8 +216,8 @@ impl Scanner {
         2 + more
     }
 
-    /// Parses leading bytes that introduce a sequence, outside sequences; returns their number.
-    /// Tests ESC and `[` one by one, since the bytes may end between them.
+    /// Parses the bytes that introduce a sequence in the ground state, and returns their number.
+    /// Tests for ESC and `[` one by one, since the input may end between them.
     #[inline]
     fn lead_by_bytes(&mut self, bytes: &[u8]) -> usize
         requires { self.old.kind ≡ Kind.Ground }
@@ -235,7 +236,7 @@ impl Scanner {
         1 + more
     }
 
-    /// Parses leading bytes that introduce a sequence, starting after ESC; returns their number.
+    /// Parses the bytes that introduce a sequence after ESC, and returns their number.
     #[inline(always)]
     fn lead_from_escape(&mut self, bytes: &[u8]) -> usize
         requires { self.old.kind ≡ Kind.Escape }
@@ -274,7 +275,7 @@ impl Scanner {
         count
     }
 
-    /// Parses `byte` if it is the final byte of a control sequence, and returns whether it is.
+    /// Parses `byte` if it ends a control sequence, and returns whether it was parsed.
     #[inline(always)]
     fn ends_with(&mut self, byte: u8) -> bool
         requires { (self.old.kind ≡ Kind.CsiEntry) ⊎ (self.old.kind ≡ Kind.CsiParam) }
@@ -306,7 +307,7 @@ impl Scanner {
         true
     }
 
-    /// Parses `byte` if it is a `[` after ESC, and returns whether it is.
+    /// Parses `byte` if it is a `[` after ESC, and returns whether it was parsed.
     #[inline]
     fn takes_bracket(&mut self, byte: u8) -> bool
         requires { self.old.kind ≡ Kind.Escape }
@@ -322,7 +323,7 @@ impl Scanner {
         takes
     }
 
-    /// Parses `byte` if it is an intermediate after ESC, and returns whether it is.
+    /// Parses `byte` if it is an intermediate after ESC, and returns whether it was parsed.
     #[inline]
     fn takes_intermediate(&mut self, byte: u8) -> bool
         requires { self.old.kind ≡ Kind.Escape }
@@ -339,7 +340,7 @@ impl Scanner {
         takes
     }
 
-    /// Parses `byte` if it is ESC and no character is incomplete; returns whether it was parsed.
+    /// Parses `byte` if it is ESC outside a character, and returns whether it was parsed.
     #[inline]
     fn takes_escape(&mut self, byte: u8) -> bool
         requires { self.old.kind ≡ Kind.Ground }
@@ -355,7 +356,7 @@ impl Scanner {
         true
     }
 
-    /// Returns whether no sequence and no character is incomplete.
+    /// Returns whether the scanner is in the ground state and no character is incomplete.
     #[inline(always)]
     fn is_fresh(&self) -> bool
         ensures { IsTrue result ↔ ((self.now.kind ≡ Kind.Ground) × (self.now.unfinished ≡ [])) }
@@ -366,8 +367,8 @@ impl Scanner {
         }
     }
 
-    /// Collects the leading bytes of the text of an operating system command; returns their number.
-    /// If they cannot be stored, fails with `OutOfMemory` and changes nothing.
+    /// Collects the leading bytes of the text of an operating system command, and returns their
+    /// number. Returns `OutOfMemory` and changes nothing if they cannot be stored.
     fn collect_text(&mut self, bytes: &[u8]) -> Result<usize, Error>
         requires { self.old.kind ≡ Kind.OscString }
         ensures inside { IfOk result (λ count. count ≤ length bytes.now) }
@@ -419,7 +420,7 @@ fn printable_len(bytes: &[u8]) -> usize
     len
 }
 
-/// Returns a mask with a bit for each lane that is not printable ASCII.
+/// Returns a mask in which a bit is set for each lane that is not printable ASCII.
 #[inline(always)]
 fn odd_lanes(lanes: u8x16) -> u64
     ensures { result ≡ mask_l (map is_odd lanes) }
@@ -445,7 +446,7 @@ fn is_opening(bytes: &[u8]) -> bool
     bytes.len() >= 2 && bytes[0] == 0x1B && bytes[1] == b'['
 }
 
-/// Returns whether `byte` is an intermediate byte, `20` to `2F`.
+/// Returns whether `byte` is an intermediate byte (0x20 to 0x2F).
 #[inline(always)]
 fn is_intermediate_byte(byte: u8) -> bool
     ensures { result ≡ is_intermediate byte }
@@ -453,7 +454,7 @@ fn is_intermediate_byte(byte: u8) -> bool
     byte >= 0x20 && byte <= 0x2F
 }
 
-/// Returns whether `byte` is a final byte of a control sequence, `40` to `7E`.
+/// Returns whether `byte` is a final byte of a control sequence (0x40 to 0x7E).
 #[inline(always)]
 fn is_final_byte(byte: u8) -> bool
     ensures { result ≡ is_final byte }
@@ -461,8 +462,7 @@ fn is_final_byte(byte: u8) -> bool
     byte >= 0x40 && byte <= 0x7E
 }
 
-/// Returns the number of leading bytes that cannot end a string: those before the first CAN, SUB or
-/// ESC.
+/// Returns the number of leading bytes before the first CAN, SUB or ESC, which may end a string.
 #[inline]
 fn unended_len(bytes: &[u8]) -> usize
     ensures inside { result ≤ length bytes.now }
@@ -490,7 +490,7 @@ fn text_len(bytes: &[u8]) -> usize
     len
 }
 
-/// Returns whether `byte` cannot end a string: it is not CAN, SUB or ESC.
+/// Returns whether `byte` cannot end a string, that is, whether it is not CAN, SUB or ESC.
 #[inline(always)]
 fn is_unended(byte: u8) -> bool
     ensures { IsTrue result ↔ IsUnended byte }
