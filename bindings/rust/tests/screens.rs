@@ -246,7 +246,7 @@ fn a_shown_copy_displays_the_same_and_nothing_else() {
         (parser.screen().scrollback_len(), copy.scrollback_len()),
         (2, 0)
     );
-    parser.process(b"\x1b[?1049h\x1b[7mx");
+    parser.process(b"\x1b[?1049h\x1b[2;2H\x1b[7mx");
     let other = parser.screen().shown_copy();
     assert_eq!(other.contents_diff(parser.screen()), "");
     assert_eq!(other.contents(), "\n x");

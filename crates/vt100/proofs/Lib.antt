@@ -5,6 +5,7 @@ pub mod Stepping
 pub mod Deciding
 pub mod Plain
 pub mod WideRuns
+pub mod NarrowRuns
 pub mod Quiet
 pub mod Remaining
 pub mod Dispatching

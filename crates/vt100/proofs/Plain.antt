@@ -1,10 +1,12 @@
 -- A run of plain characters that fits on the cursor's row is read as the run of their events.
-use Rattle.std.proofs.Common.{◌≡◌, ℕ, ◌+◌, ◌<◌, ◌≤◌, ◌==◌, ◌&&◌, ◌||◌, nat_le, false}
+use Rattle.std.proofs.Common.{◌≡◌, ℕ, ◌+◌, ◌<◌, ◌≤◌, ◌==◌, ◌&&◌, ◌||◌, nat_le, false, Some}
 use Rattle.std.proofs.Common.{List, [], ◌∷◌, length, refl, sym, ap, subst, arith}
 use Rattle.std.specs.Prelude.{All}
 use Rattle.std.specs.List.{FoldsTo}
 use Rattle.std.proofs.lemmas.Bool.Decides.{nat_tests}
 use Rattle.std.proofs.lemmas.List.Elements.{All-head, All-tail}
+use Rattle.vt_cells.specs.Glyph.{columns_of}
+use Rattle.vt_cells.proofs.Widths.{columns_of-ascii}
 use Rattle.vt_rows.specs.Texts.{IsPrintableAscii}
 use Rattle.vt_grid.specs.Page.{Page}
 use Rattle.vt_grid.proofs.Texts.{printed_put}
@@ -28,7 +30,7 @@ print_done does c s screen low high room =
     let shown : ((c == 0xFFFD) || (nat_le 0x80 c && nat_le c 0x9F)) ≡ false = grind (arith, nat_tests) in
     subst (λ (steps : List Step). FoldsTo (Takes does) (state s screen) steps (state s (display_after (Print c) screen)))
     (sym (printed_steps c shown))
-    (state s (display_after (Print c) screen), print_scrolls does c s screen low high room, refl)
+    (state s (display_after (Print c) screen), print_scrolls does c s screen (columns_of-ascii c low high) room, refl)
 
 character_ran : {S : Type 0} (does : CallRelation S) (c : ℕ) (held : Held) (s : S) (screen : ScreenValue) →
     ReadsItself held c → screen.page.column < screen.page.width →
@@ -39,11 +41,10 @@ character_ran does c held s screen itself room =
     (text_feeds held c itself.0 itself.1 itself.2 (omega (arith, itself.3)))
     (stage now, print_done does c s screen itself.2 itself.3 room, refl)
 
--- A plain character moves the cursor right by one column.
-pub column_printed : (c : ℕ) (screen : ScreenValue) → 0x20 ≤ c → c < 0x7F →
+-- A narrow character moves the cursor right by one column.
+pub column_printed : (c : ℕ) (screen : ScreenValue) → columns_of c ≡ Some 1 →
     screen.page.column < screen.page.width → (display_after (Print c) screen).page.column ≡ screen.page.column + 1
-column_printed c screen low high room =
-    ap (λ (page : Page). page.column) (printed_put c screen.attrs screen.page low high room)
+column_printed c screen one room = ap (λ (page : Page). page.column) (printed_put c screen.attrs screen.page one room)
 
 pub text_ran : {S : Type 0} (does : CallRelation S) (text : List ℕ) (held : Held) (s : S) (screen : ScreenValue) →
     All (ReadsItself held) text → screen.page.column + length text ≤ screen.page.width →
@@ -53,7 +54,7 @@ text_ran does (c ∷ text) held s screen plain room =
     let first = All-head (ReadsItself held) c text plain in
     let next = display_after (Print c) screen in
     let here : screen.page.column < screen.page.width = omega (arith, room) in
-    let moved = column_printed c screen first.2 first.3 here in
+    let moved = column_printed c screen (columns_of-ascii c first.2 first.3) here in
     let same = same_printed c screen.attrs screen.page in
     let left : next.page.column + length text ≤ next.page.width = omega (arith, moved, same.width, room) in
     ran_then does (parsing held screen s) (parsing held next s) (parsing held (screen_after_text text next) s) (c ∷ []) text

@@ -2,6 +2,7 @@
 use Rattle.std.proofs.Common.{◌≡◌, ℕ, zero, suc, ◌+◌, ◌-◌, ◌<◌, ◌≤◌, List, replicate}
 use Rattle.std.proofs.Common.{refl, sym, ap, subst, ◌∙◌, arith, inl}
 use Rattle.std.proofs.lemmas.List.{replicate-append-replicate}
+use Rattle.vt_cells.proofs.Widths.{columns_of-ascii}
 use Rattle.vt_screen.specs.Run.{CallRelation, Refuses, state}
 use Rattle.vt_screen.specs.Screen.{ScreenValue}
 use Rattle.vt_screen.specs.Steps.{Step, Print, display_after}
@@ -20,10 +21,10 @@ prints_done does zero c s screen low high room = refl
 prints_done does (suc n) c s screen low high room =
     let here : screen.page.column < screen.page.width = omega (arith, room) in
     let next = display_after (Print c) screen in
-    let moved = column_printed c screen low high here in
+    let moved = column_printed c screen (columns_of-ascii c low high) here in
     let same = same_printed c screen.attrs screen.page in
     let left : next.page.column + n ≤ next.page.width = omega (arith, moved, same.width, room) in
-    (state s next, print_scrolls does c s screen low high here, prints_done does n c s next low high left)
+    (state s next, print_scrolls does c s screen (columns_of-ascii c low high) here, prints_done does n c s next low high left)
 
 -- The allocation of the first print fails.
 pub first_refused : {S : Type 0} (does : CallRelation S)

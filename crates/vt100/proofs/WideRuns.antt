@@ -1,11 +1,12 @@
 -- A run of wide characters that fits on the cursor's row is read as the run of their events.
-use Rattle.std.proofs.Common.{◌≡◌, ℕ, ◌+◌, ◌*◌, ◌<◌, ◌≤◌, ◌==◌, ◌&&◌, ◌||◌, nat_le, false, None, map}
+use Rattle.std.proofs.Common.{◌≡◌, ◌≢◌, ℕ, ◌+◌, ◌*◌, ◌<◌, ◌≤◌, ◌==◌, ◌&&◌, ◌||◌, nat_le, false, None, Some, map}
 use Rattle.std.proofs.Common.{List, [], ◌∷◌, length, refl, inl, inr, sym, subst, arith}
 use Rattle.std.specs.List.{FoldsTo}
 use Rattle.std.proofs.lemmas.Bool.{cases_lt}
 use Rattle.std.proofs.lemmas.Bool.Decides.{nat_tests}
 use Rattle.std.proofs.lemmas.List.Elements.{All-head, All-tail}
 use Rattle.unicode_width.specs.Width.{char_width}
+use Rattle.vt_cells.specs.Glyph.{columns_of}
 use Rattle.vt_cells.proofs.Widths.{columns_of-low}
 use Rattle.vt_rows.specs.WideTexts.{IsWideCharacter, IsWideText}
 use Rattle.vt_scan.specs.Automaton.{Character}
@@ -22,13 +23,15 @@ no_columns : (c : ℕ) → 0x7F ≤ c → c < 0xA0 → char_width false c ≡ No
 unfolding char_width
 no_columns c low high = grind (arith, nat_tests)
 
-not_reported : (c : ℕ) → IsWideCharacter c → ((c == 0xFFFD) || (nat_le 0x80 c && nat_le c 0x9F)) ≡ false
-not_reported c wide = elim (cases_lt c 0xA0) [
+-- A character that takes columns is not a C1 control.
+pub not_reported : (c n : ℕ) → c ≢ 0xFFFD → columns_of c ≡ Some n →
+    ((c == 0xFFFD) || (nat_le 0x80 c && nat_le c 0x9F)) ≡ false
+not_reported c n apart drawn = elim (cases_lt c 0xA0) [
   | inl low ↦ elim (cases_lt c 0x7F) [
-    | inl ascii ↦ let apart = wide.1.0 in grind (arith, nat_tests)
-    | inr above ↦ absurd (cc (wide.1.1, columns_of-low c (no_columns c above low) (omega (arith, low))))
+    | inl ascii ↦ grind (arith, nat_tests)
+    | inr above ↦ absurd (cc (drawn, columns_of-low c (no_columns c above low) (omega (arith, low))))
   ]
-  | inr high ↦ let apart = wide.1.0 in grind (arith, nat_tests)
+  | inr high ↦ grind (arith, nat_tests)
 ]
 
 print_done : {S : Type 0} (does : CallRelation S) (c : ℕ) (s : S) (screen : ScreenValue) →
@@ -36,7 +39,7 @@ print_done : {S : Type 0} (does : CallRelation S) (c : ℕ) (s : S) (screen : Sc
     FoldsTo (Takes does) (state s screen) (character_steps c) (state s (display_after (Print c) screen))
 print_done does c s screen wide room =
     subst (λ (steps : List Step). FoldsTo (Takes does) (state s screen) steps (state s (display_after (Print c) screen)))
-    (sym (printed_steps c (not_reported c wide)))
+    (sym (printed_steps c (not_reported c 2 wide.1.0 wide.1.1)))
     (state s (display_after (Print c) screen), print_scrolls_wide does c s screen wide.1.1 room, refl)
 
 pub wide_folds : {S : Type 0} (does : CallRelation S) (text : List ℕ) (s : S) (screen : ScreenValue) →

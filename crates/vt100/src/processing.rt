@@ -1,6 +1,6 @@
 //! The loop that parses bytes and applies the resulting events.
 
-ghost use Rattle.std.specs.Prelude.{◌<◌, IfOk, IsErr, length, map, option_to_list, slice_index_or};
+ghost use Rattle.std.specs.Prelude.{◌-◌, ◌<◌, ◌≤◌, IfOk, IsErr, length, map, option_to_list, slice_index_or};
 ghost use Rattle.vt_cells.specs.Refusals.{OnlyOutOfMemory};
 ghost use Rattle.vt100.specs.Internals.{PerformsOrBreaks, ReadsOrStops};
 ghost use Rattle.vt100.specs.Parser.{CallsByLast, Ran, Stopped, parsing};
@@ -13,8 +13,8 @@ use vt_scan::{Event, Events, Scanner};
 use vt_screen::screen::printing;
 use vt_screen::{Callbacks, Screen};
 
-/// The maximum number of wide characters printed in one edit.
-const WIDE_RUN: usize = 64;
+/// The maximum number of characters other than ASCII printed in one edit.
+const RUN: usize = 64;
 
 /// Parses `bytes`, applies the resulting events to the screen, and invokes
 /// callbacks.
@@ -276,18 +276,19 @@ fn process_high<CB: Callbacks>(
     ensures read { ReadsOrStops CB.does (parsing scanner.old screen.old callbacks.old) bytes.now
         (parsing scanner.new screen.new callbacks.new) result }
 {
-    let wide = print_wide(scanner, screen, callbacks, bytes)?;
-    if wide > 0 {
-        return Ok(wide);
+    let printed = print_run(scanner, screen, callbacks, bytes)?;
+    if printed > 0 {
+        return Ok(printed);
     }
     process_one(scanner, screen, callbacks, bytes)
 }
 
-/// Prints the run of three-byte wide characters at the start of `bytes`,
-/// stopping at the end of the cursor's row. Returns the number of bytes read,
-/// which is 0 if `bytes` starts with anything else.
+/// Prints the run at the start of `bytes` of wide characters of three bytes, or
+/// of narrow characters below U+3000, stopping at the end of the cursor's row.
+/// Returns the number of bytes read, which is 0 if the first character is of
+/// neither kind.
 #[inline(always)]
-fn print_wide<CB: Callbacks>(
+fn print_run<CB: Callbacks>(
     scanner: &Scanner,
     screen: &mut Screen,
     callbacks: &CB,
@@ -297,13 +298,19 @@ fn print_wide<CB: Callbacks>(
     ensures { ReadsOrStops CB.does (parsing scanner.now screen.old callbacks.now) bytes.now
         (parsing scanner.now screen.new callbacks.now) result }
 {
-    if bytes[0] < 0xE3 || bytes[0] > 0xED {
-        return Ok(0);
+    // Most combining characters begin with CC or CD, and end a run at once: trying one would cost
+    // more than it saves.
+    let may_combine = bytes[0] == 0xCC || bytes[0] == 0xCD;
+    if bytes[0] >= 0xC2 && bytes[0] < 0xE3 && !may_combine {
+        return print_narrow_run(scanner, screen, callbacks, bytes);
     }
-    print_wide_run(scanner, screen, callbacks, bytes)
+    if bytes[0] >= 0xE3 && bytes[0] <= 0xED {
+        return print_wide_run(scanner, screen, callbacks, bytes);
+    }
+    Ok(0)
 }
 
-/// Prints a run of wide characters for [`print_wide`], which has examined only
+/// Prints a run of wide characters for [`print_run`], which has examined only
 /// the first byte. Returns the number of bytes read.
 ///
 /// It is never inlined, so that its buffer takes up stack space only when there
@@ -318,7 +325,7 @@ fn print_wide_run<CB: Callbacks>(
     ensures { ReadsOrStops CB.does (parsing scanner.now screen.old callbacks.now) bytes.now
         (parsing scanner.now screen.new callbacks.now) result }
 {
-    let mut text = ['\0'; WIDE_RUN];
+    let mut text = ['\0'; RUN];
     print_wide_some(scanner, screen, callbacks, bytes, &mut text)
 }
 
@@ -342,6 +349,64 @@ fn print_wide_some<CB: Callbacks>(
     }
     printing::print_wide_text(screen, &text[..count]);
     Ok(3 * count)
+}
+
+/// Prints a run of narrow characters for [`print_run`], which has examined only
+/// the first byte. Returns the number of bytes read.
+///
+/// It is never inlined, so that its buffer takes up stack space only when there
+/// are such characters.
+#[inline(never)]
+fn print_narrow_run<CB: Callbacks>(
+    scanner: &Scanner,
+    screen: &mut Screen,
+    callbacks: &CB,
+    bytes: &[u8],
+) -> Result<usize, usize>
+    ensures { ReadsOrStops CB.does (parsing scanner.now screen.old callbacks.now) bytes.now
+        (parsing scanner.now screen.new callbacks.now) result }
+{
+    let mut text = ['\0'; RUN];
+    print_narrow_some(scanner, screen, callbacks, bytes, &mut text)
+}
+
+/// Prints a run of narrow characters, at most as many as fit in the buffer `text`
+/// and on the cursor's row. Returns the number of bytes read.
+#[inline(always)]
+fn print_narrow_some<CB: Callbacks>(
+    scanner: &Scanner,
+    screen: &mut Screen,
+    callbacks: &CB,
+    bytes: &[u8],
+    text: &mut [char],
+) -> Result<usize, usize>
+    ensures { ReadsOrStops CB.does (parsing scanner.now screen.old callbacks.now) bytes.now
+        (parsing scanner.now screen.new callbacks.now) result }
+{
+    let most = text.len().min(usize::from(printing::room(screen)));
+    print_narrow_fitting(scanner, screen, callbacks, bytes, &mut text[..most])
+}
+
+/// Prints a run of narrow characters, at most as many as fit in the buffer
+/// `text`. Returns the number of bytes read.
+#[inline(always)]
+fn print_narrow_fitting<CB: Callbacks>(
+    scanner: &Scanner,
+    screen: &mut Screen,
+    callbacks: &CB,
+    bytes: &[u8],
+    text: &mut [char],
+) -> Result<usize, usize>
+    requires room { length text.old ≤ screen.old.page.width - screen.old.page.column }
+    ensures { ReadsOrStops CB.does (parsing scanner.now screen.old callbacks.now) bytes.now
+        (parsing scanner.now screen.new callbacks.now) result }
+{
+    let (count, len) = scanner.narrow_text(bytes, text);
+    if count == 0 {
+        return Ok(0);
+    }
+    printing::print_narrow_text(screen, &text[..count]);
+    Ok(len)
 }
 
 /// Applies the events of one byte in order.

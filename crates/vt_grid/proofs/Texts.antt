@@ -1,17 +1,18 @@
 -- Printable ASCII that fits on its row is printed as one edit.
 use Rattle.std.proofs.Common.{◌≡◌, ℕ, suc, ◌+◌, ◌<◌, ◌≤◌, ◌&&◌, not, Bool, true, false}
-use Rattle.std.proofs.Common.{List, [], ◌∷◌, length, set, refl, sym, ap, ◌∙◌, arith}
+use Rattle.std.proofs.Common.{List, [], ◌∷◌, length, set, refl, sym, ap, ◌∙◌, arith, Some}
 use Rattle.std.specs.Char.{encode_utf8}
 use Rattle.std.proofs.lemmas.Bool.Decides.{nat_tests}
 use Rattle.std.proofs.lemmas.List.{length-set, get_or-set_same, set-set}
 use Rattle.std.proofs.lemmas.List.Elements.{All-head, All-tail}
 use Rattle.vt_cells.specs.Attrs.{default_attrs, Attrs}
-use Rattle.vt_cells.proofs.Widths.{columns_of-ascii}
+use Rattle.vt_cells.specs.Glyph.{columns_of}
+use Rattle.vt_cells.proofs.Glyphs.{IsGlyphText-first}
 use Rattle.vt_rows.specs.Cells.{ends_blank, put_narrow}
 use Rattle.vt_rows.specs.Row.{RowValue, IsRow, blank_row, with_cells}
-use Rattle.vt_rows.specs.Texts.{IsPrintableAscii, put_text}
+use Rattle.vt_rows.specs.Texts.{IsNarrowCharacter, IsNarrowText, put_text}
 use Rattle.vt_rows.proofs.Rows.{ends_blank-put_narrow}
-use Rattle.vt_rows.proofs.Texts.{IsGlyphText-printable, IsRow-put_text, put_text_after}
+use Rattle.vt_rows.proofs.Texts.{IsRow-put_text, put_text_after}
 use Rattle.vt_grid.specs.Internals.{IsSized}
 use Rattle.vt_grid.specs.Page.{Page, IsPage, cursor_row}
 use Rattle.vt_grid.specs.Printing.{glyph_put, lacks_room, printed, room_made, with_cursor_cells}
@@ -30,10 +31,10 @@ room_kept : (page : Page) → page.column < page.width → room_made 1 page ≡ 
 unfolding room_made
 room_kept page h = rw (has_room page h) refl
 
-pub printed_put : (c : ℕ) (attrs : Attrs) (page : Page) → 0x20 ≤ c → c < 0x7F →
+pub printed_put : (c : ℕ) (attrs : Attrs) (page : Page) → columns_of c ≡ Some 1 →
     page.column < page.width → printed c attrs page ≡ glyph_put (encode_utf8 c) false attrs page
-printed_put c attrs page low high h =
-    printed_narrow c attrs page (columns_of-ascii c low high)
+printed_put c attrs page one h =
+    printed_narrow c attrs page one
     ∙ ap (glyph_put (encode_utf8 c) false attrs) (room_kept page h)
 
 -- ---- One character, and those after it
@@ -82,25 +83,26 @@ text_put_after b text attrs page p h =
 -- ---- A whole text
 
 pub text_printed : (text : List ℕ) (attrs : Attrs) (page : Page) → IsPage page →
-    0 < length text → IsPrintableAscii text → page.column + length text ≤ page.width →
+    0 < length text → IsNarrowText text → page.column + length text ≤ page.width →
     text_put text attrs page ≡ printed_text text attrs page
 text_printed [] attrs page p some h room = absurd (omega (arith, some))
 text_printed (c ∷ []) attrs page p some h room =
-    let first = All-head (λ b. (0x20 ≤ b) × (b < 0x7F)) c [] h in
-    sym (printed_put c attrs page first.0 first.1 (omega arith))
+    let first = All-head IsNarrowCharacter c [] h in
+    sym (printed_put c attrs page first.1.1 (omega arith))
 text_printed (c ∷ d ∷ text) attrs page p some h room =
-    let first = All-head (λ b. (0x20 ≤ b) × (b < 0x7F)) c (d ∷ text) h in
-    let rest = All-tail (λ b. (0x20 ≤ b) × (b < 0x7F)) c (d ∷ text) h in
+    let first = All-head IsNarrowCharacter c (d ∷ text) h in
+    let rest = All-tail IsNarrowCharacter c (d ∷ text) h in
     let next = glyph_put (encode_utf8 c) false attrs page in
     text_put_after c (d ∷ text) attrs page p room
     ∙ (text_printed (d ∷ text) attrs next
-    (page_glyph_put (encode_utf8 c) false attrs page (IsGlyphText-printable c first.0 first.1) (omega arith) p)
+    (page_glyph_put (encode_utf8 c) false attrs page
+    (IsGlyphText-first c false first.0 first.1.0 first.1.1) (omega arith) p)
     (omega arith) rest (omega arith)
-    ∙ ap (printed_text (d ∷ text) attrs) (sym (printed_put c attrs page first.0 first.1 (omega arith))))
+    ∙ ap (printed_text (d ∷ text) attrs) (sym (printed_put c attrs page first.1.1 (omega arith))))
 
 -- ---- What the edit keeps
 
-pub page_text_put : (text : List ℕ) (attrs : Attrs) (page : Page) → IsPrintableAscii text →
+pub page_text_put : (text : List ℕ) (attrs : Attrs) (page : Page) → IsNarrowText text →
     page.column + length text ≤ page.width → IsPage page → IsPage (text_put text attrs page)
 page_text_put text attrs page t h p =
     let cells = put_text page.column text attrs (cursor_row page).cells in
@@ -108,7 +110,7 @@ page_text_put text attrs page t h p =
     (IsRow-put_text page.width (cursor_row page) page.column text attrs h t (IsRow-cursor_row page p)) in
     page_at page.row (page.column + length text) (with_cursor_cells cells page) q.cursor_row h q
 
-pub sized_text_put : (rows cols : ℕ) (text : List ℕ) (attrs : Attrs) (page : Page) → IsPrintableAscii text →
+pub sized_text_put : (rows cols : ℕ) (text : List ℕ) (attrs : Attrs) (page : Page) → IsNarrowText text →
     page.column + length text ≤ page.width → IsSized rows cols page → IsSized rows cols (text_put text attrs page)
 sized_text_put rows cols text attrs page t h s =
     sized rows cols page (text_put text attrs page) s

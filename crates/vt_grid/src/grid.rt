@@ -10,6 +10,7 @@ mod printing;
 mod resizing;
 mod scrolling;
 mod shifts;
+mod texts;
 
 use crate::page_rows::PageRows;
 use crate::size::Size;

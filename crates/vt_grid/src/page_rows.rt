@@ -1,7 +1,7 @@
 //! The rows of a page, without its cursor.
 
 ghost use Rattle.std.specs.Fn.{FnOnceReturnsAtMut, FnOnceTakesAtMut};
-ghost use Rattle.std.specs.Prelude.{◌≡◌, ◌≢◌, ◌+◌, ◌-◌, ◌*◌, ◌^◌, ◌&&◌, ◌++◌, ◌<◌, ◌≤◌, ℕ, IfOk, IfSome};
+ghost use Rattle.std.specs.Prelude.{◌≡◌, ◌≢◌, ◌+◌, ◌-◌, ◌^◌, ◌&&◌, ◌++◌, ◌<◌, ◌≤◌, ℕ, IfOk, IfSome};
 ghost use Rattle.std.specs.Prelude.{List, Some, All, true, false, encode_utf8, if◌then◌else◌, length};
 ghost use Rattle.std.specs.Prelude.{min, nat_le, nat_lt, replicate, slice_index_or, slice_set, take, drop};
 ghost use Rattle.vt_cells.specs.Cell.{CellValue, IsCell, attrs_of, is_blank, is_right_half, is_wide, text_of, widened};
@@ -10,13 +10,12 @@ ghost use Rattle.vt_cells.specs.Refusals.{OnlyOutOfMemory};
 ghost use Rattle.vt_rows.specs.Cells.{IsPaired, at, ends_blank, erased, marked_at};
 ghost use Rattle.vt_rows.specs.Cells.{narrowed_at, put_narrow, put_wide, widened_at};
 ghost use Rattle.vt_rows.specs.Row.{RowValue, IsRow, blank_row, deleted_row, inserted_row};
-ghost use Rattle.vt_rows.specs.Texts.{IsPrintableAscii, put_text};
-ghost use Rattle.vt_rows.specs.WideTexts.{IsWideText, put_wide_text};
 ghost use Rattle.vt_grid.specs.Sending.{LetsRowsGo};
 ghost use Rattle.vt_grid.specs.PageRows.{CanLetRowsGo, blank_page_rows, page_row, page_rows_down, page_rows_up};
 ghost use Rattle.vt_grid.specs.PageRows.{with_page_row, with_page_row_flag, with_row_cells};
 
 mod resizing;
+mod texts;
 
 use crate::flat::Flat;
 use crate::scrollback::Scrollback;
@@ -203,39 +202,6 @@ impl PageRows {
     {
         self.edit_row(row, |cells| {
             cells::put_narrow(cells, usize::from(col), c, attrs);
-        });
-    }
-
-    /// Puts the bytes of `text` at consecutive columns of a row as narrow glyphs, as
-    /// [`cells::put_text`] does.
-    #[inline]
-    pub fn put_text(&mut self, row: u16, col: u16, text: &[u8], attrs: Attrs)
-        requires inside { row < length self.old.rows }
-        requires paired { IsPaired (page_row self.old row).cells }
-        requires some { 0 < length text.now }
-        requires columns { col + length text.now ≤ length (page_row self.old row).cells }
-        requires printable { IsPrintableAscii text.now }
-        ensures { self.new ≡ with_row_cells row (put_text col text.now attrs (page_row self.old row).cells) self.old }
-    {
-        self.edit_row(row, |cells| {
-            cells::put_text(cells, usize::from(col), text, attrs);
-        });
-    }
-
-    /// Puts the characters of `text` at consecutive pairs of columns of a row as wide glyphs, as
-    /// [`cells::put_wide_text`] does.
-    #[inline]
-    pub fn put_wide_text(&mut self, row: u16, col: u16, text: &[char], attrs: Attrs)
-        requires inside { row < length self.old.rows }
-        requires paired { IsPaired (page_row self.old row).cells }
-        requires some { 0 < length text.now }
-        requires columns { col + 2 * length text.now ≤ length (page_row self.old row).cells }
-        requires wide { IsWideText text.now }
-        ensures { self.new
-            ≡ with_row_cells row (put_wide_text col text.now attrs (page_row self.old row).cells) self.old }
-    {
-        self.edit_row(row, |cells| {
-            cells::put_wide_text(cells, usize::from(col), text, attrs);
         });
     }
 

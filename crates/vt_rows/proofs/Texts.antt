@@ -11,13 +11,11 @@ use Rattle.std.proofs.lemmas.List.{length-map, map-append, ext_get_or, get_or-ma
 use Rattle.std.proofs.lemmas.List.Elements.{All-nil, All-cons, All-head, All-tail}
 use Rattle.vt_cells.specs.Attrs.{Attrs}
 use Rattle.vt_cells.specs.Cell.{CellValue, blank, glyph, default_blank, attrs_of, is_wide, is_right_half, IsCell}
-use Rattle.vt_cells.specs.Glyph.{IsGlyphText}
-use Rattle.vt_cells.proofs.Cells.{IsCell-space}
-use Rattle.vt_cells.proofs.Glyphs.{IsGlyphText-first}
+use Rattle.vt_cells.proofs.Cells.{IsCell-glyph, IsCell-space}
 use Rattle.vt_cells.proofs.Widths.{columns_of-ascii}
 use Rattle.vt_rows.specs.Cells.{at, IsPaired, put_cells, column_of, put_narrow}
 use Rattle.vt_rows.specs.Row.{RowValue, IsRow, with_cells}
-use Rattle.vt_rows.specs.Texts.{IsPrintableAscii, narrow_glyph, glyphs_of, put_text}
+use Rattle.vt_rows.specs.Texts.{IsPrintableAscii, IsNarrowCharacter, IsNarrowText, narrow_glyph, glyphs_of, put_text}
 use Rattle.vt_rows.proofs.Columns.{put_columns, length-put_cells, same_columns}
 use Rattle.vt_rows.proofs.Copying.{piece_taken}
 use Rattle.vt_rows.proofs.Pairs.{IsPaired-put_cells}
@@ -106,27 +104,30 @@ IsPaired-put_text c text attrs cells h p =
     IsPaired-put_cells c (length text) (glyph (0x20 ∷ []) false attrs) (glyphs_of attrs text)
     cells (length-glyphs_of attrs text) h refl refl (IsPaired-glyphs_of attrs text) p
 
--- Printable ASCII is the text of a narrow glyph.
-pub IsGlyphText-printable : (b : ℕ) → 0x20 ≤ b → b < 0x7F → IsGlyphText (encode_utf8 b) false
-IsGlyphText-printable b low high =
-    IsGlyphText-first b false (low_scalar b (omega arith))
-    (λ e. absurd (omega (arith, e))) (columns_of-ascii b low high)
+-- A printable ASCII character takes one column.
+pub narrow_ascii : (b : ℕ) → 0x20 ≤ b → b < 0x7F → IsNarrowCharacter b
+narrow_ascii b low high =
+    (low_scalar b (omega arith), (λ e. absurd (omega (arith, e)), columns_of-ascii b low high))
 
-All-glyphs_of : (attrs : Attrs) (text : List ℕ) → IsPrintableAscii text → All IsCell (glyphs_of attrs text)
+pub narrow_printable : (text : List ℕ) → IsPrintableAscii text → IsNarrowText text
+narrow_printable text h = λ k d lt. let b = h k d lt in narrow_ascii (get_or text k d) b.0 b.1
+
+All-glyphs_of : (attrs : Attrs) (text : List ℕ) → IsNarrowText text → All IsCell (glyphs_of attrs text)
 All-glyphs_of attrs [] h = All-nil IsCell
-All-glyphs_of attrs (b ∷ text) h =
-    let first = All-head (λ b. (0x20 ≤ b) × (b < 0x7F)) b text h in
-    All-cons IsCell (narrow_glyph attrs b) (glyphs_of attrs text) (IsGlyphText-printable b first.0 first.1)
-    (All-glyphs_of attrs text (All-tail (λ b. (0x20 ≤ b) × (b < 0x7F)) b text h))
+All-glyphs_of attrs (c ∷ text) h =
+    let first = All-head IsNarrowCharacter c text h in
+    All-cons IsCell (narrow_glyph attrs c) (glyphs_of attrs text)
+    (IsCell-glyph c false attrs first.0 first.1.0 first.1.1)
+    (All-glyphs_of attrs text (All-tail IsNarrowCharacter c text h))
 
 pub All-put_text : (c : ℕ) (text : List ℕ) (attrs : Attrs) (cells : List CellValue) →
-    IsPrintableAscii text → All IsCell cells → All IsCell (put_text c text attrs cells)
+    IsNarrowText text → All IsCell cells → All IsCell (put_text c text attrs cells)
 All-put_text c text attrs cells h all =
     All-put_cells c (length text) (glyph (0x20 ∷ []) false attrs)
     (glyphs_of attrs text) cells (IsCell-space attrs) (All-glyphs_of attrs text h) all
 
 pub IsRow-put_text : (width : ℕ) (row : RowValue) (c : ℕ) (text : List ℕ) (attrs : Attrs) → c + length text ≤ width →
-    IsPrintableAscii text → IsRow width row → IsRow width (with_cells row (put_text c text attrs row.cells))
+    IsNarrowText text → IsRow width row → IsRow width (with_cells row (put_text c text attrs row.cells))
 IsRow-put_text width row c text attrs h t r =
     let l = r.columns in
     IsRow-with_cells width row (put_text c text attrs row.cells)

@@ -1,13 +1,21 @@
--- Runs of printable ASCII in a row: one narrow glyph for each byte.
-use Rattle.std.specs.Prelude.{ℕ, ◌<◌, ◌≤◌, false, List, [], ◌∷◌, length, map, All}
-use Rattle.std.specs.Char.{encode_utf8}
+-- Runs of narrow characters in a row: one narrow glyph for each character.
+use Rattle.std.specs.Prelude.{◌≡◌, ◌≢◌, ℕ, ◌<◌, ◌≤◌, false, List, [], ◌∷◌, length, map, Some, All}
+use Rattle.std.specs.Char.{encode_utf8, IsScalar}
 use Rattle.vt_cells.specs.Attrs.{Attrs}
 use Rattle.vt_cells.specs.Cell.{CellValue, glyph}
+use Rattle.vt_cells.specs.Glyph.{columns_of}
 use Rattle.vt_rows.specs.Cells.{put_cells}
 
 -- The bytes are printable ASCII, each a character of one column.
 abbrev pub IsPrintableAscii : List ℕ → Type 0
 IsPrintableAscii text = All (λ b. (0x20 ≤ b) × (b < 0x7F)) text
+
+-- A character that takes one column.
+abbrev pub IsNarrowCharacter : ℕ → Type 0
+IsNarrowCharacter c = IsScalar c × ((c ≢ 0xFFFD) × (columns_of c ≡ Some 1))
+
+abbrev pub IsNarrowText : List ℕ → Type 0
+IsNarrowText text = All IsNarrowCharacter text
 
 -- The narrow glyph of a character.
 abbrev pub narrow_glyph : Attrs → ℕ → CellValue

@@ -13,7 +13,7 @@ ghost use Rattle.vt_cells.specs.Glyph.{columns_of};
 ghost use Rattle.vt_rows.specs.Cells.{IsPaired, at, blanks, ends_blank, erased, marked_at};
 ghost use Rattle.vt_rows.specs.Cells.{narrowed_at, put_narrow, put_wide, widened_at};
 ghost use Rattle.vt_rows.specs.Internals.{HasRoom, left_blanked, right_replaced};
-ghost use Rattle.vt_rows.specs.Texts.{IsPrintableAscii, glyphs_of, put_text};
+ghost use Rattle.vt_rows.specs.Texts.{IsNarrowText, IsPrintableAscii, glyphs_of, put_text};
 ghost use Rattle.vt_rows.specs.WideTexts.{IsWideText, put_wide_text, wide_glyphs_of};
 
 use std::mem;
@@ -99,6 +99,40 @@ fn write_each(cells: &mut [Cell], text: &[u8], attrs: Attrs)
     let count = cells.len().min(text.len());
     for k in 0..count {
         cells[k] = cell::ascii(text[k], attrs);
+    }
+}
+
+/// Puts the characters of `text` at consecutive columns as narrow glyphs.
+///
+/// The result is the same as that of calling `put_narrow` for each character;
+/// wide glyphs that the run cuts in two at either end become blanks, as after
+/// [`put_text`].
+#[inline]
+pub fn put_narrow_text(cells: &mut [Cell], column: usize, text: &[char], attrs: Attrs)
+    requires paired { IsPaired cells.old }
+    requires some { 0 < length text.now }
+    requires inside { column + length text.now ≤ length cells.old }
+    requires narrow { IsNarrowText text.now }
+    ensures value { cells.new ≡ put_text column text.now attrs cells.old }
+    ensures paired { IsPaired cells.new }
+    ensures sound { All IsCell cells.old → All IsCell cells.new }
+{
+    let end = column + text.len();
+    blank_left(cells, column);
+    space_right(cells, end - 1, attrs);
+    write_narrow(&mut cells[column..end], text, attrs);
+}
+
+/// Sets each cell to the narrow glyph of its character.
+#[inline]
+fn write_narrow(cells: &mut [Cell], text: &[char], attrs: Attrs)
+    requires same { length cells.old ≡ length text.now }
+    requires narrow { IsNarrowText text.now }
+    ensures { cells.new ≡ glyphs_of attrs text.now }
+{
+    let count = cells.len().min(text.len());
+    for k in 0..count {
+        cells[k] = cell::glyph(text[k], false, attrs);
     }
 }
 

@@ -20,3 +20,5 @@ pub mod Scalars
 pub mod Selectors
 pub mod Lanes
 pub mod WideTexts
+pub mod NarrowTexts
+pub mod NarrowBlocks

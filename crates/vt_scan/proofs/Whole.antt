@@ -49,8 +49,8 @@ four a b c d e =
     ∙ read_next (b ∷ []) a c (d ∷ []) n3 b3
     ∙ read_last (b ∷ c ∷ []) a d (character_of (a ∷ b ∷ c ∷ d ∷ [])) e refl
 
--- A whole character is read as itself.
-read_whole : (text : List ℕ) → is_character text ≡ true →
+-- A complete character is read as itself.
+pub read_whole : (text : List ℕ) → is_character text ≡ true →
     run start text ≡ back_with (Character (character_of text) ∷ [])
 unfolding is_character
 read_whole [] e = absurd (false≢true e)
@@ -103,7 +103,7 @@ read_before (a ∷ b ∷ c ∷ d ∷ []) e =
     (read_first a (b ∷ c ∷ []) high b1 ∙ read_next [] a b (c ∷ []) n2 b2 ∙ read_next (b ∷ []) a c [] n3 b3)
 read_before (a ∷ b ∷ c ∷ d ∷ x ∷ xs) e = absurd (false≢true e)
 
-at_start : (held : Held) (s : State) → held.kind ≡ Ground → held.unfinished ≡ [] → StandsFor held s → s ≡ start
+pub at_start : (held : Held) (s : State) → held.kind ≡ Ground → held.unfinished ≡ [] → StandsFor held s → s ≡ start
 at_start held s is none stands =
     let kind : s.kind ≡ Ground = sym stands.kind ∙ is in
     let read : Reads held Ground s.collected = subst (λ (k : Kind). Reads held k s.collected) is stands.reads in

@@ -9,3 +9,4 @@ pub mod Texts
 pub mod Selectors
 pub mod Internals
 pub mod Printable
+pub mod NarrowTexts

@@ -228,7 +228,7 @@ fn extend_three(first: u8, second: u8, third: u8, byte: u8) -> (Bytes, Extended)
 }
 
 /// Returns whether `byte` can follow `first` as the second byte of a character.
-fn may_be_second(first: u8, byte: u8) -> bool
+pub(crate) fn may_be_second(first: u8, byte: u8) -> bool
     ensures { result ≡ is_second first byte }
 {
     match first {
@@ -241,14 +241,14 @@ fn may_be_second(first: u8, byte: u8) -> bool
 }
 
 /// Returns whether `byte` can be the third or fourth byte of a character.
-fn may_continue(byte: u8) -> bool
+pub(crate) fn may_continue(byte: u8) -> bool
     ensures { result ≡ continues byte }
 {
     byte >= 0x80 && byte <= 0xBF
 }
 
 /// Decodes a two-byte character.
-fn join_two(a: u8, b: u8) -> char
+pub(crate) fn join_two(a: u8, b: u8) -> char
     requires { is_character (a ∷ b ∷ []) ≡ true }
     ensures { result ≡ character_of (a ∷ b ∷ []) }
 {
@@ -257,7 +257,7 @@ fn join_two(a: u8, b: u8) -> char
 }
 
 /// Decodes a three-byte character.
-fn join_three(a: u8, b: u8, c: u8) -> char
+pub(crate) fn join_three(a: u8, b: u8, c: u8) -> char
     requires { is_character (a ∷ b ∷ c ∷ []) ≡ true }
     ensures { result ≡ character_of (a ∷ b ∷ c ∷ []) }
 {

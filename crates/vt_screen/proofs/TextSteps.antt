@@ -1,16 +1,15 @@
--- A run of printable ASCII that fits on its row: the steps of its characters in order.
-use Rattle.std.proofs.Common.{◌≡◌, ℕ, suc, ◌-◌, ◌<◌, ◌≤◌, Bool, true, false, List, [], ◌∷◌}
+-- A run of narrow characters that fits on its row: the steps of its characters in order.
+use Rattle.std.proofs.Common.{◌≡◌, ℕ, suc, ◌-◌, ◌<◌, Bool, true, false, List, [], ◌∷◌}
 use Rattle.std.proofs.Common.{length, get_or, refl, sym, ap, subst, ◌∙◌, Option, arith}
 use Rattle.std.specs.Prelude.{Some, if◌then◌else◌}
 use Rattle.std.specs.List.{FoldsTo}
-use Rattle.std.proofs.Math.Utf8.{low_scalar}
 use Rattle.std.proofs.lemmas.Bool.Decides.{nat_tests}
 use Rattle.std.proofs.lemmas.List.Elements.{All-head, All-tail}
 use Rattle.vt_cells.specs.Attrs.{Attrs}
+use Rattle.vt_cells.specs.Glyph.{columns_of}
 use Rattle.vt_cells.specs.Op.{FitsAttrs}
-use Rattle.vt_cells.proofs.Widths.{columns_of-ascii}
 use Rattle.vt_rows.specs.Row.{RowValue}
-use Rattle.vt_rows.specs.Texts.{IsPrintableAscii}
+use Rattle.vt_rows.specs.Texts.{IsNarrowCharacter, IsNarrowText}
 use Rattle.vt_grid.specs.Outgoing.{printed_out}
 use Rattle.vt_grid.specs.Page.{Page}
 use Rattle.vt_grid.specs.Printing.{printed}
@@ -27,14 +26,9 @@ use Rattle.vt_screen.proofs.Asides.{kept_last}
 use Rattle.vt_screen.proofs.Kept.{kept_printed}
 use Rattle.vt_screen.proofs.Sizes.{same_printed}
 
-pub IsPrintable-ascii : (c : ℕ) → c < 0x7F → IsPrintable c
-IsPrintable-ascii c h = (low_scalar c (omega arith), λ e. absurd (omega (arith, e)))
-
--- ---- the screen after the run
-
-last_printed : (c : ℕ) (screen : ScreenValue) → 0x20 ≤ c →
-    c < 0x7F → 0 < screen.page.width → last_after c screen ≡ Some c
-last_printed c screen low high some = rw (columns_of-ascii c low high) (grind (arith, nat_tests))
+last_printed : (c : ℕ) (screen : ScreenValue) → columns_of c ≡ Some 1 → 0 < screen.page.width →
+    last_after c screen ≡ Some c
+last_printed c screen one some = rw one (grind (arith, nat_tests))
 
 -- The screen after a run was printed.
 abbrev with_text : List ℕ → ScreenValue → ScreenValue
@@ -42,12 +36,12 @@ with_text text screen =
     record screen { page = printed_text text screen.attrs screen.page; last = Some (get_or text (length text - 1) 0) }
 
 pub text_stepped_is : (text : List ℕ) (screen : ScreenValue) → 0 < length text →
-    IsPrintableAscii text → 0 < screen.page.width → screen_after_text text screen ≡ with_text text screen
+    IsNarrowText text → 0 < screen.page.width → screen_after_text text screen ≡ with_text text screen
 text_stepped_is [] screen some h width = absurd (omega (arith, some))
 text_stepped_is (c ∷ []) screen some h width =
-    let first = All-head (λ b. (0x20 ≤ b) × (b < 0x7F)) c [] h in
+    let first = All-head IsNarrowCharacter c [] h in
     ap (λ (last : Option ℕ). record screen { page = printed c screen.attrs screen.page; last = last })
-    (last_printed c screen first.0 first.1 width)
+    (last_printed c screen first.1.1 width)
 text_stepped_is (c ∷ d ∷ text) screen some h width =
     let next = display_after (Print c) screen in
     let same = same_printed c screen.attrs screen.page in
@@ -55,30 +49,28 @@ text_stepped_is (c ∷ d ∷ text) screen some h width =
     let i : length (c ∷ d ∷ text) - 1 ≡ suc (length (d ∷ text) - 1) = omega arith in
     let last : get_or (d ∷ text) (length (d ∷ text) - 1) 0 ≡ get_or (c ∷ d ∷ text) (length (c ∷ d ∷ text) - 1) 0 =
     sym (ap (λ (k : ℕ). get_or (c ∷ d ∷ text) k 0) i) in
-    text_stepped_is (d ∷ text) next (omega arith) (All-tail (λ b. (0x20 ≤ b) × (b < 0x7F)) c (d ∷ text) h) wide
+    text_stepped_is (d ∷ text) next (omega arith) (All-tail IsNarrowCharacter c (d ∷ text) h) wide
     ∙ ap (λ (l : ℕ). record screen { page = printed_text (c ∷ d ∷ text) screen.attrs screen.page; last = Some l }) last
 
-kept_each : (text : List ℕ) (attrs : Attrs) (page : Page) (last : Option ℕ) (aside : Aside) → IsPrintableAscii text →
+kept_each : (text : List ℕ) (attrs : Attrs) (page : Page) (last : Option ℕ) (aside : Aside) → IsNarrowText text →
     FitsAttrs attrs → IsKept page last aside → IsKept (printed_text text attrs page) last aside
 kept_each [] attrs page last aside h fits k = k
 kept_each (c ∷ text) attrs page last aside h fits k =
-    let first = All-head (λ b. (0x20 ≤ b) × (b < 0x7F)) c text h in
-    let shown = IsPrintable-ascii c first.1 in
-    kept_each text attrs (printed c attrs page) last aside (All-tail (λ b. (0x20 ≤ b) × (b < 0x7F)) c text h)
-    fits (kept_printed c attrs page last last aside shown.0 shown.1 k.printable fits k)
+    let first = All-head IsNarrowCharacter c text h in
+    kept_each text attrs (printed c attrs page) last aside (All-tail IsNarrowCharacter c text h)
+    fits (kept_printed c attrs page last last aside first.0 first.1.0 k.printable fits k)
 
 pub kept_text : (text : List ℕ) (attrs : Attrs) (page : Page) (last : Option ℕ) (c : ℕ) (aside : Aside) →
-    IsPrintableAscii text → c < 0x7F → FitsAttrs attrs → IsKept page last aside →
+    IsNarrowText text → IsPrintable c → FitsAttrs attrs → IsKept page last aside →
     IsKept (printed_text text attrs page) (Some c) aside
-kept_text text attrs page last c aside h low fits k =
-    kept_last (printed_text text attrs page) last (Some c) aside
-    (IsPrintable-ascii c low) (kept_each text attrs page last aside h fits k)
+kept_text text attrs page last c aside h shown fits k =
+    kept_last (printed_text text attrs page) last (Some c) aside shown (kept_each text attrs page last aside h fits k)
 
 -- ---- nothing is reported
 
-nothing_out : (c : ℕ) (attrs : Attrs) (page : Page) → 0x20 ≤ c →
-    c < 0x7F → page.column < page.width → printed_out c attrs page ≡ []
-nothing_out c attrs page low high h = out_narrow c attrs page (columns_of-ascii c low high) ∙ rw (has_room page h) refl
+nothing_out : (c : ℕ) (attrs : Attrs) (page : Page) → columns_of c ≡ Some 1 →
+    page.column < page.width → printed_out c attrs page ≡ []
+nothing_out c attrs page one h = out_narrow c attrs page one ∙ rw (has_room page h) refl
 
 pub sent_nothing : (b : Bool) (c : ℕ) (screen : ScreenValue) (gone : List RowValue) → gone ≡ [] →
     display_after (Print c) screen
@@ -89,10 +81,10 @@ sent_nothing true c screen gone e = refl
 sent_nothing false c screen gone e = rw e refl
 
 pub print_scrolls : {S : Type 0} (does : CallRelation S) (c : ℕ) (s : S) (screen : ScreenValue) →
-    0x20 ≤ c → c < 0x7F → screen.page.column < screen.page.width →
+    columns_of c ≡ Some 1 → screen.page.column < screen.page.width →
     Scrolls does (state s screen) (Print c) (state s (display_after (Print c) screen))
-print_scrolls does c s screen low high room =
-    let none = nothing_out c screen.attrs screen.page low high room in
+print_scrolls does c s screen one room =
+    let none = nothing_out c screen.attrs screen.page one room in
     record {
       screen = sent_nothing screen.is_alternate c screen (printed_out c screen.attrs screen.page) none;
       called =

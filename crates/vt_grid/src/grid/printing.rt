@@ -1,20 +1,16 @@
 //! Printing: glyphs, combining characters, and glyphs whose width changes with U+FE0F.
 
-ghost use Rattle.std.specs.Prelude.{◌≡◌, ◌≢◌, ◌+◌, ◌-◌, ◌*◌, ◌&&◌, ◌==◌, ◌<◌, ◌≤◌, [], Some};
+ghost use Rattle.std.specs.Prelude.{◌≡◌, ◌≢◌, ◌+◌, ◌-◌, ◌&&◌, ◌==◌, ◌<◌, ◌≤◌, [], Some};
 ghost use Rattle.std.specs.Prelude.{encode_utf8, false, if◌then◌else◌, length, nat_lt, not, slice_set, true};
 ghost use Rattle.vt_cells.specs.Cell.{IsCell, attrs_of, glyph, is_right_half, is_wide, marked, text_of};
 ghost use Rattle.vt_cells.specs.Glyph.{IsGlyphText, columns_of, is_selector, is_wide_text};
 ghost use Rattle.vt_rows.specs.Cells.{at, widened_at};
-ghost use Rattle.vt_rows.specs.Texts.{IsPrintableAscii};
-ghost use Rattle.vt_rows.specs.WideTexts.{IsWideText};
 ghost use Rattle.vt_grid.specs.Internals.{IsSelected, mark_out, room_out, wide_out, wide_printed};
 ghost use Rattle.vt_grid.specs.Outgoing.{printed_out};
 ghost use Rattle.vt_grid.specs.Page.{IsPage, cursor_row, with_row};
 ghost use Rattle.vt_grid.specs.Printing.{carries, glyph_put, lifted_page, made_narrow, mark_column, mark_printed};
 ghost use Rattle.vt_grid.specs.Printing.{mark_put, printed, room_made, takes_mark, width_followed, with_cursor_cells};
 ghost use Rattle.vt_grid.specs.Sending.{LetsRowsGo};
-ghost use Rattle.vt_grid.specs.Texts.{printed_text, text_put};
-ghost use Rattle.vt_grid.specs.WideTexts.{wide_text_put};
 
 use super::Grid;
 use crate::scrollback::Scrollback;
@@ -70,62 +66,6 @@ impl Grid {
         ensures { result ≡ self.now.width - self.now.column }
     {
         self.size.cols - self.pos.col
-    }
-
-    /// Prints `text`, printable ASCII that must fit on the cursor's row, in one edit of the row. No
-    /// row scrolls off the page.
-    ///
-    /// The result is the same as that of calling [`Grid::print_columns`] for each character.
-    #[inline]
-    pub fn print_text(&mut self, text: &[u8], attrs: Attrs)
-        requires some { 0 < length text.now }
-        requires room { self.old.column + length text.now ≤ self.old.width }
-        requires printable { IsPrintableAscii text.now }
-        ensures { self.new ≡ printed_text text.now attrs self.old }
-    {
-        self.put_text(text, attrs);
-    }
-
-    /// Puts the bytes of `text` at the cursor as narrow glyphs, and moves the cursor past them.
-    #[inline]
-    fn put_text(&mut self, text: &[u8], attrs: Attrs)
-        requires some { 0 < length text.now }
-        requires room { self.old.column + length text.now ≤ self.old.width }
-        requires printable { IsPrintableAscii text.now }
-        ensures value { self.new ≡ text_put text.now attrs self.old }
-        ensures page { IsPage self.old }
-    {
-        self.page_rows
-            .put_text(self.pos.row, self.pos.col, text, attrs);
-        self.pos.col += text.len() as u16;
-    }
-
-    /// Prints `text`, wide characters that must fit on the cursor's row, in one edit of the row. No
-    /// row scrolls off the page.
-    ///
-    /// The result is the same as that of calling [`Grid::print_columns`] for each character.
-    #[inline]
-    pub fn print_wide_text(&mut self, text: &[char], attrs: Attrs)
-        requires some { 0 < length text.now }
-        requires room { self.old.column + 2 * length text.now ≤ self.old.width }
-        requires wide { IsWideText text.now }
-        ensures { self.new ≡ printed_text text.now attrs self.old }
-    {
-        self.put_wide_text(text, attrs);
-    }
-
-    /// Puts the characters of `text` at the cursor as wide glyphs, and moves the cursor past them.
-    #[inline]
-    fn put_wide_text(&mut self, text: &[char], attrs: Attrs)
-        requires some { 0 < length text.now }
-        requires room { self.old.column + 2 * length text.now ≤ self.old.width }
-        requires wide { IsWideText text.now }
-        ensures value { self.new ≡ wide_text_put text.now attrs self.old }
-        ensures page { IsPage self.old }
-    {
-        self.page_rows
-            .put_wide_text(self.pos.row, self.pos.col, text, attrs);
-        self.pos.col += 2 * text.len() as u16;
     }
 
     /// Prints a character that takes one column.

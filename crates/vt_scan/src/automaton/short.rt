@@ -1,6 +1,6 @@
 //! Shortcuts for bytes that do not have to be fed one by one.
 
-ghost use Rattle.std.specs.Prelude.{◌≡◌, ◌≢◌, ◌≤◌, ◌<◌, ◌-◌, ◌*◌, ◌==◌, ◌&&◌, ◌↔◌, ◌⊎◌, ℕ};
+ghost use Rattle.std.specs.Prelude.{◌≡◌, ◌≢◌, ◌≤◌, ◌<◌, ◌-◌, ◌==◌, ◌&&◌, ◌↔◌, ◌⊎◌, ℕ};
 ghost use Rattle.std.specs.Prelude.{[], ◌∷◌, All, IfOk, IfSome};
 ghost use Rattle.std.specs.Prelude.{IsErr, IsSome, IsTrue, None, OnErr, Some};
 ghost use Rattle.std.specs.Prelude.{false, length, slice_index_or, take};
@@ -16,14 +16,13 @@ ghost use Rattle.std.specs.List.{AllByRecursion};
 ghost use Rattle.vt_scan.specs.Scanner.{EndsEscape, ends_sequence, is_final, is_intermediate, leads_in};
 ghost use Rattle.vt_scan.specs.Internals.{IsUnended, Opens};
 ghost use Rattle.vt_scan.specs.Table.{class_of, turn_of};
-ghost use Rattle.vt_scan.specs.WideTexts.{IsWideCharacter};
 ghost use Rattle.vt_scan.specs.declared.event.Event.{Event};
 ghost use Rattle.vt_scan.specs.declared.table.Kind.{Kind};
 ghost use Rattle.vt_scan.specs.declared.table.Turn.{Turn};
 
 use super::Scanner;
 use crate::table::{Ending, Kind, Turn, turn_at};
-use crate::unfinished::{first_character, wide_characters};
+use crate::unfinished::first_character;
 use std::simd::prelude::*;
 use vt_cells::Error;
 
@@ -179,24 +178,6 @@ impl Scanner {
             first_character(bytes)
         } else {
             None
-        }
-    }
-
-    /// Decodes leading characters of three bytes and two columns each into `text`, as many as fit,
-    /// and returns their number. It is 0 if a sequence or a character is incomplete. Feeding their
-    /// bytes causes one event each and leaves the scanner unchanged.
-    #[inline]
-    pub fn wide_text(&self, bytes: &[u8], text: &mut [char]) -> usize
-        ensures room { result ≤ length text.new }
-        ensures same { length text.new ≡ length text.old }
-        ensures inside { 3 * result ≤ length bytes.now }
-        ensures fed { FeedsAll self.now (take (3 * result) bytes.now) self.now (map Character (take result text.new)) }
-        ensures wide { All IsWideCharacter (take result text.new) }
-    {
-        if self.is_fresh() {
-            wide_characters(bytes, text)
-        } else {
-            0
         }
     }
 
@@ -358,7 +339,7 @@ impl Scanner {
 
     /// Returns whether the scanner is in the ground state and no character is incomplete.
     #[inline(always)]
-    fn is_fresh(&self) -> bool
+    pub(super) fn is_fresh(&self) -> bool
         ensures { IsTrue result ↔ ((self.now.kind ≡ Kind.Ground) × (self.now.unfinished ≡ [])) }
     {
         match self.kind {

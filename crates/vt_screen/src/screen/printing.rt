@@ -3,7 +3,7 @@
 ghost use Rattle.std.specs.Prelude.{◌≡◌, ◌≢◌, ◌+◌, ◌-◌, ◌*◌, ◌<◌, ◌≤◌, IfSome, OnErr, OnOk, Some, length};
 ghost use Rattle.vt_cells.specs.Glyph.{columns_of};
 ghost use Rattle.vt_cells.specs.Refusals.{OnlyOutOfMemory};
-ghost use Rattle.vt_rows.specs.Texts.{IsPrintableAscii};
+ghost use Rattle.vt_rows.specs.Texts.{IsNarrowText, IsPrintableAscii};
 ghost use Rattle.vt_rows.specs.WideTexts.{IsWideText};
 ghost use Rattle.vt_screen.specs.Run.{Refuses, Takes, state};
 ghost use Rattle.vt_screen.specs.Screen.{IsPrintable};
@@ -95,6 +95,20 @@ pub fn print_text(screen: &mut Screen, text: &[u8])
 {
     screen.grid.print_text(text, screen.attrs);
     screen.last = Some(char::from(text[text.len() - 1]));
+}
+
+/// Prints a run of wide characters as one edit, with the same effect as calling
+/// [`text`] for each character. The run must fit on the cursor's row. No row
+/// scrolls off the page, and no callback is invoked.
+#[inline]
+pub fn print_narrow_text(screen: &mut Screen, text: &[char])
+    requires some { 0 < length text.now }
+    requires room { screen.old.page.column + length text.now ≤ screen.old.page.width }
+    requires narrow { IsNarrowText text.now }
+    ensures { screen.new ≡ screen_after_text text.now screen.old }
+{
+    screen.grid.print_narrow_text(text, screen.attrs);
+    screen.last = Some(text[text.len() - 1]);
 }
 
 /// Prints a run of wide characters as one edit, with the same effect as calling

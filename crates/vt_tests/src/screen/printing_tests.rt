@@ -5,7 +5,7 @@ use crate::aids::steps::Step::Text;
 use std::test::Fail;
 
 #[rattlefmt::skip]
-const PRINTED: [((u16, u16), &str, &str); 55] = [
+const PRINTED: [((u16, u16), &str, &str); 63] = [
     // A pending wrap.
     ((2, 4), "abcd", "0:abcd @0,4\n"),
     ((2, 4), "abcd\n", "0:abcd @1,4\n"),
@@ -30,6 +30,16 @@ const PRINTED: [((u16, u16), &str, &str); 55] = [
     ((1, 6), "한글あ", "0:[한][글][あ] @0,6\n"),
     ((1, 5), "中↑文", "0:[中]↑[文] @0,5\n"),
     ((1, 4), "中文\u{301}", "0:[中][文\u{301}] @0,4\n"),
+
+    // Runs of narrow characters: up to the last column, with ASCII between, and through wide glyphs.
+    ((2, 6), "привет", "0:привет @0,6\n"),
+    ((2, 4), "привет", "0:прив/ 1:ет @1,2\n"),
+    ((2, 1), "éà", "0:é/ 1:à @1,1\n"),
+    ((1, 8), "Ça va, à", "0:Ça va, à @0,8\n"),
+    ((1, 4), "┌─┐\r│", "0:│─┐ @0,1\n"),
+    ((1, 8), "中中中\x1b[1;2Héé", "0:.éé [中] @0,3\n"),
+    ((1, 6), "é中à文", "0:é[中]à[文] @0,6\n"),
+    ((1, 4), "éà\u{301}ü", "0:éà\u{301}ü @0,3\n"),
 
     // Combining characters: a cell accepts them while its text is shorter than 26 bytes.
     ((1, 4), "e\u{301}", "0:e\u{301} @0,1\n"),

@@ -9,9 +9,9 @@ returns-clause-read g c =
     let does = g.CB.Callbacks.does in
     let bytes = c.args.bytes.now in
     let before = parsing c.args.scanner.now c.args.screen.now c.args.callbacks.now in
-    let led = parsing c.args.scanner.now c.print_wide.new.screen c.args.callbacks.now in
+    let led = parsing c.args.scanner.now c.print_run.new.screen c.args.callbacks.now in
     let now = parsing c.process_one.new.scanner c.process_one.new.screen c.process_one.new.callbacks in
-    let zero : c.in_ok-wide.wide ≡ 0 = omega (arith, c.if-wide-gt0.false) in
+    let zero : c.in_ok-printed.printed ≡ 0 = omega (arith, c.if-printed-gt0.false) in
     let ran : Ran does before (take 0 bytes) led =
-    subst (λ (n : ℕ). Ran does before (take n bytes) led) zero c.in_ok-wide.ensures.ran in
+    subst (λ (n : ℕ). Ran does before (take n bytes) led) zero c.in_ok-printed.ensures.ran in
     read_behind does before led now bytes _ ran c.process_one.ensures.read

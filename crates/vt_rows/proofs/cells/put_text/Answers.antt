@@ -3,7 +3,7 @@ use Rattle.vt_cells.specs.Cell.{glyph}
 use Rattle.vt_rows.specs.Cells.{put_cells}
 use Rattle.vt_rows.specs.Texts.{glyphs_of}
 use Rattle.vt_rows.proofs.Steps.{HasRoom-left_blanked, erase_steps}
-use Rattle.vt_rows.proofs.Texts.{length-glyphs_of, IsPaired-put_text, All-put_text}
+use Rattle.vt_rows.proofs.Texts.{length-glyphs_of, IsPaired-put_text, All-put_text, narrow_printable}
 use Rattle.vt_rows.proofs.cells.put_text.Goals as goal
 
 pub space_right-requires-clause-room : goal.space_right-requires-clause-room
@@ -32,4 +32,5 @@ returns-clause-paired c =
 pub returns-clause-sound : goal.returns-clause-sound
 returns-clause-sound c =
     λ all. rw (returns-clause-value c)
-    (All-put_text c.args.column c.args.text.now c.args.attrs c.args.cells.now c.requires.printable all)
+    (All-put_text c.args.column c.args.text.now c.args.attrs c.args.cells.now
+    (narrow_printable c.args.text.now c.requires.printable) all)

@@ -1,5 +1,6 @@
 use Rattle.std.proofs.Common.{◌+◌, length, sym, subst}
 use Rattle.vt_cells.specs.declared.pos.Pos.{Pos}
+use Rattle.vt_rows.proofs.Texts.{narrow_printable}
 use Rattle.vt_grid.specs.Internals.{IsSized, page_of}
 use Rattle.vt_grid.specs.PageRows.{PageRowsValue}
 use Rattle.vt_grid.proofs.Texts.{sized_text_put}
@@ -15,4 +16,4 @@ invariant_of-self c =
     (sym c.put_text.ensures)
     (sized_text_put s.size.rows s.size.cols c.args.text.now c.args.attrs
     (page_of s.page_rows s.pos s.saved_pos s.scroll_top s.scroll_bottom s.origin_mode s.saved_origin_mode)
-    c.requires.printable room c.self.invariant)
+    (narrow_printable c.args.text.now c.requires.printable) room c.self.invariant)

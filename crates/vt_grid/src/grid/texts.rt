@@ -1,0 +1,103 @@
+//! Printing of runs of characters that fit on the cursor's row, each as one edit.
+
+ghost use Rattle.std.specs.Prelude.{◌≡◌, ◌+◌, ◌*◌, ◌<◌, ◌≤◌, length};
+ghost use Rattle.vt_rows.specs.Texts.{IsNarrowText, IsPrintableAscii};
+ghost use Rattle.vt_rows.specs.WideTexts.{IsWideText};
+ghost use Rattle.vt_grid.specs.Page.{IsPage};
+ghost use Rattle.vt_grid.specs.Texts.{printed_text, text_put};
+ghost use Rattle.vt_grid.specs.WideTexts.{wide_text_put};
+
+use super::Grid;
+use vt_cells::Attrs;
+
+impl Grid {
+    /// Prints `text`, printable ASCII that must fit on the cursor's row, in one
+    /// edit of the row. No row scrolls off the page.
+    ///
+    /// The result is the same as that of calling [`Grid::print_columns`] for each
+    /// character.
+    #[inline]
+    pub fn print_text(&mut self, text: &[u8], attrs: Attrs)
+        requires some { 0 < length text.now }
+        requires room { self.old.column + length text.now ≤ self.old.width }
+        requires printable { IsPrintableAscii text.now }
+        ensures { self.new ≡ printed_text text.now attrs self.old }
+    {
+        self.put_text(text, attrs);
+    }
+
+    /// Puts the bytes of `text` at the cursor as narrow glyphs, and moves the
+    /// cursor past them.
+    #[inline]
+    fn put_text(&mut self, text: &[u8], attrs: Attrs)
+        requires some { 0 < length text.now }
+        requires room { self.old.column + length text.now ≤ self.old.width }
+        requires printable { IsPrintableAscii text.now }
+        ensures value { self.new ≡ text_put text.now attrs self.old }
+        ensures page { IsPage self.old }
+    {
+        self.page_rows
+            .put_text(self.pos.row, self.pos.col, text, attrs);
+        self.pos.col += text.len() as u16;
+    }
+
+    /// Prints `text`, narrow characters that must fit on the cursor's row, in one
+    /// edit of the row. No row scrolls off the page.
+    ///
+    /// The result is the same as that of calling [`Grid::print_columns`] for each
+    /// character.
+    #[inline]
+    pub fn print_narrow_text(&mut self, text: &[char], attrs: Attrs)
+        requires some { 0 < length text.now }
+        requires room { self.old.column + length text.now ≤ self.old.width }
+        requires narrow { IsNarrowText text.now }
+        ensures { self.new ≡ printed_text text.now attrs self.old }
+    {
+        self.put_narrow_text(text, attrs);
+    }
+
+    /// Puts the characters of `text` at the cursor as narrow glyphs, and moves the
+    /// cursor past them.
+    #[inline]
+    fn put_narrow_text(&mut self, text: &[char], attrs: Attrs)
+        requires some { 0 < length text.now }
+        requires room { self.old.column + length text.now ≤ self.old.width }
+        requires narrow { IsNarrowText text.now }
+        ensures value { self.new ≡ text_put text.now attrs self.old }
+        ensures page { IsPage self.old }
+    {
+        self.page_rows
+            .put_narrow_text(self.pos.row, self.pos.col, text, attrs);
+        self.pos.col += text.len() as u16;
+    }
+
+    /// Prints `text`, wide characters that must fit on the cursor's row, in one
+    /// edit of the row. No row scrolls off the page.
+    ///
+    /// The result is the same as that of calling [`Grid::print_columns`] for each
+    /// character.
+    #[inline]
+    pub fn print_wide_text(&mut self, text: &[char], attrs: Attrs)
+        requires some { 0 < length text.now }
+        requires room { self.old.column + 2 * length text.now ≤ self.old.width }
+        requires wide { IsWideText text.now }
+        ensures { self.new ≡ printed_text text.now attrs self.old }
+    {
+        self.put_wide_text(text, attrs);
+    }
+
+    /// Puts the characters of `text` at the cursor as wide glyphs, and moves the
+    /// cursor past them.
+    #[inline]
+    fn put_wide_text(&mut self, text: &[char], attrs: Attrs)
+        requires some { 0 < length text.now }
+        requires room { self.old.column + 2 * length text.now ≤ self.old.width }
+        requires wide { IsWideText text.now }
+        ensures value { self.new ≡ wide_text_put text.now attrs self.old }
+        ensures page { IsPage self.old }
+    {
+        self.page_rows
+            .put_wide_text(self.pos.row, self.pos.col, text, attrs);
+        self.pos.col += 2 * text.len() as u16;
+    }
+}

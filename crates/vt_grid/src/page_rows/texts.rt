@@ -1,0 +1,62 @@
+//! Runs of characters that are put into a row of a page as one edit.
+
+ghost use Rattle.std.specs.Prelude.{◌≡◌, ◌+◌, ◌*◌, ◌<◌, ◌≤◌, length};
+ghost use Rattle.vt_rows.specs.Cells.{IsPaired};
+ghost use Rattle.vt_rows.specs.Texts.{IsNarrowText, IsPrintableAscii, put_text};
+ghost use Rattle.vt_rows.specs.WideTexts.{IsWideText, put_wide_text};
+ghost use Rattle.vt_grid.specs.PageRows.{page_row, with_row_cells};
+
+use super::PageRows;
+use vt_cells::Attrs;
+use vt_rows::cells;
+
+impl PageRows {
+    /// Puts the bytes of `text` at consecutive columns of a row as narrow glyphs,
+    /// as [`cells::put_text`] does.
+    #[inline]
+    pub fn put_text(&mut self, row: u16, col: u16, text: &[u8], attrs: Attrs)
+        requires inside { row < length self.old.rows }
+        requires paired { IsPaired (page_row self.old row).cells }
+        requires some { 0 < length text.now }
+        requires columns { col + length text.now ≤ length (page_row self.old row).cells }
+        requires printable { IsPrintableAscii text.now }
+        ensures { self.new ≡ with_row_cells row (put_text col text.now attrs (page_row self.old row).cells) self.old }
+    {
+        self.edit_row(row, |cells| {
+            cells::put_text(cells, usize::from(col), text, attrs);
+        });
+    }
+
+    /// Puts the characters of `text` at consecutive columns of a row as narrow
+    /// glyphs, as [`cells::put_narrow_text`] does.
+    #[inline]
+    pub fn put_narrow_text(&mut self, row: u16, col: u16, text: &[char], attrs: Attrs)
+        requires inside { row < length self.old.rows }
+        requires paired { IsPaired (page_row self.old row).cells }
+        requires some { 0 < length text.now }
+        requires columns { col + length text.now ≤ length (page_row self.old row).cells }
+        requires narrow { IsNarrowText text.now }
+        ensures { self.new ≡ with_row_cells row (put_text col text.now attrs (page_row self.old row).cells) self.old }
+    {
+        self.edit_row(row, |cells| {
+            cells::put_narrow_text(cells, usize::from(col), text, attrs);
+        });
+    }
+
+    /// Puts the characters of `text` at consecutive pairs of columns of a row as
+    /// wide glyphs, as [`cells::put_wide_text`] does.
+    #[inline]
+    pub fn put_wide_text(&mut self, row: u16, col: u16, text: &[char], attrs: Attrs)
+        requires inside { row < length self.old.rows }
+        requires paired { IsPaired (page_row self.old row).cells }
+        requires some { 0 < length text.now }
+        requires columns { col + 2 * length text.now ≤ length (page_row self.old row).cells }
+        requires wide { IsWideText text.now }
+        ensures { self.new
+            ≡ with_row_cells row (put_wide_text col text.now attrs (page_row self.old row).cells) self.old }
+    {
+        self.edit_row(row, |cells| {
+            cells::put_wide_text(cells, usize::from(col), text, attrs);
+        });
+    }
+}

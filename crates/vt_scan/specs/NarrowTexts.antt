@@ -1,0 +1,24 @@
+-- Runs of narrow characters.
+use Rattle.std.specs.Prelude.{◌≡◌, ◌≢◌, ℕ, ◌<◌, true, List, map, Some, All}
+use Rattle.std.specs.Char.{IsScalar}
+use Rattle.vt_cells.specs.Glyph.{columns_of}
+use Rattle.vt_scan.specs.Automaton.{Character, start}
+use Rattle.vt_scan.specs.Characters.{character_of, is_character}
+use Rattle.vt_scan.specs.Run.{run}
+use Rattle.vt_scan.specs.Texts.{back_with}
+
+-- A character that takes one column.
+abbrev pub IsNarrowCharacter : ℕ → Type 0
+IsNarrowCharacter c = IsScalar c × ((c ≢ 0xFFFD) × (columns_of c ≡ Some 1))
+
+-- In plain text, the bytes are read as the characters of `text`, each of which takes one column.
+pub record AreNarrow (bytes text : List ℕ) : Type 0 where
+  pub read : run start bytes ≡ back_with (map Character text)
+  pub narrow : All IsNarrowCharacter text
+
+-- Bytes above 7F that are such a character.
+pub record IsNarrowCoded (bytes : List ℕ) (c : ℕ) : Type 0 where
+  pub whole : is_character bytes ≡ true
+  pub means : c ≡ character_of bytes
+  pub low : c < 0xFFFD
+  pub narrow : columns_of c ≡ Some 1

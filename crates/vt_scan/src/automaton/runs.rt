@@ -1,0 +1,55 @@
+//! Runs of characters that are read without feeding their bytes one by one.
+
+ghost use Rattle.std.specs.Prelude.{◌≡◌, ◌≤◌, ◌*◌, All, length, map, take};
+ghost use Rattle.vt_scan.specs.Automaton.{Character};
+ghost use Rattle.vt_scan.specs.NarrowTexts.{IsNarrowCharacter};
+ghost use Rattle.vt_scan.specs.Scanner.{FeedsAll};
+ghost use Rattle.vt_scan.specs.WideTexts.{IsWideCharacter};
+
+use super::Scanner;
+use crate::narrow::narrow_characters;
+use crate::unfinished::wide_characters;
+
+impl Scanner {
+    /// Decodes the run of wide characters of three bytes at the start of `bytes`
+    /// into `text`, as far as it fits, if nothing is unfinished. Returns the number
+    /// of characters.
+    ///
+    /// Feeding their bytes would report these characters and leave the scanner
+    /// unchanged.
+    #[inline]
+    pub fn wide_text(&self, bytes: &[u8], text: &mut [char]) -> usize
+        ensures room { result ≤ length text.new }
+        ensures same { length text.new ≡ length text.old }
+        ensures inside { 3 * result ≤ length bytes.now }
+        ensures fed { FeedsAll self.now (take (3 * result) bytes.now) self.now (map Character (take result text.new)) }
+        ensures wide { All IsWideCharacter (take result text.new) }
+    {
+        if self.is_fresh() {
+            wide_characters(bytes, text)
+        } else {
+            0
+        }
+    }
+
+    /// Decodes the run of narrow characters below U+3000 at the start of `bytes`
+    /// into `text`, as far as it fits, if nothing is unfinished. Returns the number
+    /// of characters and the number of their bytes.
+    ///
+    /// Feeding their bytes would report these characters and leave the scanner
+    /// unchanged.
+    #[inline]
+    pub fn narrow_text(&self, bytes: &[u8], text: &mut [char]) -> (usize, usize)
+        ensures room { result.0 ≤ length text.new }
+        ensures same { length text.new ≡ length text.old }
+        ensures inside { result.1 ≤ length bytes.now }
+        ensures fed { FeedsAll self.now (take result.1 bytes.now) self.now (map Character (take result.0 text.new)) }
+        ensures narrow { All IsNarrowCharacter (take result.0 text.new) }
+    {
+        if self.is_fresh() {
+            narrow_characters(bytes, text)
+        } else {
+            (0, 0)
+        }
+    }
+}
