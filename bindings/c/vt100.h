@@ -61,6 +61,13 @@
  *     terminal. A screen is steady if every visible glyph reproduces itself when it is printed;
  *     only glyphs with U+FE0F may not.
  *
+ *     Two statements hold for every screen, steady or not. A text for a terminal consists of
+ *     printable characters, control sequences with decimal numbers (cursor movement, erasing,
+ *     colors, scrolling) and a few fixed sequences. It never contains an OSC, DCS, APC, PM or SOS
+ *     string, a reset, a bell, a C1 control, or a query that a terminal replies to. And a plain
+ *     terminal that has read a redraw or a difference of the contents is plain again, so that the
+ *     next full redraw of a steady screen displays that screen.
+ *
  * THE ALTERNATE SCREEN
  *     The alternate screen has no scrollback. While it is active, no scrollback is displayed or
  *     counted, and functions that display or discard scrollback do nothing.

@@ -20,7 +20,7 @@ OnSource Does None status new = (status ≡ no_object) × (new ≡ None)
 OnSource Does (Some old) status (Some new) = Does old.source status new.source × (new.text ≡ old.text)
 OnSource Does (Some old) status None = ⊥
 
--- An empty handle gets a value with an empty text, or an allocation fails and the handle stays empty.
+-- An empty handle receives an object whose text is empty, or an allocation fails and the handle stays empty.
 abbrev pub Fills : (Source → Type 0) → ℕ → Option Object → Type 0
 Fills Is status (Some new) = (status ≡ ok) × Is new.source × (string_bytes new.text ≡ [])
 Fills Is status None = status ≡ out_of_memory

@@ -122,7 +122,7 @@ pub extern "C" fn vt100_update(
 }
 
 /// Generates the next update for a viewer, as [`vt100_update`] does, except
-/// that a difference may move rows first.
+/// that a difference may begin by moving rows.
 ///
 /// # Errors
 ///

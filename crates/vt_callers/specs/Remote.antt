@@ -35,7 +35,7 @@ pub record IsWhole (screen : ScreenValue) : Type 0 where
   pub sound : IsScreen screen
   pub colored : IsColored screen
 
--- The terminal received the difference from `prev` to `screen`.
+-- The terminal received the diff from `prev` to `screen`.
 pub record SendsNext {S : Type 0} (screen prev : ScreenValue) (old new : Parsing S) : Type 0 where
   pub whole : IsWhole screen
   pub takes : HasTaken (bytes_of_all (difference (shown screen) (shown prev))) old new

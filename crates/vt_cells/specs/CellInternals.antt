@@ -67,7 +67,7 @@ head_of word = record { attrs = attrs_of_word (word / 128); shape = shape_of (wo
 abbrev pub head_word : HeadValue → ℕ
 head_word head = shape_bits head.shape + 128 * attrs_word head.attrs
 
--- The word is a valid packing of a head.
+-- The word is a valid packed form of a cell's head, which has everything but the cell's text.
 pub record IsHead (word : ℕ) : Type 0 where
   pub shape : shape_bits (shape_of (word % 128)) ≡ word % 128
   pub attrs : IsAttrsWord (word / 128)

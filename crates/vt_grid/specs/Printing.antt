@@ -30,7 +30,7 @@ left_row page =
 abbrev pub goes_down : Page → Bool
 goes_down page = if at_bottom page then true else nat_lt (page.row + 1) (length page.rows)
 
--- The page with the wrapped flag of the row left by a wrap, if there is one, set to `goes_on`.
+-- The page after the wrapped flag of the row from which the cursor wrapped, if it did, has been set to `goes_on`.
 abbrev pub flagged_left : Option ℕ → Bool → Page → Page
 flagged_left (Some r) goes_on page = flagged r goes_on page
 flagged_left None goes_on page = page

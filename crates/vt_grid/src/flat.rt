@@ -57,7 +57,7 @@ impl Flat {
         })
     }
 
-    /// Returns a copy in which each row has the same place.
+    /// Returns a copy in which each row has the same place in the cells.
     ///
     /// # Errors
     ///

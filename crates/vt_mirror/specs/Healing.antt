@@ -40,7 +40,8 @@ pub record IsTakenFine {S : Type 0} (does : CallRelation S) (number : ℕ) (kind
   pub own : asked ≡ number → SeesAny does kind update old new
   pub others : asked ≢ number → IsLeft old new
 
--- The effect of a mirror's call on the viewer with this number.
+-- The effect of a call to a mirror on the viewer with this number, whose terminal may have any callbacks and whose
+-- screens need not be steady.
 abbrev pub WatchesAny : {S : Type 0} → CallRelation S → ℕ → Watching S → MirrorCall → Watching S → Type 0
 WatchesAny {S} does number old (Process bytes answer) new = IsLeft old new
 WatchesAny {S} does number old (SetSize rows cols answer) new = IsLeft old new

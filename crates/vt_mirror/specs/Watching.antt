@@ -93,7 +93,7 @@ pub record IsTakenBy {S : Type 0} (number asked : ℕ) (update : Update) (old ne
   pub own : asked ≡ number → Sees update old new
   pub others : asked ≢ number → IsLeft old new
 
--- The effect of a mirror's call on the viewer with this number.
+-- The effect of a call to a mirror on the viewer with this number.
 abbrev pub Watches : {S : Type 0} → ℕ → Watching S → MirrorCall → Watching S → Type 0
 Watches {S} number old (Process bytes answer) new = IsLeft old new
 Watches {S} number old (SetSize rows cols answer) new = IsLeft old new

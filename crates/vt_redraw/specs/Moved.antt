@@ -52,10 +52,11 @@ moved band picture = record picture {
 
 -- ---- the sequences
 
--- The sequences that delete (DL) and insert (IL) rows at a given row.
+-- The sequences that move the cursor to row `row` and delete `count` rows there (DL).
 abbrev pub lines_deleted_text : (row count : ℕ) → List ℕ
 lines_deleted_text row count = bytes_of (MoveTo row 0) ++ counted count 0x4D
 
+-- The sequences that move the cursor to row `row` and insert `count` rows there (IL).
 abbrev pub lines_inserted_text : (row count : ℕ) → List ℕ
 lines_inserted_text row count = bytes_of (MoveTo row 0) ++ counted count 0x4C
 

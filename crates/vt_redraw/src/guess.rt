@@ -269,8 +269,8 @@ fn savings(view: &View<'_>, height: u16, here: &Numbers) -> [i32; 257]
     savings
 }
 
-/// Returns the number of bytes that rows `first..behind` would save if the
-/// terminal's rows were blank.
+/// Returns how many fewer bytes rows `first..behind` would need if the
+/// terminal's rows were blank than they need over its present rows.
 fn between(savings: &[i32; 257], first: u16, behind: u16) -> i32
     requires first { first ≤ 256 }
     requires behind { behind ≤ 256 }

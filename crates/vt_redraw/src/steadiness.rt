@@ -28,8 +28,8 @@ const SELECTED_LEN: usize = 4;
 /// Returns whether each glyph of the picture reproduces itself when it is
 /// printed on a blank row.
 ///
-/// If all texts in a row have fewer than four bytes, only their lengths are
-/// read.
+/// If the text of every cell in a row is shorter than four bytes, only the
+/// lengths are read.
 pub fn is_steady(view: &View<'_>) -> bool
     ensures { IsTrue result ↔ IsSteady view.now }
 {

@@ -42,7 +42,7 @@ pub record IsMadeOf (finals : List ℕ) (controls : List (List ℕ)) (text : Lis
 abbrev pub escapes : List (List ℕ) → List (List ℕ)
 escapes texts = map (λ text. 0x1B ∷ text) texts
 
--- The sequences in output that draws: CUP, CUF, ECH, EL, ED, SGR, CR LF, LF, BS, DECSC, DECRC, and DECTCEM to show or
+-- The sequences that may occur in drawing output: CUP, CUF, ECH, EL, ED, SGR, CR LF, LF, BS, DECSC, DECRC, and DECTCEM to show or
 -- hide the cursor.
 abbrev pub drawing_finals : List ℕ
 drawing_finals = codes "HCXKJm"

@@ -129,8 +129,8 @@ impl Layer {
 }
 
 impl GroupRead {
-    /// Returns a reading that has no effect, with the next group read as
-    /// `wanted`.
+    /// Returns a result that changes nothing, after which the next group is
+    /// interpreted according to `wanted`.
     fn silent(wanted: Wanted) -> Self
         ensures { result ≡ silent wanted }
     {

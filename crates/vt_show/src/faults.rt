@@ -16,7 +16,7 @@ pub enum Fault {
     Write,
 }
 
-/// Returns the message for standard error (without a line end) and the exit status for a fault.
+/// Returns the message for standard error (without a trailing newline) and the exit status for a fault.
 /// `None` stands for invalid command-line arguments.
 ///
 /// ```text

@@ -217,7 +217,7 @@ impl Scanner {
         1 + more
     }
 
-    /// Parses the bytes that introduce a sequence after ESC, and returns their number.
+    /// Parses the bytes after an ESC that introduce a sequence, and returns how many it parsed.
     #[inline(always)]
     fn lead_from_escape(&mut self, bytes: &[u8]) -> usize
         requires { self.old.kind ≡ Kind.Escape }
