@@ -1,7 +1,7 @@
 -- Calls for the viewers of a mirror that a handle holds.
-use Rattle.std.specs.Prelude.{◌≡◌, ◌⊎◌, ℕ, List, Option, Some, None, string_bytes}
+use Rattle.std.specs.Prelude.{◌≡◌, ℕ, List, Option, Some, None, string_bytes}
 use Rattle.vt_mirror.specs.Calls.{Kind}
-use Rattle.vt_mirror.specs.Mirror.{MirrorValue}
+use Rattle.vt_mirror.specs.Mirror.{MirrorValue, is_current}
 use Rattle.vt_mirror.specs.Viewers.{note_of}
 use Rattle.vt_mirror.specs.Watching.{IsFresh}
 use Rattle.vt_scan.specs.Automaton.{start}
@@ -10,6 +10,7 @@ use Rattle.vt_screen.specs.Screen.{fresh_screen}
 use Rattle.vt100.specs.Parser.{parsing}
 use Rattle.vt100_c.specs.Calls.{Refuses}
 use Rattle.vt100_c.specs.Mirrors.{Joins, LeavesIt, UpdateNumbers, Updates}
+use Rattle.vt100_c.specs.Shown.{bit}
 use Rattle.vt100_c.specs.Sources.{mirror_in}
 use Rattle.vt100_c.specs.Status.{ok, no_object, wrong_kind}
 use Rattle.vt100_c.specs.declared.object.Object.{Object}
@@ -85,7 +86,8 @@ abbrev pub HoldsMirror : Option Object → (MirrorValue → Type 0) → Type 0
 HoldsMirror None Holds = ⊥
 HoldsMirror (Some object) Holds = OnMirror (mirror_in object.source) Holds
 
--- The number is 0 or 1. It is 1 only if the screen recorded for the viewer is the mirror's screen.
-abbrev pub TellsCurrent : (viewer : ℕ) → (out : ℕ) → MirrorValue → Type 0
-TellsCurrent viewer out mirror =
-    ((out ≡ 1) × (note_of mirror.viewers viewer ≡ Some mirror.parser.screen)) ⊎ (out ≡ 0)
+-- The number is 1 if the viewer is up to date, and otherwise 0. If it is 1, the screen recorded for the viewer is the
+-- mirror's screen.
+pub record TellsCurrent (viewer out : ℕ) (mirror : MirrorValue) : Type 0 where
+  pub exact : out ≡ bit 1 (is_current mirror viewer)
+  pub noted : out ≡ 1 → note_of mirror.viewers viewer ≡ Some mirror.parser.screen
