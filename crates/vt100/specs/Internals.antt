@@ -63,7 +63,7 @@ abbrev pub report_of : Sequence → CallValue
 report_of sequence =
     UnhandledCsi sequence.first sequence.second sequence.parameters.now.groups sequence.byte
 
--- Whether a step invokes no callbacks, allocates nothing, and scrolls no rows off the page.
+-- Whether a step never invokes callbacks, allocates, or scrolls rows off the page.
 abbrev pub is_own : Step → Bool
 is_own (CallBack call) = false
 is_own (Print c) = false

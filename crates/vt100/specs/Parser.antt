@@ -19,7 +19,7 @@ pub record Parsing (S : Type 0) : Type 0 where
   pub callbacks : S
   pub is_failed : Bool
 
--- A parser with this scanner, screen and callbacks that has not run out of memory.
+-- A parser that has the given scanner, screen and callbacks and has not run out of memory.
 abbrev pub parsing : {S : Type 0} → Held → ScreenValue → S → Parsing S
 parsing scanner screen callbacks =
     record { scanner = scanner; screen = screen; callbacks = callbacks; is_failed = false }
@@ -35,7 +35,7 @@ abbrev pub stage : {S : Type 0} → Parsing S → screen.State S
 stage parser = screen.state parser.callbacks parser.screen
 
 -- Parsing `bytes` takes the parser from `old` to `new`. From every state that the scanner of `old` stands for, it
--- reaches the state after the bytes, and the callbacks and the screen take the steps of all events on the way, in
+-- reaches the state after the bytes, and the callbacks and the screen take the steps of all events along the way, in
 -- order.
 abbrev pub Ran : {S : Type 0} → CallRelation S → Parsing S → List ℕ → Parsing S → Type 0
 Ran does old bytes new =

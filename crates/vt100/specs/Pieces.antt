@@ -25,7 +25,7 @@ processing bytes answer = record { bytes = bytes; answer = answer }
 abbrev pub IsFine : Processing → Type 0
 IsFine call = call.answer ≡ Ok tt
 
--- The parser `new` is `old` after its terminal became `after`, with its callbacks unchanged.
+-- The parser `new` has not failed, has the scanner state and the screen of `after`, and has the callbacks of `old`.
 pub record HasRead {S : Type 0} (old : Parsing S) (after : Terminal) (new : Parsing S) : Type 0 where
   pub is_failed : new.is_failed ≡ false
   pub scanner : StandsFor new.scanner after.scan

@@ -113,8 +113,9 @@ fn unmarked_by_table<CB: Callbacks>(
     scrolling(screen, callbacks, sequence, count)
 }
 
-/// Performs SU, REP, or any other control sequence without a private marker
-/// that [`counted`] doesn't handle. SU and REP may scroll rows off the page.
+/// Performs a control sequence without a private marker or an intermediate
+/// byte, other than those that [`counted`] handles. SU and REP may scroll rows
+/// off the page.
 ///
 /// `count` is the first parameter, which defaults to 1.
 ///
@@ -153,8 +154,8 @@ fn scrolling<CB: Callbacks>(
 }
 
 /// Performs the control sequence with the final byte `byte` if its only
-/// parameter is a count, which must be at least 1. Otherwise returns false and
-/// leaves the screen unchanged.
+/// parameter is a count. Otherwise returns false and leaves the screen
+/// unchanged. `count` must be at least 1.
 #[inline(always)]
 #[tactic(auto, using(crate::proofs::Stepping::tested_steps), unfolding(vt_screen::specs::Controls::counted_step))]
 fn counted(screen: &mut Screen, byte: u8, count: u16) -> bool

@@ -31,8 +31,8 @@ use vt_screen::Callbacks;
 /// - `two`, `list`: anything that calls on the chunks do, one call on the whole
 ///   input may also do.
 /// - `parted`, `parted_list`: anything that one call on the whole input does,
-///   calls on the chunks may also do, with the same final state. With two
-///   chunks, the parser has not failed between them.
+///   calls on the chunks may also do, with the same final state. For two
+///   chunks, `parted` also states that the parser has not failed between them.
 ///
 /// The last two assume that the parser's scanner represents at least one state
 /// of the automaton. By the clause `stands` of `Parser::screen`, every parser's
@@ -154,10 +154,9 @@ pub fn chain<CB: Callbacks>()
 /// States that a plain terminal is plain again after it has read a redraw of
 /// any screen or a difference to any screen, even if that screen is not steady.
 ///
-/// - `kept`: this holds for output that keeps plain terminals plain. By its
-///   clause `again`, each of `contents_formatted`, `contents_diff`,
-///   `contents_diff_scrolling` and `cursor_state_formatted` returns such
-///   output.
+/// - `kept`: this holds for output that keeps plain terminals plain. By their
+///   clauses `again`, `contents_formatted`, `contents_diff`,
+///   `contents_diff_scrolling` and `cursor_state_formatted` return such output.
 /// - `made`: this holds for output that makes any terminal plain, provided that
 ///   the terminal displays no scrollback. By its clause `again`,
 ///   `contents_formatted_reset` returns such output.
@@ -191,9 +190,9 @@ pub fn again<CB: Callbacks>()
 ///   the main page, followed by the page itself.
 /// - `one`: the text is therefore the same for every capacity, however the
 ///   bytes are split and however far the screen is scrolled back in between.
-/// - `recorded`: callbacks that keep a text and its capture state hold this
-///   text once a full capture is appended, provided that their sink accepted
-///   everything.
+/// - `recorded`: callbacks that store the captured text and its capture state
+///   hold this text once a full capture is appended, provided that their sink
+///   accepted everything.
 /// - `kept`: for one call to `process` on any parser, the rows reported with
 ///   `false`, followed by the scrollback after the call, match the scrollback
 ///   before the call followed by the rows that scrolled off the top of the main

@@ -13,7 +13,7 @@ use vt_scan::{Event, Events, Scanner};
 use vt_screen::screen::printing;
 use vt_screen::{Callbacks, Screen};
 
-/// The maximum number of characters other than ASCII printed in one edit.
+/// The maximum number of non-ASCII characters printed in one edit.
 const RUN: usize = 64;
 
 /// Parses `bytes`, applies the resulting events to the screen, and invokes
@@ -46,8 +46,8 @@ pub fn process<CB: Callbacks>(
 }
 
 /// Parses and applies the first unit of `bytes`, and returns its length in
-/// bytes. A unit is a run of printable ASCII or wide characters that fits on
-/// the cursor's row, a single-byte control function, a complete or partial
+/// bytes. A unit is a run of narrow characters or of wide characters that fits
+/// on the cursor's row, a single-byte control function, a complete or partial
 /// sequence, bytes of a string, or otherwise one character or byte.
 ///
 /// # Errors
@@ -149,8 +149,8 @@ fn end_sequence<CB: Callbacks>(
 }
 
 /// Parses and applies the complete multi-byte character at the start of
-/// `bytes`, or what [`process_rest`] parses if there is none, and returns its
-/// length in bytes.
+/// `bytes`, and returns its length in bytes. If there is none, does the same as
+/// [`process_rest`].
 ///
 /// # Errors
 ///
@@ -227,8 +227,8 @@ fn process_rest<CB: Callbacks>(
 ///
 /// # Errors
 ///
-/// Returns the number of bytes read before the byte that caused the scrolling,
-/// if there is not enough memory to keep the row that scrolls off the top.
+/// If there is not enough memory to keep the row that scrolls off the top,
+/// returns the number of bytes read before the byte that caused the scrolling.
 #[inline]
 fn print_some<CB: Callbacks>(
     scanner: &Scanner,
@@ -256,8 +256,8 @@ fn print_some<CB: Callbacks>(
 }
 
 /// Parses and applies the first unit of `bytes`, whose first byte is at least
-/// 0x80, and returns its length in bytes. The unit is a run of wide characters,
-/// or otherwise the unit that [`process_one`] reads.
+/// 0x80, and returns its length in bytes. The unit is a run of wide or narrow
+/// characters, or otherwise the unit that [`process_one`] reads.
 ///
 /// # Errors
 ///
@@ -283,10 +283,9 @@ fn process_high<CB: Callbacks>(
     process_one(scanner, screen, callbacks, bytes)
 }
 
-/// Prints the run at the start of `bytes` of wide characters of three bytes, or
-/// of narrow characters below U+3000, stopping at the end of the cursor's row.
-/// Returns the number of bytes read, which is 0 if the first character is of
-/// neither kind.
+/// Prints a run of three-byte wide characters, or of narrow characters below
+/// U+3000, from the start of `bytes`, stopping at the end of the cursor's row.
+/// Returns the number of bytes read, which is 0 if nothing was printed.
 #[inline(always)]
 fn print_run<CB: Callbacks>(
     scanner: &Scanner,
@@ -298,8 +297,8 @@ fn print_run<CB: Callbacks>(
     ensures { ReadsOrStops CB.does (parsing scanner.now screen.old callbacks.now) bytes.now
         (parsing scanner.now screen.new callbacks.now) result }
 {
-    // Most combining characters begin with CC or CD, and end a run at once: trying one would cost
-    // more than it saves.
+    // The most common combining characters begin with CC or CD. They end a run at once, so trying
+    // to print a run would cost more than it saves.
     let may_combine = bytes[0] == 0xCC || bytes[0] == 0xCD;
     if bytes[0] >= 0xC2 && bytes[0] < 0xE3 && !may_combine {
         return print_narrow_run(scanner, screen, callbacks, bytes);
@@ -329,8 +328,8 @@ fn print_wide_run<CB: Callbacks>(
     print_wide_some(scanner, screen, callbacks, bytes, &mut text)
 }
 
-/// Prints a run of wide characters, at most as many as fit in the buffer
-/// `text`. Returns the number of bytes read.
+/// Prints a run of wide characters, at most as many as fit in the buffer `text`
+/// and on the cursor's row. Returns the number of bytes read.
 #[inline(always)]
 fn print_wide_some<CB: Callbacks>(
     scanner: &Scanner,
@@ -387,8 +386,9 @@ fn print_narrow_some<CB: Callbacks>(
     print_narrow_fitting(scanner, screen, callbacks, bytes, &mut text[..most])
 }
 
-/// Prints a run of narrow characters, at most as many as fit in the buffer
-/// `text`. Returns the number of bytes read.
+/// Prints a run of at most `text.len()` narrow characters, using `text` as a
+/// buffer. The cursor's row must have room for that many. Returns the number of
+/// bytes read.
 #[inline(always)]
 fn print_narrow_fitting<CB: Callbacks>(
     scanner: &Scanner,

@@ -26,7 +26,7 @@ impl<'a> Sequence<'a> {
     /// Reports to the callbacks that the sequence, or a part of it, is
     /// unhandled.
     ///
-    /// It is never inlined, because it builds a table of the groups that no
+    /// It is never inlined, because it builds a table of the groups, which no
     /// other code path needs.
     #[inline(never)]
     pub fn report<CB: Callbacks>(self, screen: &mut Screen, callbacks: &mut CB)

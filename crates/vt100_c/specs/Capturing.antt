@@ -27,7 +27,7 @@ due_behind due None state = wrong_kind
 due_behind due (Some value) None = wrong_kind
 due_behind due (Some value) (Some state) = due value
 
--- The value and the capture exist, and `Holds` holds for them.
+-- There are a value and a capture state, and `Holds` holds for them.
 abbrev pub OnCapture : {A : Type 0} → Option A → Option Written → (A → Written → Type 0) → Type 0
 OnCapture None state Holds = ⊥
 OnCapture (Some value) None Holds = ⊥
@@ -65,7 +65,7 @@ any_screen_is_due screen = ok
 abbrev pub HaveText : ScreenValue → Written → Type 0
 HaveText screen state = 0 < length (basic_texts state (all_rows screen))
 
--- The status of a call with the index of a reported row: `ok` if the log has such a row.
+-- The status of a call with the index of a reported row: `ok` if the log has a row with this index.
 abbrev pub has_reported : ℕ → Logged → ℕ
 has_reported index log = if nat_lt index (length log.rows) then ok else bad_argument
 

@@ -26,12 +26,12 @@ abbrev pub due_on : (ScreenValue → ℕ) → Option ScreenValue → ℕ
 due_on due None = wrong_kind
 due_on due (Some screen) = due screen
 
--- The status of a call on a handle; if the handle has a screen, it is the status `due` of that screen.
+-- The status of a call on a handle. If the handle has a screen, `due` determines the status from that screen.
 abbrev pub due_at : (ScreenValue → ℕ) → Option Object → ℕ
 due_at due None = no_object
 due_at due (Some object) = due_on due (screen_in object.source)
 
--- The status `ok`, which every screen gets.
+-- The status `ok`, for every screen.
 abbrev pub any_screen : ScreenValue → ℕ
 any_screen screen = ok
 
@@ -83,7 +83,7 @@ abbrev pub due_beside : (ScreenValue → ScreenValue → ℕ) → Option ScreenV
 due_beside due screen None = bad_argument
 due_beside due screen (Some prev) = due_on_both due screen (screen_in prev.source)
 
--- The status `ok`, which every pair of screens gets.
+-- The status `ok`, for every pair of screens.
 abbrev pub any_screens : ScreenValue → ScreenValue → ℕ
 any_screens screen prev = ok
 

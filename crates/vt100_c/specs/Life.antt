@@ -23,8 +23,8 @@ IsNewParser rows cols capacity wanted (Screen screen) = ⊥
 IsNewParser rows cols capacity wanted (Mirror mirror) = ⊥
 IsNewParser rows cols capacity wanted (Capture written) = ⊥
 
--- A value of this size is created in an empty handle. If the handle already holds an object or the size is invalid,
--- the handle is unchanged.
+-- A value with `rows` rows and `cols` columns is created in an empty handle. If the handle already holds an object
+-- or the size is invalid, the handle is unchanged.
 abbrev pub Makes : (rows cols : ℕ) → (Source → Type 0) → Option Object → ℕ → Option Object → Type 0
 Makes rows cols Is (Some old) status new = (status ≡ in_use) × (new ≡ Some old)
 Makes rows cols Is None status new =
@@ -78,7 +78,7 @@ abbrev pub refusal_on : Option ScreenValue → ℕ
 refusal_on None = wrong_kind
 refusal_on (Some screen) = out_of_memory
 
--- The value with its screen replaced by `other`, if that is a screen.
+-- The value with its screen, if it has one, replaced by the screen `other`, if there is one.
 abbrev pub with_other : Option ScreenValue → Source → Source
 with_other other (Parser parser) = Parser (record parser { screen = unwrap_or other parser.screen })
 with_other other (Screen screen) = Screen (unwrap_or other screen)
@@ -91,12 +91,12 @@ swap_status (Some own) (Some other) = ok
 swap_status (Some own) None = wrong_kind
 swap_status None other = wrong_kind
 
--- The object with its screen replaced by `other`, if that is a screen, and with its text unchanged.
+-- The object with its screen, if it has one, replaced by the screen `other`, if there is one. Its text is unchanged.
 abbrev pub held_with_other : Option ScreenValue → Object → Object
 held_with_other other object = record object { source = with_other other object.source }
 
--- The screens of two handles are swapped, and their texts are unchanged. If either handle is empty, both are
--- unchanged.
+-- The screens of two handles are swapped; the text stored in each handle is unchanged. If either handle is empty or
+-- has no screen, both are unchanged.
 abbrev pub Swaps : (old old' : Option Object) → ℕ → (new new' : Option Object) → Type 0
 Swaps None old' status new new' = (status ≡ no_object) × (new ≡ None) × (new' ≡ old')
 Swaps (Some old) None status new new' = (status ≡ no_object) × (new ≡ Some old) × (new' ≡ None)

@@ -145,7 +145,7 @@ cells_size (UnhandledCsi first second groups byte) = 0
 cells_size (UnhandledOsc parts) = 0
 cells_size (OnScroll row alternate) = min (length (trimmed_row row).cells * 40) (2 ^ 64 - 1)
 
--- The rows, followed by the row that a call reports without its trailing default blanks.
+-- The rows, followed by the row that a call reports, if any, with its trailing default blanks removed.
 abbrev pub rows_with : CallValue → List RowValue → List RowValue
 rows_with AudibleBell rows = rows
 rows_with VisualBell rows = rows

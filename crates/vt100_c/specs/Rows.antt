@@ -1,4 +1,4 @@
--- The concatenated texts of rows, and the position at which each ends.
+-- The concatenated text of rows, and the position at which the text of each row ends.
 use Rattle.std.specs.Prelude.{◌≡◌, ◌+◌, ◌<◌, ◌≤◌, ℕ, List, [], ◌∷◌, ◌++◌, drop, length, take, nat_le, nat_lt}
 use Rattle.std.specs.Prelude.{Option, Some, None, if◌then◌else◌}
 use Rattle.std.specs.List.{concat}
@@ -10,12 +10,13 @@ use Rattle.vt100_c.specs.Sources.{screen_in}
 use Rattle.vt100_c.specs.Status.{ok, bad_argument, other_size}
 use Rattle.vt100_c.specs.declared.object.Object.{Object}
 
--- The end of each text in a concatenation that begins at position `at`.
+-- The position at which each string of a list ends, if the strings are concatenated starting at position `at`.
 abbrev pub ends_from : ℕ → List (List ℕ) → List ℕ
 ends_from at [] = []
 ends_from at (text ∷ texts) = (at + length text) ∷ ends_from (at + length text) texts
 
--- The first `count` texts of `all` are concatenated, their ends are stored, and the texts `left` remain.
+-- `joined` is the concatenation of the first `count` strings of `all`, `ends` begins with their end positions, and
+-- the strings `left` remain.
 pub record IsJoined (all left : List (List ℕ)) (count : ℕ) (joined ends : List ℕ) : Type 0 where
   pub done : List (List ℕ)
   pub parts : all ≡ done ++ left
@@ -36,20 +37,22 @@ has_range start room screen = if nat_lt start screen.page.width then has_places 
 abbrev pub have_range : (start room : ℕ) → ScreenValue → ScreenValue → ℕ
 have_range start room screen prev = if same_size screen.page prev.page then has_range start room screen else other_size
 
--- The plain texts of the displayed rows, limited to `width` columns from `start` on.
+-- The plain text of each displayed row, in the `width` columns starting at `start`.
 abbrev pub plain_rows : (start width : ℕ) → ScreenValue → List (List ℕ)
 plain_rows start width screen = row_texts start (start + width) (visible_rows screen)
 
--- The first `count` numbers are the ends of the concatenated texts.
+-- The first `count` numbers of `ends` are the positions at which the strings `texts` end when they are concatenated.
 abbrev pub AreEnds : (count : ℕ) → List ℕ → List (List ℕ) → Type 0
 AreEnds count ends texts = take count ends ≡ ends_from 0 texts
 
--- The texts are concatenated, and the first `count` numbers are their ends.
+-- `joined` is the concatenation of the strings `texts`, and the first `count` numbers of `ends` are their end
+-- positions.
 pub record JoinsTexts (count : ℕ) (texts : List (List ℕ)) (joined ends : List ℕ) : Type 0 where
   pub text : joined ≡ concat texts
   pub ends_are : AreEnds count ends texts
 
--- The texts of the screen's rows are concatenated, and their ends are stored; the numbers after them are unchanged.
+-- `joined` is the concatenation of the strings `texts`, one for each row of the screen. Their end positions are
+-- stored in `after`, whose remaining numbers are those of `before`.
 pub record GivesRows (screen : ScreenValue) (texts : List (List ℕ)) (joined before after : List ℕ) : Type 0 where
   pub rows : JoinsTexts (length screen.page.rows) texts joined after
   pub rest : drop (length screen.page.rows) after ≡ drop (length screen.page.rows) before
@@ -66,8 +69,8 @@ HoldBeside screen (Some prev) Holds = OnBoth screen (screen_in prev.source) Hold
 
 -- ---- the effects of calls on handles
 
--- The texts of the rows of the handle's screen are generated and their ends are stored. The screen is unchanged, and
--- if the call fails, so are the numbers.
+-- A string is generated for each row of the handle's screen, and the end positions of the strings are stored. The
+-- screen is unchanged. If the call fails, the stored numbers are unchanged too.
 pub record MakesRows (texts : ScreenValue → List (List ℕ)) (old : Option Object) (status : ℕ) (new : Option Object)
     (before after : List ℕ) : Type 0 where
   pub source : source_at new ≡ source_at old
@@ -75,7 +78,7 @@ pub record MakesRows (texts : ScreenValue → List (List ℕ)) (old : Option Obj
   pub refused : ¬ (status ≡ ok) → after ≡ before
 
 -- For each row, the output that turns the row of the other handle's screen into that of this handle's screen is
--- generated, and the ends of these outputs are stored.
+-- generated, and the end positions of these outputs are stored.
 pub record ChangesRows (start width : ℕ) (old prev : Option Object) (status : ℕ) (new : Option Object)
     (before after : List ℕ) : Type 0 where
   pub source : source_at new ≡ source_at old

@@ -59,7 +59,7 @@ shown_cell row col screen = at (visible_row screen row).cells col
 abbrev pub cell_in : List VtCell → ℕ → VtCell
 cell_in cells k = slice_index_or cells k (cell_for_c default_blank)
 
--- The first cells are the cells of a displayed row, one for each column of the screen.
+-- The list begins with the cells of a displayed row, one for each column of the screen.
 abbrev pub IsRowForC : ℕ → ScreenValue → List VtCell → Type 0
 IsRowForC row screen cells = (col : ℕ) → col < screen.page.width
     → cell_in cells col ≡ cell_for_c (shown_cell row col screen)

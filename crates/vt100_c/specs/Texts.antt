@@ -33,14 +33,14 @@ text_of text.CursorState screen = bytes_of_all (cursor_state (shown screen))
 text_of text.Attributes screen = attributes_text screen.attrs
 text_of text.InputMode screen = input_text screen.modes
 
--- The status of a call that generates a text of a screen.
+-- The status of a call that generates text or output from a screen.
 abbrev pub due_for : Text → ScreenValue → ℕ
 due_for (text.Between start_row start_col end_row end_col) screen = has_start start_row start_col end_row screen
 due_for _ screen = any_screen screen
 
 -- ---- two screens
 
--- The text is a difference that may move rows first and is never longer than one that moves none.
+-- The text is a difference that may move rows first and is never longer than the difference that moves no rows.
 pub record IsScrollingDiff (screen prev : ScreenValue) (text : List ℕ) : Type 0 where
   pub draws : IsScrolling (shown screen) (shown prev) text
   pub shorter : length text ≤ length (bytes_of_all (difference (shown screen) (shown prev)))
@@ -58,7 +58,7 @@ due_for_both _ screen prev = of_one_size screen prev
 
 -- ---- texts whose allocation may fail
 
--- The text between two positions is not empty; for other texts, this requires nothing.
+-- If the requested text is that between two positions, it is not empty.
 abbrev pub HasText : Text → ScreenValue → Type 0
 HasText (text.Between start_row start_col end_row end_col) screen =
     0 < length (between_of start_row start_col end_row end_col screen)

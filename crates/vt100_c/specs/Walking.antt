@@ -4,11 +4,11 @@ use Rattle.vt_rows.specs.CaptureRows.{AreRowsOf}
 use Rattle.vt_rows.specs.Pieces.{ArePiecesOf, Piece, piece_end}
 use Rattle.vt100_c.specs.Captures.{IsFirstPiece, IsFirstRow, IsPlace, no_place}
 
--- The start and end in the whole text of a slice of the text from byte `at` on.
+-- The start and end, in the whole text, of a slice whose index is relative to byte `at`.
 abbrev pub place_from : ℕ → Piece → ℕ × ℕ
 place_from at piece = (at + piece.0, at + piece_end piece)
 
--- The positions that `vt100_next_plain` stores: the first piece from byte `at` on begins at `start` and ends at
+-- The positions that `vt100_next_plain` stores: the first piece found from byte `at` begins at `start` and ends at
 -- `end`.
 abbrev pub FindsPlain : List ℕ → (at start end : ℕ) → Type 0
 FindsPlain text at start end =

@@ -13,13 +13,13 @@ use vt100::capture::{basic_formatted_rows, basic_formatted_to_plain_indexed};
 /// The index that is stored if there is no next row.
 const NO_PLACE: usize = usize::MAX;
 
-/// Finds the next chunk of a capture outside SGR sequences, starting at byte
-/// `at`, and stores the indices of its start and end. If there is none, both
-/// are the length of the text.
+/// Finds the first chunk of text outside SGR sequences in a capture, searching
+/// from byte `at` on. Stores the indices of its start and end in `start` and
+/// `end`. If there is no such chunk, stores the length of the capture in both.
 ///
 /// # Errors
 ///
-/// Returns `BAD_ARGUMENT` if the text is not valid UTF-8 or `at` is not on a
+/// Returns `BAD_ARGUMENT` if `text` is not valid UTF-8 or `at` is not on a
 /// character boundary. On error, nothing is stored.
 #[unsafe(no_mangle)]
 pub extern "C" fn vt100_next_plain(text: &[u8], at: usize, start: &mut usize, end: &mut usize) -> u8
@@ -37,13 +37,14 @@ pub extern "C" fn vt100_next_plain(text: &[u8], at: usize, start: &mut usize, en
     OK
 }
 
-/// Finds the row of a capture that begins at byte `at`, for a terminal of
-/// `width` columns. Stores the index of its end in `end` and the index of the
-/// next row in `next`. If there is no next row, `next` is `SIZE_MAX`.
+/// Finds the row that begins at byte `at` of a capture, for a terminal that is
+/// `width` columns wide. Stores the index of its end in `end` and the index of
+/// the next row in `next`. If there is no next row, stores `SIZE_MAX` in
+/// `next`.
 ///
 /// # Errors
 ///
-/// Returns `BAD_ARGUMENT` if the text is not valid UTF-8 or `at` is not on a
+/// Returns `BAD_ARGUMENT` if `text` is not valid UTF-8 or `at` is not on a
 /// character boundary. On error, nothing is stored.
 #[unsafe(no_mangle)]
 pub extern "C" fn vt100_next_row(
@@ -67,8 +68,8 @@ pub extern "C" fn vt100_next_row(
     OK
 }
 
-/// Returns the text from byte `at` on if the bytes are valid UTF-8 and `at` is
-/// on a character boundary, otherwise `None`.
+/// Returns the part of `text` from byte `at` on if `text` is valid UTF-8 and
+/// `at` is on a character boundary, otherwise `None`.
 fn text_from(text: &[u8], at: usize) -> Option<&str>
     ensures is { IsSome result ↔ IsPlace text.now at }
     ensures rest { IfSome result (λ rest. rest.now ≡ drop at text.now) }
@@ -84,8 +85,8 @@ fn text_from(text: &[u8], at: usize) -> Option<&str>
 }
 
 /// Returns the start and the end of the first chunk of `text` outside SGR
-/// sequences, where `text` begins at byte `at` of the capture. If there is
-/// none, both are `stop`.
+/// sequences, as indices into the capture, of which `text` is the part from
+/// byte `at` on. If there is no such chunk, both are `stop`.
 fn next_plain(text: &str, at: usize, stop: usize) -> (usize, usize)
     requires { at + length text.now ≤ stop }
     ensures { (pieces : List Piece) × ArePiecesOf text.now pieces
@@ -98,8 +99,9 @@ fn next_plain(text: &str, at: usize, stop: usize) -> (usize, usize)
     }
 }
 
-/// Returns the end of the first row of `text` and the start of the next row,
-/// where `text` begins at byte `at` of the capture.
+/// Returns the end of the first row of `text` and the start of the next row, as
+/// indices into the capture, of which `text` is the part from byte `at` on. If
+/// there is no next row, the second number is [`NO_PLACE`].
 fn next_row(text: &str, width: u16, at: usize) -> (usize, usize)
     requires { at + length text.now < 18446744073709551615 }
     ensures { (rows : List Piece) × AreRowsOf width text.now rows × IsFirstRow at rows result.0 result.1 }

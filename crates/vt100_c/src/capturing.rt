@@ -82,8 +82,8 @@ pub extern "C" fn vt100_capture_screen(
 /// Appends all rows of the screen in `handle` to the capture `object`, which
 /// was taken out of its own handle.
 ///
-/// If `handle` is now empty, it is the handle of the capture. The same handle
-/// was then passed twice, which is a bad argument.
+/// If `handle` is now empty, it is the handle of the capture itself. The same
+/// handle was then passed twice, and `BAD_ARGUMENT` is returned.
 fn screen_beside(alloc: Global, object: &mut Object, handle: &mut Handle, len: &mut usize) -> u8
     ensures answer { IsAnswer (due_beside_capture screen_in any_screen_is_due handle.old.held object.old) result }
     ensures some { result ≡ out_of_memory → HoldAtCapture screen_in handle.old.held (Some object.old) HaveText }
@@ -169,9 +169,9 @@ fn rows_text(
     Ok(text)
 }
 
-/// Appends a row to a capture. The row is one of those that a parser's events
-/// have reported, and `index` is its number, counted from 0. Stores the new
-/// text in the handle `capture` and its length in `len`.
+/// Appends to a capture one of the rows that a parser's events have reported.
+/// `index` is the index of the row among them. Stores the new text in the
+/// handle `capture` and its length in `len`.
 ///
 /// # Errors
 ///

@@ -9,7 +9,7 @@ ghost use Rattle.vt100_c.specs.Shown.{mouse_encoding_number, mouse_mode_number, 
 use crate::cells::{VtCell, VtColor, VtState};
 use vt100::{Cell, Color, CursorStyle, MouseProtocolEncoding, MouseProtocolMode, Screen};
 
-/// Converts a colour to its layout for C.
+/// Converts a colour to its C representation.
 fn color_for_c(color: Color) -> VtColor
     ensures { result ≡ color_for_c color }
 {
@@ -42,7 +42,7 @@ pub(crate) fn bit(value: u8, is: bool) -> u8
     if is { value } else { 0 }
 }
 
-/// Converts a cell to its layout for C.
+/// Converts a cell to its C representation.
 pub(crate) fn cell_for_c(cell: &Cell) -> VtCell
     ensures { result ≡ cell_for_c cell.now }
 {
@@ -133,7 +133,7 @@ fn cursor_style_number(style: CursorStyle) -> u8
     }
 }
 
-/// Converts the state of a screen to its layout for C.
+/// Converts the state of a screen to its C representation.
 pub(crate) fn state_for_c(screen: &Screen) -> VtState
     ensures { result ≡ state_for_c screen.now }
 {

@@ -111,8 +111,8 @@ pub extern "C" fn vt100_input_mode_diff(
     make(alloc, handle, prev, Difference::InputMode, len)
 }
 
-/// Generates a difference from the screen in `prev` to that in `handle`. Stores
-/// it in `handle` and its length in `len`.
+/// Generates a diff of the given kind from the screen in `prev` to the screen
+/// in `handle`. Stores it in `handle` and its length in `len`.
 fn make(
     alloc: Global,
     handle: &mut Handle,
@@ -133,11 +133,11 @@ fn make(
     status
 }
 
-/// Generates a difference from the screen in `prev` to that of `object`, which
-/// was taken out of its own handle.
+/// Generates a diff of the given kind from the screen in `prev` to the screen
+/// of `object`, which was taken out of its own handle.
 ///
-/// If `prev` is now empty, it is the handle of the object. The same handle was
-/// then passed twice, which is a bad argument.
+/// If `prev` is now empty, it is the handle of the object itself. The same
+/// handle was then passed twice, and `BAD_ARGUMENT` is returned.
 fn make_beside(
     alloc: Global,
     object: &mut Object,
@@ -158,8 +158,8 @@ fn make_beside(
     status
 }
 
-/// Generates a difference from the screen of `prev` to that of `object`. Stores
-/// it in the object and its length in `len`.
+/// Generates a diff of the given kind from the screen of `prev` to the screen
+/// of `object`. Stores it in the object and its length in `len`.
 fn renew(object: &mut Object, prev: &Source, difference: Difference, len: &mut usize) -> u8
     ensures source { object.new.source ≡ object.old.source }
     ensures answer { IsAnswer

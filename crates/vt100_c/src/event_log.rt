@@ -14,9 +14,10 @@ use crate::status::{NO_OBJECT, OK, WRONG_KIND};
 use std::alloc::Global;
 use vt100::Parser;
 
-/// Stores the length, in bytes, of the records that were added since the log
-/// was last cleared. Stores 1 in `is_whole` if no record has been lost since
-/// then, otherwise 0. After a record has been lost, no more are added.
+/// Stores in `len` the length in bytes of the records that were added since the
+/// log was last cleared. Stores 1 in `is_whole` if no record has been lost
+/// since then, otherwise 0. Once a record has been lost, no more are added
+/// until the log is cleared.
 ///
 /// # Errors
 ///
@@ -45,9 +46,9 @@ pub extern "C" fn vt100_events(
     status
 }
 
-/// Copies as much of the records of a parser's events as fits into `out`, and
-/// returns the number of bytes copied. The rest of `out` is unchanged, and so
-/// is the log.
+/// Copies as many bytes of a parser's event records as fit into `out`, and
+/// returns the number of bytes copied. The rest of `out` and the log are
+/// unchanged.
 #[unsafe(no_mangle)]
 pub extern "C" fn vt100_copy_events(alloc: Global, handle: &mut Handle, out: &mut [u8]) -> usize
     ensures same { handle.new.held ≡ handle.old.held }
@@ -118,8 +119,8 @@ pub(crate) fn log_of(source: &Source) -> Option<&Events>
     }
 }
 
-/// Copies as much of the records of a source as fits into `out`, and returns
-/// the number of bytes copied. It is 0 if the source is not a parser.
+/// Copies as many bytes of a source's records as fit into `out`, and returns
+/// the number of bytes copied, which is 0 if the source is not a parser.
 fn copy_records(source: &Source, out: &mut [u8]) -> usize
     ensures count { result ≡ min (length (records_of (log_in source.now))) (length out.old) }
     ensures text { take result out.new ≡ take result (records_of (log_in source.now)) }
@@ -131,8 +132,9 @@ fn copy_records(source: &Source, out: &mut [u8]) -> usize
     }
 }
 
-/// Stores the length of the records of a source, and whether none has been
-/// lost. Returns `WRONG_KIND` if the source has no log.
+/// Stores the length of a source's records in `len`. Stores 1 in `is_whole` if
+/// no record has been lost, otherwise 0. Returns `WRONG_KIND` if the source has
+/// no log.
 fn tell(source: &Source, len: &mut usize, is_whole: &mut u8) -> u8
     ensures status { result ≡ due_to (log_in source.now) }
     ensures len { result ≡ ok → len.new ≡ length (records_of (log_in source.now)) }

@@ -16,12 +16,12 @@ use vt100::{Call, Callbacks, Screen};
 /// The limit of a new log in bytes, after which records are lost: 1 MiB.
 pub(crate) const DEFAULT_LIMIT: usize = 1_048_576;
 
-/// A log of callbacks. It has a record of each call since it was last cleared,
-/// in order, and a copy of each row that the calls report.
+/// A log of callbacks. It has a record of each wanted call since it was last
+/// cleared, in order, and a copy of each row that these calls report.
 ///
 /// If an allocation for a record fails, or the log has reached its limit, the
-/// record is lost. Nothing is then added until the log is cleared, so that the
-/// records never have a gap in the middle.
+/// record is lost. After that, nothing is added until the log is cleared, so
+/// that the records never have a gap in the middle.
 #[derive(Drop)]
 pub struct Events {
     alloc: Global,
@@ -93,7 +93,8 @@ impl Events {
         self.row_count
     }
 
-    /// Returns the number of bytes that are left of the limit.
+    /// Returns the number of bytes that can still be added before the limit is
+    /// reached.
     pub(crate) fn room(&self) -> usize
         ensures { result ≡ self.now.room }
     {

@@ -10,7 +10,7 @@ use std::alloc::Global;
 use std::marker::Model;
 use std::ptr::null_mut;
 
-/// A pointer to an object, or null for an empty handle.
+/// A handle: a pointer to an object, or null if the handle is empty.
 #[repr(C)]
 #[derive(Drop)]
 pub struct Handle {
@@ -42,8 +42,8 @@ impl Handle {
         self.take(alloc).into_box()
     }
 
-    /// Puts an object into the handle. The handle must be empty; an object that
-    /// it held would be leaked.
+    /// Puts an object into the handle. The handle must be empty; otherwise the
+    /// object that it held would be leaked.
     pub(crate) fn put_back(&mut self, object: Box<Object>)
         ensures { self.new.held ≡ Some object.value }
     {

@@ -78,15 +78,15 @@ pub extern "C" fn vt100_save(alloc: Global, handle: &mut Handle, out: &mut Handl
     }
 }
 
-/// Stores a copy of what a parser's screen, or a saved one, displays in the empty
-/// handle `out`: a screen of the same size, without scrollback and without the
-/// other page ([`Screen::shown_copy`]).
+/// Stores in the empty handle `out` a copy of what the screen of a parser, or a
+/// saved screen, displays. The copy is a saved screen of the same size, without
+/// scrollback and without the other page ([`Screen::shown_copy`]).
 ///
 /// # Errors
 ///
-/// `NO_OBJECT` if the handle is empty, `IN_USE` if `out` is not, `WRONG_KIND` if
-/// the object has no screen, `OUT_OF_MEMORY` if an allocation fails. On error,
-/// nothing is changed.
+/// Returns `NO_OBJECT` if `handle` is empty, `IN_USE` if `out` is not,
+/// `WRONG_KIND` if `handle` holds neither a parser nor a saved screen, or
+/// `OUT_OF_MEMORY` if an allocation fails. On error, nothing is changed.
 #[unsafe(no_mangle)]
 pub extern "C" fn vt100_shown_copy(alloc: Global, handle: &mut Handle, out: &mut Handle) -> u8
     ensures same { handle.new.held ≡ handle.old.held }
@@ -216,12 +216,12 @@ fn copy_of(source: &Source) -> Result<Source, u8>
     }
 }
 
-/// Returns a saved screen that displays what a source's screen displays.
+/// Returns a saved screen that displays what the screen of a source displays.
 ///
 /// # Errors
 ///
-/// `WRONG_KIND` if the source has no screen, `OUT_OF_MEMORY` if an allocation
-/// fails.
+/// Returns `WRONG_KIND` if the source has no screen, or `OUT_OF_MEMORY` if an
+/// allocation fails.
 fn shown_copy_of(source: &Source) -> Result<Source, u8>
     ensures ok { IfOk result (λ copy. OnScreen (screen_in source.now) (λ screen. IsShownCopy screen copy)) }
     ensures err { IfErr result (λ status. status ≡ refusal_on (screen_in source.now)) }

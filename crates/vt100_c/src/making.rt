@@ -55,7 +55,8 @@ pub enum Difference {
     /// The escape sequences that change the display.
     Contents,
 
-    /// The escape sequences that change the display, which may move rows first.
+    /// The escape sequences that change the display, possibly by moving rows
+    /// first.
     Scrolling,
 
     /// The escape sequences that change the display and the input modes.
@@ -143,7 +144,7 @@ fn is_outside(screen: &Screen, start: (u16, u16), end_row: u16) -> bool
     start.0 < end_row && cols.get() < start.1
 }
 
-/// Generates the difference of the given kind from the screen of `prev` to that
+/// Generates the diff of the given kind from the screen of `prev` to the screen
 /// of `source`.
 ///
 /// # Errors
@@ -173,7 +174,7 @@ pub(crate) fn difference_in(
     }
 }
 
-/// Generates the difference of the given kind from `prev` to `screen`.
+/// Generates the diff of the given kind from `prev` to `screen`.
 ///
 /// # Errors
 ///
@@ -279,7 +280,7 @@ pub(crate) fn is_sized_as(screen: &Screen, prev: &Screen) -> bool
     rows.get() == prev_rows.get() && cols.get() == prev_cols.get()
 }
 
-/// Converts an error to its status code.
+/// Converts the error of a result, if there is one, to its status code.
 pub(crate) fn or_status(made: Result<String, Error>) -> Result<String, u8>
     requires { OnlyOutOfMemory made }
     ensures text { IfOk result (λ text. made ≡ Ok text) }
@@ -293,8 +294,8 @@ pub(crate) fn or_status(made: Result<String, Error>) -> Result<String, u8>
     }
 }
 
-/// Stores a text in `place` and its length in `len`, or returns the status code
-/// of the error.
+/// Moves the string in `made` to `place` and stores its length in `len`. If
+/// `made` is an error, stores nothing and returns the status code of the error.
 pub(crate) fn keep(place: &mut String, made: Result<String, u8>, len: &mut usize) -> u8
     requires { IfErr made (λ status. ¬ (status ≡ ok)) }
     ensures status { result ≡ status_in made }

@@ -54,7 +54,7 @@ pub extern "C" fn vt100_mirror_new(
 /// # Errors
 ///
 /// Returns `NO_OBJECT` if the handle is empty, `WRONG_KIND` if it holds no
-/// mirror, `NO_NUMBER` if all numbers have been used, or `OUT_OF_MEMORY` if an
+/// mirror, `NO_NUMBER` if no viewer number is left, or `OUT_OF_MEMORY` if an
 /// allocation fails. On error, nothing is changed.
 #[unsafe(no_mangle)]
 pub extern "C" fn vt100_join(alloc: Global, handle: &mut Handle, viewer: &mut u64) -> u8
@@ -92,7 +92,7 @@ pub extern "C" fn vt100_leave(alloc: Global, handle: &mut Handle, viewer: u64) -
 
 /// Generates the next update for a viewer. Stores its text in the handle and
 /// its length in `len`. For a full update, stores the size of the screen in
-/// `rows` and `cols`. For a difference, stores 0 in both.
+/// `rows` and `cols`. For a diff, stores 0 in both.
 ///
 /// # Errors
 ///
@@ -122,7 +122,7 @@ pub extern "C" fn vt100_update(
 }
 
 /// Generates the next update for a viewer, as [`vt100_update`] does, except
-/// that a difference may begin by moving rows.
+/// that a diff may begin by moving rows.
 ///
 /// # Errors
 ///
@@ -149,13 +149,13 @@ pub extern "C" fn vt100_update_scrolling(
     status
 }
 
-/// Reports whether a viewer's last update is known to be up to date, as 1 or 0
-/// ([`Mirror::is_current`]).
+/// Stores 1 in `out` if a viewer's last update is known to be up to date,
+/// otherwise 0 ([`Mirror::is_current`]).
 ///
 /// # Errors
 ///
-/// `NO_OBJECT` if the handle is empty, `WRONG_KIND` if it holds no mirror. On
-/// error, `out` is unchanged.
+/// Returns `NO_OBJECT` if the handle is empty, or `WRONG_KIND` if it holds no
+/// mirror. On error, `out` is unchanged.
 #[unsafe(no_mangle)]
 pub extern "C" fn vt100_mirror_is_current(
     alloc: Global,
@@ -204,8 +204,8 @@ fn leave(source: &mut Source, viewer: u64) -> u8
     }
 }
 
-/// Generates the next update for a viewer of a mirror. Returns `WRONG_KIND` if
-/// the object is not a mirror.
+/// Generates the next update for a viewer of a mirror, as [`vt100_update`]
+/// does. Returns `WRONG_KIND` if the object is not a mirror.
 fn update(object: &mut Object, viewer: u64, rows: &mut u16, cols: &mut u16, len: &mut usize) -> u8
     ensures call { UpdatesObject Drawn viewer
         (numbers rows.old cols.old len.old) (numbers rows.new cols.new len.new) object.old result object.new }
@@ -222,8 +222,9 @@ fn update(object: &mut Object, viewer: u64, rows: &mut u16, cols: &mut u16, len:
     }
 }
 
-/// Generates the next update for a viewer of a mirror, in which a difference
-/// may move rows first. Returns `WRONG_KIND` if the object is not a mirror.
+/// Generates the next update for a viewer of a mirror, as
+/// [`vt100_update_scrolling`] does. Returns `WRONG_KIND` if the object is not a
+/// mirror.
 fn update_scrolling(
     object: &mut Object,
     viewer: u64,
@@ -246,7 +247,7 @@ fn update_scrolling(
     }
 }
 
-/// Returns the mirror, if the source is one.
+/// Returns the mirror if the source is one, otherwise `None`.
 fn mirror_of(source: &Source) -> Option<&Mirror>
     ensures some { IfSome result (λ mirror. mirror_in source.now ≡ Some mirror.now) }
     ensures none { result ≡ None → mirror_in source.now ≡ None }
@@ -259,7 +260,8 @@ fn mirror_of(source: &Source) -> Option<&Mirror>
     }
 }
 
-/// Reports whether a viewer is up to date, if the source is a mirror.
+/// Stores 1 in `out` if a viewer's last update is known to be up to date,
+/// otherwise 0. Returns `WRONG_KIND` if the source is not a mirror.
 fn write_current(source: &Source, viewer: u64, out: &mut u8) -> u8
     ensures status { result ≡ due_to (mirror_in source.now) }
     ensures current { result ≡ ok → OnMirror (mirror_in source.now) (TellsCurrent viewer out.new) }

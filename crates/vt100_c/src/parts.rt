@@ -6,8 +6,8 @@ ghost use Rattle.std_alloc.specs.Box.Ownership.{box_owns};
 use std::alloc::Allocator;
 use std::marker::Model;
 
-/// The parts of a box: the pointer to its value, and the allocator that frees
-/// it.
+/// The parts of a box: the pointer to its value, and the allocator that its
+/// memory came from.
 ///
 /// The parts cannot be dropped. They can only be turned back into a box or put
 /// into a handle.

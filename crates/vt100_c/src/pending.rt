@@ -1,4 +1,5 @@
-//! The number of bytes that a parser keeps of an unfinished command.
+//! The number of bytes that a parser holds for an incomplete operating system
+//! command.
 
 ghost use Rattle.std.specs.Prelude.{◌≡◌, IfSome, None, Some};
 ghost use Rattle.vt100_c.specs.Pending.{ArePending, HoldsParser, OnParser, due_to, due_to_parser, parser_in};
@@ -11,13 +12,13 @@ use crate::status::{NO_OBJECT, OK, WRONG_KIND};
 use std::alloc::Global;
 use vt100::Parser;
 
-/// Reports the number of bytes that a parser keeps of an unfinished operating
-/// system command ([`Parser::pending_len`]).
+/// Stores in `len` the number of bytes that a parser holds for an incomplete
+/// operating system command ([`Parser::pending_len`]).
 ///
 /// # Errors
 ///
-/// `NO_OBJECT` if the handle is empty, `WRONG_KIND` if it holds no parser. On
-/// error, `len` is unchanged.
+/// Returns `NO_OBJECT` if the handle is empty, or `WRONG_KIND` if it holds no
+/// parser. On error, `len` is unchanged.
 #[unsafe(no_mangle)]
 pub extern "C" fn vt100_pending_len(alloc: Global, handle: &mut Handle, len: &mut usize) -> u8
     ensures same { handle.new.held ≡ handle.old.held }
@@ -34,7 +35,7 @@ pub extern "C" fn vt100_pending_len(alloc: Global, handle: &mut Handle, len: &mu
     status
 }
 
-/// Returns the parser, if the source is one.
+/// Returns the parser if the source is one, otherwise `None`.
 fn parser_of(source: &Source) -> Option<&Parser<Events>>
     ensures some { IfSome result (λ parser. parser_in source.now ≡ Some parser.now) }
     ensures none { result ≡ None → parser_in source.now ≡ None }
@@ -47,7 +48,8 @@ fn parser_of(source: &Source) -> Option<&Parser<Events>>
     }
 }
 
-/// Reports the number of bytes kept of an unfinished command, if the source is a
+/// Stores in `len` the number of bytes that a parser holds for an incomplete
+/// operating system command. Returns `WRONG_KIND` if the source is not a
 /// parser.
 fn write_pending(source: &Source, len: &mut usize) -> u8
     ensures status { result ≡ due_to (parser_in source.now) }

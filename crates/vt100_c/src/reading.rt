@@ -41,15 +41,16 @@ pub extern "C" fn vt100_process(alloc: Global, handle: &mut Handle, bytes: &[u8]
 /// Parses bytes with a parser, up to and including the first byte that records
 /// or loses an event. Stores the number of bytes parsed in `used`.
 ///
-/// Parsing does not stop at rows that are recorded without their texts, until
-/// the rows of this call take 64 KiB or the log reaches its limit.
+/// Rows that are recorded without their text do not stop parsing until the rows
+/// recorded by this call take 64 KiB or the log reaches its limit.
 ///
 /// # Errors
 ///
 /// Returns `NO_OBJECT` if the handle is empty, `WRONG_KIND` if it holds no
-/// parser, or `OUT_OF_MEMORY` if an allocation fails. Once an allocation has
-/// failed, all later calls return `FAILED`. On error, `used` is the number of
-/// bytes before the one that failed.
+/// parser, `OUT_OF_MEMORY` if an allocation fails, or `FAILED` if parsing ran
+/// out of memory in an earlier call. On `OUT_OF_MEMORY`, `used` is the number
+/// of bytes before the byte that required the allocation. On any other error,
+/// `used` is 0.
 #[unsafe(no_mangle)]
 pub extern "C" fn vt100_process_until(
     alloc: Global,
@@ -98,8 +99,9 @@ fn read_mirror(mirror: &mut Mirror, bytes: &[u8]) -> u8
     answered(mirror.process(bytes))
 }
 
-/// Parses bytes with a parser up to an event. Returns the status code, which is
-/// `WRONG_KIND` if the source is not a parser, and the number of bytes parsed.
+/// Parses bytes until an event, as [`vt100_process_until`] does. Returns the
+/// status code, which is `WRONG_KIND` if the source is not a parser, and the
+/// number of bytes parsed.
 fn process_until(source: &mut Source, bytes: &[u8]) -> (u8, usize)
     ensures { ReadsUntilEvent bytes.now result.1 source.old result.0 source.new }
 {
@@ -124,8 +126,8 @@ pub struct Mark {
     pub(crate) is_whole: bool,
 }
 
-/// Parses bytes with a parser up to an event. Returns the status code and the
-/// number of bytes parsed.
+/// Parses bytes with a parser until an event, as [`vt100_process_until`] does.
+/// Returns the status code and the number of bytes parsed.
 #[tactic(auto, using(crate::proofs::Answering::quiet_now))]
 fn read_until(parser: &mut Parser<Events>, bytes: &[u8]) -> (u8, usize)
     ensures { ReadsUntil bytes.now result.1 parser.old result.0 parser.new }
@@ -134,7 +136,7 @@ fn read_until(parser: &mut Parser<Events>, bytes: &[u8]) -> (u8, usize)
     read_from(parser, bytes, mark)
 }
 
-/// Parses bytes with a parser until, since `mark`, its log has changed in a way
+/// Parses bytes with a parser until its log has changed since `mark` in a way
 /// that stops parsing (see [`is_quiet`]). Returns the status code and the
 /// number of bytes parsed.
 fn read_from(parser: &mut Parser<Events>, bytes: &[u8], mark: Mark) -> (u8, usize)
@@ -178,9 +180,9 @@ fn mark_of(log: &Events) -> Mark
     }
 }
 
-/// Returns whether parsing continues. It does if, since the mark, only rows
-/// without texts were recorded, they take less than [`BATCH`] bytes, and the
-/// log has neither reached its limit nor lost a record.
+/// Returns whether parsing continues. It does if only rows without text were
+/// recorded since `mark`, these rows take less than [`BATCH`] bytes, and the
+/// log has neither reached its limit nor lost a record since then.
 #[inline(always)]
 fn is_quiet(mark: Mark, log: &Events) -> bool
     ensures { result ≡ is_quiet mark log.now }
@@ -193,8 +195,8 @@ fn is_quiet(mark: Mark, log: &Events) -> bool
         && (log.is_whole() || !mark.is_whole)
 }
 
-/// Returns whether `bytes` is exactly the length of the records of `rows` rows
-/// without texts.
+/// Returns whether `bytes` is exactly the length of `rows` records of rows
+/// without text.
 #[inline(always)]
 fn are_bare_rows(bytes: usize, rows: usize) -> bool
     ensures { result ≡ are_bare_rows bytes rows }

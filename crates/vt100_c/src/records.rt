@@ -35,7 +35,7 @@ pub(crate) fn is_wanted(wanted: u16, kind: u8) -> bool
     (wanted >> kind) % 2 == 1
 }
 
-/// Returns whether rows are recorded without their texts.
+/// Returns whether rows are recorded without their text.
 pub(crate) fn is_bare(wanted: u16) -> bool
     ensures { result ≡ is_wanted wanted without_text }
 {
@@ -228,7 +228,7 @@ fn text_of(alloc: Global, row: &RowContents<'_>) -> Result<String, AllocError>
     }
 }
 
-/// Appends a record.
+/// Appends a record with the given kind, numbers and text.
 ///
 /// # Errors
 ///
@@ -253,7 +253,7 @@ fn write(
     Ok(())
 }
 
-/// Appends bytes. The vector must have enough spare capacity.
+/// Appends `bytes` to `records`, which must have enough spare capacity.
 fn put(records: &mut Vec<u8>, bytes: &[u8])
     requires { vec_len records.old + length bytes.now ≤ vec_capacity records.old }
     ensures items { records.new.items ≡ records.old.items ++ bytes.now }

@@ -17,9 +17,9 @@ use std::alloc::Global;
 use vt100::Screen;
 
 /// Generates the escape sequences that turn each displayed row of `prev` into
-/// that of `handle`'s screen, in `width` columns starting at `start`
+/// the same row of `handle`'s screen, in `width` columns starting at `start`
 /// ([`Screen::rows_diff`]). Stores their concatenation in `handle`, its length
-/// in `len`, and the index at which each row's output ends in `ends`.
+/// in `len`, and in `ends` the index at which the output for each row ends.
 ///
 /// `ends` must have an element for each row. Further elements are unchanged.
 ///
@@ -54,11 +54,12 @@ pub extern "C" fn vt100_rows_diff(
     status
 }
 
-/// Returns the output that turns the rows of the screen in `prev` into those of
-/// `source`, which was taken out of its own handle.
+/// Returns the output that turns the rows of the screen in `prev` into the rows
+/// of `source`, which was taken out of its own handle. `range` is the first
+/// column and the number of columns.
 ///
-/// If `prev` is now empty, it is the handle of `source`. The same handle was
-/// then passed twice, which is a bad argument.
+/// If `prev` is now empty, it is the handle of `source` itself. The same handle
+/// was then passed twice, and `BAD_ARGUMENT` is returned.
 fn beside(
     alloc: Global,
     source: &Source,
@@ -81,7 +82,8 @@ fn beside(
     made
 }
 
-/// Returns the output that turns the rows of `prev` into those of `source`.
+/// Returns the output that turns the rows of `prev` into the rows of `source`,
+/// in the columns of `range` (the first column and the number of columns).
 /// Returns `WRONG_KIND` if either has no screen.
 fn changed_in(
     alloc: Global,
@@ -104,7 +106,8 @@ fn changed_in(
     }
 }
 
-/// Returns the output that turns the rows of `prev` into those of `screen`.
+/// Returns the output that turns the rows of `prev` into the rows of `screen`,
+/// in the columns of `range` (the first column and the number of columns).
 /// Returns `OTHER_SIZE` if the two screens differ in size, and `BAD_ARGUMENT`
 /// if `ends` is too short or the range does not begin at a column of the
 /// screen.

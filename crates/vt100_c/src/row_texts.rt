@@ -1,4 +1,5 @@
-//! The concatenated texts of rows, with the index at which each text ends.
+//! The concatenated text of rows, with the index at which the text of each row
+//! ends.
 
 ghost use Rattle.std.specs.Prelude.{◌≡◌, ◌<◌, ◌≤◌, ◌++◌, IfOk, OnOk, length, slice_set, string_bytes};
 ghost use Rattle.vt_cells.specs.Refusals.{OnlyOutOfMemory};
@@ -9,8 +10,9 @@ ghost use Rattle.vt_screen.specs.RowsShown.{changed_rows, formatted_rows};
 use std::alloc::Global;
 use vt100::{Error, Screen};
 
-/// Returns the concatenated plain texts of the rows, in `width` columns
-/// starting at `start`. Stores the index at which each text ends in `ends`.
+/// Returns the concatenated plain text of the displayed rows, in `width`
+/// columns starting at `start`. Stores in `ends` the index at which the text of
+/// each row ends.
 ///
 /// # Errors
 ///
@@ -38,8 +40,9 @@ pub(crate) fn plain(
     Ok(joined)
 }
 
-/// Returns the concatenated outputs that each draw one row on a blank row.
-/// Stores the index at which each row's output ends in `ends`.
+/// Returns the concatenated output that draws each displayed row on a blank
+/// row, in `width` columns starting at `start`. Stores in `ends` the index at
+/// which the output for each row ends.
 ///
 /// # Errors
 ///
@@ -67,8 +70,10 @@ pub(crate) fn formatted(
     Ok(joined)
 }
 
-/// Returns the concatenated outputs that each turn one row of `prev` into that
-/// of `screen`. Stores the index at which each row's output ends in `ends`.
+/// Returns the concatenated output that turns each displayed row of `prev` into
+/// the same row of `screen`, in the columns of `range` (the first column and
+/// the number of columns). Stores in `ends` the index at which the output for
+/// each row ends.
 ///
 /// # Errors
 ///

@@ -1,4 +1,4 @@
-//! The concatenated texts of the displayed rows.
+//! The concatenated text of the displayed rows.
 
 ghost use Rattle.std.specs.Prelude.{◌≡◌, ◌<◌, ◌≤◌, IfErr, IfOk, length, string_bytes};
 ghost use Rattle.std.specs.Prelude.{drop, if◌then◌else◌, take, true};
@@ -17,9 +17,10 @@ use crate::status::{BAD_ARGUMENT, NO_OBJECT, OUT_OF_MEMORY, WRONG_KIND};
 use std::alloc::Global;
 use vt100::Screen;
 
-/// Generates the plain texts of the displayed rows, in `width` columns starting
-/// at `start` ([`Screen::rows`]). Stores their concatenation in the handle, its
-/// length in `len`, and the index at which each text ends in `ends`.
+/// Generates the plain text of each displayed row, in `width` columns starting
+/// at `start` ([`Screen::rows`]). Stores the concatenated text in the handle,
+/// its length in `len`, and in `ends` the index at which the text of each row
+/// ends.
 ///
 /// `ends` must have an element for each row. Further elements are unchanged.
 ///
@@ -54,8 +55,8 @@ pub extern "C" fn vt100_rows(
 
 /// Generates the escape sequences that draw each displayed row on a blank row,
 /// in `width` columns starting at `start` ([`Screen::rows_formatted`]). Stores
-/// their concatenation in the handle, its length in `len`, and the index at
-/// which each row's output ends in `ends`.
+/// their concatenation in the handle, its length in `len`, and in `ends` the
+/// index at which the output for each row ends.
 ///
 /// `ends` must have an element for each row. Further elements are unchanged.
 ///
@@ -88,8 +89,8 @@ pub extern "C" fn vt100_rows_formatted(
     status
 }
 
-/// Returns the concatenated plain texts of the rows of a source. Returns
-/// `WRONG_KIND` if the source has no screen.
+/// Returns the concatenated plain text of the displayed rows of a source.
+/// Returns `WRONG_KIND` if the source has no screen.
 fn plain_in(
     alloc: Global,
     source: &Source,
@@ -108,8 +109,8 @@ fn plain_in(
     }
 }
 
-/// Returns the concatenated plain texts of the rows of a screen. Returns
-/// `BAD_ARGUMENT` if `ends` is too short.
+/// Returns the concatenated plain text of the displayed rows of a screen.
+/// Returns `BAD_ARGUMENT` if `ends` is too short.
 fn plain_of(
     alloc: Global,
     screen: &Screen,
@@ -194,12 +195,12 @@ pub(crate) fn has_range(screen: &Screen, start: u16, ends: &[usize]) -> bool
 }
 
 /// Returns a vector with an element for each row of a screen. The ends of the
-/// rows are stored there first, so that C gets none of them if an allocation
-/// fails at a later row.
+/// rows are first stored in this vector, so that the caller's array is
+/// unchanged if an allocation fails at a later row.
 ///
 /// # Errors
 ///
-/// Returns `OUT_OF_MEMORY` if the places cannot be allocated.
+/// Returns `OUT_OF_MEMORY` if the vector cannot be allocated.
 pub(crate) fn places_for(alloc: Global, screen: &Screen) -> Result<Vec<usize>, u8>
     ensures len { IfOk result (λ places. length places.items ≡ length screen.now.page.rows) }
     ensures memory { IfErr result (λ status. status ≡ out_of_memory) }
@@ -212,8 +213,8 @@ pub(crate) fn places_for(alloc: Global, screen: &Screen) -> Result<Vec<usize>, u
     }
 }
 
-/// Copies the ends of all rows to `ends`, which C reads. Further elements are
-/// unchanged.
+/// Copies the ends of all rows from `places` to `ends`, the array of the C
+/// caller. Further elements of `ends` are unchanged.
 pub(crate) fn write_ends(places: &[usize], ends: &mut [usize])
     requires { length places.now ≤ length ends.old }
     ensures ends { take (length places.now) ends.new ≡ places.now }

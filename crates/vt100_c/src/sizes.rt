@@ -20,8 +20,8 @@ use vt100::{Parser, Screen};
 /// # Errors
 ///
 /// Returns `NO_OBJECT` if the handle is empty, `BAD_ARGUMENT` if `rows` or
-/// `cols` is 0, `WRONG_KIND` if it holds a capture, or `OUT_OF_MEMORY` if an
-/// allocation fails. On error, nothing is changed.
+/// `cols` is 0, `WRONG_KIND` if the handle holds a capture, or `OUT_OF_MEMORY`
+/// if an allocation fails. On error, nothing is changed.
 #[unsafe(no_mangle)]
 pub extern "C" fn vt100_set_size(alloc: Global, handle: &mut Handle, rows: u16, cols: u16) -> u8
     ensures { OnSource (SetsSize rows cols) handle.old.held result handle.new.held }
@@ -40,8 +40,9 @@ pub extern "C" fn vt100_set_size(alloc: Global, handle: &mut Handle, rows: u16, 
 /// # Errors
 ///
 /// Returns `NO_OBJECT` if the handle is empty, `BAD_ARGUMENT` if `rows` or
-/// `cols` is 0, `WRONG_KIND` if it holds neither a parser nor a saved screen,
-/// or `OUT_OF_MEMORY` if an allocation fails. On error, nothing is changed.
+/// `cols` is 0, `WRONG_KIND` if the handle holds neither a parser nor a saved
+/// screen, or `OUT_OF_MEMORY` if an allocation fails. On error, nothing is
+/// changed.
 #[unsafe(no_mangle)]
 pub extern "C" fn vt100_screen_set_size(
     alloc: Global,
@@ -66,8 +67,8 @@ pub extern "C" fn vt100_screen_set_size(
 /// # Errors
 ///
 /// Returns `NO_OBJECT` if the handle is empty, `WRONG_KIND` if it holds neither
-/// a parser nor a saved screen, or `OUT_OF_MEMORY` if a row cannot be extended.
-/// On error, nothing is changed.
+/// a parser nor a saved screen, or `OUT_OF_MEMORY` if an allocation fails. On
+/// error, nothing is changed.
 #[unsafe(no_mangle)]
 pub extern "C" fn vt100_set_scrollback(alloc: Global, handle: &mut Handle, rows: usize) -> u8
     ensures { OnSource (OnScreen (ScrollsBack rows)) handle.old.held result handle.new.held }

@@ -40,13 +40,14 @@ pub extern "C" fn vt100_get_state(alloc: Global, handle: &mut Handle, out: &mut 
     status
 }
 
-/// Reports whether a screen is steady: 1 if every visible glyph reproduces itself
-/// when it is printed on a blank row, otherwise 0 ([`Screen::is_steady`]).
+/// Stores 1 in `out` if a screen is steady, otherwise 0. A screen is steady if
+/// every visible glyph reproduces itself when it is printed on a blank row
+/// ([`Screen::is_steady`]).
 ///
 /// # Errors
 ///
-/// `NO_OBJECT` if the handle is empty, `WRONG_KIND` if the object has no screen.
-/// On error, `out` is unchanged.
+/// Returns `NO_OBJECT` if the handle is empty, or `WRONG_KIND` if it holds
+/// neither a parser nor a saved screen. On error, `out` is unchanged.
 #[unsafe(no_mangle)]
 pub extern "C" fn vt100_is_steady(alloc: Global, handle: &mut Handle, out: &mut u8) -> u8
     ensures same { handle.new.held ≡ handle.old.held }
@@ -79,7 +80,8 @@ fn write_state(source: &Source, out: &mut VtState) -> u8
     }
 }
 
-/// Reports whether a source's screen is steady, if it has one.
+/// Stores 1 in `out` if a source's screen is steady, otherwise 0. Returns
+/// `WRONG_KIND` if the source has no screen.
 fn write_steady(source: &Source, out: &mut u8) -> u8
     ensures status { result ≡ due_on any_screen (screen_in source.now) }
     ensures steady { result ≡ ok → OnScreen (screen_in source.now) (λ screen. IsBitFor (IsSteady (shown screen)) out.new) }

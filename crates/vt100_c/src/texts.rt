@@ -211,8 +211,8 @@ pub extern "C" fn vt100_input_mode_formatted(
     make(alloc, handle, Text::InputMode, len)
 }
 
-/// Generates a text of the screen in a handle. Stores it in the handle and its
-/// length in `len`.
+/// Generates the given kind of text or output from the screen in a handle.
+/// Stores it in the handle and its length in `len`.
 fn make(alloc: Global, handle: &mut Handle, text: Text, len: &mut usize) -> u8
     ensures answer { IsAnswer (due_at (due_for text) handle.old.held) result }
     ensures text { MakesText text handle.old.held result handle.new.held }
@@ -227,8 +227,8 @@ fn make(alloc: Global, handle: &mut Handle, text: Text, len: &mut usize) -> u8
     status
 }
 
-/// Generates a text of an object's screen. Stores it in the object and its
-/// length in `len`.
+/// Generates the given kind of text or output from an object's screen. Stores
+/// it in the object and its length in `len`.
 fn renew(object: &mut Object, text: Text, len: &mut usize) -> u8
     ensures answer { IsAnswer (due_on (due_for text) (screen_in object.old.source)) result }
     ensures text { MakesText text (Some object.old) result (Some object.new) }

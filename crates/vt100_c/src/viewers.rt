@@ -42,8 +42,9 @@ pub(crate) fn current_bit(mirror: &Mirror, viewer: u64) -> u8
     if mirror.is_current(viewer) { 1 } else { 0 }
 }
 
-/// Stores the text and the length of an update. For a full update, stores the
-/// size of the screen in `rows` and `cols`. For a difference, stores 0 in both.
+/// Stores the text of an update in `text` and its length in `len`. For a full
+/// update, stores the size of the screen in `rows` and `cols`. For a diff,
+/// stores 0 in both.
 pub(crate) fn hand_over(
     answer: Result<Option<Update>, Error>,
     text: &mut String,

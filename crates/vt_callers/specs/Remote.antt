@@ -40,7 +40,8 @@ pub record SendsNext {S : Type 0} (screen prev : ScreenValue) (old new : Parsing
   pub whole : IsWhole screen
   pub takes : HasTaken (bytes_of_all (difference (shown screen) (shown prev))) old new
 
--- The terminal received the redraw of `first`, followed by the difference to each screen in `nexts`, in order.
+-- The terminal received the redraw of `first`, followed by the differences that lead from `first` to each screen of
+-- `nexts` in turn. The last of these screens is `prev`.
 pub record HasFollowed {S : Type 0} (first : ScreenValue) (nexts : List ScreenValue) (prev : ScreenValue)
     (old new : Parsing S) : Type 0 where
   pub whole : AllByRecursion IsWhole (first ∷ nexts)

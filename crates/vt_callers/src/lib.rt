@@ -1,5 +1,5 @@
-//! Callers of the terminal with proved contracts: one small function for each use, whose contract
-//! states what a user of the terminal wants.
+//! Small functions that call the terminal, one for each way to use it. Each has a proved contract,
+//! which states what a user of the terminal wants.
 #![tactic(auto)]
 
 pub mod mirroring;

@@ -1,4 +1,4 @@
-//! A mirror: a viewer that joins late displays what the mirror displays.
+//! A mirror with a viewer that joins late, and then displays what the mirror displays.
 
 ghost use Rattle.std.specs.Prelude.{◌≡◌, ◌<◌, IfErr, IfOk, OnOk, true};
 ghost use Rattle.vt100.specs.Parser.{Ran, quietly};
@@ -72,7 +72,8 @@ pub fn take_update<CB: Callbacks>(terminal: &mut Parser<CB>, update: &Update) ->
     }
 }
 
-/// Resizes a terminal. Fails if `rows` or `cols` is 0, which no mirror's update has.
+/// Resizes a terminal. Returns [`Error::Failed`] if `rows` or `cols` is 0, which is never the case
+/// for an update of a mirror.
 fn take_size<CB: Callbacks>(terminal: &mut Parser<CB>, rows: u16, cols: u16) -> Result<(), Error>
     ensures takes { OnOk result (TakesSize rows cols terminal.old terminal.new) }
     ensures only { 0 < rows → 0 < cols → OnlyOutOfMemory result }

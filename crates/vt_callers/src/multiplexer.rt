@@ -1,5 +1,5 @@
-//! A multiplexer, which keeps a remote terminal in sync with a screen by one redraw followed by
-//! differences.
+//! A multiplexer, which keeps a remote terminal in sync with a screen by sending one redraw
+//! followed by diffs.
 
 ghost use Rattle.std.specs.List.{AllByRecursion};
 ghost use Rattle.std.specs.Prelude.{◌≡◌, ◌∷◌, IfErr, OnOk, Ok, false};
@@ -38,10 +38,11 @@ pub fn send_redraw<CB: Callbacks>(screen: &Screen, remote: &mut Parser<CB>) -> R
     Ok(())
 }
 
-/// Sends the difference from `prev`, a screen of the same size, to a remote terminal.
+/// Sends to a remote terminal the diff from `prev`, a screen of the same size, to `screen`.
 ///
-/// If the remote terminal is plain and displays what `prev` displays, and the display of the screen
-/// is steady, the terminal then has the same display as the screen.
+/// If the remote terminal is plain and displays what `prev` displays, and the display of `screen`
+/// is steady (see [`send_redraw`] for both terms), the terminal then has the same display as
+/// `screen`.
 ///
 /// # Errors
 ///
@@ -64,11 +65,12 @@ pub fn send_difference<CB: Callbacks>(
     Ok(())
 }
 
-/// Sends a complete redraw of one screen, and then the difference to a second screen of the same
-/// size.
+/// Sends to a remote terminal a complete redraw of `first`, and then the diff from `first` to
+/// `second`. The terminal and both screens must have the same size.
 ///
-/// If the remote terminal is plain and both displays are steady, the terminal then has the same
-/// display as the second screen, whatever it displayed at first.
+/// If the remote terminal is plain and the displays of both screens are steady (see [`send_redraw`]
+/// for both terms), the terminal then has the same display as `second`, whatever it displayed
+/// before.
 ///
 /// # Errors
 ///
@@ -113,8 +115,8 @@ pub fn send_redraw_cut<CB: Callbacks>(
     Ok(())
 }
 
-/// Sends the difference from `prev`, as [`send_difference`] does, over a connection that splits it
-/// into chunks of at most the given sizes and a final chunk with the rest.
+/// Sends the diff from `prev` to `screen`, as [`send_difference`] does, over a connection that
+/// splits it into chunks of at most the given sizes and a final chunk with the rest.
 ///
 /// # Errors
 ///
@@ -160,10 +162,10 @@ fn send_cut<CB: Callbacks>(
 }
 
 /// Sends a redraw of the first screen to a remote terminal of the same size and then, for each
-/// later screen, the difference from the previous one.
+/// later screen, the diff from the previous screen.
 ///
-/// If the remote terminal was plain and the display of each screen is steady, the terminal then has
-/// the same display as the last screen.
+/// If the remote terminal was plain and the display of each screen is steady (see [`send_redraw`]
+/// for both terms), the terminal then has the same display as the last screen.
 ///
 /// # Errors
 ///
@@ -194,7 +196,7 @@ pub fn follow<CB: Callbacks>(
     Ok(())
 }
 
-/// Sends the difference between a screen and the previous one.
+/// Sends the diff from the previous screen `prev` to `screen`.
 fn send_next<CB: Callbacks>(
     screen: &Screen,
     prev: &Screen,

@@ -1,5 +1,5 @@
-//! A recorder, which returns everything that was displayed as one text: the rows that scrolled off,
-//! followed by the screen.
+//! A recorder, which returns everything that was displayed as one string: the rows that scrolled
+//! off, followed by the screen.
 
 ghost use Rattle.std.specs.Prelude.{◌≡◌, ◌++◌, false, true, IfOk, string_bytes};
 ghost use Rattle.vt100.specs.Streams.{whole_text};
@@ -15,9 +15,9 @@ use std::num::NonZeroU16;
 use vt_notes::Recorder;
 use vt100::{Error, Parser};
 
-/// Returns the text of everything that `output` writes on the main page of a terminal of this size:
-/// the rows that scroll off the top, followed by the displayed rows. The scrollback capacity makes
-/// no difference.
+/// Returns the text of everything that `output` writes on the main page of a terminal with the
+/// given number of rows and columns: the rows that scroll off the top, followed by the displayed
+/// rows. The scrollback capacity `capacity` does not affect the result.
 ///
 /// The contract assumes that the output ends on the main page and contains no RIS.
 ///

@@ -1,5 +1,5 @@
-//! Tests of a program's display: what appears where on the screen after the program's output has
-//! been parsed.
+//! Checks of what a program displays: which text appears where on the screen after the program's
+//! output has been parsed.
 
 ghost use Rattle.std.specs.Prelude.{◌≡◌, ◌↔◌, false, map, true, IfOk, OnOk};
 ghost use Rattle.vt100.specs.Parser.{Ran, pieces_joined, quietly};
@@ -14,7 +14,7 @@ use std::alloc::Global;
 use std::num::NonZeroU16;
 use vt100::{Error, Parser, Screen, laws};
 
-/// Returns whether the displayed cell at a row and column has the text `text`.
+/// Returns whether the displayed cell at a row and column contains exactly `text`.
 pub fn cell_shows(screen: &Screen, row: u16, column: u16, text: &str) -> bool
     ensures { result ≡ true ↔ HasText screen.now row column text.now }
 {
@@ -39,7 +39,7 @@ pub fn row_shows(screen: &Screen, row: u16, text: &str) -> Result<bool, Error>
     Ok(shown.as_str() == text)
 }
 
-/// Returns whether the text of the whole display is `text`.
+/// Returns whether the text of all displayed rows is `text`.
 ///
 /// # Errors
 ///
@@ -52,7 +52,8 @@ pub fn screen_shows(screen: &Screen, text: &str) -> Result<bool, Error>
     Ok(shown.as_str() == text)
 }
 
-/// Returns whether a terminal of this size displays `text` after it has parsed `output`.
+/// Returns whether a terminal with the given number of rows and columns displays `text` after it
+/// has parsed `output`.
 ///
 /// # Errors
 ///
@@ -77,8 +78,8 @@ pub fn output_shows(
     Ok(holds)
 }
 
-/// Returns whether a terminal of this size displays `text` after it has parsed output that arrived
-/// in chunks.
+/// Returns whether a terminal with the given number of rows and columns displays `text` after it
+/// has parsed the chunks in `pieces`, in order.
 ///
 /// # Errors
 ///
@@ -103,8 +104,8 @@ pub fn pieces_show(
     Ok(holds)
 }
 
-/// Passes chunks to a terminal one by one, which has the same effect as a single run over all their
-/// bytes.
+/// Passes chunks to a terminal one by one, which has the same effect as parsing their
+/// concatenation.
 fn read_pieces(parser: &mut Parser, pieces: &[&[u8]]) -> Result<(), Error>
     requires { parser.old.is_failed ≡ false }
     ensures ran { OnOk result

@@ -1,4 +1,5 @@
-//! Small values, for which a copy equals the original and neither a copy nor a default can fail.
+//! Small values: a copy equals the original, and neither copying a value nor creating a default
+//! value can fail.
 
 ghost use Rattle.std.specs.Prelude.{◌≡◌};
 ghost use Rattle.vt_cells.specs.declared.color.Color.{Color};

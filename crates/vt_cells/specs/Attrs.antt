@@ -58,9 +58,9 @@ same_attrs a b =
     same_color a.fgcolor b.fgcolor && (same_color a.bgcolor b.bgcolor && (same_intensity a.intensity b.intensity
     && (same_bool a.italic b.italic && (same_bool a.underline b.underline && same_bool a.inverse b.inverse))))
 
--- The attributes of a reader that had `attrs` and applies the SGR change from `was` to `new`. If `new` is the
--- default, all attributes become the default; otherwise each component that differs between `was` and `new` is
--- replaced by the component of `new`.
+-- The attributes of a terminal that had `attrs`, after the SGR change from `was` to `new`. They are unchanged if
+-- `was` and `new` are equal, and become the defaults if `new` is the default. Otherwise, each component that differs
+-- between `was` and `new` is taken from `new`.
 unfoldable pub changed_attrs : Attrs → Attrs → Attrs → Attrs
 changed_attrs was new attrs =
     if same_attrs was new then attrs

@@ -8,7 +8,7 @@ use Rattle.vt_cells.specs.declared.attrs.Intensity.TheVariants.{Normal, Bold, Di
 use Rattle.vt_cells.specs.declared.color.Color.{Color}
 use Rattle.vt_cells.specs.declared.color.Color.TheVariants.{Default, Idx, Rgb}
 
--- The colour of this kind (0 default, 1 palette, 2 and above RGB) with up to three components.
+-- The colour of the given kind (0 for default, 1 for palette, 2 or more for RGB) and components.
 abbrev pub unpacked : (kind first second third : ℕ) → Color
 unpacked zero first second third = Default
 unpacked (suc zero) first second third = Idx first
@@ -25,7 +25,7 @@ color_bits (Rgb r g b) = 2 + 4 * (r + 256 * (g + 256 * b))
 abbrev pub color_of : ℕ → Color
 color_of bits = unpacked (bits % 4) (bits / 4 % 256) (bits / 4 / 256 % 256) (bits / 4 / 256 / 256 % 256)
 
--- The number is a valid packed colour, which takes 26 bits.
+-- The number is a valid packed colour, which fits in 26 bits.
 pub record IsColorBits (bits : ℕ) : Type 0 where
   pub small : bits < 67108864
   pub back : color_bits (color_of bits) ≡ bits
@@ -75,7 +75,7 @@ style_bits style =
     intensity_bits style.intensity + (if style.italic then 4 else 0)
     + (if style.underline then 8 else 0) + (if style.inverse then 16 else 0)
 
--- The attributes that consist of a style and two colours, all in packed form.
+-- The attributes given by a packed style and two packed colours.
 abbrev pub attrs_of_bits : (style fgcolor bgcolor : ℕ) → Attrs
 attrs_of_bits style fgcolor bgcolor = record {
   fgcolor = color_of fgcolor;
@@ -90,7 +90,7 @@ attrs_of_bits style fgcolor bgcolor = record {
 abbrev pub attrs_of_word : ℕ → Attrs
 attrs_of_word word = attrs_of_bits (word % 32) (word / 32 % 67108864) (word / 32 / 67108864)
 
--- The word that holds a style and two colours, all in packed form.
+-- The word that combines a packed style and two packed colours.
 abbrev pub word_of : (style fgcolor bgcolor : ℕ) → ℕ
 word_of style fgcolor bgcolor = style + 32 * (fgcolor + 67108864 * bgcolor)
 
@@ -104,7 +104,7 @@ pub record IsAttrsWord (word : ℕ) : Type 0 where
   pub fgcolor : IsColorBits (word / 32 % 67108864)
   pub bgcolor : IsColorBits (word / 32 / 67108864)
 
--- Unpacking a valid word of attributes and packing it again gives the same word.
+-- Unpacking a valid attribute word and packing the result gives the same word.
 pub word_back : (word : ℕ) → IsAttrsWord word → attrs_word (attrs_of_word word) ≡ word
 word_back word h =
     (λ i. word_of (h.style i) (h.fgcolor.back i) (h.bgcolor.back i)) ∙ omega arith

@@ -14,12 +14,13 @@ pub data CellValue : Type 0 where
 abbrev pub default_blank : CellValue
 default_blank = blank default_attrs
 
--- The cell with this text, width, continuation flag and attributes. It is a blank if the text is empty.
+-- The cell with the given text, width, continuation flag and attributes. A cell with empty text is a blank, unless
+-- it is a continuation cell.
 abbrev pub cell_of : List ℕ → Bool → Bool → Attrs → CellValue
 cell_of text wide right attrs =
     if right then right_half else if length text == 0 then blank attrs else glyph text wide attrs
 
--- The cell is a wide glyph, which takes this column and the next.
+-- The cell is the first cell of a wide glyph, which takes two columns.
 abbrev pub is_wide : CellValue → Bool
 is_wide (glyph text wide attrs) = wide
 is_wide _ = false
@@ -62,8 +63,8 @@ same_cell (glyph s v a) (glyph t w b) = bytes_eq s t && (same_bool v w && same_a
 same_cell right_half right_half = true
 same_cell _ _ = false
 
--- The cell after a combining character is added to it. A blank first becomes the glyph of a space with the same
--- attributes.
+-- The cell after a combining character is added to it, if there is room. A blank first becomes the glyph of a space
+-- with the same attributes; a continuation cell is unchanged.
 abbrev pub marked : ℕ → CellValue → CellValue
 marked mark (blank attrs) = glyph (marked_text (0x20 ∷ []) mark) false attrs
 marked mark (glyph text wide attrs) = glyph (marked_text text mark) wide attrs

@@ -1,4 +1,4 @@
--- The test that `==` computes for cells, in the form that the standard library has laws for; it equals `same_cell`.
+-- The test that `==` computes for cells, in the form for which the standard library has laws. It equals `same_cell`.
 use Rattle.std.specs.Prelude.{ℕ, Bool, nat_eq, bytes_eq, if◌then◌else◌}
 use mathlib.Core.Bool.{beq}
 use Rattle.std.specs.Ordering.{on, eq_of_both}

@@ -72,11 +72,11 @@ pub record IsHead (word : ℕ) : Type 0 where
   pub shape : shape_bits (shape_of (word % 128)) ≡ word % 128
   pub attrs : IsAttrsWord (word / 128)
 
--- Unpacking the word of a head and packing it again gives the same word.
+-- Unpacking a valid head word and packing the result gives the same word.
 pub head_back : (word : ℕ) → IsHead word → head_word (head_of word) ≡ word
 head_back word h = (λ i. h.shape i + 128 * word_back (word / 128) h.attrs i) ∙ omega arith
 
--- The invariant that relates a cell's fields: its length, text, flags and attributes.
+-- The invariant that relates a cell's fields: its text and its length, its flags and its attributes.
 pub record IsKept (len : ℕ) (text : List ℕ) (wide right : Bool) (attrs : Attrs) : Type 0 where
   pub bounded : len ≤ text_room
   pub measured : length text ≡ len
@@ -98,11 +98,11 @@ abbrev pub cell_of_parts : HeadValue → List ℕ → CellValue
 cell_of_parts head contents =
     cell_of (take head.shape.len contents) head.shape.wide head.shape.right_half head.attrs
 
--- The text, padded with zeros to the size of the array.
+-- The text, padded with zeros to the size of a cell's text array.
 abbrev pub padded : List ℕ → List ℕ
 padded text = text ++ replicate (text_room - length text) 0
 
--- The first eight bytes of the text array.
+-- The first eight bytes of the text array of a cell with the given text.
 unfoldable pub front : List ℕ → List ℕ
 front text = take 8 (padded text)
 
@@ -145,7 +145,7 @@ pub stored_head : (head : HeadValue) (contents : List ℕ) → IsStored head con
     → head_of_cell (cell_of_parts head contents) ≡ head
 stored_head head contents h = cell_head _ _ _ _ _ h.kept
 
--- The padded text of a cell built from a valid head and text array is that array.
+-- The padded text of a cell built from a valid head and text array equals that array.
 pub stored_contents : (head : HeadValue) (contents : List ℕ) → IsStored head contents
     → padded (text_of (cell_of_parts head contents)) ≡ contents
 stored_contents head contents h =

@@ -23,7 +23,7 @@ without_separator [] = []
 without_separator (x ∷ []) = x ∷ []
 without_separator (x ∷ y ∷ rest) = y ∷ rest
 
--- The SGR parameters of a change of style, that is, of all attributes except the colours.
+-- The SGR parameters for a change of style, that is, of all attributes except the colours.
 abbrev pub style_part : Attrs → Attrs → List ℕ
 style_part was new =
     part (same_intensity was.intensity new.intensity) (intensity_number new.intensity ∷ [])

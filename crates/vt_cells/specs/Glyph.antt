@@ -1,12 +1,13 @@
--- The texts of glyphs: one character that takes columns, followed by combining characters.
+-- The text of a glyph: one character that takes columns, followed by combining characters.
 use Rattle.std.specs.Prelude.{◌≡◌, ◌≢◌, ℕ, Bool, true, false, ◌==◌, nat_lt, min, List, [], ◌∷◌}
 use Rattle.std.specs.Prelude.{◌++◌, length, Option, Some, None, chars, if◌then◌else◌}
 use Rattle.std.specs.List.{list_any, AllByRecursion}
 use Rattle.std.specs.Char.{encode_utf8, IsScalar}
 use Rattle.unicode_width.specs.Width.{char_width, str_width}
 
--- The number of columns that the character `c` takes if `unicode_width` returns this width: at most 2, and 1 from
--- U+0100 on if it returns none (UAX #11).
+-- The number of columns of the character `c`, given the width that `unicode_width` returns for it. The width is
+-- limited to 2. A character without a width takes one column if it is U+0100 or above; otherwise it is a control
+-- character (UAX #11).
 abbrev pub columns_or : ℕ → Option ℕ → Option ℕ
 columns_or c (Some width) = Some (min width 2)
 columns_or c None = if nat_lt c 0x100 then None else Some 1
@@ -23,7 +24,7 @@ is_selector c = c == 0xFE0F
 unfoldable pub is_wide_text : List ℕ → Bool
 is_wide_text text = nat_lt 1 (str_width false (chars text))
 
--- The text length in bytes from which a cell accepts no more combining characters.
+-- The text length, in bytes, at which a cell stops accepting combining characters.
 abbrev pub mark_limit : ℕ
 mark_limit = 26
 

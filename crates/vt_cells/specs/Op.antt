@@ -130,13 +130,13 @@ moving from_row from_col to_row to_col =
     else if (to_row == from_row) && (to_col == from_col) then []
     else MoveTo to_row to_col ∷ []
 
--- The components of the colour are bytes.
+-- The colour's palette index or components fit in bytes.
 abbrev pub FitsColor : Color → Type 0
 FitsColor Default = Unit {0}
 FitsColor (Idx i) = i < 256
 FitsColor (Rgb r g b) = (r < 256) × ((g < 256) × (b < 256))
 
--- The components of both colours of the attributes are bytes.
+-- The palette index or components of each colour fit in bytes.
 abbrev pub FitsAttrs : Attrs → Type 0
 FitsAttrs attrs = FitsColor attrs.fgcolor × FitsColor attrs.bgcolor
 

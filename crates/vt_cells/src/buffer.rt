@@ -123,7 +123,7 @@ impl Buffer {
         self.len = end;
     }
 
-    /// Appends a one-byte string, the length of most glyphs. It must fit in the buffer.
+    /// Appends a one-byte string, which must fit in the buffer. Most glyphs are one byte long.
     #[inline(always)]
     fn push_one(&mut self, text: &str)
         requires room { length self.old + 1 ≤ 128 }
@@ -157,8 +157,8 @@ fn copy_one(to: &mut [u8], from: &[u8])
 
 /// Copies `from` into `to`, which must have the same length.
 ///
-/// Two or three bytes, the length of most glyphs outside ASCII, are copied inline instead of by a
-/// call to `memcpy`.
+/// A slice of two or three bytes, as for most glyphs outside ASCII, is copied inline rather than by
+/// a call to `memcpy`.
 #[inline(always)]
 #[tactic(auto, using(crate::proofs::Buffers::two_set, crate::proofs::Buffers::three_set))]
 fn copy(to: &mut [u8], from: &[u8])

@@ -23,7 +23,8 @@ use unicode_width::UnicodeWidthStr;
 /// The text length, in bytes, at which a cell stops accepting combining characters.
 pub const MARK_LIMIT: u8 = 26;
 
-/// The size of a cell's text array in bytes: [`MARK_LIMIT`] bytes and one more character.
+/// The size of a cell's text array in bytes: [`MARK_LIMIT`] bytes plus the four bytes of the
+/// longest UTF-8 character.
 const TEXT_ROOM: usize = 30;
 
 /// A cell of the screen: a blank, a glyph, or the continuation cell of the wide glyph before it.
@@ -115,7 +116,7 @@ impl Cell {
 
     /// Returns whether the two cells have the same text. The texts must have the same length.
     ///
-    /// The first eight bytes are compared as one word; few cells have more.
+    /// The first eight bytes are compared as one word. Few cells have longer text.
     #[inline]
     fn has_text_of(&self, other: &Cell) -> bool
         requires { length (text_of self.now) ≡ length (text_of other.now) }
@@ -140,8 +141,8 @@ impl Cell {
 
     /// Returns a bit mask that is 0 only if the two cells are equal.
     ///
-    /// It is also nonzero if the text is longer than seven bytes, because the rest of the text is
-    /// not compared.
+    /// It is also nonzero if `self` has more than seven bytes of text, because the rest of the text
+    /// is not compared.
     #[inline(always)]
     pub(crate) fn odd_bits(&self, other: &Cell) -> u64
         ensures { result ≡ 0 → self.now ≡ other.now }

@@ -88,11 +88,11 @@ impl Head {
         self.word / 8 % 4 != 0
     }
 
-    /// Returns a bit mask that is 0 only if the two heads are equal and the text has at most seven
-    /// bytes.
+    /// Returns a bit mask that is 0 only if the two heads are equal and their text length is at
+    /// most seven bytes.
     ///
-    /// The mask contains the bits in which the words differ, and the upper two bits of the length,
-    /// which are 0 for lengths below eight.
+    /// The mask contains the bits in which the two words differ, and the upper two bits of the text
+    /// length of `self`, which are 0 for lengths below eight.
     #[inline(always)]
     #[tactic(auto, using(crate::proofs::Words::heads_even, crate::proofs::Words::short_even))]
     pub fn odd_bits(&self, other: &Head) -> u64

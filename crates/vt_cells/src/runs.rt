@@ -7,8 +7,8 @@ use crate::cell::Cell;
 
 /// Returns a lower bound on the number of leading cells that the two rows have in common.
 ///
-/// Cells are compared in groups of four, and a cell whose text is longer than seven bytes ends the
-/// run.
+/// Cells are compared in groups of four. The comparison stops at the first group in which the two
+/// rows differ or a cell has more than seven bytes of text.
 pub fn same_run(own: &[Cell], others: &[Cell]) -> usize
     ensures own { result ≤ length own.now }
     ensures others { result ≤ length others.now }
@@ -23,8 +23,8 @@ pub fn same_run(own: &[Cell], others: &[Cell]) -> usize
     count
 }
 
-/// Returns `true` only if the two groups of four cells are equal and no text is longer than seven
-/// bytes.
+/// Returns `true` only if the two groups of four cells are equal and no cell has more than seven
+/// bytes of text.
 ///
 /// The differences are combined into one word so that the compiler can vectorize the comparison.
 #[inline(always)]

@@ -18,16 +18,16 @@ pub trait Sink {
     ///
     /// # Errors
     ///
-    /// Returns the sink's own error. Each sink specifies the effect of a failed write, by the
-    /// relation `refuses` on the contents before the write, `s`, and the contents after it. A
-    /// `String` is unchanged. A sink that stores as much as fits has a prefix of `s` appended. A
-    /// sink may also promise nothing.
+    /// Returns the sink's own error. Each sink specifies the effect of a failed write by the
+    /// relation `refuses` between the contents before the write, `s`, and the contents after the
+    /// write. For example, a `String` is unchanged, and a sink of fixed capacity may append the
+    /// prefix of `s` that fits. A sink may also leave the effect unspecified.
     fn write_str(&mut self, s: &str) -> Result<(), Self::Error>
         ensures ok { OnOk result (text self.new ≡ text self.old ++ s.now) }
         ensures err { OnErr result (refuses (text self.old) s.now (text self.new)) };
 }
 
-/// A string is a sink to which a write fails only if the string cannot grow.
+/// A `String` is a sink. A write to it fails only if the string cannot grow.
 impl Sink for String {
     type Error = Error;
 

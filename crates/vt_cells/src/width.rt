@@ -30,9 +30,9 @@ pub fn columns(c: char) -> Option<u8>
 /// Returns `true` only if `code` is in one of the common blocks whose characters all take two
 /// columns, so that the width table need not be searched.
 ///
-/// The blocks are U+3250 to U+A48C (enclosed characters, ideographs and Yi syllables; tested first,
-/// as the most frequent), and the main ranges of CJK punctuation, Hiragana, Katakana and Hangul.
-/// Other wide characters exist.
+/// The blocks are U+3250 to U+A48C (enclosed characters, ideographs and Yi syllables; tested first
+/// because it is the most frequent), and the main ranges of CJK punctuation, Hiragana, Katakana and
+/// Hangul. Wide characters also exist outside these blocks.
 #[inline]
 #[tactic(auto, using(crate::proofs::Ideographs::blocks_wide))]
 fn is_ideograph(code: u32) -> bool

@@ -33,7 +33,7 @@ pub record IsSized (rows cols : ℕ) (page : Page) : Type 0 where
   pub height : rows ≡ length page.rows
   pub width : cols ≡ page.width
 
--- The row blanked, with its width unchanged.
+-- A blank row of the same width as the given one.
 abbrev pub cleared_row : Attrs → RowValue → RowValue
 cleared_row attrs row = blank_row attrs (length row.cells)
 
@@ -68,7 +68,7 @@ wide_printed c attrs page =
 abbrev pub mark_out : ℕ → Attrs → Page → List RowValue
 mark_out mark attrs page = if carries mark page then fed_out (left_by (Some zero) attrs page) else []
 
--- Row `k` of a blank page after the newest `up` rows of scrollback were moved into its first rows.
+-- Row `k` of a blank page after the newest `up` scrollback rows were moved into its first rows.
 abbrev pub given_back : (up : ℕ) → (above : List RowValue) →
     (blank : RowValue) → (k : ℕ) → (d : RowValue) → RowValue
 given_back up above blank k d =
@@ -76,7 +76,7 @@ given_back up above blank k d =
     then resized_row (length blank.cells) (slice_index_or above (length above + k - up) d)
     else blank
 
--- Row `k` of a blank page after the rows of another page, from row `down` on, were moved into it, from row `up` on.
+-- Row `k` of a blank page after rows `down..` of another page were moved into it, starting at row `up`.
 abbrev pub taken_over : (down up : ℕ) → (rows : List RowValue) →
     (blank : RowValue) → (k : ℕ) → (d : RowValue) → RowValue
 taken_over down up rows blank k d =

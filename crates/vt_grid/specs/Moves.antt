@@ -15,12 +15,13 @@ moved_left n page = record page { column = page.column - n }
 abbrev pub moved_right : ℕ → Page → Page
 moved_right n page = record page { column = min (page.column + n) (page.width - 1) }
 
--- The row of the page that a 0-based CUP row addresses, stopping at the last row. In origin mode, it is relative to
--- the top of the scroll region and stops at its bottom.
+-- The row of the page that a 0-based CUP row addresses, stopping at the last row. In origin mode, the row is
+-- relative to the top of the scroll region and stops at the region's bottom.
 abbrev pub target_row : ℕ → Page → ℕ
 target_row r page = if page.origin then min (page.top + r) page.bottom else min r (length page.rows - 1)
 
--- The page after the cursor moves to a 0-based row and column, each limited to the last one (CUP).
+-- The page after the cursor moves to a 0-based row, interpreted by `target_row`, and a 0-based column, stopping at
+-- the last column (CUP).
 abbrev pub moved_to : ℕ → ℕ → Page → Page
 moved_to r c page = record page { row = target_row r page; column = min c (page.width - 1) }
 

@@ -15,8 +15,8 @@ scrolled_out n page = if page.top == 0 then take (min n (page.bottom + 1)) page.
 abbrev pub fed_out : Page → List RowValue
 fed_out page = if feeds_out page then take 1 page.rows else []
 
--- The page just before a character wraps to the next row. U+FE0F takes the glyph before the cursor along, which
--- leaves a blank.
+-- The page just before a character of the given width wraps to the next row. A combining character takes the glyph
+-- before the cursor with it, leaving a blank.
 abbrev pub left_by : Option ℕ → Attrs → Page → Page
 left_by (Some zero) attrs page = lifted_page (mark_column page) attrs page
 left_by _ attrs page = page

@@ -97,8 +97,8 @@ by_row n f = map f (range_with_len 0 n)
 unfoldable pub moved_rows : ℕ → (ℕ → ℕ) → List RowValue → List RowValue
 moved_rows width source rows = by_row (length rows) (λ r. row_or width rows (source r))
 
--- The former index of row `r` after rows `top` to `bottom` move up by `n`. It is `past`, an index past the end, for a
--- blank row that scrolls in.
+-- The former index of row `r` after rows `top` to `bottom` move up by `n`. For a blank row that scrolls in, it is
+-- `past`, an index past the end.
 abbrev pub up_source : ℕ → ℕ → ℕ → ℕ → ℕ → ℕ
 up_source past top bottom n r =
     if nat_le top r && nat_le r bottom then (if nat_le (r + n) bottom then r + n else past) else r

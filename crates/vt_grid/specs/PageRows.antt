@@ -16,7 +16,7 @@ pub record HasRows (count : ℕ) (page_rows : PageRowsValue) : Type 0 where
   pub inside : count ≤ length page_rows.rows
   pub sound : All (IsRow page_rows.width) page_rows.rows
 
--- The page has `cols` columns, and at least the `count` rows that must scroll off it.
+-- The page has `cols` columns and at least `count` rows, so that its first `count` rows can scroll off.
 pub record CanLetRowsGo (count cols : ℕ) (page_rows : PageRowsValue) : Type 0 where
   pub rows : HasRows count page_rows
   pub width : cols ≡ page_rows.width
@@ -37,7 +37,7 @@ with_page_row r row page_rows = record page_rows { rows = slice_set page_rows.ro
 abbrev pub with_row_cells : ℕ → List CellValue → PageRowsValue → PageRowsValue
 with_row_cells r cells page_rows = with_page_row r (with_cells (page_row page_rows r) cells) page_rows
 
--- The rows of a page with the wrapped flag of row `r`, if there is one, set to `goes_on`.
+-- The rows of a page with the wrapped flag of the given row, if any, set to `goes_on`.
 abbrev pub with_page_row_flag : Option ℕ → Bool → PageRowsValue → PageRowsValue
 with_page_row_flag (Some r) goes_on page_rows =
     with_page_row r (record (page_row page_rows r) { wrapped = goes_on }) page_rows

@@ -26,17 +26,17 @@ left_row page =
     if at_bottom page then (if page.row == page.top then None else Some (page.row - 1))
     else Some page.row
 
--- A line feed moves the cursor to a different row or scrolls the scroll region.
+-- A line feed would move the cursor to a different row or scroll the scroll region.
 abbrev pub goes_down : Page → Bool
 goes_down page = if at_bottom page then true else nat_lt (page.row + 1) (length page.rows)
 
--- The page after the wrapped flag of the row from which the cursor wrapped, if it did, has been set to `goes_on`.
+-- The page with the wrapped flag of the row that the cursor left in a wrap, if any, set to `goes_on`.
 abbrev pub flagged_left : Option ℕ → Bool → Page → Page
 flagged_left (Some r) goes_on page = flagged r goes_on page
 flagged_left None goes_on page = page
 
--- The page after a wrap, which is a line feed to column 0. The row that was left is marked as wrapped exactly if its
--- last cell was not blank and the cursor is now on the row below it.
+-- The page after a wrap, which is a line feed to column 0. The row that the cursor left is marked as wrapped if and
+-- only if its last cell was not blank and the cursor is now on the row below it.
 unfoldable pub wrapped_page : Page → Page
 wrapped_page page =
     record (flagged_left (left_row page) (goes_down page && not (ends_blank (cursor_row page).cells)) (line_feed page))
@@ -50,7 +50,7 @@ lacks_room columns page = nat_lt (page.width - columns) page.column
 unfoldable pub room_made : ℕ → Page → Page
 room_made columns page = if lacks_room columns page then wrapped_page page else page
 
--- The page after a glyph is put at the cursor, which then moves past it.
+-- The page after a glyph is written at the cursor, which then moves past it.
 abbrev pub glyph_put : List ℕ → Bool → Attrs → Page → Page
 glyph_put text false attrs page =
     record (with_cursor_cells (put_narrow page.column text attrs (cursor_row page).cells) page)
@@ -100,8 +100,8 @@ lifted_page k attrs page = with_cursor_cells (erased k 1 attrs (cursor_row page)
 abbrev pub mark_put : ℕ → ℕ → Page → Page
 mark_put k mark page = with_cursor_cells (marked_at k mark (cursor_row page).cells) page
 
--- The page after U+FE0F makes the glyph in the last column wide while a wrap is pending. The glyph is removed and put
--- on the next row, together with the combining character.
+-- The page after U+FE0F makes the glyph in the last column wide while a wrap is pending. The glyph is removed and
+-- written on the next row, together with the combining character.
 unfoldable pub carried : ℕ → Attrs → Page → Page
 carried mark attrs page =
     let k = mark_column page in

@@ -25,7 +25,7 @@ window width height down up above rows =
     by_row height (λ k. if nat_lt (length above + down + k) up then blank_row default_attrs width
     else row_or width (above ++ rows) (length above + down + k - up))
 
--- The rows, cut off or extended to this width; the last row is marked as not wrapped.
+-- The rows, truncated or extended to the given width; the last row is marked as not wrapped.
 abbrev pub rows_resized : ℕ → List RowValue → List RowValue
 rows_resized width rows = unflagged width (length rows - 1) (map (resized_row width) rows)
 

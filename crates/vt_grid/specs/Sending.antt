@@ -25,7 +25,8 @@ pub record FailsUnchanged {P S : Type 0} (before : P) (old : S) (after : P) (new
   pub err : OnErr result ((after ≡ before) × (new ≡ old))
   pub memory : OnlyOutOfMemory result
 
--- The rows `gone` are moved to the scrollback `above`. If an allocation fails, the scrollback is `before`.
+-- The rows `gone` are moved to the scrollback `above`. If an allocation fails, the scrollback is `before`, and no
+-- rows are reported.
 pub record SendsOrFails {S : Type 0} (leaves : S → RowValue → S → Type 0) (height width : ℕ) (gone : List RowValue)
     (above : Scrollback) (old : S) (before after : Scrollback) (new : S)
     (result : Result (Unit {0}) Error) : Type 0 where

@@ -4,8 +4,8 @@ use Rattle.vt_rows.specs.Row.{RowValue, inserted_row, deleted_row}
 use Rattle.vt_grid.specs.Page.{Page, row_or, moved_rows, rows_up, cursor_row, with_row}
 use Rattle.vt_grid.specs.Regions.{in_region}
 
--- The former index of row `r` after rows `top` to `bottom` move down by `n`. It is `past`, an index past the end, for
--- a blank row that scrolls in.
+-- The former index of row `r` after rows `top` to `bottom` move down by `n`. For a blank row that scrolls in, it is
+-- `past`, an index past the end.
 abbrev pub down_source : ℕ → ℕ → ℕ → ℕ → ℕ → ℕ
 down_source past top bottom n r =
     if nat_le top r && nat_le r bottom then (if nat_le (top + n) r then r - n else past) else r

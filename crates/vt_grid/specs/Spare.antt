@@ -1,5 +1,5 @@
--- How scrollback allocates memory for the rows it must extend before it changes anything; for its private contracts
--- only.
+-- How scrollback allocates memory for the rows that it must extend, before it changes anything; for its private
+-- contracts only.
 use Rattle.std.specs.Prelude.{◌≡◌, ℕ, ◌+◌, ◌-◌, ◌<◌, ◌≤◌, List, ◌++◌, length, All, take, drop, map, slice_index_or}
 use Rattle.vt_cells.specs.Attrs.{default_attrs}
 use Rattle.vt_rows.specs.Row.{RowValue, IsRow, blank_row, trimmed_row}
@@ -9,11 +9,11 @@ use Rattle.vt_grid.specs.Scrollback.{Scrollback, grown_row, narrow_rows}
 abbrev pub AreRows : List RowValue → Type 0
 AreRows rows = All (λ row. IsRow (length row.cells) row) rows
 
--- The rows from `first` on, limited to the height of the screen.
+-- Up to `height` of the rows, starting at row `first`.
 abbrev pub window_from : (first height : ℕ) → List RowValue → List RowValue
 window_from first height rows = take height (drop first rows)
 
--- The rows, of which those from `first` on, limited to the height of the screen, are extended to this width.
+-- The rows, with up to `height` of them, starting at row `first`, extended to the given width if they are narrower.
 abbrev pub grown_from : (first height width : ℕ) → List RowValue → List RowValue
 grown_from first height width rows =
     take first rows ++ (map (grown_row width) (window_from first height rows) ++ drop (first + height) rows)
@@ -22,7 +22,7 @@ grown_from first height width rows =
 abbrev pub in_view : ℕ → Scrollback → List RowValue
 in_view height above = window_from (length above.rows - above.offset) height above.rows
 
--- The oldest of `rows` is shorter than the first row of `gone` without its trailing default blanks.
+-- The oldest of `rows` is shorter than the first row of `gone` with its trailing default blanks removed.
 abbrev pub OldestIsShorter : List RowValue → List RowValue → Type 0
 OldestIsShorter gone rows = (d : RowValue) →
     length (slice_index_or rows 0 d).cells < length (trimmed_row (slice_index_or gone 0 d)).cells

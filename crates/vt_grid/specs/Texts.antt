@@ -1,4 +1,4 @@
--- Texts that are printed character by character, and texts that fit on the cursor's row and are printed in one edit.
+-- Text that is printed character by character, and text that fits on the cursor's row and is printed in one edit.
 use Rattle.std.specs.Prelude.{ℕ, ◌+◌, List, [], ◌∷◌, length}
 use Rattle.vt_cells.specs.Attrs.{Attrs}
 use Rattle.vt_rows.specs.Texts.{put_text}
@@ -10,7 +10,7 @@ abbrev pub printed_text : List ℕ → Attrs → Page → Page
 printed_text [] attrs page = page
 printed_text (c ∷ text) attrs page = printed_text text attrs (printed c attrs page)
 
--- The page after narrow glyphs are put at the cursor, which then moves past them.
+-- The page after narrow glyphs are written at the cursor, which then moves past them.
 abbrev pub text_put : List ℕ → Attrs → Page → Page
 text_put text attrs page =
     record (with_cursor_cells (put_text page.column text attrs (cursor_row page).cells) page)

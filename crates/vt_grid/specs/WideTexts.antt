@@ -1,11 +1,11 @@
--- Texts of wide characters that fit on the cursor's row and are printed in one edit.
+-- Text of wide characters that fits on the cursor's row and is printed in one edit.
 use Rattle.std.specs.Prelude.{ℕ, ◌+◌, ◌*◌, List, length}
 use Rattle.vt_cells.specs.Attrs.{Attrs}
 use Rattle.vt_rows.specs.WideTexts.{put_wide_text}
 use Rattle.vt_grid.specs.Page.{Page, cursor_row}
 use Rattle.vt_grid.specs.Printing.{with_cursor_cells}
 
--- The page after wide glyphs are put at the cursor, which then moves past them.
+-- The page after wide glyphs are written at the cursor, which then moves past them.
 abbrev pub wide_text_put : List ℕ → Attrs → Page → Page
 wide_text_put text attrs page =
     record (with_cursor_cells (put_wide_text page.column text attrs (cursor_row page).cells) page)

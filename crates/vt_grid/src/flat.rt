@@ -57,7 +57,7 @@ impl Flat {
         })
     }
 
-    /// Returns a copy in which each row has the same place in the cells.
+    /// Returns a copy in which each row has the same place as in `self`.
     ///
     /// # Errors
     ///
@@ -117,8 +117,8 @@ impl Flat {
         self.lines[row].wrapped = wrapped;
     }
 
-    /// Rotates rows `from..to` upward by `count`, together with their wrapped flags. The cells are
-    /// unchanged.
+    /// Rotates rows `from..to` upward by `count`, together with their wrapped flags. Only the row
+    /// table changes; the cells are not moved.
     #[tactic(auto, using(crate::proofs::Flats::rows_counted))]
     pub fn rotate(&mut self, from: usize, to: usize, count: usize)
         requires in_order { from + count ≤ to }

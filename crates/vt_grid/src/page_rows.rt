@@ -145,7 +145,7 @@ impl PageRows {
         self.flat.wrap(row, wrapped);
     }
 
-    /// Sets the wrapped flag of `left`, the row that the cursor left by a wrap, to `goes_on`. Does
+    /// Sets the wrapped flag of `left`, the row from which the cursor wrapped, to `goes_on`. Does
     /// nothing if `left` is `None`.
     pub fn wrap_left(&mut self, left: Option<u16>, goes_on: bool)
         requires { IfSome left (λ row. row < length self.old.rows) }
@@ -156,7 +156,8 @@ impl PageRows {
         }
     }
 
-    /// Edits the cells of a row, and clears its wrapped flag if the last cell is then a blank.
+    /// Calls `edit` with the cells of a row and returns its result. Clears the row's wrapped flag
+    /// if the last cell is then a blank.
     #[inline(always)]
     fn edit_row<R, F: FnOnce(&mut [Cell]) -> R>(&mut self, row: u16, edit: F) -> R
         requires inside { row < length self.old.rows }
@@ -175,7 +176,7 @@ impl PageRows {
         edited
     }
 
-    /// Edits the cells of a row, and sets its wrapped flag to `goes_on`.
+    /// Calls `edit` with the cells of a row, and sets the row's wrapped flag to `goes_on`.
     #[inline(always)]
     fn edit_row_and_flag<F: FnOnce(&mut [Cell])>(&mut self, row: usize, goes_on: bool, edit: F)
         requires inside { row < length self.old.rows }

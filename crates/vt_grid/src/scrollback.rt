@@ -104,7 +104,7 @@ impl Scrollback {
     }
 
     /// Returns the number of rows that have scrolled off since scrollback was last cleared and have
-    /// not come back, whether they were kept or not.
+    /// not come back to the page, whether they were kept or not.
     #[inline]
     pub fn theoretical_len(&self) -> usize
         ensures value { result ≡ self.now.theoretical }
@@ -256,8 +256,8 @@ impl Scrollback {
         Ok(())
     }
 
-    /// Returns an upper bound on the number of displayed rows that are narrower than the screen
-    /// once `count` rows have been appended.
+    /// Returns an upper bound on how many displayed rows will be narrower than the screen once
+    /// `count` rows have been appended.
     fn allocations(&self, count: usize, size: Size) -> usize
         requires { count < 2 ^ 63 }
         ensures { (gone : List RowValue) → length gone ≡ count →
@@ -273,8 +273,8 @@ impl Scrollback {
         narrow_rows(&self.rows, first, size) + below.min(end).saturating_sub(len)
     }
 
-    /// Sets the offset to `n`, limited to the number of rows kept. Rows that a screen of this size
-    /// then displays are extended to its width if they are narrower.
+    /// Sets the offset to `n`, limited to the number of rows kept. Rows that a screen of the given
+    /// size then displays are extended to its width if they are narrower.
     ///
     /// No memory is allocated if no row needs to be extended.
     ///
@@ -339,8 +339,8 @@ impl Scrollback {
         self.rows.len() + page.len()
     }
 
-    /// Returns the row at `index`, counting the scrollback rows first, from the oldest on, and then
-    /// the rows of the page.
+    /// Returns the row at `index`, where the scrollback rows are counted first, from the oldest to
+    /// the newest, followed by the rows of the page.
     pub fn stacked_row<'a>(&'a self, page: &'a PageRows, index: usize) -> RowContents<'a>
         requires inside { index < length self.now.rows + length page.now.rows }
         requires sound { All (IsRow page.now.width) page.now.rows }
@@ -424,8 +424,8 @@ fn followed(offset: usize, count: usize, len: usize) -> usize
     }
 }
 
-/// Returns how many of the rows that a screen of this size displays, starting with row `first` of
-/// `rows`, are narrower than the screen.
+/// Returns how many rows of `rows` are narrower than the screen, considering only those that a
+/// screen of the given size displays if row `first` is at its top.
 fn narrow_rows(rows: &VecDeque<Row>, first: usize, size: Size) -> usize
     requires { first < 2 ^ 64 - 2 ^ 16 }
     ensures value { result ≡ narrow_rows size.cols (window_from first size.rows rows.now.items) }
@@ -446,8 +446,9 @@ fn narrow(row: &Row, columns: usize) -> usize
     if row.cols() < columns { 1 } else { 0 }
 }
 
-/// Extends the rows that a screen of this size displays at this offset, if they are narrower than
-/// the screen. The rows in `spare` must be blank and as wide as the screen.
+/// Extends the scrollback rows that a screen of the given size displays at the given offset to the
+/// width of the screen, if they are narrower. The rows in `spare` must be blank and as wide as the
+/// screen.
 fn grow_in_view(rows: &mut VecDeque<Row>, offset: usize, size: Size, mut spare: Vec<Row>)
     requires inside { offset ≤ length rows.old.items }
     requires sound { AreRows rows.old.items }

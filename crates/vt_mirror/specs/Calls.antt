@@ -65,7 +65,7 @@ pub record Leaves (old : ViewersValue) (viewer : ℕ) (answer : Bool) (new : Vie
   pub last : new.last ≡ old.last
   pub puts : Puts old viewer false None new
 
--- The text is the redraw of the screen, whose size is at least one row and one column.
+-- The text is the redraw of the screen, which has `rows` rows and `cols` columns, at least one of each.
 pub record IsFull (self : ScreenValue) (rows cols : ℕ) (text : List ℕ) : Type 0 where
   pub tall : rows ≡ length self.page.rows
   pub wide : cols ≡ self.page.width
@@ -78,8 +78,8 @@ pub record IsFull (self : ScreenValue) (rows cols : ℕ) (text : List ℕ) : Typ
   pub controls : IsMadeOf drawing_finals drawing_controls text
   pub again : KeepsPlain text
 
--- The text is a difference between two screens of the same size. It is empty if they display the same; for a steady
--- screen, it is empty only then.
+-- The text is a difference between two screens of the same size. It is empty if they display the same content; if
+-- the screen `self` is steady, it is empty only then.
 pub record IsDiff (self prev : ScreenValue) (text : List ℕ) : Type 0 where
   pub size : SameSize self.page prev.page
   pub redraws : Redraws (shown self) (IsReaderOf (shown self) (shown prev)) KeepsRest text
@@ -92,7 +92,8 @@ pub data Kind : Type 0 where
   Drawn : Kind
   Scrolling : Kind
 
--- The text is a difference that moves no rows. It only affects cells near a row that differs.
+-- The text is a difference that moves no rows. If the screen `self` is steady, it only affects cells near a row that
+-- differs.
 pub record IsDrawn (self prev : ScreenValue) (text : List ℕ) : Type 0 where
   pub diff : IsDiff self prev text
   pub is : text ≡ bytes_of_all (difference (shown self) (shown prev))
@@ -100,7 +101,7 @@ pub record IsDrawn (self prev : ScreenValue) (text : List ℕ) : Type 0 where
   pub touches : TouchesNear prev self text
 
 -- The text is a difference that may move rows first. It starts from a steady screen and is never longer than the
--- difference that moves none.
+-- difference that moves no rows.
 pub record Scrolls (self prev : ScreenValue) (text : List ℕ) : Type 0 where
   pub diff : IsDiff self prev text
   pub from_steady : IsSteady (shown prev)

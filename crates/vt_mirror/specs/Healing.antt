@@ -21,7 +21,8 @@ pub record ReadsFine {S : Type 0} (does : CallRelation S) (text : List ℕ) (old
   pub ran : FoldsTo (Ran does) old chunks new
   pub works : new.is_failed ≡ false
 
--- A terminal applies an update: for a full redraw, it is resized first, and then it reads the text.
+-- A terminal applies an update through calls to `process` that all return `Ok`. For a full redraw, it is resized
+-- first.
 abbrev pub TakesFine : {S : Type 0} → CallRelation S → Update → Parsing S → Parsing S → Type 0
 TakesFine {S} does (Diff text) old new = ReadsFine does (string_bytes text) old new
 TakesFine {S} does (Full rows cols text) old new =
@@ -33,8 +34,8 @@ pub record SeesAny {S : Type 0} (does : CallRelation S) (kind : Kind) (update : 
   pub takes : TakesFine does update old.viewer new.viewer
   pub seen : new.seen ≡ Some old.mirror.parser.screen
 
--- An update for the viewer `asked` is applied by the viewer `number` if these are the same viewer; otherwise the
--- viewer `number` is unaffected.
+-- An update for the viewer `asked` is applied, as in `SeesAny`, by the viewer `number` if these are the same viewer;
+-- otherwise the viewer `number` is unaffected.
 pub record IsTakenFine {S : Type 0} (does : CallRelation S) (number : ℕ) (kind : Kind) (asked : ℕ) (update : Update)
     (old new : Watching S) : Type 0 where
   pub own : asked ≡ number → SeesAny does kind update old new
@@ -52,7 +53,8 @@ WatchesAny {S} does number old (Ask kind viewer (Ok (Some update))) new =
 WatchesAny {S} does number old (Ask kind viewer (Ok None)) new = IsLeft old new
 WatchesAny {S} does number old (Ask kind viewer (Err error)) new = IsLeft old new
 
--- The effect of a mirror's call on the mirror and on the viewer with this number.
+-- The effect of a call to a mirror on the mirror and on the viewer with this number, whose terminal may have any
+-- callbacks and whose screens need not be steady.
 abbrev pub GoesAny : {S : Type 0} → CallRelation S → ℕ → Watching S → MirrorCall → Watching S → Type 0
 GoesAny {S} does number old call new = MirrorDoes old.mirror call new.mirror × WatchesAny does number old call new
 

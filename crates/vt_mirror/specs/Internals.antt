@@ -1,4 +1,4 @@
--- Auxiliary definitions that are cited only by private functions.
+-- Auxiliary definitions that are cited only by the contracts of private functions.
 use Rattle.std.specs.Prelude.{◌≡◌, ℕ, ◌*◌, ◌+◌, ◌<◌, ◌≤◌, Bool, false, true, List, ◌∷◌, length, Some, None, string_bytes}
 use Rattle.std.specs.Io.KnownBytes.{Appends, Consumes, IsAtEnd}
 use Rattle.std.specs.List.{AllByRecursion}
@@ -43,7 +43,8 @@ pub record ReadsBytes (bytes : List ℕ) (old new : MirrorValue) (left rest : Op
   pub viewers : new.viewers ≡ old.viewers
   pub size : SameSize new.parser.screen.page old.parser.screen.page
 
--- The mirror read `every` bytes, or all remaining bytes if there were fewer; `is_whole` says which.
+-- The mirror read `every` bytes, or all remaining bytes if there were fewer; `is_whole` says which. The input was
+-- `left` before and is `rest` now.
 pub record ReadsStretch (every : ℕ) (is_whole : Bool)
     (old new : MirrorValue) (left rest : Option (List ℕ)) : Type 0 where
   pub bytes : List ℕ
@@ -59,13 +60,14 @@ pub record InStretch (every still : ℕ) (old new : MirrorValue) (left rest : Op
   pub some : 0 < still
   pub count : length bytes + still ≡ every
 
--- A read failed before `every` bytes were read for the next update.
+-- A read failed before `every` bytes were read for the next update. The input was `left` before and is `rest` now.
 pub record ReadsFewer (every : ℕ) (left rest : Option (List ℕ)) : Type 0 where
   pub bytes : List ℕ
   pub fewer : length bytes < every
   pub reads : Consumes left rest bytes
 
--- An allocation failed before the next update, after at most `every` bytes were read.
+-- An allocation failed before the next update, after at most `every` bytes were read. The input was `left` before
+-- and is `rest` now.
 pub record ReadsAtMost (every : ℕ) (left rest : Option (List ℕ)) : Type 0 where
   pub bytes : List ℕ
   pub few : length bytes ≤ every
@@ -77,7 +79,9 @@ pub record IsBegun (mirror : MirrorValue) (viewer : ℕ) : Type 0 where
   pub views : is_viewer mirror.viewers viewer ≡ true
   pub note : note_of mirror.viewers viewer ≡ None
 
--- All updates due so far have been written, and the number of bytes read is a multiple of `every`.
+-- All updates due so far have been written, and the number of bytes read is a multiple of `every`. The mirror was
+-- `old` at the start and is `new` now. The input was `left` before and is `rest` now; the output was `written`
+-- before and is `grown` now.
 pub record IsWritten (every viewer : ℕ) (old new : MirrorValue) (left rest written grown : Option (List ℕ)) : Type 0 where
   pub input : List ℕ
   pub count : ℕ

@@ -1,5 +1,5 @@
 -- The copies of screens that a mirror keeps for its viewers, numbered by version and shared between viewers, and the
--- texts it keeps.
+-- output that it stores.
 use Rattle.std.specs.Prelude.{◌≡◌, ◌⊎◌, ℕ, suc, ◌<◌, ◌≤◌, ◌==◌, ◌&&◌, nat_lt, Bool, false, List, filter, map, string_bytes}
 use Rattle.std.specs.Prelude.{Option, Some, None}
 use Rattle.std.specs.BTreeMap.{is_at}

@@ -58,14 +58,16 @@ pub record WritesToEnd (first : ScreenValue) (every : ℕ) (left rest written gr
   pub controls : IsMadeOf drawing_finals drawing_controls (text_to_end first every input)
   pub updated : AllByRecursion (IsUpdatedAfter first) (first ∷ screens_to_end first every input)
 
--- A read failed after `input`, and all updates that were due by then had been written.
+-- A read failed after `input`, and all updates that were due by then had been written. The input was `left` before
+-- and is `rest` now; the output was `written` before and is `grown` now.
 pub record WritesOnWay (first : ScreenValue) (every : ℕ) (left rest written grown : Option (List ℕ)) : Type 0 where
   pub input : List ℕ
   pub reads : Consumes left rest input
   pub appends : Appends written grown (text_on_way first every input)
   pub controls : IsMadeOf drawing_finals drawing_controls (text_on_way first every input)
 
--- An allocation failed. All updates were written except the one for the last bytes read, which are at most `every`.
+-- An allocation failed. All updates were written except the one for the last bytes read, at most `every` of them.
+-- The input was `left` before and is `rest` now; the output was `written` before and is `grown` now.
 pub record WritesBehind (first : ScreenValue) (every : ℕ) (left rest written grown : Option (List ℕ)) : Type 0 where
   pub input : List ℕ
   pub last : List ℕ
@@ -74,12 +76,14 @@ pub record WritesBehind (first : ScreenValue) (every : ℕ) (left rest written g
   pub appends : Appends written grown (text_on_way first every input)
   pub controls : IsMadeOf drawing_finals drawing_controls (text_on_way first every input)
 
--- An allocation failed, either before the first update, with nothing read or written, or later.
+-- An allocation failed, either before anything was read or written, or after the first update. The input was `left`
+-- before and is `rest` now; the output was `written` before and is `grown` now.
 abbrev pub WritesSome : (first : ScreenValue) (every : ℕ) → (left rest written grown : Option (List ℕ)) → Type 0
 WritesSome first every left rest written grown =
     (Keeps left rest × Keeps written grown) ⊎ WritesBehind first every left rest written grown
 
--- Writing the first update failed after a prefix of its text was written; no input had been read.
+-- Writing the first update failed after a prefix of its text was written; no input had been read. The input was
+-- `left` before and is `rest` now; the output was `written` before and is `grown` now.
 pub record FailsAtFirst (first : ScreenValue) (left rest written grown : Option (List ℕ)) : Type 0 where
   pub reads : Keeps left rest
   pub part : AppendsPart written grown (shown_text first)
@@ -95,7 +99,7 @@ pub record AppendsThenPart (earlier next : List ℕ) (written grown : Option (Li
 -- Writing an update other than the first failed. The update before it was due after `input`. The failed update was
 -- due after the next bytes `last`, which are a full interval, or fewer at the end of the input. All earlier updates
 -- were written, and so was a prefix of the failed update, which is the difference between the screens at these two
--- points.
+-- points. The input was `left` before and is `rest` now; the output was `written` before and is `grown` now.
 pub record FailsLater (first : ScreenValue) (every : ℕ) (left rest written grown : Option (List ℕ)) : Type 0 where
   pub input : List ℕ
   pub count : ℕ
@@ -108,7 +112,8 @@ pub record FailsLater (first : ScreenValue) (every : ℕ) (left rest written gro
   pub controls : IsMadeOf drawing_finals drawing_controls (text_on_way first every input
       ++ shown_change (screen_in start first input) (screen_in start first (input ++ last)))
 
--- Writing an update failed after a prefix of its text was written.
+-- Writing an update failed after a prefix of its text was written. The input was `left` before and is `rest` now;
+-- the output was `written` before and is `grown` now.
 abbrev pub WritesPart : (first : ScreenValue) (every : ℕ) → (left rest written grown : Option (List ℕ)) → Type 0
 WritesPart first every left rest written grown =
     FailsAtFirst first left rest written grown ⊎ FailsLater first every left rest written grown

@@ -103,7 +103,7 @@ Watches {S} number old (Ask kind viewer (Ok (Some update))) new = IsTakenBy numb
 Watches {S} number old (Ask kind viewer (Ok None)) new = IsLeft old new
 Watches {S} number old (Ask kind viewer (Err error)) new = IsLeft old new
 
--- The effect of a mirror's call on the mirror and on the viewer with this number.
+-- The effect of a call to a mirror on the mirror and on the viewer with this number.
 abbrev pub Goes : {S : Type 0} → ℕ → Watching S → MirrorCall → Watching S → Type 0
 Goes {S} number old call new = MirrorDoes old.mirror call new.mirror × Watches number old call new
 

@@ -139,8 +139,8 @@ impl SharedCopy {
     }
 }
 
-/// A copy of a screen with a version number. Copies with the same version are
-/// copies of the same screen.
+/// A copy of a screen, along with a version number. Copies with the same
+/// version are copies of the same screen.
 #[derive(Drop)]
 pub(crate) struct Note {
     /// The version number, or 0 if the copy has none.

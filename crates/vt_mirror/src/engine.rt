@@ -92,8 +92,8 @@ pub fn run_words<R: Read, W: Write>(
     }
 }
 
-/// Reads all input, writing one update at the start and one per interval of
-/// `every` bytes for a newly joined viewer.
+/// Reads all input and writes the updates of a viewer that has just joined: one
+/// at the start, one after every `every` bytes, and one at the end.
 fn run_viewer<R: Read, W: Write>(
     mirror: &mut Mirror,
     viewer: u64,

@@ -1,4 +1,4 @@
-//! A cache of difference texts that viewers share.
+//! A cache for the text of a difference that several viewers need.
 
 ghost use Rattle.std.specs.Prelude.{◌≡◌, ◌⊎◌, IfSome, None, Some, string_bytes};
 ghost use Rattle.vt_mirror.specs.Kept.{AreOfOneVersion};
@@ -14,8 +14,8 @@ pub(crate) struct KeptDiff {
     text: String,
 }
 
-/// The last difference to the current screen, stored for all viewers that need
-/// the same one.
+/// A cache that holds the last difference to the current screen, for all
+/// viewers that need the same one.
 #[derive(Drop)]
 pub(crate) struct DiffCache {
     last: Option<KeptDiff>,

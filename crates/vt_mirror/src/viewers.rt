@@ -15,7 +15,7 @@ use std::marker::Model;
 use vt100::{Error, Screen};
 
 /// The viewers of a mirror, the screen at each viewer's last update, and the
-/// update texts that viewers share.
+/// text of updates that several viewers need.
 #[derive(Drop)]
 pub(crate) struct Viewers {
     /// The last viewer number that was assigned, if any.
@@ -266,8 +266,8 @@ impl Viewers {
         Ok(())
     }
 
-    /// Drops the copy of the current screen and all stored texts. This is
-    /// necessary when the screen changes.
+    /// Drops the copy of the current screen and the stored text of all updates.
+    /// This is necessary when the screen changes.
     pub(crate) fn discard_current(&mut self)
         ensures { self.new ≡ record self.old {
           current = None;
@@ -284,8 +284,8 @@ impl Viewers {
         leave_a_version(&mut self.version, &mut self.notes);
     }
 
-    /// Drops all copies and stored texts, including the screens recorded for
-    /// viewers. This is necessary when the size changes.
+    /// Drops all copies of screens, including those recorded for viewers, and
+    /// the stored text of all updates. This is necessary when the size changes.
     pub(crate) fn discard_all(&mut self)
         ensures { self.new ≡ record {
           viewers = record (self.old.viewers) { notes = [] };
@@ -301,8 +301,9 @@ impl Viewers {
     }
 }
 
-/// Restarts the version numbers if the last one has been assigned, and removes
-/// the version of every recorded copy. The next copy can then have a version.
+/// If the last version number has been assigned, restarts the numbering and
+/// removes the version of every recorded copy, so that the next copy can have a
+/// version.
 fn leave_a_version(version: &mut u64, notes: &mut BTreeMap<u64, Note>)
     ensures { HaveNext version.old notes.old.entries version.new notes.new.entries }
 {
@@ -373,8 +374,8 @@ fn shared_or_new(alloc: Global, screen: &Screen, copy: &SharedCopy) -> Result<Sh
     }
 }
 
-/// Returns the number after `last` (0 if there is none), or `None` if `last` is
-/// `u64::MAX`.
+/// Returns the number after `last`: 0 if `last` is `None`, and `None` if `last`
+/// is `u64::MAX`.
 fn next_after(last: Option<u64>) -> Option<u64>
     ensures some { IfSome result (λ viewer. (viewer ≡ next_number last) × (last ≢ Some greatest)) }
     ensures none { IfNone result (last ≡ Some greatest) }

@@ -5,7 +5,8 @@ use std::alloc::AllocError;
 use std::convert::AsSlice;
 
 impl Note {
-    /// Appends this call to `lines` as one line, including its line end.
+    /// Appends this call to `lines` as one line, including its trailing
+    /// newline.
     pub(crate) fn write_line(&self, lines: &mut String) -> Result<(), AllocError> {
         match self {
             Note::AudibleBell => writeln!(lines, "audible_bell()"),

@@ -15,7 +15,7 @@ pub struct KeptRow {
     /// The cells, from left to right.
     pub cells: Vec<Cell>,
 
-    /// Whether the row is wrapped, which means that its text continued on the row below it.
+    /// Whether the row is wrapped, which means that its text continued on the next row.
     pub wrapped: bool,
 
     /// The basic text of the row, as if it were the first row of a capture.

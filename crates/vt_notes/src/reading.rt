@@ -12,7 +12,7 @@ use std::num::NonZeroU16;
 use vt100::{Error, Parser};
 
 /// Creates a parser with a new screen of the given size, without scrollback, and feeds the chunks
-/// to it one by one. Its notes are exactly the calls that the bytes cause.
+/// in `pieces` to it one by one. Its notes are exactly the calls that the bytes cause.
 ///
 /// # Errors
 ///

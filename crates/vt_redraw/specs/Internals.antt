@@ -35,16 +35,16 @@ pub record IsFilled (cells : List CellValue) (cols : ℕ) (end : CellValue) : Ty
   pub inside : length cells ≤ cols
   pub blank : is_blank end ≡ true
 
--- Whether cutting the row off at this many columns splits a wide character.
+-- Whether truncating the row to this many columns splits a wide character.
 abbrev pub is_split : ℕ → List CellValue → Bool
 is_split cols cells = nat_lt cols (length cells) && is_wide (at cells (cols - 1))
 
--- The number of cells that are unchanged when a row is cut off at this many columns.
+-- The number of cells that are unchanged when a row is truncated to this many columns.
 abbrev pub kept_len : ℕ → List CellValue → ℕ
 kept_len cols cells = if is_split cols cells then cols - 1 else cols
 
--- The cell after the unchanged cells of a row that is cut off: if a wide character is split, a blank with its
--- attributes, otherwise a default blank.
+-- The cell after the unchanged cells of a truncated row. It is a blank with the attributes of the wide character
+-- that is split, if there is one, and otherwise a default blank.
 abbrev pub cell_past_cut : ℕ → List CellValue → CellValue
 cell_past_cut cols cells = if is_split cols cells then blank (attrs_of (at cells (cols - 1))) else default_blank
 
@@ -56,8 +56,8 @@ pub record IsRange (cells over : List CellValue) : Type 0 where
   pub halves : (k : ℕ) → is_wide (at cells k) ≡ true → k + 1 < length cells → is_right_half (at cells (k + 1)) ≡ true
   pub room : (k : ℕ) → is_wide (at cells k) ≡ true → k + 1 < length over
 
--- The precondition on the cells of a row and the cells `over` displayed there: there are equally many, and no wide
--- character is split.
+-- The precondition on the cells of a row and the cells `over` displayed there: both lists have the same nonzero
+-- length, and no wide character is split.
 pub record IsRowOver (cells over : List CellValue) : Type 0 where
   pub some : 0 < length cells
   pub same : length cells ≡ length over
@@ -67,16 +67,16 @@ pub record IsRowOver (cells over : List CellValue) : Type 0 where
 abbrev pub FitsColumns : ℕ → CellValue → Type 0
 FitsColumns width cell = glyph_columns (is_wide cell) ≤ width
 
--- The precondition on the cells of row `r + 1`, the cells `upper` of the row above, and the cells `over` displayed
--- there.
+-- The precondition on the cells of row `r + 1`, the cells `upper` of the row above, and the cells `over` that the
+-- terminal displays in row `r + 1`.
 pub record IsRowUnder (r : ℕ) (upper cells over : List CellValue) : Type 0 where
   pub short : r + 1 < 65536
   pub above : 0 < length upper
   pub last : IsPaired upper
   pub row : IsRowOver cells over
 
--- A row of a picture, cut off or extended to `width` columns. It is not wrapped if its last column is then blank or
--- if it is the last row.
+-- A row of a picture, truncated or extended to `width` columns. It is not wrapped if its last column is then blank
+-- or if it is the last row.
 abbrev pub cut_row : (is_last : Bool) → ℕ → RowValue → RowValue
 cut_row is_last width row = record {
   cells = resized width row.cells;
@@ -124,10 +124,11 @@ picture_of_source source above rows width pen hidden = record {
 abbrev pub columns_of : CellValue → ℕ
 columns_of x = glyph_columns (is_wide x)
 
--- The operations that print a glyph at a position, and those that erase a run of blanks with these attributes.
+-- The operations that print a glyph at a position.
 abbrev pub glyph_ops : Pen → Pos → CellValue → List Op
 glyph_ops pen pos x = placed_op pen pos.row pos.col (attrs_of x) (Print (text_of x))
 
+-- The operations that erase a run of `count` columns at a position, leaving blanks with the given attributes.
 abbrev pub run_ops : Pen → Pos → Attrs → (count : ℕ) → RowValue → List Op
 run_ops pen pos attrs count y = placed_op pen pos.row pos.col attrs (erase_run count (drop (pos.col + count) y.cells))
 
@@ -136,7 +137,7 @@ run_ops pen pos attrs count y = placed_op pen pos.row pos.col attrs (erase_run c
 abbrev pub stands : ℕ → (x y : RowValue) → Bool
 stands c x y = is_right_half (at x.cells c) || same_cell (at x.cells c) (at y.cells c)
 
--- The precondition on a cell of a range that needs output.
+-- The precondition on the cell at column `c`, which is in a range and needs output.
 pub record IsOther (c : ℕ) (x y : RowValue) : Type 0 where
   pub inside : c < length x.cells
   pub range : IsRange x.cells y.cells
@@ -156,16 +157,16 @@ pub record LeadsOn (text : List ℕ) (written : Scripted) (start : List ℕ) (wh
   pub leads : Leads text written start whole
   pub grows : length start ≤ length text
 
--- The output that replaces the displayed cells `ys` of row `r` with the cells `xs`, from column `c` on.
+-- The output that replaces the displayed cells `ys` of row `r` with the cells `xs`, starting at column `c`.
 abbrev pub cells_from : (r c : ℕ) → Pen → Bool → (xs ys : List CellValue) → Scripted
 cells_from r c pen flag xs ys = cells_written r c pen flag 0 (drop c xs) (drop c ys)
 
--- The output that replaces the displayed row `y` with the row `x`, from a position on.
+-- The output that replaces the displayed row `y` with the row `x`, starting at a position.
 abbrev pub cells_over : Pos → Pen → Bool → (x y : RowValue) → Scripted
 cells_over pos pen flag x y = cells_from pos.row pos.col pen flag x.cells y.cells
 
--- The output that replaces the displayed row `y` with the row `x`, from a position on. A continuation cell at that
--- position counts as a default blank.
+-- The output that replaces the displayed row `y` with the row `x`, starting at a position. A continuation cell at
+-- that position counts as a default blank.
 abbrev pub range_over : Pos → Pen → Bool → (x y : RowValue) → Scripted
 range_over pos pen flag x y =
     cells_written pos.row pos.col pen flag 0 (with_whole_start (drop pos.col x.cells))
@@ -188,8 +189,8 @@ pub record GathersOrStops {A E : Type 0} (result : Result A E) (start before end
   pub grows : OnOk result (length start ≤ length end)
   pub some : RefusedOnlyIfSome result (before ++ bytes_of_all ops)
 
--- The effect of writing the output for the cells at a position. It returns the number of columns that are done, and
--- fails only if the sink rejects some nonempty output.
+-- The effect of writing the output for the cells at a position. It returns the number of columns that it completed,
+-- and fails only if the sink rejects some nonempty output.
 pub record SettlesOrStops {E : Type 0} (result : Result ℕ E) (start before end behind : List ℕ)
     (pen : Pen) (flag : Bool) (pos : Pos) (x y : RowValue) (whole : Scripted) : Type 0 where
   pub leads : IfOk result (λ n. Leads (gathered end behind)
@@ -199,7 +200,7 @@ pub record SettlesOrStops {E : Type 0} (result : Result ℕ E) (start before end
   pub grows : OnOk result (length start ≤ length end)
   pub refused : RefusedOnlyIfSome result (before ++ bytes_of_all whole.ops)
 
--- The text was extended by the output of a link, and the state after it is that of `whole`.
+-- `text` is `start` followed by the output of a link, and the state after the link is that of `whole`.
 pub record Links (start text : List ℕ) (pen : Pen) (link : Link) (whole : Linked) : Type 0 where
   pub bytes : text ≡ start ++ bytes_of_all whole.ops
   pub stands : pen ≡ whole.pen
@@ -212,7 +213,7 @@ pub record LinksOrStops {E : Type 0} (result : Result Link E)
   pub links : IfOk result (λ link. Links start text pen link whole)
   pub some : RefusedOnlyIfSome result (bytes_of_all whole.ops)
 
--- The text was extended by the output of a row, and the state after it is that of `whole`.
+-- `text` is `start` followed by the output of a row, and the state after the row is that of `whole`.
 pub record Writes (start text : List ℕ) (pen : Pen) (flag : Bool) (whole : Scripted) : Type 0 where
   pub bytes : text ≡ start ++ bytes_of_all whole.ops
   pub stands : pen ≡ whole.pen
@@ -240,7 +241,7 @@ end_ops r pen flag x =
     (break_of r pen flag x).ops
     ++ mark_of r (break_of r pen flag x).pen (break_of r pen flag x).flag x.wrapped x.cells
 
--- A cell whose text has at most `bound` bytes.
+-- The cell is valid, and its text has at most `bound` bytes.
 pub record IsWithin (bound : ℕ) (cell : CellValue) : Type 0 where
   pub sound : IsCell cell
   pub bytes : length (text_of cell) ≤ bound

@@ -18,14 +18,16 @@ use Rattle.vt_redraw.specs.Script.{Scripted, ops_then, cells_written, first_writ
 abbrev pub in_range : (start stop : ℕ) → List CellValue → List CellValue
 in_range start stop cells = take (stop - start) (drop start cells)
 
--- The cells, in which a continuation cell at the beginning is replaced with a default blank. That blank needs no
--- output only if the terminal also has a continuation cell there.
+-- The cells, with a continuation cell at the beginning replaced by a default blank.
 abbrev pub with_whole_start : List CellValue → List CellValue
 with_whole_start [] = []
 with_whole_start (right_half ∷ xs) = default_blank ∷ xs
 with_whole_start (blank a ∷ xs) = blank a ∷ xs
 with_whole_start (glyph text wide a ∷ xs) = glyph text wide a ∷ xs
 
+-- The displayed cells `ys`, adapted to `with_whole_start xs`. If `xs` begins with a continuation cell, the first
+-- cell of `ys` becomes a default blank if it is also a continuation cell, so that it needs no output. If it is not,
+-- it becomes a continuation cell, so that the blank is drawn.
 abbrev pub with_whole_start_over : (xs ys : List CellValue) → List CellValue
 with_whole_start_over (right_half ∷ xs) (right_half ∷ ys) = default_blank ∷ ys
 with_whole_start_over (right_half ∷ xs) (blank a ∷ ys) = right_half ∷ ys
@@ -77,11 +79,12 @@ item_of_redraw r start stop linked x =
     if is_whole start stop (length x.cells) && linked then linked_item r x.cells
     else range_written r start stop false x.cells (blanks default_attrs (length x.cells))
 
--- The output, as text, for a range of row `r` of a picture.
+-- The bytes of the output that turns a range of row `r` of the picture `prev` into that of `self`.
 abbrev pub changed_row_text : (r start stop : ℕ) → (self prev : Picture) → List ℕ
 changed_row_text r start stop self prev =
     bytes_of_all (item_of_difference r start stop (row_or self.width self.rows r) (row_or self.width prev.rows r)).ops
 
+-- The bytes of the output that draws a range of row `r` of a picture over a blank row.
 abbrev pub formatted_row_text : (r start stop : ℕ) → Picture → List ℕ
 formatted_row_text r start stop self =
     bytes_of_all (item_of_redraw r start stop (is_linked self.width self.rows r) (row_or self.width self.rows r)).ops
@@ -107,12 +110,12 @@ pub record AwaitsItem (self : Picture) (r c : ℕ) (stood : RowValue) (any : Can
   pub attrs : any.attrs ≡ default_attrs
   pub stands : row_at any.page r ≡ stood
 
--- The row after an item of a difference is drawn on it.
+-- The row `y` after it receives the output `item_of_difference`.
 abbrev pub changed_row : (r start stop : ℕ) → (x y : RowValue) → RowValue
 changed_row r start stop x y =
     record { cells = with_range start stop x.cells y.cells; wrapped = (item_of_difference r start stop x y).flag }
 
--- The row after an item of a redraw is drawn on a blank row.
+-- A blank row after it receives the output `item_of_redraw`.
 abbrev pub formatted_row : (start stop width : ℕ) → RowValue → RowValue
 formatted_row start stop width x =
     record { cells = with_range start stop x.cells (blanks default_attrs width); wrapped = false }

@@ -33,7 +33,7 @@ unfoldable pub rows_moved : (width : ℕ) → Band → List RowValue → List Ro
 rows_moved width band rows =
     unflagged width (length rows - 1) (moved_rows width (band_source band (length rows)) rows)
 
--- The row that the last of the moving sequences addresses.
+-- The row to which the last of the sequences that move a band moves the cursor.
 abbrev pub last_moved : (height : ℕ) → Band → ℕ
 last_moved height band =
     if band.bottom == height then band.top
@@ -41,7 +41,7 @@ last_moved height band =
     else band.top
 
 -- The picture after a band has moved. The cursor is where the last sequence left it. The attributes are the default
--- ones, because a terminal may fill rows with the current background.
+-- ones, because a terminal may fill blank rows with the current background colour.
 abbrev pub moved : Band → Picture → Picture
 moved band picture = record picture {
   rows = rows_moved picture.width band picture.rows;
@@ -60,18 +60,21 @@ lines_deleted_text row count = bytes_of (MoveTo row 0) ++ counted count 0x4D
 abbrev pub lines_inserted_text : (row count : ℕ) → List ℕ
 lines_inserted_text row count = bytes_of (MoveTo row 0) ++ counted count 0x4C
 
--- The sequences that move a band up or down. As many rows are inserted at one end as are deleted at the other, so
--- that the rows below the band don't move. If the band ends with the last row, one sequence is enough.
+-- The sequences that move a band up. Rows are deleted at its top, and as many are inserted at its bottom, so that
+-- the rows below the band don't move. If the band ends with the last row, no rows are inserted.
 unfoldable pub up_text : (height : ℕ) → Band → List ℕ
 up_text height band =
     if band.bottom == height then lines_deleted_text band.top band.count
     else lines_deleted_text band.top band.count ++ lines_inserted_text (band.bottom - band.count) band.count
 
+-- The sequences that move a band down. Rows are deleted at its bottom, and as many are inserted at its top, so that
+-- the rows below the band don't move. If the band ends with the last row, no rows are deleted.
 unfoldable pub down_text : (height : ℕ) → Band → List ℕ
 down_text height band =
     if band.bottom == height then lines_inserted_text band.top band.count
     else lines_deleted_text (band.bottom - band.count) band.count ++ lines_inserted_text band.top band.count
 
+-- The sequences that move a band in its direction.
 abbrev pub band_text : (height : ℕ) → Band → List ℕ
 band_text height band = if band.up then up_text height band else down_text height band
 
@@ -83,7 +86,7 @@ moving_text band prev = bytes_of_all (attr_ops prev.attrs default_attrs) ++ band
 abbrev pub scrolling_text : Band → (self prev : Picture) → List ℕ
 scrolling_text band self prev = moving_text band prev ++ bytes_of_all (difference self (moved band prev))
 
--- The text is the plain difference, or a difference that moves a band first.
+-- The text is a difference that moves no rows, or one that moves a band first.
 abbrev pub IsScrolling : (self prev : Picture) → List ℕ → Type 0
 IsScrolling self prev text =
     (text ≡ bytes_of_all (difference self prev))

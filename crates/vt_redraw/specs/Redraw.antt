@@ -127,8 +127,8 @@ cursor_alone self =
     if nat_lt self.column self.width then MoveTo self.row self.column ∷ []
     else pending_alone (nearest self.width self.rows self.row) self.width self.rows self.row
 
--- The operations that set the cursor's visibility and position, on a terminal that already displays the rest and has
--- default attributes.
+-- The operations that set the cursor's visibility and position on a terminal that already displays the picture's
+-- rows and has default attributes.
 unfoldable pub cursor_state : Picture → List Op
 cursor_state self = Hide self.hidden ∷ cursor_alone self
 

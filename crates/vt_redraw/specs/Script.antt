@@ -14,10 +14,11 @@ use Rattle.vt_redraw.specs.declared.pen.Pen.{Pen}
 abbrev pub pen_at : ℕ → ℕ → Attrs → Pen
 pen_at row col attrs = record { row = row; col = col; attrs = attrs }
 
--- The operations that move the pen to a position, and those that change its attributes.
+-- The operations that move the pen to a position.
 unfoldable pub move_ops : Pen → ℕ → ℕ → List Op
 move_ops pen row col = moving pen.row pen.col row col
 
+-- The operations that change the pen's attributes; none if they are equal.
 unfoldable pub attr_ops : Attrs → Attrs → List Op
 attr_ops was new = if same_attrs was new then [] else ChangeAttrs was new ∷ []
 
@@ -31,7 +32,7 @@ is_blank_of attrs right_half = false
 abbrev pub blank_run : Attrs → List CellValue → ℕ
 blank_run attrs cells = prefix_len (is_blank_of attrs) cells
 
--- The operation that erases a run of `n` blanks: to the end of the row if no cells follow.
+-- The operation that erases a run of `n` blanks. If no cells follow, it erases to the end of the row.
 abbrev pub erase_run : ℕ → List CellValue → Op
 erase_run n [] = EraseRest
 erase_run n (x ∷ xs) = EraseChars n
@@ -77,8 +78,8 @@ flag_past flag rest = flag && not (is_nil rest || is_torn rest)
 
 -- ---- the cells of a row, from left to right
 
--- The output that replaces the displayed cells `ys` with `xs`, from column `c` of row `r` on. The first `settled`
--- cells need no output.
+-- The output that replaces the displayed cells `ys` with `xs`, starting at column `c` of row `r`. The first
+-- `settled` cells need no output.
 unfoldable pub cells_written : (r c : ℕ) → Pen → (flag : Bool) → (settled : ℕ) → (xs ys : List CellValue) → Scripted
 cells_written r c pen flag settled [] ys = no_ops pen flag
 cells_written r c pen flag settled (x ∷ xs) [] = no_ops pen flag
@@ -105,11 +106,11 @@ last_glyph cells = at cells (last_column cells)
 abbrev pub is_at : Pen → ℕ → ℕ → Bool
 is_at pen row col = (pen.row == row) && (pen.col == col)
 
--- The pen after the last glyph of row `r`, and the operations that print that glyph again unless the pen is already
--- there.
+-- The pen after the last glyph of row `r` is printed.
 abbrev pub pen_behind : ℕ → List CellValue → Pen
 pen_behind r cells = pen_at r (length cells) (attrs_of (last_glyph cells))
 
+-- The operations that print the last glyph of row `r` again, unless the pen is already after it.
 abbrev pub behind_last_glyph : ℕ → Pen → List CellValue → Scripted
 behind_last_glyph r pen cells =
     if is_at pen r (length cells) then no_ops pen true

@@ -180,7 +180,7 @@ fn stands(cells: &PictureRow<'_>, over: &PictureRow<'_>, col: u16) -> bool
 }
 
 /// Returns the first column in `col..stop` whose cell needs output, or the
-/// column at which the search stopped if there is none.
+/// greater of `col` and `stop` if there is none.
 #[inline(always)]
 fn pass(cells: &PictureRow<'_>, over: &PictureRow<'_>, col: u16, stop: usize) -> u16
     requires inside { stop ≤ length cells.now.cells }
@@ -197,8 +197,9 @@ fn pass(cells: &PictureRow<'_>, over: &PictureRow<'_>, col: u16, stop: usize) ->
     next
 }
 
-/// Returns a column at or after `col` such that, from `col` up to it, the cells
-/// of the two rows are equal and need no output.
+/// Skips consecutive columns, starting at `col`, in which the cells of the two
+/// rows are equal and therefore need no output. Returns the first column that
+/// was not skipped; its cells may still be equal.
 #[inline]
 fn pass_same(cells: &PictureRow<'_>, over: &PictureRow<'_>, col: u16) -> u16
     requires short { length cells.now.cells < 65536 }
@@ -212,8 +213,8 @@ fn pass_same(cells: &PictureRow<'_>, over: &PictureRow<'_>, col: u16) -> u16
 /// Returns the first column at or after `col` whose cell needs output, or a
 /// column past the end of the row if there is none.
 ///
-/// One loop over slices handles the columns in which both rows have stored
-/// cells, and another one the columns in which only `cells` has them.
+/// One loop handles the columns in which both rows have stored cells, a second
+/// one those in which only `cells` has them, and a third one the rest.
 fn next_other(cells: &PictureRow<'_>, over: &PictureRow<'_>, col: u16) -> u16
     requires range { IsRange cells.now.cells over.now.cells }
     ensures order { col ≤ result }

@@ -1,4 +1,5 @@
-//! Moving the terminal's cursor to a position, or to a pending wrap.
+//! Output that moves the terminal's cursor to a position or leaves a wrap
+//! pending.
 
 ghost use Rattle.std.specs.Prelude.{◌≡◌, ◌++◌, ◌+◌, ◌-◌, ◌<◌, ◌≤◌, None};
 ghost use Rattle.std.specs.Prelude.{OnOk, IfSome, Some, length, replicate};
@@ -48,10 +49,10 @@ pub fn write_feeds<S: Sink>(sink: &mut S, count: u16) -> Result<(), S::Error>
     Ok(())
 }
 
-/// Writes the sequences that leave a wrap pending if the cursor is on the last
-/// column and that column is a blank with attributes `attrs`. They print a
-/// space over the blank and erase it again, while the wrap remains pending.
-/// `was` are the terminal's attributes before and after.
+/// Writes the sequences that leave a wrap pending after a blank with attributes
+/// `attrs` in the last column. They print a space there and erase it again
+/// without cancelling the wrap. The cursor must be on the last column. The
+/// terminal has the attributes `was` both before and after.
 ///
 /// # Errors
 ///

@@ -21,11 +21,12 @@ const MARGIN: u16 = 8;
 /// row.
 const RUN: i32 = 4;
 
-/// The length, in bytes, of the shortest output that moving rows could shorten.
+/// The minimum length, in bytes, of a difference that is examined for moved
+/// rows.
 const LEAST_TEXT: usize = 20;
 
-/// The number of columns after the margin from which the key of a row is
-/// computed.
+/// The number of columns, starting after the margin, whose text determines the
+/// key of a row.
 const KEYED: u16 = 16;
 
 /// One number for each examined row.
@@ -35,7 +36,7 @@ type Numbers = [i32; 256];
 /// equal.
 type Keys = [u32; 256];
 
-/// The direction of a move, and the number of rows by which it moves.
+/// The direction of a move, and its distance in rows.
 #[derive(Clone, Copy)]
 struct Shift {
     count: u16,
@@ -89,8 +90,8 @@ fn costs(view: &View<'_>, prev: &View<'_>, height: u16) -> Numbers
 }
 
 /// Returns the approximate number of bytes that it takes to draw the row
-/// `cells` over the row `over`. The columns that differ are counted, and a
-/// cursor movement to each run of such columns.
+/// `cells` over the row `over`. Counts one byte for each column that differs,
+/// and [`RUN`] bytes for the cursor movement to each run of such columns.
 fn cost(cells: &PictureRow<'_>, over: &PictureRow<'_>) -> i32 {
     let cols = cells.cols().min(over.cols());
     let mut bytes = 0_i32;
@@ -112,13 +113,15 @@ fn cost(cells: &PictureRow<'_>, over: &PictureRow<'_>) -> i32 {
     bytes
 }
 
-/// Returns a column such that the two rows are equal from `col` up to it.
+/// Skips consecutive columns, starting at `col`, in which the cells of the two
+/// rows are equal. Returns the first column that was not skipped; its cells may
+/// still be equal.
 fn same_up_to(cells: &PictureRow<'_>, over: &PictureRow<'_>, col: u16) -> u16 {
     let same = cells.same_run(over, col);
     col.saturating_add(u16::try_from(same).unwrap_or(0))
 }
 
-/// Returns a key for the text after the margin of each row. Equal rows have
+/// Returns, for each row, a key for its text after the margin. Equal rows have
 /// equal keys.
 fn keys(view: &View<'_>, height: u16) -> Keys
     requires inside { height ≤ length view.now.rows }
@@ -165,7 +168,7 @@ fn likely_shift(view: &View<'_>, prev: &View<'_>, height: u16, here: &Numbers) -
 }
 
 /// Adds a vote of the given weight for each shift that would move a row of
-/// `prev` like `cells` to `row`. Adds none if `cells` has no text.
+/// `prev` that matches `cells` to `row`. Adds none if `cells` has no text.
 fn vote(
     votes: &mut [i32; 512],
     cells: &PictureRow<'_>,
@@ -192,9 +195,9 @@ fn vote(
     }
 }
 
-/// Returns the first column that is used to compare a row with others: the
-/// first one after the margin if there is text from there on, otherwise 0.
-/// Returns `None` if the row has no text.
+/// Returns the column from which a row is compared with other rows: the first
+/// column after the margin if there is text from there on, otherwise 0. Returns
+/// `None` if the row has no text.
 fn compared_from(cells: &PictureRow<'_>) -> Option<u16> {
     let cols = cells.cols();
     let margin = MARGIN.min(cols);
@@ -250,8 +253,9 @@ fn heaviest(votes: &[i32; 512]) -> Option<Shift> {
     shift
 }
 
-/// Returns, for each row, the total number of bytes that the rows above it
-/// would save if the terminal's rows were blank.
+/// Returns, for each row, how many fewer bytes the rows above it would need in
+/// total if the terminal's rows were blank than they need over the terminal's
+/// present rows.
 fn savings(view: &View<'_>, height: u16, here: &Numbers) -> [i32; 257]
     requires inside { height ≤ length view.now.rows }
     requires few { height ≤ 256 }
@@ -270,7 +274,7 @@ fn savings(view: &View<'_>, height: u16, here: &Numbers) -> [i32; 257]
 }
 
 /// Returns how many fewer bytes rows `first..behind` would need if the
-/// terminal's rows were blank than they need over its present rows.
+/// terminal's rows were blank than they need over the terminal's present rows.
 fn between(savings: &[i32; 257], first: u16, behind: u16) -> i32
     requires first { first ≤ 256 }
     requires behind { behind ≤ 256 }
@@ -278,8 +282,8 @@ fn between(savings: &[i32; 257], first: u16, behind: u16) -> i32
     savings[usize::from(behind)].saturating_sub(savings[usize::from(first)])
 }
 
-/// Returns the range of rows for which the shift saves the most bytes. In a
-/// tie, returns the longest.
+/// Returns the range of rows for which the shift saves the most bytes, or
+/// `None` if it saves none. In a tie, returns the range that ends last.
 fn best_stretch(
     view: &View<'_>,
     prev: &View<'_>,
@@ -316,7 +320,7 @@ fn best_stretch(
 }
 
 impl Shift {
-    /// Returns the row that the shift would move to `row`.
+    /// Returns the row that the shift would move to `row`, if there is one.
     fn source(&self, row: u16, height: u16) -> Option<u16>
         requires { row < height }
         ensures { IfSome result (λ from. from < height) }
@@ -328,8 +332,8 @@ impl Shift {
         if from < height { Some(from) } else { None }
     }
 
-    /// Returns the number of bytes saved by the rows that become blank above a
-    /// range that begins with `row`.
+    /// Returns the number of bytes saved because rows above a range that begins
+    /// with `row` become blank.
     fn opening(&self, savings: &[i32; 257], from: u16, row: u16) -> i32
         requires from { from ≤ 256 }
         requires row { row ≤ 256 }
@@ -411,8 +415,9 @@ impl Stretch {
 }
 
 /// Returns the approximate number of bytes in the escape sequences of a move.
-/// They are needed at one end of the band, or at both ends if there are rows
-/// below it, and may include a change of attributes.
+/// Rows must be deleted or inserted at both ends of the band if `both` is true,
+/// and at only one end otherwise. The attributes must also be reset unless
+/// `attrs` are the defaults.
 fn sequences(both: bool, attrs: Attrs) -> i32 {
     let ends = if both { 15 } else { 6 };
     let change = if attrs == Attrs::new() { 0 } else { 3 };

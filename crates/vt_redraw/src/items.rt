@@ -1,5 +1,5 @@
 //! Output for a range of columns in one row of a picture, for a terminal with
-//! default attributes and its cursor at the start of the range.
+//! default attributes whose cursor is at the start of the range.
 
 ghost use Rattle.std.specs.Prelude.{◌≡◌, ◌++◌, ◌+◌, ◌<◌, ◌≤◌, ◌&&◌, false};
 ghost use Rattle.std.specs.Prelude.{IfOk, OnOk, length};
@@ -20,9 +20,10 @@ use crate::picture_row::PictureRow;
 use crate::view::View;
 use vt_cells::{Attrs, Pos, Sink};
 
-/// Writes a continuation cell in the first column of a range as a default
-/// blank, unless the terminal has a continuation cell there, too. Returns the
-/// column at which the remaining cells begin.
+/// Blanks the first column of a range if it holds a continuation cell, along
+/// with any default blanks that follow it. Writes nothing if the terminal's
+/// column also holds a continuation cell. Returns the column at which the
+/// remaining cells begin.
 fn write_begin<S: Sink>(
     sink: &mut S,
     pen: &mut Pen,
@@ -74,7 +75,7 @@ fn write_range<S: Sink>(
 }
 
 /// Prints the last glyph of a row again if the row is wrapped and the
-/// terminal's row is not.
+/// terminal's row is not. A wrap is then pending on the terminal.
 fn write_mark<S: Sink>(
     sink: &mut S,
     pen: &mut Pen,
@@ -96,8 +97,9 @@ fn write_mark<S: Sink>(
     write_last(sink, pen, row, cells)
 }
 
-/// Writes the output that a whole row needs after its cells: a break, or the
-/// last glyph again to make the terminal's row wrapped.
+/// Writes the output that a whole row needs after its cells. If only the
+/// terminal's row is wrapped, this is a break. If only the picture's row is
+/// wrapped, it is the last glyph again, which leaves a wrap pending.
 fn write_end<S: Sink>(
     sink: &mut S,
     pen: &mut Pen,
@@ -115,7 +117,8 @@ fn write_end<S: Sink>(
 
 /// Writes columns `start..stop` of a row of `view`, for a terminal that
 /// displays the same row of `prev`. If these columns are the whole row, the
-/// output also makes the terminal's row wrapped or not wrapped.
+/// terminal's row is then not wrapped if the row of `view` is not. If only the
+/// row of `view` is wrapped, a wrap is then pending on the terminal.
 ///
 /// The terminal's cursor must be in column `start` of the row, and the terminal
 /// must have default attributes.
@@ -162,8 +165,9 @@ fn is_whole(start: u16, stop: u16, cells: &PictureRow<'_>) -> bool
     start == 0 && stop == cells.cols()
 }
 
-/// Writes a whole row that follows a wrapped row: its first cell for a terminal
-/// on which a wrap is pending in the row above, and then the other cells.
+/// Writes a whole row that follows a wrapped row. The first cell is printed
+/// even if it is blank, so that a wrap that is pending in the row above takes
+/// effect.
 fn write_linked<S: Sink>(sink: &mut S, row: u16, cells: &PictureRow<'_>) -> Result<(), S::Error>
     requires some { 0 < length cells.now.cells }
     requires paired { IsPaired cells.now.cells }

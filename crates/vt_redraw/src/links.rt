@@ -174,9 +174,9 @@ fn needs_link(
     !on || (pen.is_at(row, above.cols()) && starts_other(cells, over))
 }
 
-/// Writes the link between row `row` and the next row, if row `row` is wrapped and a link is
-/// needed. The link makes the terminal wrap into the next row. `on` says whether row `row` of the
-/// terminal is already wrapped.
+/// Writes the link between row `row` and the next row, if the picture's row `row` is wrapped and a
+/// link is needed. The link makes the terminal wrap into the next row. `on` says whether the
+/// terminal's row `row` is already wrapped.
 ///
 /// # Errors
 ///

@@ -18,8 +18,8 @@ use vt_rows::capture::cells_of;
 /// A row of a picture: the stored cells of a page row or scrollback row,
 /// limited to the columns of the picture, followed by identical blanks.
 ///
-/// No cell is copied. If the picture is only wide enough for one column of a
-/// wide character, that column is the blank after the stored cells.
+/// No cell is copied. A wide character that the picture's right edge cuts in
+/// two is replaced with a blank.
 #[derive(Drop)]
 pub struct PictureRow<'a> {
     cells: &'a [Cell],
@@ -243,7 +243,7 @@ fn kept_cells<'a>(cells: &'a [Cell], cols: u16) -> &'a [Cell]
 
 /// Returns the cell that follows the unchanged cells when a row is cut to
 /// `cols` columns. It is a blank with the attributes of the wide character that
-/// is cut in two, or a default blank if there is none.
+/// is cut in two, or a default blank if none is cut.
 fn end_cell(cells: &[Cell], cols: u16) -> Cell
     requires { 0 < cols }
     ensures { result ≡ cell_past_cut cols cells.now }

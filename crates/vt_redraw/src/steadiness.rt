@@ -21,8 +21,8 @@ use vt_cells::{Attrs, Cell, cell, columns};
 /// U+FE0F, variation selector 16, which requests emoji presentation.
 const SELECTOR: char = '\u{FE0F}';
 
-/// The smallest length, in bytes, of a text with [`SELECTOR`] after its first
-/// character.
+/// The smallest length, in bytes, of text that contains [`SELECTOR`] after its
+/// first character.
 const SELECTED_LEN: usize = 4;
 
 /// Returns whether each glyph of the picture reproduces itself when it is
@@ -55,10 +55,10 @@ fn is_steady_at(view: &View<'_>, row: u16) -> bool
     is_steady_row(&view.row(row))
 }
 
-/// Returns whether the stored cells of row `row` show that none of its texts
-/// contains [`SELECTOR`] after the first character.
+/// Returns whether the text of every stored cell of row `row` is known to be
+/// too short to contain [`SELECTOR`] after its first character.
 ///
-/// The row is not cut to the picture's width, which would take some 60 more
+/// The row is not cut to the picture's width, which would take about 60 more
 /// instructions.
 #[inline]
 fn is_short_at(view: &View<'_>, row: u16) -> bool
@@ -80,11 +80,11 @@ fn is_steady_row(row: &PictureRow<'_>) -> bool
     are_steady(row.own_cells(), row.cols())
 }
 
-/// Returns whether all texts are too short to contain [`SELECTOR`] after the
-/// first character.
+/// Returns whether the text of every cell is too short to contain [`SELECTOR`]
+/// after its first character.
 ///
 /// The lengths of 16 cells at a time are combined in one number without a
-/// branch, so a cell takes less than one and a half instructions.
+/// branch, so each cell takes fewer than one and a half instructions.
 fn are_short(cells: &[Cell]) -> bool
     ensures { IsTrue result → All (λ cell. has_selector cell ≡ false) cells.now }
 {
@@ -98,7 +98,7 @@ fn are_short(cells: &[Cell]) -> bool
     lens < SELECTED_LEN
 }
 
-/// Returns the bitwise OR of the lengths, in bytes, of eight cells' texts.
+/// Returns the bitwise OR of the text lengths, in bytes, of eight cells.
 #[inline(always)]
 fn lens_of_eight(cells: &[Cell]) -> usize
     requires { length cells.now ≡ 8 }
@@ -107,7 +107,7 @@ fn lens_of_eight(cells: &[Cell]) -> usize
     lens_of_four(&cells[..4]) | lens_of_four(&cells[4..])
 }
 
-/// Returns the bitwise OR of the lengths, in bytes, of four cells' texts.
+/// Returns the bitwise OR of the text lengths, in bytes, of four cells.
 #[inline(always)]
 fn lens_of_four(cells: &[Cell]) -> usize
     requires { length cells.now ≡ 4 }
@@ -117,7 +117,7 @@ fn lens_of_four(cells: &[Cell]) -> usize
     first | (text_len(&cells[2]) | text_len(&cells[3]))
 }
 
-/// Returns the bitwise OR of the lengths, in bytes, of the cells' texts.
+/// Returns the bitwise OR of the text lengths, in bytes, of the cells.
 #[inline]
 fn lens_of(cells: &[Cell]) -> usize
     ensures { All (IsWithin result) cells.now }

@@ -173,7 +173,7 @@ impl<'a> View<'a> {
     }
 
     /// Returns the stored cells from which row `row` of the picture is cut, or
-    /// `None` if the picture is not that of the displayed rows themselves.
+    /// `None` if the picture's source is not [`Source::InView`].
     #[inline]
     pub(crate) fn uncut_cells(&self, row: u16) -> Option<&[Cell]>
         requires { row < length self.now.rows }

@@ -5,7 +5,7 @@ use Rattle.vt_cells.specs.Cell.{CellValue, blank, glyph, right_half, is_default_
 use Rattle.vt_cells.specs.Op.{change_text}
 use Rattle.vt_rows.specs.Row.{RowValue, trimmed}
 
--- The state between two rows: the attributes of the last text, and whether a line end is due before the next row.
+-- The state between two rows: the current attributes, and whether a line end is due before the next row.
 pub record Written : Type 0 where
   pub attrs : Attrs
   pub is_due : Bool
@@ -24,7 +24,7 @@ shown_text (blank attrs) = 0x20 ∷ []
 shown_text (glyph text wide attrs) = text
 shown_text right_half = []
 
--- The attributes after a cell is written: those of the cell, or unchanged if the cell has none of its own.
+-- The attributes after a cell is written: the cell's own attributes, or the previous ones if it has none.
 abbrev pub attrs_after : Attrs → CellValue → Attrs
 attrs_after attrs cell = if is_bare cell then attrs else attrs_of cell
 

@@ -4,19 +4,19 @@ use Rattle.std.specs.Prelude.{◌∷◌, ◌+◌, ◌<◌, IsUtf8, chars, get_or
 use Rattle.vt_rows.specs.Pieces.{Piece, piece_end}
 use Rattle.vt_rows.specs.Stretches.{columns_added, columns_in, ends_within}
 
--- The character is a line end after the text `row`: an LF outside an SGR sequence.
+-- The character after the text `row` is a line end: an LF outside SGR sequences.
 abbrev pub ends_row : List ℕ → ℕ → Bool
 ends_row row c = not (ends_within row) && (c == 0x0A)
 
--- A character of `added` columns doesn't fit after `used` columns. It always fits if `used` is 0.
+-- A character of `added` columns doesn't fit after `used` columns. It always fits if either number is 0.
 abbrev pub is_beyond : ℕ → ℕ → ℕ → Bool
 is_beyond width used added = nat_lt 0 used && (nat_lt 0 added && nat_lt width (used + added))
 
--- The character would make the row wider than `width`.
+-- The character doesn't fit after the text `row` in a row of `width` columns.
 abbrev pub overflows : ℕ → List ℕ → ℕ → Bool
 overflows width row c = is_beyond width (columns_in row) (columns_added (ends_within row) c)
 
--- No character of the row is a line end, and none makes the row too wide.
+-- No character of the row is a line end, and each fits after the characters before it.
 abbrev pub IsUncut : ℕ → List ℕ → Type 0
 IsUncut width row =
     (k : ℕ) → k < length row →
@@ -41,7 +41,7 @@ pub record IsBehindFull (width : ℕ) (row next : Piece) : Type 0 where
   pub begins : chars next.1 ≡ first ∷ rest
   pub overflows : overflows width (chars row.1) first ≡ true
 
--- The rows are consecutive from byte `at` on, and the last one ends with the capture.
+-- The rows follow one another, starting at byte `at`, and the last one ends where the capture ends.
 abbrev pub AreRowsFrom : ℕ → List ℕ → ℕ → List Piece → Type 0
 AreRowsFrom width capture at [] = ⊥
 AreRowsFrom width capture at (row ∷ []) = (row.0 ≡ at) × IsRowOf width capture row × (piece_end row ≡ length capture)

@@ -36,27 +36,27 @@ mended (glyph text false attrs) = glyph text false attrs
 mended (blank attrs) = blank attrs
 mended right_half = right_half
 
--- The cells after the row is cut off to their right. If the last one is the first cell of a wide glyph, it becomes a
--- blank.
+-- The first cells of a row, after the cells to their right are cut off. If the last of them is the first cell of a
+-- wide glyph, it becomes a blank.
 abbrev pub shut : List CellValue → List CellValue
 shut [] = []
 shut (x ∷ []) = mended x ∷ []
 shut (x ∷ y ∷ xs) = x ∷ shut (y ∷ xs)
 
--- The cells after the row is cut off to their left. If the first one is a continuation cell, it becomes `orphan`.
+-- The last cells of a row, after the cells to their left are cut off. If the first of them is a continuation cell,
+-- it becomes `orphan`.
 abbrev pub opened : CellValue → List CellValue → List CellValue
 opened orphan [] = []
 opened orphan (right_half ∷ xs) = orphan ∷ xs
 opened orphan (blank attrs ∷ xs) = blank attrs ∷ xs
 opened orphan (glyph text wide attrs ∷ xs) = glyph text wide attrs ∷ xs
 
--- The cells after `n` columns, starting at column `c`, are replaced by `new`. A continuation cell that loses its wide
+-- The cells with `n` columns, starting at column `c`, replaced by `new`. A continuation cell that loses its wide
 -- glyph becomes `orphan`.
 unfoldable pub put_cells : ℕ → CellValue → List CellValue → ℕ → List CellValue → List CellValue
 put_cells c orphan new n cells = shut (take c cells) ++ (new ++ opened orphan (drop n (drop c cells)))
 
--- The cell at column `k` after `n` columns, starting at column `c`, are replaced by `new`: `put_cells`, column by
--- column.
+-- The cell at column `k` of the result of `put_cells c orphan new n cells`, in terms of the old cells.
 abbrev pub column_of : ℕ → ℕ → CellValue → List CellValue → List CellValue → ℕ → CellValue
 column_of c n orphan new cells k =
     if nat_lt k c then (if (k + 1 == c) && is_wide (at cells k) then blank (attrs_of (at cells k)) else at cells k)
@@ -64,18 +64,19 @@ column_of c n orphan new cells k =
     else if (k == c + n) && is_right_half (at cells k) then orphan
     else at cells k
 
--- The cells after a narrow glyph is put at column `c`. A continuation cell that loses its wide glyph becomes a space
--- with the attributes of the new glyph.
+-- The cells after a narrow glyph is written at column `c`. A continuation cell that loses its wide glyph becomes a
+-- space with the attributes of the new glyph.
 abbrev pub put_narrow : ℕ → List ℕ → Attrs → List CellValue → List CellValue
 put_narrow c text attrs cells = put_cells c (glyph (0x20 ∷ []) false attrs) (glyph text false attrs ∷ []) 1 cells
 
--- The cells after a wide glyph is put at columns `c` and `c + 1`. A continuation cell that loses its own wide glyph
--- becomes a blank with the attributes of the new one.
+-- The cells after a wide glyph is written at columns `c` and `c + 1`. A continuation cell that loses its own wide
+-- glyph becomes a blank with the attributes of the new one.
 abbrev pub put_wide : ℕ → List ℕ → Attrs → List CellValue → List CellValue
 put_wide c text attrs cells = put_cells c (blank attrs) (glyph text true attrs ∷ right_half ∷ []) 2 cells
 
--- The cells after `n` columns are erased, starting at column `c`. If only one cell of a wide glyph is erased, the
--- other becomes a blank: its first cell keeps its attributes, and its continuation cell gets the default ones.
+-- The cells with `n` columns erased, starting at column `c`. If only one cell of a wide glyph is erased, the other
+-- becomes a blank. This blank has the glyph's attributes if it was the first cell, and default attributes if it was
+-- the continuation cell.
 abbrev pub erased : ℕ → ℕ → Attrs → List CellValue → List CellValue
 erased c n attrs cells = put_cells c default_blank (blanks attrs n) n cells
 
@@ -95,8 +96,8 @@ narrowed_at k attrs cells = put_cells k (glyph (0x20 ∷ []) false attrs) (widen
 
 -- ---- Edits that move columns: column `k` was column `source k`, or is a default blank if that is past the end
 
--- The cell at column `k` after columns moved. If only one cell of a wide glyph moved with it, the cell becomes a
--- blank with its own attributes.
+-- The cell at column `k` of a row of `n` columns, after columns moved. If it belongs to a wide glyph whose other
+-- cell is no longer next to it, it becomes a blank with its own attributes.
 abbrev pub moved_at : ℕ → (ℕ → ℕ) → List CellValue → ℕ → CellValue
 moved_at n source cells k =
     if is_wide (at cells (source k)) && not (nat_lt (k + 1) n && (source (k + 1) == source k + 1))
@@ -112,23 +113,23 @@ moved n source cells = by_column n (moved_at n source cells)
 abbrev pub insert_column : ℕ → List CellValue → ℕ
 insert_column c cells = if is_right_half (at cells c) then c + 1 else c
 
--- The former index of column `k` after `n` columns are inserted at column `c`. It is `past`, a column past the end,
--- for an inserted one.
+-- The former index of column `k`, after `n` columns are inserted at column `c`. For an inserted column, it is
+-- `past`, an index past the end.
 abbrev pub insert_source : ℕ → ℕ → ℕ → ℕ → ℕ
 insert_source past c n k = if nat_lt k c then k else if nat_lt k (c + n) then past else k - n
 
--- The former index of column `k` after `n` columns are deleted at column `c`.
+-- The former index of column `k`, after `n` columns are deleted at column `c`.
 abbrev pub delete_source : ℕ → ℕ → ℕ → ℕ
 delete_source c n k = if nat_lt k c then k else k + n
 
--- The cells after `n` default blanks are inserted at column `c` (ICH). Cells that are pushed past the end are lost.
+-- The cells with `n` default blanks inserted at column `c` (ICH). Cells that are pushed past the end are lost.
 unfoldable pub inserted : ℕ → ℕ → List CellValue → List CellValue
 inserted c n cells = moved (length cells) (insert_source (length cells) (insert_column c cells) n) cells
 
--- The cells after `n` columns are deleted at column `c` (DCH). Default blanks fill the end.
+-- The cells with `n` columns deleted at column `c` (DCH). Default blanks fill the end.
 unfoldable pub deleted : ℕ → ℕ → List CellValue → List CellValue
 deleted c n cells = moved (length cells) (delete_source c n) cells
 
--- The cells of a row, cut off or extended to `n` columns.
+-- The cells of a row, truncated or extended to `n` columns.
 unfoldable pub resized : ℕ → List CellValue → List CellValue
 resized n cells = moved n (λ k. k) cells

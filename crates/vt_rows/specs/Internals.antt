@@ -12,14 +12,14 @@ use Rattle.vt_rows.specs.Cells.{at}
 use Rattle.vt_rows.specs.Pieces.{Piece}
 use Rattle.vt_rows.specs.Stretches.{begins_stretch, ends_stretch}
 
--- The cells just before column `c` is overwritten. If it holds a continuation cell, the first cell of that wide glyph
+-- The cells, prepared for overwriting column `c`. If it holds a continuation cell, the first cell of that wide glyph
 -- becomes a blank with its own attributes.
 unfoldable pub left_blanked : ℕ → List CellValue → List CellValue
 left_blanked c cells =
     if is_right_half (at cells c) then slice_set cells (c - 1) (blank (attrs_of (at cells (c - 1)))) else cells
 
--- The cells just before column `c` is overwritten. If it holds the first cell of a wide glyph, its continuation cell
--- becomes `cell`.
+-- The cells, prepared for overwriting column `c`. If it holds the first cell of a wide glyph, the continuation cell
+-- of that glyph becomes `cell`.
 unfoldable pub right_replaced : ℕ → CellValue → List CellValue → List CellValue
 right_replaced c cell cells = if is_wide (at cells c) then slice_set cells (c + 1) cell else cells
 
@@ -27,7 +27,7 @@ right_replaced c cell cells = if is_wide (at cells c) then slice_set cells (c + 
 abbrev pub HasRoom : ℕ → List CellValue → Type 0
 HasRoom c cells = is_wide (at cells c) ≡ true → c + 1 < length cells
 
--- The cells, of which the last becomes a blank with its own attributes if it is the first cell of a wide glyph.
+-- The cells, with the last one replaced by a blank with the same attributes if it is the first cell of a wide glyph.
 unfoldable pub end_blanked : List CellValue → List CellValue
 end_blanked cells =
     if is_wide (at cells (length cells - 1))
@@ -38,7 +38,8 @@ abbrev pub turn_source : ℕ → ℕ → ℕ → ℕ → ℕ
 turn_source from to n k =
     if nat_le from k && nat_lt k to then (if nat_lt (k + n) to then k + n else k + n - (to - from)) else k
 
--- The text was appended to a sink through its buffer, and the sink's contents did not shrink.
+-- `text` was written to a sink through a buffer. The sink's contents changed from `before` to `after` without
+-- becoming shorter, and the buffer's contents changed from `buffer` to `left`.
 pub record Gathers (before buffer text after left : List ℕ) : Type 0 where
   pub bytes : gathered after left ≡ gathered before buffer ++ text
   pub grows : length before ≤ length after
@@ -64,7 +65,7 @@ abbrev pub plain_behind : ℕ → List CellValue → List ℕ
 plain_behind n [] = []
 plain_behind n (cell ∷ cells) = text_behind n cell ++ plain_behind (gap_behind n cell) cells
 
--- The piece that begins at byte `at`, or no piece if its text is empty.
+-- The piece with the given text at byte `at`, or no piece if the text is empty.
 abbrev pub piece_at : ℕ → List ℕ → List Piece
 piece_at at [] = []
 piece_at at (b ∷ text) = (at, b ∷ text) ∷ []
@@ -82,7 +83,7 @@ abbrev mutual
   pieces_within at [] = []
   pieces_within at (b ∷ text) = if ends_stretch b then pieces_behind (at + 1) [] text else pieces_within (at + 1) text
 
--- The pieces of a text that begins at byte `at`, outside of SGR sequences.
+-- The pieces of a text that begins at byte `at`, outside SGR sequences.
 abbrev pub pieces_from : ℕ → List ℕ → List Piece
 pieces_from at text = pieces_behind at [] text
 

@@ -1,4 +1,4 @@
--- The plain text of a capture: the longest pieces outside of SGR sequences.
+-- The plain text of a capture: the longest pieces outside SGR sequences.
 use Rattle.std.specs.Prelude.{◌≡◌, ◌≢◌, ◌<◌, ◌≤◌, ◌↔◌, ◌⊎◌, ℕ, Bool, true, false, List, []}
 use Rattle.std.specs.Prelude.{◌∷◌, ◌+◌, length, take, drop, map, if◌then◌else◌, ⊤}
 use Rattle.vt_rows.specs.Stretches.{IsInStretch, begins_stretch, is_within_after}
@@ -24,22 +24,23 @@ IsInSome k (piece ∷ pieces) = IsIn k piece ⊎ IsInSome k pieces
 abbrev pub IsPieceOf : List ℕ → Piece → Type 0
 IsPieceOf capture piece = (piece.1 ≢ []) × (take (length piece.1) (drop piece.0 capture) ≡ piece.1)
 
--- The pieces are in order from byte `at` on, separated by at least one byte.
+-- The pieces are in order, begin at or after byte `at`, and are separated by at least one byte.
 abbrev pub AreApart : List ℕ → ℕ → List Piece → Type 0
 AreApart capture at [] = ⊤
 AreApart capture at (piece ∷ pieces) =
     IsPieceOf capture piece × (at ≤ piece.0) × AreApart capture (piece_end piece + 1) pieces
 
--- The pieces are the plain text of the capture: a byte is in one of them exactly if it is not in an SGR sequence.
+-- The pieces are the plain text of the capture: a byte is in one of them if and only if it is not in an SGR
+-- sequence.
 pub record ArePiecesOf (capture : List ℕ) (pieces : List Piece) : Type 0 where
   pub apart : AreApart capture 0 pieces
   pub plain : (k : ℕ) → k < length capture → IsInSome k pieces ↔ ¬ (IsInStretch capture k)
 
--- The texts of a list of pieces.
+-- The text of each piece in a list.
 abbrev pub texts_of : List Piece → List (List ℕ)
 texts_of pieces = map (λ p. p.1) pieces
 
--- The bytes of a text outside of SGR sequences; `within` says whether the text begins inside one.
+-- The bytes of a string that are outside SGR sequences; `within` says whether the string begins inside one.
 abbrev pub plain_from : Bool → List ℕ → List ℕ
 plain_from within [] = []
 plain_from true (b ∷ text) = plain_from (is_within_after true b) text

@@ -5,8 +5,8 @@ use Rattle.vt_cells.specs.Cell.{CellValue, default_blank, is_glyph}
 use Rattle.vt_rows.specs.Basic.{shown_text}
 use Rattle.vt_rows.specs.Cells.{opened}
 
--- The cells of the row in the columns `start..stop`, as far as the row has them. A continuation cell at the beginning
--- becomes a default blank.
+-- The cells of the row in the columns `start..stop`, stopping at the end of the row. A continuation cell at the
+-- beginning becomes a default blank.
 abbrev pub columns_between : (start stop : ℕ) → List CellValue → List CellValue
 columns_between start stop cells = opened default_blank (drop start (take stop cells))
 

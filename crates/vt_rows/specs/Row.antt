@@ -10,16 +10,16 @@ pub record RowValue : Type 0 where
   pub cells : List CellValue
   pub wrapped : Bool
 
--- A row of blanks with these attributes that is not wrapped.
+-- A row of `width` blanks with the given attributes; it is not wrapped.
 abbrev pub blank_row : Attrs → ℕ → RowValue
 blank_row attrs width = record { cells = blanks attrs width; wrapped = false }
 
--- The row after its cells changed in a print or an erase. It is no longer wrapped if its last column is blank.
+-- The row after printing or erasing changed its cells. It is no longer wrapped if its last column is blank.
 abbrev pub with_cells : RowValue → List CellValue → RowValue
 with_cells row cells = record { cells = cells; wrapped = row.wrapped && not (ends_blank cells) }
 
--- The invariant of every row of a page: it has the page's width, its wide glyphs are whole, it isn't wrapped if its
--- last column is blank, and its cells are valid.
+-- The invariant of every row of a page: it has the page's width, its wide glyphs are complete, it isn't wrapped if
+-- its last column is blank, and its cells are valid.
 pub record IsRow (width : ℕ) (row : RowValue) : Type 0 where
   pub columns : length row.cells ≡ width
   pub paired : IsPaired row.cells
@@ -34,7 +34,7 @@ inserted_row c n row = record { cells = inserted c n row.cells; wrapped = false 
 abbrev pub deleted_row : ℕ → ℕ → RowValue → RowValue
 deleted_row c n row = record { cells = deleted c n row.cells; wrapped = false }
 
--- The row, cut off or extended to `n` columns. It is no longer wrapped if its width changes.
+-- The row, truncated or extended to `n` columns. It is no longer wrapped if its width changes.
 abbrev pub resized_row : ℕ → RowValue → RowValue
 resized_row n row = record { cells = resized n row.cells; wrapped = row.wrapped && (length row.cells == n) }
 

@@ -27,13 +27,13 @@ IsInStretch text k = (i : ℕ) × (i ≤ k) × (get_or text i 0 ≡ 0x1B) × ((j
 abbrev pub ends_within : List ℕ → Bool
 ends_within text = fold is_within_after false text
 
--- The number of columns of a character if `unicode_width` returns this width: at most 2, and 1 if it returns none
--- (UAX #11).
+-- The number of columns of a character, given the width that `unicode_width` returns for it: at most 2, and 1 if it
+-- has no width (UAX #11).
 abbrev pub shown_columns_or : Option ℕ → ℕ
 shown_columns_or (Some width) = min width 2
 shown_columns_or None = 1
 
--- The number of columns of a character outside of SGR sequences.
+-- The number of columns of a character outside SGR sequences.
 unfoldable pub shown_columns : ℕ → ℕ
 shown_columns c = shown_columns_or (char_width false c)
 

@@ -10,10 +10,11 @@ use Rattle.vt_rows.specs.Cells.{put_cells}
 abbrev pub IsPrintableAscii : List ℕ → Type 0
 IsPrintableAscii text = All (λ b. (0x20 ≤ b) × (b < 0x7F)) text
 
--- A character that takes one column.
+-- The character takes one column and is not U+FFFD.
 abbrev pub IsNarrowCharacter : ℕ → Type 0
 IsNarrowCharacter c = IsScalar c × ((c ≢ 0xFFFD) × (columns_of c ≡ Some 1))
 
+-- All characters of the text take one column, and none is U+FFFD.
 abbrev pub IsNarrowText : List ℕ → Type 0
 IsNarrowText text = All IsNarrowCharacter text
 
@@ -21,11 +22,11 @@ IsNarrowText text = All IsNarrowCharacter text
 abbrev pub narrow_glyph : Attrs → ℕ → CellValue
 narrow_glyph attrs c = glyph (encode_utf8 c) false attrs
 
--- The narrow glyphs of the characters of a text.
+-- The narrow glyphs of a text, one for each character.
 abbrev pub glyphs_of : Attrs → List ℕ → List CellValue
 glyphs_of attrs text = map (narrow_glyph attrs) text
 
--- The cells after one narrow glyph per character has been written, starting at column `c`. A continuation cell that loses
+-- The cells after the narrow glyphs of `text` are written, starting at column `c`. A continuation cell that loses
 -- its wide glyph becomes a space with the attributes of the new glyphs.
 abbrev pub put_text : ℕ → List ℕ → Attrs → List CellValue → List CellValue
 put_text c text attrs cells = put_cells c (glyph (0x20 ∷ []) false attrs) (glyphs_of attrs text) (length text) cells

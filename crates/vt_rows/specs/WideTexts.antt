@@ -6,11 +6,11 @@ use Rattle.vt_cells.specs.Cell.{CellValue, blank, glyph, right_half}
 use Rattle.vt_cells.specs.Glyph.{columns_of}
 use Rattle.vt_rows.specs.Cells.{put_cells, put_wide}
 
--- The character is drawn in two columns.
+-- The character takes two columns and is not U+FFFD.
 abbrev pub IsWideCharacter : ℕ → Type 0
 IsWideCharacter c = IsScalar c × ((c ≢ 0xFFFD) × (columns_of c ≡ Some 2))
 
--- All characters of the text are drawn in two columns.
+-- All characters of the text take two columns, and none is U+FFFD.
 abbrev pub IsWideText : List ℕ → Type 0
 IsWideText text = All IsWideCharacter text
 
@@ -23,8 +23,8 @@ abbrev pub wide_glyphs_of : Attrs → List ℕ → List CellValue
 wide_glyphs_of attrs [] = []
 wide_glyphs_of attrs (c ∷ text) = wide_glyph attrs c ∷ right_half ∷ wide_glyphs_of attrs text
 
--- The cells after one wide glyph for each character is put, starting at column `c`. A continuation cell that loses
--- its own wide glyph becomes a blank with the attributes of the new ones.
+-- The cells after the wide glyphs of `text` are written, starting at column `c`. A continuation cell that loses its
+-- own wide glyph becomes a blank with the attributes of the new ones.
 abbrev pub put_wide_text : ℕ → List ℕ → Attrs → List CellValue → List CellValue
 put_wide_text c text attrs cells = put_cells c (blank attrs) (wide_glyphs_of attrs text) (2 * length text) cells
 

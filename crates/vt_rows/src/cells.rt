@@ -104,9 +104,10 @@ fn write_each(cells: &mut [Cell], text: &[u8], attrs: Attrs)
 
 /// Puts the characters of `text` at consecutive columns as narrow glyphs.
 ///
-/// The result is the same as that of calling `put_narrow` for each character;
-/// wide glyphs that the run cuts in two at either end become blanks, as after
-/// [`put_text`].
+/// The result is the same as that of calling [`put_narrow`] for each character. If the first column
+/// held the continuation cell of a wide glyph, the first cell of that glyph becomes a blank with
+/// its own attributes. If the last column held the first cell of one, its continuation cell becomes
+/// a space with attributes `attrs`.
 #[inline]
 pub fn put_narrow_text(cells: &mut [Cell], column: usize, text: &[char], attrs: Attrs)
     requires paired { IsPaired cells.old }
@@ -123,7 +124,7 @@ pub fn put_narrow_text(cells: &mut [Cell], column: usize, text: &[char], attrs: 
     write_narrow(&mut cells[column..end], text, attrs);
 }
 
-/// Sets each cell to the narrow glyph of its character.
+/// Sets each cell to the narrow glyph for the corresponding character of `text`.
 #[inline]
 fn write_narrow(cells: &mut [Cell], text: &[char], attrs: Attrs)
     requires same { length cells.old ≡ length text.now }
@@ -345,8 +346,8 @@ pub fn ends_blank(cells: &[Cell]) -> bool
     }
 }
 
-/// Returns the wrapped flag of a row after printing or erasing: `wrapped`, unless the last of the
-/// resulting `cells` is a blank.
+/// Returns the wrapped flag of a row that has the cells `cells` after printing or erasing:
+/// `wrapped`, or `false` if the last cell is a blank.
 #[inline]
 pub fn flag_left(cells: &[Cell], wrapped: bool) -> bool
     ensures { result ≡ (wrapped && not (ends_blank cells.now)) }

@@ -44,8 +44,8 @@ fn four_default(cells: &[Cell]) -> bool
     is_default(&cells[0]) & is_default(&cells[1]) & is_default(&cells[2]) & is_default(&cells[3])
 }
 
-/// Copies the cells of a row into a blank row, which may have a different width. Copies as many
-/// cells as both rows have.
+/// Copies the cells of `from` into the blank row `cells`, which may have a different width. Copies
+/// as many cells as the narrower row has.
 ///
 /// If the last column then holds the first cell of a wide glyph, it becomes a blank with its own
 /// attributes.

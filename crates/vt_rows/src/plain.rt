@@ -6,7 +6,7 @@ ghost use Rattle.vt_rows.specs.Plain.{has_glyph, plain_text};
 
 use vt_cells::{Buffer, Cell, Sink};
 
-/// The spaces that are written at once.
+/// A string of 16 spaces, the most that are written at once.
 const SPACES: &str = "                ";
 
 /// Writes the plain text of columns `start..stop`, without attributes. Columns past the end of the
@@ -62,7 +62,7 @@ fn columns_between(cells: &[Cell], start: usize, stop: usize) -> &[Cell]
     &left[start.min(left.len())..]
 }
 
-/// Writes the plain text of cells that follow `gap` columns without a glyph.
+/// Writes the plain text of `cells`, which follow `gap` columns without a glyph.
 #[tactic(auto, using(vt_cells::proofs::Buffers::nothing_gathered))]
 fn write_behind<S: Sink>(sink: &mut S, cells: &[Cell], gap: usize) -> Result<(), S::Error>
     requires { gap + length cells.now ≤ 18446744073709551615 }
@@ -78,9 +78,9 @@ fn write_behind<S: Sink>(sink: &mut S, cells: &[Cell], gap: usize) -> Result<(),
     Ok(())
 }
 
-/// Appends `gap` spaces and the text of a cell if the cell is a glyph. `gap` is the number of
-/// columns without a glyph directly before the cell. Returns the number of such columns before the
-/// next cell.
+/// If the cell is a glyph, appends `gap` spaces and the text of the cell. `gap` is the number of
+/// columns without a glyph directly before the cell. Returns the number of such columns directly
+/// before the next cell.
 #[inline(always)]
 fn add_cell<S: Sink>(
     sink: &mut S,

@@ -129,8 +129,8 @@ impl Row {
         Ok(())
     }
 
-    /// Takes over the cells of `from`, cut or extended to the width of this row. This row must be
-    /// blank.
+    /// Takes over the cells of `from`, truncated or extended to the width of this row, which must
+    /// be blank.
     ///
     /// If the last column then holds the first cell of a wide glyph, it becomes a blank with its
     /// own attributes. The row is wrapped if `from` is wrapped and has the same width.
@@ -144,7 +144,8 @@ impl Row {
     }
 }
 
-/// Returns the wrapped flag of a resized row. `same` says whether its width is unchanged.
+/// Returns the wrapped flag of a resized row: `wrapped` if its width is the same as before
+/// (`same`), otherwise `false`.
 pub fn flag_kept(wrapped: bool, same: bool) -> bool
     ensures { result ≡ (wrapped && same) }
 {

@@ -74,7 +74,7 @@ step_after kind text b Drop = record { state = record { kind = kind; collected =
 step_after kind text b Execute = record { state = record { kind = kind; collected = text }; events = Executed b ∷ [] }
 step_after kind text b (End next end) = record { state = record { kind = next; collected = [] }; events = given end text b }
 
--- The step in the ground state if no character is incomplete. A byte from 0x80 on begins a character or becomes
+-- The step in the ground state if no character is incomplete. A byte of 0x80 or above begins a character or becomes
 -- U+FFFD.
 unfoldable pub fresh_step : ℕ → Step
 fresh_step b =

@@ -1,4 +1,4 @@
--- Auxiliary definitions for proofs that are cited only by the contracts of private functions.
+-- Auxiliary definitions for proofs, cited only by the contracts of private functions.
 use Rattle.std.specs.Prelude.{◌≡◌, ◌≢◌, ℕ, ◌-◌, ◌<◌, ◌⊎◌, ◌&&◌, nat_le, Bool, true, false, List, [], ◌∷◌, ◌++◌}
 use Rattle.std.specs.Prelude.{◌≤◌, length, slice_index_or, take, drop, Some, None}
 use Rattle.vt_scan.specs.Characters.{is_character, is_beginning, character_of}
@@ -40,7 +40,8 @@ FitsEnding old new ending.CsiDispatch = InSequence old × (new ≡ kinds.Ground)
 FitsEnding old new ending.OscDispatch = (old ≡ kinds.OscString) × ((new ≡ kinds.Ground) ⊎ (new ≡ kinds.Escape))
 FitsEnding old new ending.OscDispatchAndExecuted = (old ≡ kinds.OscString) × (new ≡ kinds.Ground)
 
--- The transition satisfies the property that all transitions of the table share.
+-- The transition from a state of kind `old` is consistent. It collects bytes only within a sequence or within an
+-- operating system command, and its ending fits the kinds of both states.
 abbrev pub Fits : Kind → Turn → Type 0
 Fits old (Collect new) = (InSequence old × InSequence new) ⊎ ((old ≡ kinds.OscString) × (new ≡ kinds.OscString))
 Fits old Drop = Unit {0}
@@ -71,7 +72,7 @@ Extends old b Broken new = (is_character (old ++ b ∷ []) ≡ false) × (is_beg
 abbrev pub is_digit : ℕ → Bool
 is_digit b = nat_le 0x30 b && nat_le b 0x39
 
--- The byte cannot end a string: it is not CAN, SUB or ESC.
+-- The byte is not CAN, SUB or ESC, which end a skipped string.
 abbrev pub IsUnended : ℕ → Type 0
 IsUnended b = (b ≢ 0x18) × (b ≢ 0x1A) × (b ≢ 0x1B)
 
@@ -81,8 +82,8 @@ pub record Opens (bytes : List ℕ) : Type 0 where
   pub first : slice_index_or bytes 0 0 ≡ 0x1B
   pub second : slice_index_or bytes 1 0 ≡ 0x5B
 
--- Groups of consecutive numbers. Each group begins where the previous one ends. The indices are the ends of all
--- groups but the last, which ends at `len`.
+-- The numbers from index `from` up to `len`, divided into groups. Each group begins where the previous one ends. The
+-- listed indices are the ends of all groups but the last, which ends at `len`.
 abbrev pub groups_from : ℕ → List ℕ → ℕ → List ℕ → List (List ℕ)
 groups_from from [] len numbers = take (len - from) (drop from numbers) ∷ []
 groups_from from (to ∷ ends) len numbers = take (to - from) (drop from numbers) ∷ groups_from to ends len numbers

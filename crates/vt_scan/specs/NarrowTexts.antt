@@ -7,16 +7,16 @@ use Rattle.vt_scan.specs.Characters.{character_of, is_character}
 use Rattle.vt_scan.specs.Run.{run}
 use Rattle.vt_scan.specs.Texts.{back_with}
 
--- A character that takes one column.
+-- The character takes one column and is not U+FFFD.
 abbrev pub IsNarrowCharacter : ℕ → Type 0
 IsNarrowCharacter c = IsScalar c × ((c ≢ 0xFFFD) × (columns_of c ≡ Some 1))
 
--- In plain text, the bytes are read as the characters of `text`, each of which takes one column.
+-- In the ground state, the bytes are parsed as the characters of `text`, each of which takes one column.
 pub record AreNarrow (bytes text : List ℕ) : Type 0 where
   pub read : run start bytes ≡ back_with (map Character text)
   pub narrow : All IsNarrowCharacter text
 
--- Bytes above 7F that are such a character.
+-- The bytes encode the single character `c`, which is above U+007F and below U+FFFD and takes one column.
 pub record IsNarrowCoded (bytes : List ℕ) (c : ℕ) : Type 0 where
   pub whole : is_character bytes ≡ true
   pub means : c ≡ character_of bytes

@@ -35,6 +35,6 @@ pub record GroupTable : Type 0 where
   pub groups : List (List ℕ)
   pub is_cut : Bool
 
--- The numbers kept from a text of parameter bytes.
+-- The numbers kept from a string of parameter bytes.
 unfoldable pub table_of : List ℕ → GroupTable
 table_of text = record { groups = first_numbers 32 (groups_of text); is_cut = nat_lt 32 (total (groups_of text)) }

@@ -2,7 +2,7 @@
 use Rattle.std.specs.Prelude.{ℕ, zero, ◌+◌, ◌≤◌, List, [], ◌∷◌}
 use Rattle.vt_scan.specs.Automaton.{Event, Step, start}
 
--- A step that returns to the ground state with no incomplete character, with these events.
+-- A step that issues the given events and ends in the ground state with no incomplete character.
 abbrev pub back_with : List Event → Step
 back_with events = record { state = start; events = events }
 

@@ -28,8 +28,9 @@ use vt_cells::Error;
 ///
 /// It follows Paul Williams' parser for ANSI terminals, with UTF-8 as in Table 3-7 of the Unicode
 /// Standard. For a control sequence it returns the first 32 numbers, each limited to 65535. Of the
-/// private marker and the intermediates it returns the first two bytes. For an operating system
-/// command it returns the first 16 parts. Only the text of such a command allocates memory.
+/// bytes that are a private marker or intermediates, it returns the first two. For an operating
+/// system command it returns the first 16 parts. Memory is allocated only for the text of such a
+/// command.
 pub struct Scanner {
     kind: Kind,
     unfinished: Unfinished,
@@ -154,10 +155,12 @@ impl Scanner {
         }
     }
 
-    /// Gives back the memory of the last operating system command if it takes
-    /// more than 4096 bytes, and none is unfinished; `parts` then returns one
-    /// empty part. Call it once the command's event has been handled: otherwise
-    /// the memory is kept for commands to come.
+    /// Frees the memory that holds the last operating system command if it takes more than 4096
+    /// bytes, unless another such command is incomplete. After memory is freed, `parts` returns one
+    /// empty part.
+    ///
+    /// Call this method once the command's event has been handled. Otherwise the memory is kept for
+    /// later commands.
     #[inline]
     pub fn release_text(&mut self)
         ensures stands { (state : State) → StandsFor self.old state → StandsFor self.new state }
@@ -287,11 +290,11 @@ impl Scanner {
     }
 }
 
-/// The largest number of bytes that a scanner keeps for a command's text
+/// The largest capacity, in bytes, that a scanner keeps for the text of operating system commands
 /// between two commands.
 const KEPT_CAPACITY: usize = 4096;
 
-/// Empties a text whose memory is above [`KEPT_CAPACITY`], and frees it.
+/// Empties `text` and frees its memory if its capacity exceeds [`KEPT_CAPACITY`].
 #[inline]
 fn release(text: &mut Vec<u8>)
     ensures bounded { vec_capacity text.new ≤ 4096 }

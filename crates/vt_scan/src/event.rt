@@ -57,7 +57,7 @@ impl Events {
         }
     }
 
-    /// Returns `event` followed by the first event of `events`.
+    /// Returns `event`, followed by the first event of `events` if there is one.
     #[inline]
     pub fn after(event: Event, events: Events) -> Self
         ensures { result ≡ record { first = Some event; second = events.first } }

@@ -4,7 +4,8 @@ ghost use Rattle.std.specs.Prelude.{◌≡◌, ℕ, ◌<◌, ◌≤◌, List, []
 
 use std::marker::Model;
 
-/// The maximum number of parameters kept for a control sequence, and therefore of its groups.
+/// The maximum number of parameters kept for a control sequence, and therefore also the maximum
+/// number of groups.
 pub(crate) const MAX_NUMBERS: usize = 32;
 
 /// The parameter groups of a control sequence as slices, at most 32.

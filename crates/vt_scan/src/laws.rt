@@ -1,8 +1,8 @@
 //! Theorems about the byte automaton. The functions do nothing; a proof may cite their clauses.
 //!
-//! `run` parses bytes from a state and returns the state after them with all events. `start` is the
-//! ground state with nothing incomplete. `back_with` is the result of returning to this state with
-//! the given events.
+//! `run` parses bytes from a given state and returns the state that is reached and all events.
+//! `start` is the ground state with no incomplete character. `back_with` is the result of a run
+//! that returns to `start` and causes the given events.
 
 ghost use Rattle.std.specs.Char.{IsScalar, encode_utf8};
 ghost use Rattle.std.specs.List.{All, AllByRecursion};
@@ -35,8 +35,8 @@ pub fn futures()
         StandsFor held t → StandsFor after (run s bytes).state → StandsFor after (run t bytes).state }
 {}
 
-/// States that a character encoded in UTF-8 is parsed as that character, and a control character
-/// other than ESC is executed.
+/// States that a character encoded in UTF-8 is parsed as that character, and that a control
+/// character other than ESC is executed.
 pub fn characters()
     ensures ascii { (b : ℕ) → 0x20 ≤ b → b ≤ 0x7F → run start (b ∷ []) ≡ back_with (Character b ∷ []) }
     ensures unicode { (c : ℕ) → IsScalar c → 0x20 ≤ c → run start (encode_utf8 c) ≡ back_with (Character c ∷ []) }
@@ -45,7 +45,7 @@ pub fn characters()
     ensures control { (b : ℕ) → b < 0x20 → b ≢ 0x1B → run start (b ∷ []) ≡ back_with (Executed b ∷ []) }
 {}
 
-/// States that bytes which do not contain EF B8 8F, the encoding of U+FE0F, never yield that
+/// States that input without the bytes EF B8 8F, the encoding of U+FE0F, never yields that
 /// character when parsed from the ground state (Unicode 3.9).
 pub fn selectors()
     ensures { (bytes : List ℕ) → SpellsNoSelector bytes → ReadsNoSelector start bytes }

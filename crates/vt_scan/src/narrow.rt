@@ -8,9 +8,9 @@ ghost use Rattle.vt_scan.specs.Scanner.{IsPrintableByte};
 use crate::unfinished::{join_three, join_two, may_be_second, may_continue};
 use vt_cells::columns;
 
-/// Decodes the run of narrow characters below U+3000 at the start of `bytes` into
-/// `text`, as far as it fits. A longer stretch of ASCII ends the run. Returns the
-/// number of characters and the number of their bytes.
+/// Decodes the narrow characters below U+3000 at the start of `bytes` into `text`, as many as fit.
+/// Stops before a stretch of three or more ASCII characters. Returns the number of characters
+/// decoded and the number of bytes that they take.
 #[inline]
 pub fn narrow_characters(bytes: &[u8], text: &mut [char]) -> (usize, usize)
     ensures same { length text.new ≡ length text.old }
@@ -32,8 +32,9 @@ pub fn narrow_characters(bytes: &[u8], text: &mut [char]) -> (usize, usize)
     (done, at)
 }
 
-/// Decodes the narrow character below U+3000 at the start of `bytes`. Returns the
-/// character and the number of its bytes.
+/// Decodes the narrow character below U+3000 at the start of `bytes`. Returns the character and its
+/// length in bytes, or `None` if there is no such character. An ASCII character is decoded only if
+/// [`is_between`] returns `true`.
 #[inline(always)]
 fn narrow_character(bytes: &[u8]) -> Option<(char, usize)>
     ensures inside { IfSome result (λ found. found.1 ≤ length bytes.now) }
@@ -53,9 +54,9 @@ fn narrow_character(bytes: &[u8]) -> Option<(char, usize)>
     }
 }
 
-/// Returns whether `bytes` starts with a printable ASCII character and one of the
-/// next two bytes is not ASCII. Longer stretches of ASCII end a run, since they
-/// are cheaper as runs of their own.
+/// Returns whether `bytes` starts with a printable ASCII character followed by at least two bytes,
+/// of which the first or the second is not ASCII. A longer stretch of ASCII ends a run of narrow
+/// characters, because it is cheaper to print as a run of its own.
 #[inline(always)]
 fn is_between(bytes: &[u8]) -> bool
     requires { 0 < length bytes.now }
@@ -64,8 +65,8 @@ fn is_between(bytes: &[u8]) -> bool
     bytes.len() > 2 && bytes[0] >= 0x20 && bytes[0] < 0x7F && (bytes[1] >= 0x80 || bytes[2] >= 0x80)
 }
 
-/// Decodes the narrow character from U+0080 to U+2FFF at the start of `bytes`.
-/// Returns the character and the number of its bytes.
+/// Decodes the narrow character from U+0080 to U+2FFF at the start of `bytes`. Returns the
+/// character and its length in bytes, or `None` if there is no such character.
 #[inline(always)]
 fn narrow_coded(bytes: &[u8]) -> Option<(char, usize)>
     ensures inside { IfSome result (λ found. found.1 ≤ length bytes.now) }
@@ -85,7 +86,7 @@ fn narrow_coded(bytes: &[u8]) -> Option<(char, usize)>
     Some((c, 3))
 }
 
-/// Decodes a two-byte character, if it takes one column.
+/// Decodes the two-byte character with the bytes `a` and `b` if it is valid and takes one column.
 #[inline(always)]
 fn narrow_two(a: u8, b: u8) -> Option<char>
     ensures { IfSome result (IsNarrowCoded (a ∷ b ∷ [])) }
@@ -97,7 +98,8 @@ fn narrow_two(a: u8, b: u8) -> Option<char>
     if is_narrow(found) { Some(found) } else { None }
 }
 
-/// Decodes a three-byte character below U+3000, if it takes one column.
+/// Decodes the three-byte character with the bytes `a`, `b` and `c` if it is valid, is below U+3000
+/// and takes one column.
 #[inline(always)]
 fn narrow_three(a: u8, b: u8, c: u8) -> Option<char>
     ensures { IfSome result (IsNarrowCoded (a ∷ b ∷ c ∷ [])) }
@@ -109,8 +111,8 @@ fn narrow_three(a: u8, b: u8, c: u8) -> Option<char>
     if is_narrow(found) { Some(found) } else { None }
 }
 
-/// Returns whether a character takes one column. The most frequent blocks are
-/// known without a table lookup.
+/// Returns whether a character takes one column. Characters in the most frequent blocks are
+/// recognized without a table lookup.
 #[inline(always)]
 fn is_narrow(c: char) -> bool
     ensures { IsTrue result → columns_of c ≡ Some 1 }
@@ -124,8 +126,8 @@ fn is_narrow(c: char) -> bool
     }
 }
 
-/// Returns whether a character is in one of the blocks whose characters all take
-/// one column: Latin, Greek and Cyrillic letters, and box drawing.
+/// Returns whether `code` is in one of the common ranges in which every character takes one column:
+/// Latin, Greek and Cyrillic letters, box drawing and block elements.
 #[inline(always)]
 #[tactic(auto, using(crate::proofs::NarrowBlocks::blocks_narrow))]
 fn is_in_block(code: u32) -> bool

@@ -114,7 +114,7 @@ impl Parameters {
         self.len += 1;
     }
 
-    /// Parses the leading bytes that are parameter bytes, and returns their number.
+    /// Parses the leading parameter bytes of `bytes`, and returns how many it parsed.
     #[inline]
     pub fn push_all(&mut self, bytes: &[u8]) -> usize
         ensures inside { result ≤ length bytes.now }
@@ -132,9 +132,9 @@ impl Parameters {
         count
     }
 
-    /// Parses the parameter byte `byte` and then leading digits of `bytes`, and returns the number
-    /// of digits parsed. If `byte` begins a new group and there is no room for its number, the
-    /// digits may be left unparsed.
+    /// Parses the parameter byte `byte` and then the leading digits of `bytes`, and returns the
+    /// number of digits parsed. If `byte` begins a new group and there is no room for its number,
+    /// the digits may be left unparsed.
     #[inline(always)]
     fn push_some(&mut self, byte: u8, bytes: &[u8]) -> usize
         requires from { 0x30 ≤ byte }
@@ -180,7 +180,7 @@ impl Parameters {
         count
     }
 
-    /// Appends the leading digits of `bytes` to the last number, and returns how many there are.
+    /// Appends the leading digits of `bytes` to the last number, and returns how many it appended.
     /// The value is stored only once, after the last digit.
     #[inline(always)]
     fn push_digits(&mut self, bytes: &[u8]) -> usize

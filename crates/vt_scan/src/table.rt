@@ -62,14 +62,14 @@ pub enum Class {
     /// 0x40 to 0x7E, except bytes with a class of their own.
     Final,
 
-    /// `[`, which introduces a control sequence after ESC.
+    /// `[`, which introduces a control sequence if it follows ESC.
     CsiStart,
 
-    /// `]`, which introduces an operating system command after ESC.
+    /// `]`, which introduces an operating system command if it follows ESC.
     OscStart,
 
-    /// `P`, `X`, `^` and `_`, which introduce strings that are ignored (DCS,
-    /// SOS, PM and APC).
+    /// `P`, `X`, `^` and `_`, which introduce strings that are ignored (DCS, SOS, PM and APC) if
+    /// they follow ESC.
     SkipStart,
 
     /// DEL (0x7F).

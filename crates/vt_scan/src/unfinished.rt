@@ -125,10 +125,10 @@ pub fn first_character(bytes: &[u8]) -> Option<(char, usize)>
     Some((join_four(bytes[0], bytes[1], bytes[2], bytes[3]), 4))
 }
 
-/// Decodes leading characters that take three bytes and two columns each into `text`, as many as
-/// fit, and returns their number.
+/// Decodes the leading characters of `bytes` that take three bytes and two columns each into
+/// `text`, as many as fit, and returns how many it decoded.
 ///
-/// Characters below U+3000 end the run, even wide ones.
+/// Stops before a character below U+3000, even a wide one.
 #[inline]
 pub fn wide_characters(bytes: &[u8], text: &mut [char]) -> usize
     ensures same { length text.new ≡ length text.old }

@@ -1,4 +1,4 @@
--- Captures: the concatenated basic texts of rows.
+-- Captures: the concatenated basic text of rows.
 use Rattle.std.specs.Prelude.{◌≡◌, ℕ, ◌<◌, List, [], ◌∷◌, ◌++◌, length, ◌⊎◌, ⊤}
 use Rattle.std.proofs.Common.{inl, inr}
 use Rattle.std.specs.Borrow.{MutBor}
@@ -10,7 +10,7 @@ use Rattle.vt_rows.specs.declared.capture.range.BasicFormattedCaptureRange.{Basi
 use Rattle.vt_rows.specs.declared.capture.range.BasicFormattedCaptureRange.TheVariants.{Full, Visible}
 use Rattle.vt_screen.specs.Screen.{ScreenValue, above_page, visible_rows}
 
--- The concatenated basic texts of rows, continuing from a capture state.
+-- The concatenated basic text of rows, continuing from a capture state.
 abbrev pub basic_texts : Written → List RowValue → List ℕ
 basic_texts written [] = []
 basic_texts written (row ∷ rows) = basic_text written row ++ basic_texts (written_after written row) rows

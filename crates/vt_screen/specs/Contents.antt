@@ -21,7 +21,7 @@ lines_of width goes_on [] = []
 lines_of width goes_on (row ∷ rows) =
     gap_line width goes_on row ++ (plain_text 0 width row.cells ++ (line_end row ++ lines_of width row.wrapped rows))
 
--- The text with a byte put before it. A line end is dropped if the text is empty.
+-- The text with a byte prepended. A line end is not prepended to an empty text.
 abbrev pub before : ℕ → List ℕ → List ℕ
 before byte [] = if byte == 0x0A then [] else byte ∷ []
 before byte (next ∷ text) = byte ∷ (next ∷ text)
@@ -57,6 +57,6 @@ between_of start_row start_col end_row end_col screen =
 abbrev pub row_texts : (start stop : ℕ) → List RowValue → List (List ℕ)
 row_texts start stop rows = map (λ row. plain_text start stop row.cells) rows
 
--- The texts that the iterator still has to return.
+-- The strings that the iterator has yet to return.
 abbrev pub rows_left : Rows → List (List ℕ)
 rows_left rows = row_texts rows.start rows.stop (drop rows.row (visible_rows rows.screen.now))

@@ -84,22 +84,23 @@ escape_steps [] b =
     else CallBack (UnhandledEscape None None b) ∷ []
 escape_steps (intermediate ∷ intermediates) b = CallBack (UnhandledEscape (Some intermediate) (intermediate_at 0 intermediates) b) ∷ []
 
--- The steps of one SGR group that was interpreted, and the steps of all SGR groups. How a group is interpreted
--- depends on the group before it.
+-- The steps of one SGR group, given its interpretation.
 abbrev pub reading_steps : List (List ℕ) → Reading → List Step
 reading_steps groups Silent = []
 reading_steps groups (Set setting) = Render setting ∷ []
 reading_steps groups Unhandled = CallBack (UnhandledCsi None None groups 0x6D) ∷ []
 
+-- The steps of the remaining SGR groups. `wanted` says how the first of them is interpreted.
 abbrev pub sgr_from : List (List ℕ) → Wanted → List (List ℕ) → List Step
 sgr_from groups wanted [] = []
 sgr_from groups wanted (group ∷ rest) =
     let read = group_read wanted group in reading_steps groups read.reading ++ sgr_from groups read.wanted rest
 
+-- The steps of all groups of an SGR sequence.
 abbrev pub sgr_steps : List (List ℕ) → List Step
 sgr_steps groups = sgr_from groups Any groups
 
--- The steps of ED and EL; an unknown parameter is reported as unhandled.
+-- The steps of ED; an unknown parameter is reported as unhandled.
 unfoldable pub page_erasing : CallValue → ℕ → List Step
 page_erasing report n =
     if n == 0 then OnPage EraseBelow ∷ []
@@ -108,6 +109,7 @@ page_erasing report n =
     else if n == 3 then EraseScrollback ∷ []
     else CallBack report ∷ []
 
+-- The steps of EL; an unknown parameter is reported as unhandled.
 unfoldable pub row_erasing : CallValue → ℕ → List Step
 row_erasing report n =
     if n == 0 then OnPage EraseRest ∷ []
@@ -160,7 +162,7 @@ other_steps groups b seen =
     else if b == 0x74 then window_steps groups seen
     else CallBack (UnhandledCsi None None groups b) ∷ []
 
--- The steps of SU and REP, which may scroll rows off the page, or of other control sequences.
+-- The steps of SU and REP, which may scroll rows off the page, and of the sequences of `other_steps`.
 unfoldable pub scrolling_steps : List (List ℕ) → ℕ → Seen → List Step
 scrolling_steps groups b seen =
     if b == 0x53 then ScrollUp (number_or 1 0 groups) ∷ []
@@ -251,16 +253,18 @@ abbrev pub csi_steps : List (List ℕ) → List ℕ → ℕ → Seen → List St
 csi_steps groups [] b seen = unmarked_steps groups b seen
 csi_steps groups (intermediate ∷ intermediates) b seen = intermediate_steps intermediate (intermediate_at 0 intermediates) groups b
 
--- The steps of operating system commands for titles and the clipboard (xterm, OSC 0, 1, 2 and 52), and the tests used
--- for them.
+-- Whether each byte of an OSC 52 parameter names a clipboard that xterm defines.
 abbrev pub is_clipboard_kind : List ℕ → Bool
 is_clipboard_kind kind = list_all (λ b. list_any (λ c. c == b) (codes "cpqs01234567")) kind
 
+-- The byte may occur in base64 text.
 abbrev pub is_base64 : ℕ → Bool
 is_base64 b =
     (nat_le 0x41 b && nat_le b 0x5A) || ((nat_le 0x61 b && nat_le b 0x7A) || ((nat_le 0x30 b && nat_le b 0x39)
     || ((b == 0x2B) || ((b == 0x2F) || (b == 0x3D)))))
 
+-- The steps of a two-part operating system command. OSC 0, 1 and 2 set the icon name, the window title or both
+-- (xterm); any other command is reported as unhandled.
 unfoldable pub named_steps : List ℕ → List ℕ → List Step
 named_steps name text =
     if bytes_eq name (codes "0") then CallBack (SetWindowIconName text) ∷ CallBack (SetWindowTitle text) ∷ []
@@ -268,6 +272,8 @@ named_steps name text =
     else if bytes_eq name (codes "2") then CallBack (SetWindowTitle text) ∷ []
     else CallBack (UnhandledOsc (name ∷ text ∷ [])) ∷ []
 
+-- The steps of a three-part operating system command. A valid OSC 52 reads or writes a clipboard (xterm); any other
+-- command is reported as unhandled.
 unfoldable pub clipboard_steps : List ℕ → List ℕ → List ℕ → List Step
 clipboard_steps name kind text =
     let is_known = bytes_eq name (codes "52") && is_clipboard_kind kind in
@@ -275,6 +281,7 @@ clipboard_steps name kind text =
     else if is_known && list_all is_base64 text then CallBack (CopyToClipboard kind text) ∷ []
     else CallBack (UnhandledOsc (name ∷ kind ∷ text ∷ [])) ∷ []
 
+-- The steps of an operating system command, given its parts.
 abbrev pub osc_steps : List (List ℕ) → List Step
 osc_steps (name ∷ text ∷ []) = named_steps name text
 osc_steps (name ∷ kind ∷ text ∷ []) = clipboard_steps name kind text

@@ -25,7 +25,7 @@ input_text new =
 abbrev pub where_changed : (was new : Bool) → List ℕ → List ℕ
 where_changed was new text = if same_bool was new then [] else text
 
--- The output that changes those input modes that differ.
+-- The output that changes the input modes that differ.
 abbrev pub input_change : (was new : Modes) → List ℕ
 input_change was new =
     where_changed was.application_keypad new.application_keypad (keypad_text new.application_keypad)

@@ -22,11 +22,11 @@ pub record Aside : Type 0 where
   pub active : Scrollback
   pub idle : Scrollback
 
--- The scrollback of the main page and that of the alternate page, given the scrollback of the active and the inactive
--- page.
+-- The scrollback of the main page, given the scrollback of the active and the inactive page.
 abbrev pub main_scrollback : Bool → Scrollback → Scrollback → Scrollback
 main_scrollback is_alternate active idle = if is_alternate then idle else active
 
+-- The scrollback of the alternate page, given the scrollback of the active and the inactive page.
 abbrev pub alternate_scrollback : Bool → Scrollback → Scrollback → Scrollback
 alternate_scrollback is_alternate active idle = if is_alternate then active else idle
 
@@ -70,10 +70,11 @@ exchanged_with None screen = screen
 abbrev pub exchanged : ScreenValue → ScreenValue
 exchanged screen = exchanged_with screen.other screen
 
--- The screen with its active page reset, and the screen with its inactive page reset.
+-- The screen with its active page reset.
 abbrev pub with_fresh_page : ScreenValue → ScreenValue
 with_fresh_page screen = record screen { page = fresh_page screen }
 
+-- The screen with its inactive page, if any, reset.
 abbrev pub with_fresh_other : ScreenValue → ScreenValue
 with_fresh_other screen = record screen { other = option_map (λ _. fresh_page screen) screen.other }
 

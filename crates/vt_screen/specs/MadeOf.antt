@@ -42,27 +42,30 @@ pub record IsMadeOf (finals : List ℕ) (controls : List (List ℕ)) (text : Lis
 abbrev pub escapes : List (List ℕ) → List (List ℕ)
 escapes texts = map (λ text. 0x1B ∷ text) texts
 
--- The sequences that may occur in drawing output: CUP, CUF, ECH, EL, ED, SGR, CR LF, LF, BS, DECSC, DECRC, and DECTCEM to show or
--- hide the cursor.
+-- The final bytes of the control sequences with numbers that may occur in drawing output: CUP, CUF, ECH, EL, ED and
+-- SGR.
 abbrev pub drawing_finals : List ℕ
 drawing_finals = codes "HCXKJm"
 
+-- The other sequences that may occur in drawing output: CR LF, LF, BS, DECSC, DECRC, and DECTCEM to show or hide the
+-- cursor.
 abbrev pub drawing_controls : List (List ℕ)
 drawing_controls =
     (0x0D ∷ 0x0A ∷ []) ∷ (0x0A ∷ []) ∷ (0x08 ∷ [])
     ∷ escapes (codes "7" ∷ codes "8" ∷ codes "[?25h" ∷ codes "[?25l" ∷ [])
 
--- The final bytes of control sequences in output that draws and may move rows: those of output that draws, and those
--- of IL and DL.
+-- The final bytes of the control sequences that may occur in drawing output that moves rows: those of IL and DL, and
+-- those in `drawing_finals`.
 abbrev pub scrolling_finals : List ℕ
 scrolling_finals = codes "LMHCXKJm"
 
--- The sequences in output that draws and resets the scroll region: those of output that draws, the reset of origin
--- mode, and DECSTBM without parameters.
+-- The other sequences that may occur in drawing output that also resets the scroll region: the reset of origin mode,
+-- DECSTBM without parameters, and those in `drawing_controls`.
 abbrev pub reset_controls : List (List ℕ)
 reset_controls = escapes (codes "[?6l" ∷ codes "[r" ∷ []) ++ drawing_controls
 
--- The sequences in output that sets input modes: keypad, cursor keys, bracketed paste, mouse, and cursor style.
+-- The sequences that may occur in output that sets input modes: keypad, cursor keys, bracketed paste, mouse, and
+-- cursor style.
 abbrev pub input_controls : List (List ℕ)
 input_controls =
     escapes

@@ -5,7 +5,7 @@ use Rattle.vt_screen.specs.Calls.{CallValue}
 use Rattle.vt_screen.specs.declared.callbacks.Call.{Call}
 use Rattle.vt_screen.specs.declared.callbacks.Call.TheVariants as call
 
--- The value that a call with its arguments stands for.
+-- The value that a call, including its arguments, stands for.
 abbrev pub call_of : Call → CallValue
 call_of call.AudibleBell = value.AudibleBell
 call_of call.VisualBell = value.VisualBell

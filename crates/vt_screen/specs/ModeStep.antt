@@ -33,11 +33,11 @@ same_mouse_encoding encoding.Utf8 encoding.Utf8 = true
 same_mouse_encoding encoding.Sgr encoding.Sgr = true
 same_mouse_encoding _ _ = false
 
--- The mouse mode after `mode` is reset, and the mouse encoding after `encoding` is reset: the default if that one was
--- active, otherwise unchanged.
+-- The mouse mode after `mode` is reset: `None` if that mode was active, otherwise unchanged.
 abbrev pub mouse_mode_without : MouseProtocolMode → MouseProtocolMode → MouseProtocolMode
 mouse_mode_without was mode = if same_mouse_mode was mode then mouse.None else was
 
+-- The mouse encoding after `form` is reset: the default if that encoding was active, otherwise unchanged.
 abbrev pub mouse_encoding_without : MouseProtocolEncoding → MouseProtocolEncoding → MouseProtocolEncoding
 mouse_encoding_without was form = if same_mouse_encoding was form then encoding.Default else was
 

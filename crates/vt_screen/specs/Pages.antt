@@ -16,11 +16,11 @@ fresh_page screen = blank_page (length screen.page.rows) screen.page.width
 abbrev pub page_aside : ScreenValue → Page
 page_aside screen = unwrap_or screen.other (fresh_page screen)
 
--- The screen after the cursor, origin mode and attributes are saved (DECSC), and the screen after they are restored
--- (DECRC).
+-- The screen after the cursor, origin mode and attributes are saved (DECSC).
 abbrev pub saved : ScreenValue → ScreenValue
 saved screen = record screen { page = cursor_saved screen.page; saved_attrs = screen.attrs }
 
+-- The screen after the cursor, origin mode and attributes are restored (DECRC).
 abbrev pub restored : ScreenValue → ScreenValue
 restored screen = record screen { page = cursor_restored screen.page; attrs = screen.saved_attrs }
 
@@ -60,10 +60,11 @@ reset screen = record (fresh_screen (length screen.page.rows) screen.page.width 
 
 -- ---- resizing
 
--- The main page, and the alternate page of a screen.
+-- The main page of a screen.
 abbrev pub main_page : ScreenValue → Page
 main_page screen = if screen.is_alternate then page_aside screen else screen.page
 
+-- The alternate page of a screen, if it was created.
 abbrev pub alternate_page : ScreenValue → Option Page
 alternate_page screen = if screen.is_alternate then Some screen.page else screen.other
 

@@ -4,8 +4,8 @@ use Rattle.vt_cells.specs.declared.error.Error.{Error}
 use Rattle.vt_cells.specs.declared.error.Error.TheVariants.{OutOfMemory}
 use Rattle.vt_redraw.specs.Refusals.{RefusedOnlyIfSome}
 
--- The effect of a call to `next`. It returns the next text, or an error if that text is not empty and cannot be
--- allocated. Once no text is left, it returns `None`, now and later.
+-- The effect of a call to `next`. It returns the next string, or an error if that string is not empty and cannot be
+-- allocated. After the last string, it keeps returning `None`.
 module _ {S A : Type 0} (left : S → List (List ℕ)) where
   abbrev pub GivesText : S → Option (Result (String A) Error) → S → Type 0
   GivesText old None new = (left old ≡ []) × (left new ≡ [])

@@ -18,7 +18,7 @@ shown_row screen r = row_of_picture (shown screen) r
 
 -- ---- the output
 
--- The end of a range of `width` columns from `start` on, limited to the number of columns.
+-- The end of a range of `width` columns that starts at column `start`, limited to the number of columns.
 abbrev pub range_end : (start width columns : ℕ) → ℕ
 range_end start width columns = min (start + width) columns
 
@@ -33,19 +33,19 @@ abbrev pub changed_text : (start stop : ℕ) → (picture prev : Picture) → �
 changed_text start stop picture prev r =
     bytes_of_all (item_of_difference r start stop (row_of_picture picture r) (row_of_picture prev r)).ops
 
--- The outputs for the rows from row `r` on.
+-- The output for each row, starting at row `r`.
 abbrev pub texts_from : (ℕ → List ℕ) → (r height : ℕ) → List (List ℕ)
 texts_from text r height = map text (range_with_len r (height - r))
 
--- The outputs that draw `width` columns from `start` on, one for each row of a screen, on terminals whose row is
+-- For each row of a screen, the output that draws `width` columns, starting at `start`, on a terminal whose row is
 -- blank.
 abbrev pub formatted_rows : (start width : ℕ) → ScreenValue → List (List ℕ)
 formatted_rows start width screen =
     texts_from (formatted_text start (range_end start width screen.page.width) (shown screen)) 0
     (length screen.page.rows)
 
--- The outputs that draw `width` columns from `start` on, one for each row of a screen, on terminals that display that
--- row of the screen `prev`.
+-- For each row of a screen, the output that draws `width` columns, starting at `start`, on a terminal that displays
+-- that row of the screen `prev`.
 abbrev pub changed_rows : (start width : ℕ) → (screen prev : ScreenValue) → List (List ℕ)
 changed_rows start width screen prev =
     texts_from (changed_text start (range_end start width screen.page.width) (shown screen) (shown prev)) 0
@@ -100,8 +100,8 @@ pub record HasLinked (r : ℕ) (shows : RowValue) (reader after : ScreenValue) :
   pub others : (k : ℕ) → k ≢ r → k ≢ r + 1 → row_at after.page k ≡ row_at reader.page k
   pub height : length after.page.rows ≡ length reader.page.rows
 
--- The output turns row `r` of a terminal from `stood` into that row of the screen, in `width` columns from `start`
--- on.
+-- The output turns row `r` of a terminal from `stood` into that row of the screen, in the `width` columns starting
+-- at `start`.
 abbrev pub DrawsRow : (start width : ℕ) → ScreenValue → (r : ℕ) → (stood : RowValue) → List ℕ → Type 0
 DrawsRow start width screen r stood text =
     Turns (IsRowReader (shown screen) r start stood) text

@@ -59,21 +59,24 @@ number_read n =
     else if is_within 100 107 n then set (Background (Idx (n - 92)))
     else record { reading = Unhandled; wanted = Any }
 
--- The interpretation of an extended colour given by one group: the number 2 and three components, or the number 5 and
--- a palette index.
+-- The interpretation of an RGB colour given by one group. If a component is above 255, the rest of the sequence is
+-- ignored.
 unfoldable pub rgb_read : Layer → ℕ → ℕ → ℕ → GroupRead
 rgb_read layer r g b =
     if nat_lt r 256 && (nat_lt g 256 && nat_lt b 256) then set (colored layer (Rgb r g b)) else silent Stopped
 
+-- The interpretation of a palette index given by one group. If it is above 255, the rest of the sequence is ignored.
 unfoldable pub index_read : Layer → ℕ → GroupRead
 index_read layer i = if nat_lt i 256 then set (colored layer (Idx i)) else silent Stopped
 
 abbrev pub unknown : GroupRead
 unknown = record { reading = Unhandled; wanted = Any }
 
+-- The interpretation of a group of three numbers, which sets a palette colour if the second number is 5.
 abbrev pub three_read : Layer → ℕ → ℕ → GroupRead
 three_read layer form i = if form == 5 then index_read layer i else unknown
 
+-- The interpretation of a group of five numbers, which sets an RGB colour if the second number is 2.
 abbrev pub five_read : Layer → ℕ → ℕ → ℕ → ℕ → GroupRead
 five_read layer form r g b = if form == 2 then rgb_read layer r g b else unknown
 
@@ -101,6 +104,7 @@ abbrev pub part_read : List ℕ → (ℕ → GroupRead) → GroupRead
 part_read (n ∷ []) next = if nat_lt n 256 then next n else silent Stopped
 part_read _ next = silent Stopped
 
+-- The interpretation of a group, given what the groups before it began.
 unfoldable pub group_read : Wanted → List ℕ → GroupRead
 group_read Any group = setting_read group
 group_read (Form layer) group = form_read layer group

@@ -14,8 +14,8 @@ use Rattle.vt_scan.specs.Automaton.{start}
 use Rattle.vt_screen.specs.Reading.{read, terminal}
 use Rattle.vt_screen.specs.Screen.{ScreenValue, IsScreen, above_page, canvas_of, visible_row, visible_rows, with_canvas}
 
--- The picture of a screen: the displayed rows, cut off or extended to its width, the position and visibility of its
--- cursor, and its attributes.
+-- The picture of a screen: the displayed rows, truncated or extended to its width, the position and visibility of
+-- its cursor, and its attributes.
 abbrev pub shown : ScreenValue → Picture
 shown screen = picture_over (visible_rows screen) (canvas_of screen)
 
@@ -63,7 +63,7 @@ pub record IsReader (picture : Picture) (reader : ScreenValue) : Type 0 where
   pub plain : IsPlain reader
   pub size : SamePictureSize picture (shown reader)
 
--- The terminal is plain and displays `prev`, a picture of the same size.
+-- The terminal is plain and displays the picture `prev`, which has the size of `picture`.
 pub record IsReaderOf (picture prev : Picture) (reader : ScreenValue) : Type 0 where
   pub is : IsReader picture reader
   pub shows : shown reader ≡ prev
@@ -81,8 +81,8 @@ pub record IsReaderOfRows (picture : Picture) (reader : ScreenValue) : Type 0 wh
 abbrev pub ReadsTo : List ℕ → (reader after : ScreenValue) → Type 0
 ReadsTo text reader after = read (terminal start reader) text ≡ Some (terminal start after)
 
--- Every terminal with the property `Reader` reads all of the output without callbacks, allocations or rows that
--- scroll off the page.
+-- Every terminal with the property `Reader` reads all of the output without invoking callbacks, allocating, or
+-- scrolling rows off the page.
 abbrev pub IsReadBy : (ScreenValue → Type 0) → List ℕ → Type 0
 IsReadBy Reader text = (reader : ScreenValue) → Reader reader → (after : ScreenValue) × ReadsTo text reader after
 
@@ -98,7 +98,7 @@ ShowsPlainly picture reader after = IsPlain after × (shown after ≡ picture)
 abbrev pub HasRows : Picture → (reader after : ScreenValue) → Type 0
 HasRows picture reader after = after.page.rows ≡ picture.rows
 
--- The terminal has the cursor of the picture, its attributes, and the visibility of its cursor.
+-- The terminal has the picture's cursor position, cursor visibility and attributes.
 pub record HasCursor (picture : Picture) (reader after : ScreenValue) : Type 0 where
   pub row : after.page.row ≡ picture.row
   pub column : after.page.column ≡ picture.column
@@ -152,8 +152,8 @@ pub record TakesCursor (picture : Picture) (reader after : ScreenValue) : Type 0
 abbrev pub StaysPlain : (reader after : ScreenValue) → Type 0
 StaysPlain reader after = IsPlain after
 
--- Every terminal with the property `Reader` reads the output without callbacks or allocations. `Made` then holds for
--- it, it is plain again, and everything outside of its page is unchanged.
+-- Every terminal with the property `Reader` reads the output without invoking callbacks or allocating. `Made` then
+-- holds for it, and it is plain again. Scrollback and its offset, the inactive page and the modes are unchanged.
 pub record Turns (Reader : ScreenValue → Type 0) (text : List ℕ)
     (Made : (reader after : ScreenValue) → Type 0) : Type 0 where
   pub quiet : IsReadBy Reader text

@@ -26,7 +26,7 @@ SetsModes Had modes text =
 abbrev pub state_text : ScreenValue → List ℕ
 state_text screen = shown_text screen ++ input_text screen.modes
 
--- The difference between two screens, followed by the output that changes those input modes that differ.
+-- The difference between two screens, followed by the output that changes the input modes that differ.
 abbrev pub state_change : (was new : ScreenValue) → List ℕ
 state_change was new = shown_change was new ++ input_change was.modes new.modes
 
@@ -46,7 +46,7 @@ abbrev pub HasModes : Modes → (reader after : ScreenValue) → Type 0
 HasModes modes reader after = after.modes ≡ modes
 
 -- The output redraws a screen on every terminal with the property `Reader` and sets the screen's input modes.
--- Everything else is unchanged.
+-- Scrollback and its offset, the inactive page and the scroll region are unchanged.
 pub record GivesState (Reader : ScreenValue → Type 0) (screen : ScreenValue) (text : List ℕ) : Type 0 where
   pub redraws : Redraws (shown screen) Reader KeepsRestButModes text
   pub modes : IsSteady (shown screen) → Makes Reader text (HasModes screen.modes)

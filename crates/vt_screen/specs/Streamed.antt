@@ -1,5 +1,5 @@
--- The stream of rows out of the main page: the rows that scroll off it, the rows that are reported, and the text of
--- all of them.
+-- The stream of rows that leave the main page: the rows that scroll off it, the rows that are reported, and the text
+-- of all of them.
 use Rattle.std.specs.Prelude.{◌≡◌, ◌≢◌, ℕ, ◌≤◌, true, false, List, [], ◌∷◌, ◌++◌, length, All, map, if◌then◌else◌}
 use Rattle.std.specs.List.{AllByRecursion}
 use Rattle.vt_rows.specs.Basic.{unwritten}

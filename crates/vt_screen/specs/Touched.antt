@@ -23,7 +23,7 @@ use Rattle.vt_screen.specs.Steps.{LeaveAlternate, LeaveRestoring, Reset}
 abbrev pub TouchesAll : (ℕ → ℕ → Type 0) → Page → Type 0
 TouchesAll May page = (r c : ℕ) → r < length page.rows → c < page.width → May r c
 
--- `May` holds for every position in the rows from `first` up to but excluding `behind`.
+-- `May` holds for every position in the rows `first..behind`.
 abbrev pub TouchesRows : (ℕ → ℕ → Type 0) → (first behind : ℕ) → Page → Type 0
 TouchesRows May first behind page = (r c : ℕ) → first ≤ r → r < behind → c < page.width → May r c
 
@@ -66,7 +66,8 @@ PageStepTouches May (ScrollDown n) page = TouchesAll May page
 PageStepTouches May ReverseIndex page = TouchesAll May page
 PageStepTouches May step page = Unit {0}
 
--- `May` holds for every position that a step touches. A step that switches pages touches every position.
+-- `May` holds for every position that a step touches. A step that scrolls up, switches pages or resets the screen
+-- touches every position.
 abbrev pub StepTouches : (ℕ → ℕ → Type 0) → Step → ScreenValue → Type 0
 StepTouches May (Print c) screen = PrintTouches May c screen.attrs screen.page
 StepTouches May LineFeed screen = FeedTouches May screen.page
@@ -106,8 +107,8 @@ ReadTouches May t (b ∷ bytes) =
 abbrev pub TouchesOnly : (ScreenValue → Type 0) → List ℕ → (ℕ → ℕ → Type 0) → Type 0
 TouchesOnly Reader text May = (reader : ScreenValue) → Reader reader → ReadTouches May (terminal start reader) text
 
--- If the picture of the newer screen is steady, a plain terminal that displays the older one and reads the text touches
--- only positions near a difference between the two screens.
+-- If the picture of the newer screen is steady, a plain terminal that displays the older one and reads the text
+-- touches only positions near a difference between the two screens.
 abbrev pub TouchesNear : (was new : ScreenValue) → List ℕ → Type 0
 TouchesNear was new text =
     IsSteady (shown new) → TouchesOnly (IsReaderOf (shown new) (shown was)) text (IsLocal (shown new) (shown was))

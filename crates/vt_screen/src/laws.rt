@@ -98,7 +98,7 @@ pub fn no_selectors()
     ensures shown { (screen : ScreenValue) → HasNoSelectors screen → ShowsNoSelector screen }
 {}
 
-/// States that the capture of a fresh screen consists only of line ends, one
+/// States that the capture of a fresh screen consists only of newlines, one
 /// fewer than the screen has rows.
 pub fn fresh_capture()
     ensures { (rows cols capacity : ℕ) →
@@ -111,9 +111,10 @@ pub fn fresh_capture()
 /// - `kept`: the rows that are reported to `on_scroll` with `false`, followed
 ///   by the scrollback after the run, match the scrollback before the run
 ///   followed by the rows that scrolled off the top of the main page. Matching
-///   rows have the same cells, apart from trailing default blanks, and are both
-///   wrapped or both not. The premises are that the run contains no RIS and
-///   that no wrapped row of scrollback was narrower than the screen.
+///   rows have the same cells, apart from trailing default blanks, and are
+///   either both wrapped or both not wrapped. The premises are that the run
+///   contains no RIS and that no wrapped row of scrollback was narrower than
+///   the screen.
 /// - `sent`, `rest`: the rows that scroll off, and everything on the screen
 ///   except its scrollback, depend on neither the capacity nor the contents of
 ///   scrollback.

@@ -1,10 +1,10 @@
-//! The adapter that reports rows scrolling off a page to callbacks.
+//! The adapter through which callbacks receive dropped rows.
 
 use crate::callbacks::Callbacks;
 use vt_rows::{Leaving, RowContents};
 
-/// An adapter that reports the rows dropped from one page to borrowed
-/// callbacks.
+/// An adapter that calls [`Callbacks::on_scroll`] for each row dropped from one
+/// page.
 #[derive(Drop)]
 pub struct Reporter<'a, CB: Callbacks> {
     /// The callbacks that receive the rows.

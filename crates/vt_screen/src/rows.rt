@@ -1,5 +1,5 @@
-//! Iterators over the rows of a screen. This module yields their plain text;
-//! its submodules yield the output that redraws them.
+//! Iterators over the rows of a screen. The iterator in this module yields
+//! plain text; those in the submodules yield the output that redraws the rows.
 
 ghost use Rattle.std.specs.Prelude.{◌≡◌, ◌+◌};
 ghost use Rattle.vt_screen.specs.Contents.{row_texts, rows_left};

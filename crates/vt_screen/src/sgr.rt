@@ -45,7 +45,7 @@ pub enum Layer {
     Back,
 }
 
-/// How the next group of an SGR sequence is read.
+/// How the next group of an SGR sequence is interpreted.
 #[derive(Clone, Copy, PartialEq, Eq, Debug)]
 pub enum Wanted {
     /// The next group is a setting.
@@ -87,13 +87,13 @@ pub enum Reading {
     Unhandled,
 }
 
-/// The effect of one group, and how the next group is read.
+/// The effect of one group, and how the next group is interpreted.
 #[derive(Clone, Copy, PartialEq, Eq, Debug)]
 pub struct GroupRead {
     /// The effect of the group.
     pub reading: Reading,
 
-    /// How the next group is read.
+    /// How the next group is interpreted.
     pub wanted: Wanted,
 }
 
@@ -140,8 +140,8 @@ impl GroupRead {
         }
     }
 
-    /// Returns a reading that applies `setting`, with the next group read as a
-    /// setting.
+    /// Returns a result that applies `setting`, after which the next group is
+    /// interpreted as a setting.
     fn set(setting: Setting) -> Self
         ensures { result ≡ set setting }
     {
@@ -151,8 +151,8 @@ impl GroupRead {
         }
     }
 
-    /// Returns the reading of an unknown group, with the next group read as a
-    /// setting.
+    /// Returns the result for an unknown group, after which the next group is
+    /// interpreted as a setting.
     fn unknown() -> Self
         ensures { result ≡ unknown }
     {
@@ -164,15 +164,15 @@ impl GroupRead {
 }
 
 impl Wanted {
-    /// Reads one group of an SGR sequence as `self` specifies (ECMA-48, with
-    /// xterm's extended colours). The first group of a sequence is read as
-    /// [`Wanted::Any`].
+    /// Interprets one group of an SGR sequence as `self` specifies (ECMA-48,
+    /// with xterm's extended colours). For the first group of a sequence,
+    /// `self` is [`Wanted::Any`].
     ///
     /// The rest of the sequence is ignored after an extended colour with a
-    /// component above 255. It is also ignored after an extended colour in
-    /// several groups that is incomplete or has a format other than 2 and 5. If
-    /// such a colour is in a single group, that group is unknown and the next
-    /// group is read as a setting.
+    /// component above 255. It is also ignored after an extended colour that
+    /// spans several groups and is incomplete or has a format other than 2 and
+    /// 5. If such a colour is in a single group, that group is unknown and the
+    /// next group is interpreted as a setting.
     #[inline(always)]
     #[tactic(auto, unfolding(crate::specs::Sgr::group_read))]
     pub fn read(self, group: &[u16]) -> GroupRead
@@ -190,7 +190,7 @@ impl Wanted {
     }
 }
 
-/// Reads a group as a setting.
+/// Interprets a group as a setting.
 #[inline(always)]
 #[tactic(auto, unfolding(crate::specs::Sgr::setting_read))]
 fn read_setting(group: &[u16]) -> GroupRead
@@ -206,7 +206,7 @@ fn read_setting(group: &[u16]) -> GroupRead
     }
 }
 
-/// Reads a single-number group as a setting.
+/// Interprets a single-number group as a setting.
 #[inline(always)]
 #[tactic(auto, using(std::proofs::lemmas::Bool::Decides::nat_tests), unfolding(crate::specs::Sgr::number_read))]
 fn read_number(number: u16) -> GroupRead
@@ -235,7 +235,7 @@ fn read_number(number: u16) -> GroupRead
     }
 }
 
-/// Reads a three-number group as an extended colour with a palette index.
+/// Interprets a three-number group as an extended colour with a palette index.
 fn read_three(layer: Layer, form: u16, index: u16) -> GroupRead
     ensures { result ≡ three_read layer form index }
 {
@@ -245,7 +245,7 @@ fn read_three(layer: Layer, form: u16, index: u16) -> GroupRead
     index_colored(layer, index)
 }
 
-/// Reads a five-number group as an extended colour with RGB components.
+/// Interprets a five-number group as an extended colour with RGB components.
 fn read_five(layer: Layer, form: u16, red: u16, green: u16, blue: u16) -> GroupRead
     ensures { result ≡ five_read layer form red green blue }
 {
@@ -255,7 +255,7 @@ fn read_five(layer: Layer, form: u16, red: u16, green: u16, blue: u16) -> GroupR
     rgb_colored(layer, red, green, blue)
 }
 
-/// Returns the reading that sets a palette colour. If `index` is above 255,
+/// Returns the result that sets a palette colour. If `index` is above 255,
 /// nothing is set and the rest of the sequence is ignored.
 #[tactic(auto, using(std::proofs::lemmas::Bool::Decides::nat_tests), unfolding(crate::specs::Sgr::index_read))]
 fn index_colored(layer: Layer, index: u16) -> GroupRead
@@ -267,7 +267,7 @@ fn index_colored(layer: Layer, index: u16) -> GroupRead
     GroupRead::set(layer.colored(Color::Idx(index as u8)))
 }
 
-/// Returns the reading that sets an RGB colour. If a component is above 255,
+/// Returns the result that sets an RGB colour. If a component is above 255,
 /// nothing is set and the rest of the sequence is ignored.
 #[tactic(auto, using(std::proofs::lemmas::Bool::Decides::nat_tests), unfolding(crate::specs::Sgr::rgb_read))]
 fn rgb_colored(layer: Layer, red: u16, green: u16, blue: u16) -> GroupRead
@@ -279,7 +279,7 @@ fn rgb_colored(layer: Layer, red: u16, green: u16, blue: u16) -> GroupRead
     GroupRead::set(layer.colored(Color::Rgb(red as u8, green as u8, blue as u8)))
 }
 
-/// Reads a group as the format of an extended colour.
+/// Interprets a group as the format of an extended colour.
 #[tactic(auto, using(std::proofs::lemmas::Bool::Decides::nat_tests), unfolding(crate::specs::Sgr::form_read))]
 fn read_form(layer: Layer, group: &[u16]) -> GroupRead
     ensures { result ≡ form_read layer group.now }
@@ -294,8 +294,8 @@ fn read_form(layer: Layer, group: &[u16]) -> GroupRead
     }
 }
 
-/// Returns the colour component or palette index that a group holds, or `None`
-/// unless the group is a single number of at most 255.
+/// Returns the colour component or palette index that a group holds, if the
+/// group is a single number of at most 255.
 #[tactic(auto, using(std::proofs::lemmas::Bool::Decides::nat_tests))]
 fn part_of(group: &[u16]) -> Option<u8>
     ensures { MatchOption result ((next : ℕ → GroupRead) → part_read group.now next ≡ silent Wanted.Stopped)
@@ -307,7 +307,7 @@ fn part_of(group: &[u16]) -> Option<u8>
     }
 }
 
-/// Reads a group as the palette index of a colour.
+/// Interprets a group as the palette index of a colour.
 fn read_index(layer: Layer, group: &[u16]) -> GroupRead
     ensures { result ≡ part_read group.now (λ i. set (colored layer (Color.Idx i))) }
 {
@@ -317,7 +317,7 @@ fn read_index(layer: Layer, group: &[u16]) -> GroupRead
     }
 }
 
-/// Reads a group as the red component of a colour.
+/// Interprets a group as the red component of a colour.
 fn read_red(layer: Layer, group: &[u16]) -> GroupRead
     ensures { result ≡ part_read group.now (λ r. silent (Wanted.Green layer r)) }
 {
@@ -327,7 +327,7 @@ fn read_red(layer: Layer, group: &[u16]) -> GroupRead
     }
 }
 
-/// Reads a group as the green component of a colour.
+/// Interprets a group as the green component of a colour.
 fn read_green(layer: Layer, red: u8, group: &[u16]) -> GroupRead
     ensures { result ≡ part_read group.now (λ g. silent (Wanted.Blue layer red g)) }
 {
@@ -337,7 +337,7 @@ fn read_green(layer: Layer, red: u8, group: &[u16]) -> GroupRead
     }
 }
 
-/// Reads a group as the blue component of a colour.
+/// Interprets a group as the blue component of a colour.
 fn read_blue(layer: Layer, red: u8, green: u8, group: &[u16]) -> GroupRead
     ensures { result ≡ part_read group.now (λ b. set (colored layer (Color.Rgb red green b))) }
 {

@@ -19,7 +19,8 @@ use Rattle.vt_show.specs.declared.faults.Fault.TheVariants.{Write}
 use Rattle.vt_show.specs.declared.mode.Mode.{Mode}
 use Rattle.vt_show.specs.declared.mode.Mode.TheVariants.{Plain, Formatted, Basic}
 
--- The screen is that of a new terminal of this size without scrollback after it has parsed the input.
+-- The screen is that of a new terminal, with `rows` rows, `cols` columns and no scrollback, after it has parsed the
+-- input.
 abbrev pub ShowsAfter : ℕ → ℕ → List ℕ → ScreenValue → Type 0
 ShowsAfter rows cols input screen =
     FoldsTo (Performs quietly) (state tt (fresh_screen rows cols 0)) (scan.run start input).events (state tt screen)
@@ -45,7 +46,8 @@ pub record AppendsPart (old new : Option (List ℕ)) (text : List ℕ) : Type 0 
   pub parts : text ≡ taken ++ lost
   pub appends : Appends old new taken
 
--- The input from `left` to `rest` was read, and `Holds` holds for the output that it results in.
+-- The input was `left` before and is `rest` now, and `Holds` holds for the output that the bytes read in between
+-- produce.
 pub record ReadsForText (mode : Mode) (rows cols : ℕ) (left rest : Option (List ℕ))
     (Holds : List ℕ → Type 0) : Type 0 where
   pub input : List ℕ
@@ -55,9 +57,9 @@ pub record ReadsForText (mode : Mode) (rows cols : ℕ) (left rest : Option (Lis
   pub text : Holds (screen_text mode screen)
   pub controls : IsOfMode mode (screen_text mode screen)
 
--- The effect of a run. On success, the input is read to its end, and exactly its output is written. If writing fails,
--- the input has been read to its end, and a prefix of the output is written. After any other fault, nothing is
--- written. The function `error` converts a fault to the error that is returned.
+-- The effect of a run. On success, the input was read to its end, and exactly the output for it was written. If
+-- writing fails, the input was read to its end, and a prefix of the output was written. After any other fault,
+-- nothing was written. The function `error` converts a fault to the error that is returned.
 pub record ShowsOrFails {E : Type 0} (error : Fault → E) (mode : Mode) (rows cols : ℕ)
     (left rest written grown : Option (List ℕ)) (result : Result (Unit {0}) E) : Type 0 where
   pub end : OnOk result (IsAtEnd rest)

@@ -14,7 +14,7 @@ use std::marker::Model;
 use std::str;
 
 /// The size of the array in bytes. It exceeds the length of the longest sequence, which has 14
-/// numbers of three digits, 13 separators, and three bytes around them.
+/// numbers of at most three digits, 13 separators, and the three bytes of `ESC [` and `m`.
 const ROOM: usize = 64;
 
 /// An SGR sequence that is built backward, from its last byte to its first, because the digits of a
@@ -152,7 +152,7 @@ impl ChangeText {
         }
     }
 
-    /// Prepends the parameters of those of intensity, italics, underline and inverse that differ.
+    /// Prepends a parameter for each of intensity, italics, underline and inverse that differs.
     #[inline(never)]
     fn put_switches(&mut self, was: &Attrs, new: &Attrs)
         requires { length self.old + 16 ≤ 64 }

@@ -18,8 +18,8 @@ impl Grid {
         self.pos.col = 0;
     }
 
-    /// Moves the cursor left by `count` columns, stopping at the first column (CUB, BS). When a
-    /// wrap is pending, the cursor starts one past the last column.
+    /// Moves the cursor left by `count` columns, stopping at the first column (CUB, BS). If a wrap
+    /// is pending, the columns are counted from one past the last column.
     #[inline]
     pub fn col_dec(&mut self, count: u16)
         ensures { self.new ≡ moved_left count self.old }
@@ -159,7 +159,7 @@ impl Grid {
 
     /// Restores the saved cursor position and origin mode (DECRC).
     ///
-    /// The restored cursor may have a pending wrap, and may be outside the scroll region.
+    /// Afterward a wrap may be pending, and the cursor may be outside the scroll region.
     pub fn restore_cursor(&mut self)
         ensures { self.new ≡ cursor_restored self.old }
     {

@@ -59,8 +59,8 @@ impl Grid {
         }
     }
 
-    /// Returns the number of columns from the cursor to the end of its row, which is how many can
-    /// be printed without a wrap.
+    /// Returns the number of columns from the cursor to the end of its row, that is, how many
+    /// columns can be printed without a wrap.
     #[inline]
     pub fn room(&self) -> u16
         ensures { result ≡ self.now.width - self.now.column }
@@ -134,8 +134,8 @@ impl Grid {
         Ok(())
     }
 
-    /// Returns whether adding `mark` makes the narrow glyph before a pending wrap wide, so that the
-    /// glyph must move to the next row.
+    /// Returns whether a wrap is pending and adding `mark` makes the narrow glyph in the last
+    /// column wide, so that the glyph must move to the next row.
     #[tactic(auto, unfolding(crate::specs::Printing::carries))]
     fn carries(&self, mark: char) -> bool
         requires mark { columns_of mark ≡ Some 0 }
@@ -193,8 +193,8 @@ impl Grid {
         }
     }
 
-    /// Returns the column of the glyph before the cursor, which is its first column if the glyph is
-    /// wide.
+    /// Returns the column of the glyph before the cursor. For a wide glyph, this is the first of
+    /// its two columns.
     fn mark_col(&self) -> u16
         requires { 0 < self.now.column }
         ensures value { result ≡ mark_column self.now }
@@ -267,11 +267,11 @@ impl Grid {
         }
     }
 
-    /// Moves the glyph before a pending wrap to the start of the next row, as a wide glyph with
-    /// U+FE0F added.
+    /// Moves the glyph in the last column, where a wrap is pending, to the start of the next row.
+    /// There, adding the combining character `mark` (U+FE0F) makes it a wide glyph.
     ///
-    /// The glyph is removed before the wrap, because on a page of one row the row scrolls off
-    /// during the wrap and must not contain the glyph. If the wrap fails, the glyph is put back.
+    /// The glyph is removed before the wrap: on a page of one row, the row scrolls off during the
+    /// wrap and must not contain the glyph. If the wrap fails, the glyph is put back.
     fn carry<L: Leaving>(
         &mut self,
         mark: char,
@@ -317,7 +317,7 @@ impl Grid {
         self.page_rows.put_back(self.pos.row, col, cell, goes_on);
     }
 
-    /// Puts a wide glyph at the cursor, and moves the cursor past it.
+    /// Puts the wide glyph `cell` at the cursor, and moves the cursor past it.
     fn put_wide_cell(&mut self, cell: Cell)
         requires wide { is_wide cell ≡ true }
         requires sound { IsGlyphText (text_of cell) true }
@@ -350,7 +350,7 @@ impl Grid {
         self.pos.col += 1;
     }
 
-    /// Puts a narrow glyph at the cursor, and moves the cursor past it.
+    /// Puts `c` at the cursor as a narrow glyph, and moves the cursor past it.
     #[inline(always)]
     fn put_narrow(&mut self, c: char, attrs: Attrs)
         requires reported { c ≢ 0xFFFD }
@@ -385,7 +385,7 @@ impl Grid {
         Ok(())
     }
 
-    /// Puts a wide glyph at the cursor, and moves the cursor past it.
+    /// Puts `c` at the cursor as a wide glyph, and moves the cursor past it.
     #[inline(always)]
     fn put_wide(&mut self, c: char, attrs: Attrs)
         requires reported { c ≢ 0xFFFD }

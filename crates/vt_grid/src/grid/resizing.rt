@@ -21,12 +21,12 @@ impl Grid {
     /// are reported.
     ///
     /// If the new page has more rows, rows that have scrolled off since scrollback was last cleared
-    /// come back at the top, as many as fit. They are the newest scrollback rows, and blank rows in
-    /// place of rows that were not kept. Blank rows at the bottom fill the rest of the page.
+    /// come back at the top, as many as fit. They are the newest scrollback rows; rows that were
+    /// not kept are replaced by blank rows. Blank rows at the bottom fill the rest of the page.
     ///
-    /// Each row is cut or extended to the new width. The cursor and the saved cursor move with
-    /// their rows, limited to the new page. The scroll region becomes the whole page, no wrap is
-    /// pending, and no scrollback row is displayed.
+    /// Each row is truncated or extended to the new width. The cursor and the saved cursor move
+    /// with their rows, limited to the new page. Afterward the scroll region is the whole page, no
+    /// wrap is pending, and no scrollback row is displayed.
     ///
     /// # Errors
     ///

@@ -83,11 +83,11 @@ impl Grid {
         }
     }
 
-    /// Moves the cursor to the first column of the next row with a line feed, and sets the wrapped
-    /// flag of the row that the cursor leaves.
+    /// Moves the cursor to the first column of the next row with a line feed, and updates the
+    /// wrapped flag of the row from which the cursor wraps.
     ///
-    /// That row is then wrapped if its last cell is not a blank and the cursor is on the row below
-    /// it.
+    /// That row is wrapped afterward if its last cell is not a blank and the cursor has moved to
+    /// the row below it; otherwise it is not wrapped.
     #[tactic(auto, using(crate::proofs::Prints::page_left), unfolding(crate::specs::Printing::wrapped_page))]
     #[inline(never)]
     pub(super) fn wrap<L: Leaving>(
@@ -113,8 +113,8 @@ impl Grid {
             && !self.page_rows.ends_blank(self.pos.row)
     }
 
-    /// Sets the wrapped flag of `left`, the row that the cursor left by a wrap, and moves the
-    /// cursor to the first column.
+    /// Sets the wrapped flag of `left`, the row from which the cursor wrapped, to `goes_on`, and
+    /// moves the cursor to the first column.
     fn leave(&mut self, left: Option<u16>, goes_on: bool)
         requires page { IsPage (flagged_left left goes_on self.old) }
         requires inside { IfSome left (λ row. row < length self.old.rows) }
@@ -125,9 +125,9 @@ impl Grid {
     }
 }
 
-/// Returns the index that `row`, the row that the cursor leaves by a wrap, has after the wrap. It
-/// is one less if the region scrolls. It is `None` if the region consists of this row, which is
-/// then gone.
+/// Returns the index that `row`, the row from which the cursor wraps, has after the wrap. If the
+/// scroll region (rows `top..=bottom`) scrolls, the index is one less than before, or `None` if the
+/// region consists of this row alone, which then scrolls off.
 fn left_row(row: u16, top: u16, bottom: u16) -> Option<u16>
     requires { top ≤ bottom }
     ensures { result ≡ (if row == bottom then (if row == top then None else Some (row - 1)) else Some row) }

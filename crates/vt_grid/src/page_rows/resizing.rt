@@ -36,8 +36,8 @@ impl PageRows {
         self.flat = fresh.flat;
     }
 
-    /// Copies the cells and the wrapped flag of a row into a blank row, as [`cuts::refit`] does.
-    /// The flag is kept only if the widths are equal.
+    /// Copies the cells in `from` into the blank row `row`, as [`cuts::refit`] does. Sets the row's
+    /// wrapped flag to `wrapped` if the two widths are equal, otherwise to `false`.
     #[tactic(auto, using(crate::proofs::Flats::columns_counted))]
     pub fn fit_row(&mut self, row: usize, from: &[Cell], wrapped: bool)
         requires inside { row < length self.old.rows }

@@ -1,4 +1,4 @@
-//! Runs of characters that are put into a row of a page as one edit.
+//! Putting runs of characters into a row of a page, with one edit of the row for each run.
 
 ghost use Rattle.std.specs.Prelude.{◌≡◌, ◌+◌, ◌*◌, ◌<◌, ◌≤◌, length};
 ghost use Rattle.vt_rows.specs.Cells.{IsPaired};

@@ -58,8 +58,8 @@ impl Scrollback {
         Ok(())
     }
 
-    /// Reports the oldest row and reuses its memory for a copy of the first row of a page. The rows
-    /// must be at capacity, and the offset must be 0.
+    /// Reports the oldest row and reuses its memory for a copy of the first row of a page.
+    /// Scrollback must be at capacity, and the offset must be 0.
     ///
     /// # Errors
     ///

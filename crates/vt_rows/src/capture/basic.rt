@@ -22,8 +22,8 @@ impl RowContents<'_> {
     /// space with the attributes of the text before it. A blank with other attributes is written as
     /// a space with its own attributes.
     ///
-    /// `state` carries the attributes written last, and whether a line end is pending, from one row
-    /// to the next. Pass the same state for each row of a capture.
+    /// `state` carries two things from one row to the next: the attributes written last, and
+    /// whether a newline is pending. Pass the same state for each row of a capture.
     ///
     /// # Errors
     ///
@@ -50,7 +50,7 @@ impl RowContents<'_> {
     }
 }
 
-/// Writes a line end if one is due.
+/// Writes `\n` if `is_due` is true.
 fn write_line_end<S: Sink>(sink: &mut S, is_due: bool) -> Result<(), S::Error>
     ensures text { OnOk result (S.text sink.new ≡ S.text sink.old ++ (if is_due then 0x0A ∷ [] else [])) }
     ensures stopped { OnErr result
@@ -60,8 +60,8 @@ fn write_line_end<S: Sink>(sink: &mut S, is_due: bool) -> Result<(), S::Error>
     if is_due { sink.write_str("\n") } else { Ok(()) }
 }
 
-/// Writes the text of `cells`, where `attrs` are the attributes written last, and returns the
-/// attributes written last after that.
+/// Writes the text of `cells`, with an SGR sequence wherever the attributes change. `attrs` are the
+/// attributes in effect before the text. Returns the attributes in effect after it.
 #[tactic(auto, using(vt_cells::proofs::Buffers::nothing_gathered))]
 fn write_cells<S: Sink>(sink: &mut S, cells: &[Cell], attrs: Attrs) -> Result<Attrs, S::Error>
     ensures text { OnOk result (S.text sink.new ≡ S.text sink.old ++ cells_text attrs cells.now) }

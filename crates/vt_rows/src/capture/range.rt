@@ -8,8 +8,8 @@ pub enum BasicFormattedCaptureRange<'a> {
     /// All scrollback rows, followed by the rows of the active page, regardless of what is
     /// displayed.
     ///
-    /// The state carries the attributes written last, and whether a line end is pending, from one
-    /// capture to the next.
+    /// The state carries two things from one capture to the next: the attributes written last, and
+    /// whether a newline is pending.
     Full(&'a mut BasicFormattedCaptureState),
     /// The displayed rows, as a self-contained capture.
     Visible,

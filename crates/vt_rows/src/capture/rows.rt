@@ -36,9 +36,10 @@ impl<'a> Model for BasicFormattedRows<'a> {
 /// Returns an iterator over the rows that `capture` has on a terminal of `screen_width` columns, in
 /// order.
 ///
-/// A row ends at a `\n` outside SGR sequences, which is dropped, or before a character that would
-/// make the row wider than `screen_width`. The first character in a row that takes any columns
-/// never ends it. The text after the last row end is the last row, even if it is empty.
+/// A row ends at a `\n` that is outside SGR sequences, or before a character that would make the
+/// row wider than `screen_width`. The `\n` is dropped. A row always has room for its first
+/// character of nonzero width, even if that character is wider than `screen_width`. The text after
+/// the end of the last such row is a row, too, even if it is empty.
 ///
 /// An SGR sequence extends from ESC through the next `m`, or to the end of the capture if there is
 /// none. It takes no columns. Between two rows, it belongs to the earlier one. A character takes as

@@ -6,7 +6,7 @@ ghost use Rattle.vt_rows.specs.Basic.{unwritten};
 use std::marker::Model;
 use vt_cells::Attrs;
 
-/// The state of a capture between two rows: the attributes written last, and whether a line end is
+/// The state of a capture between two rows: the attributes written last, and whether a newline is
 /// pending.
 #[derive(Clone, Debug, Drop)]
 pub struct BasicFormattedCaptureState {
@@ -23,7 +23,7 @@ impl Model for BasicFormattedCaptureState {
 }
 
 impl BasicFormattedCaptureState {
-    /// Returns the state before the first row: default attributes and no pending line end.
+    /// Returns the state before the first row: default attributes and no pending newline.
     pub fn new() -> Self
         ensures { result ≡ unwritten }
     {

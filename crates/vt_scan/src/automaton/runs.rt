@@ -1,4 +1,4 @@
-//! Runs of characters that are read without feeding their bytes one by one.
+//! Decoding runs of characters without feeding their bytes one by one.
 
 ghost use Rattle.std.specs.Prelude.{◌≡◌, ◌≤◌, ◌*◌, All, length, map, take};
 ghost use Rattle.vt_scan.specs.Automaton.{Character};
@@ -11,12 +11,11 @@ use crate::narrow::narrow_characters;
 use crate::unfinished::wide_characters;
 
 impl Scanner {
-    /// Decodes the run of wide characters of three bytes at the start of `bytes`
-    /// into `text`, as far as it fits, if nothing is unfinished. Returns the number
-    /// of characters.
+    /// Decodes the three-byte wide characters at the start of `bytes` into `text`, as many as fit,
+    /// and returns how many it decoded. Decodes none if a sequence or a character is incomplete.
     ///
-    /// Feeding their bytes would report these characters and leave the scanner
-    /// unchanged.
+    /// Feeding the decoded bytes would only report these characters and leave the scanner
+    /// unchanged, so the caller can skip them.
     #[inline]
     pub fn wide_text(&self, bytes: &[u8], text: &mut [char]) -> usize
         ensures room { result ≤ length text.new }
@@ -32,12 +31,13 @@ impl Scanner {
         }
     }
 
-    /// Decodes the run of narrow characters below U+3000 at the start of `bytes`
-    /// into `text`, as far as it fits, if nothing is unfinished. Returns the number
-    /// of characters and the number of their bytes.
+    /// Decodes the narrow characters below U+3000 at the start of `bytes` into `text`, as many as
+    /// fit. Stops before a stretch of three or more ASCII characters. Returns the number of
+    /// characters decoded and the number of bytes that they take. Decodes none if a sequence or a
+    /// character is incomplete.
     ///
-    /// Feeding their bytes would report these characters and leave the scanner
-    /// unchanged.
+    /// Feeding the decoded bytes would only report these characters and leave the scanner
+    /// unchanged, so the caller can skip them.
     #[inline]
     pub fn narrow_text(&self, bytes: &[u8], text: &mut [char]) -> (usize, usize)
         ensures room { result.0 ≤ length text.new }

@@ -55,10 +55,10 @@ impl Scanner {
         }
     }
 
-    /// Parses the leading bytes that introduce a sequence, and returns their number. Such bytes are
-    /// ESC in the ground state, and after it either an intermediate or `[` and parameter bytes.
-    /// These bytes cause no event and allocate nothing. If all bytes are parsed, the next call
-    /// continues where this one stopped.
+    /// Parses the leading bytes that introduce a sequence, and returns how many it parsed. Such
+    /// bytes are ESC in the ground state, and after it either an intermediate or `[` and parameter
+    /// bytes. Parsing them causes no event and allocates nothing. If all bytes are parsed, the next
+    /// call continues where this one stopped.
     #[inline]
     pub fn lead_in(&mut self, bytes: &[u8]) -> usize
         ensures inside { result ≤ length bytes.now }
@@ -137,7 +137,7 @@ impl Scanner {
     }
 
     /// Collects the leading bytes that belong to the text of an operating system command, up to the
-    /// first C0 control character, and returns their number. It is 0 outside such a command.
+    /// first C0 control character. Returns how many it collected, or 0 outside such a command.
     ///
     /// # Errors
     ///
@@ -161,10 +161,10 @@ impl Scanner {
         }
     }
 
-    /// Returns the first character and its length if it is complete and has more than one byte
-    /// (Unicode 3.9, Table 3-7). Returns `None` if a sequence or a character is already incomplete.
-    /// Feeding the bytes causes one event and leaves the scanner unchanged, so the caller can skip
-    /// them.
+    /// Returns the first character of `bytes` and its length if it is complete and has more than
+    /// one byte (Unicode 3.9, Table 3-7). Returns `None` if a sequence or a character is already
+    /// incomplete. Feeding the bytes of the character causes one event and leaves the scanner
+    /// unchanged, so the caller can skip them.
     #[inline(always)]
     pub fn whole_character(&self, bytes: &[u8]) -> Option<(char, usize)>
         ensures inside { IfSome result (λ found. (1 < found.1) × (found.1 ≤ length bytes.now)) }
@@ -181,7 +181,8 @@ impl Scanner {
         }
     }
 
-    /// Parses the bytes that introduce a sequence in the ground state, and returns their number.
+    /// Parses the leading bytes that introduce a sequence, starting from the ground state, and
+    /// returns how many it parsed. Tests for ESC and `[` together first.
     #[inline(always)]
     fn lead_from_text(&mut self, bytes: &[u8]) -> usize
         requires { self.old.kind ≡ Kind.Ground }
@@ -197,8 +198,9 @@ impl Scanner {
         2 + more
     }
 
-    /// Parses the bytes that introduce a sequence in the ground state, and returns their number.
-    /// Tests for ESC and `[` one by one, since the input may end between them.
+    /// Parses the leading bytes that introduce a sequence, starting from the ground state, and
+    /// returns how many it parsed. Tests for ESC and `[` separately, because the input may end
+    /// between them.
     #[inline]
     fn lead_by_bytes(&mut self, bytes: &[u8]) -> usize
         requires { self.old.kind ≡ Kind.Ground }
@@ -239,7 +241,7 @@ impl Scanner {
         1 + more
     }
 
-    /// Parses the leading parameter bytes of a control sequence, and returns their number.
+    /// Parses the leading parameter bytes of a control sequence, and returns how many it parsed.
     #[inline(always)]
     fn lead_parameters(&mut self, bytes: &[u8]) -> usize
         requires { (self.old.kind ≡ Kind.CsiEntry) ⊎ (self.old.kind ≡ Kind.CsiParam) }
@@ -321,7 +323,8 @@ impl Scanner {
         takes
     }
 
-    /// Parses `byte` if it is ESC outside a character, and returns whether it was parsed.
+    /// Parses `byte` if it is ESC and no character is incomplete, and returns whether it was
+    /// parsed.
     #[inline]
     fn takes_escape(&mut self, byte: u8) -> bool
         requires { self.old.kind ≡ Kind.Ground }
@@ -348,8 +351,8 @@ impl Scanner {
         }
     }
 
-    /// Collects the leading bytes of the text of an operating system command, and returns their
-    /// number. Returns `OutOfMemory` and changes nothing if they cannot be stored.
+    /// Collects the leading bytes of the text of an operating system command, and returns how many
+    /// it collected. Returns `OutOfMemory` and changes nothing if they cannot be stored.
     fn collect_text(&mut self, bytes: &[u8]) -> Result<usize, Error>
         requires { self.old.kind ≡ Kind.OscString }
         ensures inside { IfOk result (λ count. count ≤ length bytes.now) }

@@ -18,7 +18,7 @@ use vt_rows::{BasicFormattedCaptureRange, BasicFormattedCaptureState};
 
 impl Screen {
     /// Returns the displayed rows as text with SGR as the only escape
-    /// sequences. Its only controls are line ends and the ESC that begins each
+    /// sequences. Its only controls are newlines and the ESC that begins each
     /// SGR sequence.
     ///
     /// Rows are separated by `\n`, except after a wrapped row. Trailing default

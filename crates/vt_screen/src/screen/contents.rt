@@ -24,7 +24,7 @@ impl Screen {
     ///
     /// A row's text ends with its last glyph; blank columns before that are
     /// spaces. Each row is followed by `\n`, unless it is wrapped and a glyph
-    /// begins on the next row. Trailing line ends are dropped. Rows of
+    /// begins on the next row. Trailing newlines are dropped. Rows of
     /// scrollback that are wider than the screen are cut to its width.
     ///
     /// # Errors
@@ -56,8 +56,8 @@ impl Screen {
     /// must be at most the number of columns.
     ///
     /// Rows that aren't displayed have no text, and a range whose end is before
-    /// its start is empty. Only the last row is read past the screen's columns,
-    /// if it is a wider row of scrollback.
+    /// its start is empty. Columns to the right of the screen are read only in
+    /// the last row, if it is a wider row of scrollback.
     ///
     /// # Errors
     ///
@@ -93,7 +93,7 @@ impl Screen {
 
     /// Returns an iterator over the plain text of each displayed row, from top
     /// to bottom. Each item is the text of `width` columns, beginning at column
-    /// `start`, without a line end.
+    /// `start`, without a trailing newline.
     ///
     /// `start` is zero-based. Any values of `start` and `width` are allowed:
     /// columns that a row doesn't have contribute no text. Rows of scrollback
@@ -141,7 +141,7 @@ impl Screen {
         Some(text_of(self.alloc, &found, start, stop))
     }
 
-    /// Writes the text of all displayed rows, each with its line end.
+    /// Writes the text of all displayed rows, including newlines.
     #[tactic(auto, using(crate::proofs::ContentTexts::lines_more, crate::proofs::ContentTexts::lines_done))]
     fn write_lines<S: Sink>(&self, sink: &mut S) -> Result<(), S::Error>
         ensures { OnOk result
@@ -176,7 +176,7 @@ impl Screen {
     }
 
     /// Writes the part of a row that lies between `start` and `end`, followed
-    /// by a line end unless the row is wrapped or is the last row of the range.
+    /// by a newline unless the row is wrapped or is the last row of the range.
     fn write_part<S: Sink>(
         &self,
         sink: &mut S,
@@ -230,9 +230,9 @@ fn text_of(alloc: Global, row: &RowContents<'_>, start: usize, stop: usize) -> R
     }
 }
 
-/// Writes the text of a row, cut to `cols` columns, and its line end. Writes
-/// another line end first if no glyph begins in this row and the previous row
-/// is wrapped (`goes_on`).
+/// Writes the text of a row, cut to `cols` columns, followed by a newline
+/// unless the row is wrapped. Writes another newline first if no glyph begins
+/// in this row and the previous row is wrapped (`goes_on`).
 fn write_line<S: Sink>(
     sink: &mut S,
     row: &RowContents<'_>,
@@ -247,7 +247,7 @@ fn write_line<S: Sink>(
     write_line_end(sink, row)
 }
 
-/// Writes a line end if no glyph begins in the row and the previous row is
+/// Writes a newline if no glyph begins in the row and the previous row is
 /// wrapped (`goes_on`).
 fn write_gap_line<S: Sink>(
     sink: &mut S,
@@ -264,7 +264,7 @@ fn write_gap_line<S: Sink>(
     }
 }
 
-/// Writes a line end after a row, unless the row is wrapped.
+/// Writes a newline after a row, unless the row is wrapped.
 fn write_line_end<S: Sink>(sink: &mut S, row: &RowContents<'_>) -> Result<(), S::Error>
     ensures text { OnOk result (S.text sink.new ≡ S.text sink.old ++ line_end row.now) }
     ensures some { RefusedOnlyIfSome result (line_end row.now) }
@@ -276,8 +276,8 @@ fn write_line_end<S: Sink>(sink: &mut S, row: &RowContents<'_>) -> Result<(), S:
     }
 }
 
-/// Writes the line end of a row, unless the row is wrapped or is the last row
-/// of the range.
+/// Writes a newline after a row, unless the row is wrapped or is the last row
+/// of the range (`is_last`).
 fn write_end_unless<S: Sink>(
     sink: &mut S,
     is_last: bool,
@@ -294,7 +294,7 @@ fn write_end_unless<S: Sink>(
     }
 }
 
-/// Removes the trailing line ends of a string.
+/// Removes the trailing newlines of a string.
 #[tactic(auto, using(crate::proofs::ContentTexts::trim_more))]
 fn drop_line_ends(text: &mut String)
     ensures { string_bytes text.new ≡ without_line_ends (string_bytes text.old) }
@@ -304,7 +304,7 @@ fn drop_line_ends(text: &mut String)
     }
 }
 
-/// Returns whether a string ends with a line end.
+/// Returns whether a string ends with a newline.
 #[tactic(auto, using(crate::proofs::ContentTexts::trim_none, crate::proofs::ContentTexts::trim_other))]
 fn ends_line(text: &String) -> bool
     ensures yes { IsTrue result →

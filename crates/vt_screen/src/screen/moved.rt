@@ -121,7 +121,7 @@ impl Screen {
     }
 
     /// Writes the escape sequences that move the rows of `band`, followed by
-    /// the difference from the picture that a terminal then displays.
+    /// those that turn the resulting display into that of this screen.
     fn write_moved_diff<S: Sink>(
         &self,
         sink: &mut S,
@@ -137,8 +137,8 @@ impl Screen {
         write_contents_diff(sink, &self.view(), &prev.moved_view(band))
     }
 
-    /// Returns a view of what a terminal that displays this screen shows after
-    /// it has moved the rows of `band`.
+    /// Returns a view of what a terminal displays after it has displayed this
+    /// screen and then moved the rows of `band`.
     fn moved_view(&self, band: Band) -> View<'_>
         requires { IsBand (length (shown self.now).rows) band }
         ensures { result ≡ moved band (shown self.now) }

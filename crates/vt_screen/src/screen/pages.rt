@@ -15,7 +15,7 @@ use std::mem;
 use vt_cells::{Attrs, Error};
 use vt_grid::Grid;
 
-/// Saves the cursor, origin mode and the attributes (DECSC).
+/// Saves the cursor, origin mode and attributes (DECSC).
 pub fn decsc(screen: &mut Screen)
     ensures { screen.new ≡ display_after step.SaveCursor screen.old }
 {

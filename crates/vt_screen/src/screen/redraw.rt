@@ -9,7 +9,7 @@
 //!
 //! A picture is *steady* if each of its glyphs, printed on a blank row,
 //! reproduces itself. Every glyph without U+FE0F does, and so does U+2764
-//! U+FE0F on two columns or more.
+//! U+FE0F in a row of two or more columns.
 
 ghost use Rattle.std.specs.Prelude.{◌≡◌, ◌↔◌, ◌++◌, [], IfOk, IsOk, IsTrue, OnOk};
 ghost use Rattle.vt_cells.specs.Op.{bytes_of_all};
@@ -97,8 +97,9 @@ impl Screen {
     /// one, displays exactly that screen. A glyph can fail to reproduce itself
     /// only if its text contains U+FE0F, which may make it wide or narrow.
     ///
-    /// Only cells whose text contains U+FE0F are examined closely. If all texts
-    /// of a row have fewer than four bytes, only their lengths are read.
+    /// Only cells whose text contains U+FE0F are examined closely. If the text
+    /// of every cell in a row is shorter than four bytes, only the lengths are
+    /// read.
     ///
     /// # Examples
     ///

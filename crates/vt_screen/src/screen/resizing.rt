@@ -174,8 +174,8 @@ fn fresh_page(page: &Option<Grid>, alloc: Global, size: Size) -> Result<Option<G
 }
 
 /// Resizes the alternate page into the blank page `fresh`, if there is one, and
-/// reports the rows that scroll off its top. It allocates nothing, since rows
-/// of that page are never kept in scrollback.
+/// reports the rows that scroll off its top. Allocates nothing, since rows of
+/// that page are never kept in scrollback.
 fn resize_alternate<CB: Callbacks>(
     page: &mut Option<Grid>,
     fresh: Option<Grid>,
