@@ -12,7 +12,7 @@ ghost use Rattle.vt100_c.specs.Walking.{ArePlacesOfPieces, ArePlacesOfRows, Find
 ///   the previous chunk, until a call finds none.
 /// - `rows`: calls to `vt100_next_row` find all rows. The first call starts at
 ///   byte 0, each later one at the index that the previous call stored, until a
-///   call stores `SIZE_MAX`. A text in memory is always shorter than `SIZE_MAX`
+///   call stores `SIZE_MAX`. A string in memory is always shorter than `SIZE_MAX`
 ///   bytes.
 pub fn whole_captures()
     ensures pieces { (text : List ℕ) (places : List (ℕ × ℕ)) →

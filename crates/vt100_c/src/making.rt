@@ -71,7 +71,7 @@ pub enum Difference {
 /// # Errors
 ///
 /// Returns `WRONG_KIND` if the source has no screen, `BAD_ARGUMENT` if a range
-/// of several rows begins past the screen's columns, or `OUT_OF_MEMORY` if an
+/// of more than one row begins past the last column, or `OUT_OF_MEMORY` if an
 /// allocation fails.
 pub(crate) fn text_in(source: &Source, text: Text) -> Result<String, u8>
     ensures text { IfOk result

@@ -70,7 +70,7 @@ marked mark (blank attrs) = glyph (marked_text (0x20 ∷ []) mark) false attrs
 marked mark (glyph text wide attrs) = glyph (marked_text text mark) wide attrs
 marked mark right_half = right_half
 
--- The cell with its glyph made wide or narrow; any other cell is unchanged.
+-- The cell with its glyph made wide or narrow; a cell without a glyph is unchanged.
 abbrev pub widened : Bool → CellValue → CellValue
 widened wide (glyph text was attrs) = glyph text wide attrs
 widened wide (blank attrs) = blank attrs

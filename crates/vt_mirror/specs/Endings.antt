@@ -9,7 +9,7 @@ line_of (Some Read) = codes "vtmirror: read failed"
 line_of (Some Write) = codes "vtmirror: write failed"
 line_of None = codes "usage: vtmirror ROWS COLS EVERY"
 
--- The exit status: 1 for a fault, 2 for invalid arguments.
+-- The exit status of a run that failed: 1 for a fault, 2 for invalid arguments (`None`).
 abbrev pub status_of : Option Fault → ℕ
 status_of (Some fault) = 1
 status_of None = 2

@@ -107,8 +107,8 @@ pub record AreKept (value : ViewersValue) (copies : Copies) (version : ℕ) : Ty
 abbrev pub without_versions : List (ℕ × Note) → List (ℕ × Note)
 without_versions notes = map (λ (e : ℕ × Note). (e.0, record (e.1) { version = 0 })) notes
 
--- A next version is available: either the versions and notes are unchanged, or the versions start again from 0 and no
--- note keeps its version.
+-- There is a next version number: either the number and the notes are unchanged, or numbering starts again from 0 and
+-- no note keeps its version number.
 abbrev pub HaveNext : (version : ℕ) (notes : List (ℕ × Note)) (after : ℕ) (renewed : List (ℕ × Note)) → Type 0
 HaveNext version notes after renewed =
     ((after ≡ version) × (renewed ≡ notes) × (version < greatest))

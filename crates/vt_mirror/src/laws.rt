@@ -27,7 +27,7 @@ use vt100::Callbacks;
 /// - `shows`: the viewer may be any parser, with any callbacks, that was plain
 ///   before its first update, was resized with `Parser::set_size` to the size
 ///   of each full update before reading it, and read all its updates in order,
-///   each split into any chunks. Each update may come from
+///   each split into arbitrary chunks. Each update may come from
 ///   [`update`](crate::Mirror::update) or
 ///   [`update_scrolling`](crate::Mirror::update_scrolling). The viewer may have
 ///   joined late, may have missed any number of calls, and may have left since.

@@ -89,7 +89,8 @@ impl Recorder {
     }
 }
 
-/// Each reported row of the main page is written once; the screen is unchanged.
+/// Appends each row of the main page that scrolls off to the capture, and
+/// ignores rows of the alternate page. No callback changes the screen.
 impl Callbacks for Recorder {
     ghost use Rattle.vt_notes.specs.Recording.{Records};
 

@@ -41,7 +41,7 @@ FitsEnding old new ending.OscDispatch = (old ≡ kinds.OscString) × ((new ≡ k
 FitsEnding old new ending.OscDispatchAndExecuted = (old ≡ kinds.OscString) × (new ≡ kinds.Ground)
 
 -- The transition from a state of kind `old` is consistent. It collects bytes only within a sequence or within an
--- operating system command, and its ending fits the kinds of both states.
+-- operating system command, and it dispatches one only if the old state is inside it and the new state is not.
 abbrev pub Fits : Kind → Turn → Type 0
 Fits old (Collect new) = (InSequence old × InSequence new) ⊎ ((old ≡ kinds.OscString) × (new ≡ kinds.OscString))
 Fits old Drop = Unit {0}
