@@ -1,53 +1,44 @@
 -- What a control sequence does, by the tests that the code makes.
-use Rattle.std.proofs.Common.{◌≡◌, ℕ, ◌-◌, true, false, List, [], ◌∷◌, Option, None, Some, refl, subst, rules}
-use Rattle.vt_grid.specs.PageStep.{PageStep, MoveTo}
+use Rattle.std.proofs.Common.{◌≡◌, ℕ, ◌-◌, List, [], ◌∷◌, Option, None, Some, refl, ap, subst, rules, ◌∙◌}
+use Rattle.vt_grid.specs.declared.page_step.PageStep.{PageStep}
+use Rattle.vt_grid.specs.declared.page_step.PageStep.TheVariants.{MoveTo}
 use Rattle.vt_screen.specs.Screen.{ScreenValue}
 use Rattle.vt_screen.specs.Controls.{counted_step, csi_steps, intermediate_at, intermediate_steps, number_or}
 use Rattle.vt_screen.specs.Controls.{Seen, one_or, other_steps, unmarked_steps, scrolling_steps, seen_of, sgr_steps}
 use Rattle.vt_screen.specs.Run.{CallRelation}
-use Rattle.vt_screen.specs.Steps.{Step, OnPage}
-use Rattle.vt100.specs.Internals.{Does, MadeIf, Stops}
+use Rattle.vt_screen.specs.Steps.{Step, OnPage, display_after}
+use Rattle.vt100.specs.Internals.{Does, Stops}
 use Rattle.vt100.proofs.Stepping.{stepping}
 
-made_one : {S : Type 0} (does : CallRelation S)
-    (made : Option PageStep) (others : List Step) (s : S) (d e : ScreenValue) →
-    MadeIf made true d e → Does does s d (one_or made others) s e
-made_one does (Some step) others s d e (h, same) = stepping does (OnPage step) s d e refl same
-made_one does None others s d e h = absurd cc
-
-made_none : {S : Type 0} (does : CallRelation S)
-    (made : Option PageStep) (others : ScreenValue → List Step) (s t : S) (d e f : ScreenValue) →
-    MadeIf made false d e → Does does s e (others e) t f → Does does s d (one_or made (others d)) t f
-made_none does (Some step) others s t d e f h k = absurd cc
-made_none does None others s t d e f (h, same) k = subst (λ (x : ScreenValue). Does does s x (others x) t f) same k
-
-made_none_stops : {S : Type 0} (does : CallRelation S)
-    (made : Option PageStep) (others : ScreenValue → List Step) (s t : S) (d e f : ScreenValue) →
-    MadeIf made false d e → Stops does s e (others e) t f → Stops does s d (one_or made (others d)) t f
-made_none_stops does (Some step) others s t d e f h k = absurd cc
-made_none_stops does None others s t d e f (h, same) k =
-    subst (λ (x : ScreenValue). Stops does s x (others x) t f) same k
-
 -- The steps of control sequences with one count, and of all others without a private marker.
-pub unmarked_counted : {S : Type 0} (does : CallRelation S) (groups : List (List ℕ)) (b : ℕ) (s : S) (d e : ScreenValue) →
-    MadeIf (counted_step b (number_or 1 0 groups)) true d e → Does does s d (unmarked_steps groups b (seen_of d)) s e
-unmarked_counted does groups b s d e h =
-    made_one does (counted_step b (number_or 1 0 groups)) (scrolling_steps groups b (seen_of d)) s d e h
+counted_does : {S : Type 0} (does : CallRelation S)
+    (found : Option PageStep) (step : PageStep) (others : List Step) (s : S) (d e : ScreenValue) →
+    Some step ≡ found → e ≡ display_after (OnPage step) d → Does does s d (one_or found others) s e
+counted_does does (Some found) step others s d e is h =
+    let same : step ≡ found = cc in
+    stepping does (OnPage found) s d e refl (h ∙ ap (λ (x : PageStep). display_after (OnPage x) d) same)
+counted_does does None step others s d e is h = absurd cc
+
+pub unmarked_counted : {S : Type 0} (does : CallRelation S)
+    (groups : List (List ℕ)) (b : ℕ) (step : PageStep) (s : S) (d e : ScreenValue) →
+    Some step ≡ counted_step b (number_or 1 0 groups) → e ≡ display_after (OnPage step) d →
+    Does does s d (unmarked_steps groups b (seen_of d)) s e
+unmarked_counted does groups b step s d e is h =
+    counted_does does (counted_step b (number_or 1 0 groups)) step (scrolling_steps groups b (seen_of d)) s d e is h
 
 pub unmarked_other : {S : Type 0} (does : CallRelation S)
-    (groups : List (List ℕ)) (b : ℕ) (s t : S) (d e f : ScreenValue) →
-    MadeIf (counted_step b (number_or 1 0 groups)) false d e →
-    Does does s e (scrolling_steps groups b (seen_of e)) t f → Does does s d (unmarked_steps groups b (seen_of d)) t f
-unmarked_other does groups b s t d e f h k =
-    made_none does (counted_step b (number_or 1 0 groups)) (λ x. scrolling_steps groups b (seen_of x)) s t d e f h k
+    (groups : List (List ℕ)) (b : ℕ) (s t : S) (d e : ScreenValue) →
+    None ≡ counted_step b (number_or 1 0 groups) →
+    Does does s d (scrolling_steps groups b (seen_of d)) t e → Does does s d (unmarked_steps groups b (seen_of d)) t e
+unmarked_other does groups b s t d e is h =
+    subst (λ (found : Option PageStep). Does does s d (one_or found (scrolling_steps groups b (seen_of d))) t e) is h
 
 pub unmarked_other_stops : {S : Type 0} (does : CallRelation S)
-    (groups : List (List ℕ)) (b : ℕ) (s t : S) (d e f : ScreenValue) →
-    MadeIf (counted_step b (number_or 1 0 groups)) false d e →
-    Stops does s e (scrolling_steps groups b (seen_of e)) t f → Stops does s d (unmarked_steps groups b (seen_of d)) t f
-unmarked_other_stops does groups b s t d e f h k =
-    made_none_stops does (counted_step b (number_or 1 0 groups))
-    (λ x. scrolling_steps groups b (seen_of x)) s t d e f h k
+    (groups : List (List ℕ)) (b : ℕ) (s t : S) (d e : ScreenValue) →
+    None ≡ counted_step b (number_or 1 0 groups) →
+    Stops does s d (scrolling_steps groups b (seen_of d)) t e → Stops does s d (unmarked_steps groups b (seen_of d)) t e
+unmarked_other_stops does groups b s t d e is h =
+    subst (λ (found : Option PageStep). Stops does s d (one_or found (scrolling_steps groups b (seen_of d))) t e) is h
 
 pub unmarked_stops : {S : Type 0} (does : CallRelation S)
     (groups : List (List ℕ)) (intermediates : List ℕ) (b : ℕ) (s t : S) (d e : ScreenValue) →

@@ -2,6 +2,7 @@ pub mod Repeats
 pub mod Refusing
 pub mod Running
 pub mod Stepping
+pub mod ModeSetting
 pub mod Deciding
 pub mod Plain
 pub mod WideRuns

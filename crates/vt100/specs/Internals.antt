@@ -1,16 +1,14 @@
 -- Auxiliary definitions that are cited only by the contracts of private functions.
-use Rattle.std.specs.Prelude.{◌≡◌, ℕ, ◌<◌, ◌≤◌, Bool, true, false, List, Option, Some, None, IfErr, IfOk, IsErr, length}
-use Rattle.std.specs.Prelude.{replicate, take}
+use Rattle.std.specs.Prelude.{ℕ, ◌<◌, ◌≤◌, Bool, true, false, List, IfErr, IfOk, IsErr, length, replicate, take}
 use Rattle.std.specs.List.{FoldsTo}
 use Rattle.std.specs.declared.result.Result.{Result}
 use Rattle.vt_cells.specs.Refusals.{OnlyOutOfMemory}
 use Rattle.vt_cells.specs.declared.error.Error.{Error}
-use Rattle.vt_grid.specs.PageStep.{PageStep}
 use Rattle.vt_scan.specs.Automaton.{Event}
 use Rattle.vt_screen.specs.Calls.{CallValue, UnhandledCsi}
 use Rattle.vt_screen.specs.Screen.{ScreenValue}
-use Rattle.vt_screen.specs.Steps.{Step, Print, LineFeed, ScrollUp, OnPage, EnterAlternate}
-use Rattle.vt_screen.specs.Steps.{EnterFresh, EraseScrollback, CallBack, display_after}
+use Rattle.vt_screen.specs.Steps.{Step, Print, LineFeed, ScrollUp, EnterAlternate}
+use Rattle.vt_screen.specs.Steps.{EnterFresh, EraseScrollback, CallBack}
 use Rattle.vt_screen.specs.Run.{CallRelation, Breaks, Performs, Refuses, State, StopsIn, Takes, state}
 use Rattle.vt100.specs.Parser.{Parsing, Ran, Stopped, StoppedAt}
 use Rattle.vt100.specs.declared.sequence.Sequence.{Sequence}
@@ -73,8 +71,3 @@ is_own EraseScrollback = false
 is_own EnterAlternate = false
 is_own EnterFresh = false
 is_own _ = true
-
--- The effect of a call that takes a step of the page, if there is one, and returns whether there is one.
-abbrev pub MadeIf : Option PageStep → Bool → ScreenValue → ScreenValue → Type 0
-MadeIf (Some step) made old new = (made ≡ true) × (new ≡ display_after (OnPage step) old)
-MadeIf None made old new = (made ≡ false) × (new ≡ old)

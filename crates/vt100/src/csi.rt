@@ -1,12 +1,12 @@
 //! Control sequences (CSI).
 
 ghost use Rattle.std.specs.Prelude.{◌≡◌, ◌≢◌, ◌-◌, ◌<◌, None, Some, length};
-ghost use Rattle.vt100.specs.Internals.{Does, DoesOrStops, MadeIf, report_of};
+ghost use Rattle.vt100.specs.Internals.{Does, DoesOrStops, report_of};
 ghost use Rattle.vt_screen.specs.Calls.{UnhandledCsi};
 ghost use Rattle.vt_screen.specs.Controls.{counted_step, csi_steps, intermediate_steps, number_at, number_or, other_steps};
 ghost use Rattle.vt_screen.specs.Controls.{scrolling_steps, page_erasing, unmarked_steps, private_steps};
 ghost use Rattle.vt_screen.specs.Controls.{row_erasing, size_or, space_steps, style_of, window_steps, seen_of};
-ghost use Rattle.vt_grid.specs.PageStep as page;
+ghost use Rattle.vt_grid.specs.declared.page_step.PageStep.TheVariants as page;
 ghost use Rattle.vt_screen.specs.Steps.{display_after};
 ghost use Rattle.vt_screen.specs.Steps as step;
 
@@ -14,9 +14,10 @@ use crate::repeating::repeat;
 use crate::sequence::Sequence;
 use crate::{numbers, private_modes, sgr};
 use vt_cells::{CursorStyle, Error};
+use vt_grid::PageStep;
 use vt_scan::Parameters;
 use vt_screen::screen::{controls, scrolling};
-use vt_screen::{Callbacks, Screen};
+use vt_screen::{Callbacks, ModeStep, Screen};
 
 /// Applies a control sequence to the screen and invokes the callbacks that it
 /// calls for.
@@ -101,7 +102,8 @@ fn unmarked_by_table<CB: Callbacks>(
         (unmarked_steps parameters.now.groups byte (seen_of screen.old)) callbacks.new screen.new result }
 {
     let count = numbers::number_or(1, parameters, 0);
-    if counted(screen, byte, count) {
+    if let Some(step) = counted(byte, count) {
+        controls::apply(screen, step);
         return Ok(());
     }
     let sequence = Sequence {
@@ -153,33 +155,32 @@ fn scrolling<CB: Callbacks>(
     }
 }
 
-/// Performs the control sequence with the final byte `byte` if its only
-/// parameter is a count. Otherwise returns false and leaves the screen
-/// unchanged. `count` must be at least 1.
+/// Returns the step of the control sequence with the final byte `byte` if its
+/// only parameter is a count, and `None` otherwise. `count` must be at least 1.
 #[inline(always)]
-#[tactic(auto, using(crate::proofs::Stepping::tested_steps), unfolding(vt_screen::specs::Controls::counted_step))]
-fn counted(screen: &mut Screen, byte: u8, count: u16) -> bool
+#[tactic(auto, using(std::proofs::lemmas::Bool::Decides::nat_tests), unfolding(vt_screen::specs::Controls::counted_step))]
+fn counted(byte: u8, count: u16) -> Option<PageStep>
     requires { 0 < count }
-    ensures { MadeIf (counted_step byte count) result screen.old screen.new }
+    ensures { result ≡ counted_step byte count }
 {
-    match byte {
-        b'@' => controls::ich(screen, count),
-        b'A' => controls::cuu(screen, count),
-        b'B' => controls::cud(screen, count),
-        b'C' => controls::cuf(screen, count),
-        b'D' => controls::cub(screen, count),
-        b'E' => controls::cnl(screen, count),
-        b'F' => controls::cpl(screen, count),
-        b'G' | b'`' => controls::cha(screen, count - 1),
-        b'L' => controls::il(screen, count),
-        b'M' => controls::dl(screen, count),
-        b'P' => controls::dch(screen, count),
-        b'T' => controls::sd(screen, count),
-        b'X' => controls::ech(screen, count),
-        b'd' => controls::vpa(screen, count - 1),
-        _ => return false,
-    }
-    true
+    let step = match byte {
+        b'@' => PageStep::InsertChars(count),
+        b'A' => PageStep::MoveUp(count),
+        b'B' => PageStep::MoveDown(count),
+        b'C' => PageStep::MoveRight(count),
+        b'D' => PageStep::MoveLeft(count),
+        b'E' => PageStep::NextLine(count),
+        b'F' => PageStep::PreviousLine(count),
+        b'G' | b'`' => PageStep::MoveToColumn(count - 1),
+        b'L' => PageStep::InsertLines(count),
+        b'M' => PageStep::DeleteLines(count),
+        b'P' => PageStep::DeleteChars(count),
+        b'T' => PageStep::ScrollDown(count),
+        b'X' => PageStep::EraseChars(count),
+        b'd' => PageStep::MoveToRow(count - 1),
+        _ => return None,
+    };
+    Some(step)
 }
 
 /// Performs HVP, ED, EL, DECSTBM or a window operation, or reports an unknown
@@ -217,7 +218,11 @@ fn move_to(screen: &mut Screen, parameters: &Parameters)
 {
     let row = numbers::number_or(1, parameters, 0);
     let col = numbers::number_or(1, parameters, 1);
-    controls::cup(screen, row - 1, col - 1);
+    let step = PageStep::MoveTo {
+        row: row - 1,
+        col: col - 1,
+    };
+    controls::apply(screen, step);
 }
 
 /// Performs DECSTBM. The rows are 1-based; the top defaults to 1, and the
@@ -231,7 +236,11 @@ fn set_region(screen: &mut Screen, parameters: &Parameters)
     let (rows, _) = screen.size();
     let top = numbers::number_or(1, parameters, 0);
     let bottom = numbers::number_or(rows.get(), parameters, 1);
-    controls::decstbm(screen, top - 1, bottom - 1);
+    let step = PageStep::SetRegion {
+        top: top - 1,
+        bottom: bottom - 1,
+    };
+    controls::apply(screen, step);
 }
 
 /// Performs ED (Erase in Display), or reports an unknown parameter.
@@ -242,9 +251,9 @@ fn erase_page<CB: Callbacks>(screen: &mut Screen, callbacks: &mut CB, sequence: 
         callbacks.new screen.new }
 {
     match sequence.parameters.number(0) {
-        0 => controls::erase_below(screen),
-        1 => controls::erase_above(screen),
-        2 => controls::erase_page(screen),
+        0 => controls::apply(screen, PageStep::EraseBelow),
+        1 => controls::apply(screen, PageStep::EraseAbove),
+        2 => controls::apply(screen, PageStep::ErasePage),
         3 => scrolling::erase_scrollback(screen, callbacks),
         _ => sequence.report(screen, callbacks),
     }
@@ -258,9 +267,9 @@ fn erase_row<CB: Callbacks>(screen: &mut Screen, callbacks: &mut CB, sequence: S
         callbacks.new screen.new }
 {
     match sequence.parameters.number(0) {
-        0 => controls::erase_rest(screen),
-        1 => controls::erase_start(screen),
-        2 => controls::erase_row(screen),
+        0 => controls::apply(screen, PageStep::EraseRest),
+        1 => controls::apply(screen, PageStep::EraseStart),
+        2 => controls::apply(screen, PageStep::EraseRow),
         _ => sequence.report(screen, callbacks),
     }
 }
@@ -369,7 +378,7 @@ fn spaced<CB: Callbacks>(screen: &mut Screen, callbacks: &mut CB, sequence: Sequ
         return;
     }
     match style(sequence.parameters.number(0)) {
-        Some(style) => controls::set_cursor_style(screen, style),
+        Some(style) => controls::set_mode(screen, ModeStep::SetCursorStyle(style)),
         None => sequence.report(screen, callbacks),
     }
 }

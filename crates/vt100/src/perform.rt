@@ -10,9 +10,10 @@ ghost use Rattle.vt_screen.specs.Controls.{character_steps, control_steps, escap
 
 use crate::{csi, numbers, osc};
 use vt_cells::Error;
+use vt_grid::PageStep;
 use vt_scan::{Event, Scanner};
 use vt_screen::screen::{controls, pages, printing, scrolling};
-use vt_screen::{Callbacks, Screen};
+use vt_screen::{Callbacks, ModeStep, Screen};
 
 /// Applies one event of the scanner to the screen.
 ///
@@ -186,9 +187,9 @@ fn execute_other<CB: Callbacks>(screen: &mut Screen, callbacks: &mut CB, byte: u
 {
     match byte {
         0x07 => callbacks.audible_bell(screen),
-        0x08 => controls::bs(screen),
-        0x09 => controls::tab(screen),
-        0x0D => controls::cr(screen),
+        0x08 => controls::apply(screen, PageStep::MoveLeft(1)),
+        0x09 => controls::apply(screen, PageStep::Tab),
+        0x0D => controls::apply(screen, PageStep::CarriageReturn),
         0x0E | 0x0F => {}
         _ => callbacks.unhandled_control(screen, byte),
     }
@@ -218,9 +219,9 @@ fn lone_escape<CB: Callbacks>(screen: &mut Screen, callbacks: &mut CB, byte: u8)
     match byte {
         b'7' => pages::decsc(screen),
         b'8' => pages::decrc(screen),
-        b'=' => controls::set_application_keypad(screen, true),
-        b'>' => controls::set_application_keypad(screen, false),
-        b'M' => controls::ri(screen),
+        b'=' => controls::set_mode(screen, ModeStep::UseApplicationKeypad(true)),
+        b'>' => controls::set_mode(screen, ModeStep::UseApplicationKeypad(false)),
+        b'M' => controls::apply(screen, PageStep::ReverseIndex),
         b'c' => pages::ris(screen),
         b'g' => callbacks.visual_bell(screen),
         _ => callbacks.unhandled_escape(screen, None, None, byte),

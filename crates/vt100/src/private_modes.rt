@@ -9,8 +9,9 @@ ghost use Rattle.vt_screen.specs.Steps.{Grows, display_after};
 
 use crate::sequence::Sequence;
 use vt_cells::{Error, MouseProtocolEncoding, MouseProtocolMode};
+use vt_grid::PageStep;
 use vt_screen::screen::{controls, pages};
-use vt_screen::{Callbacks, Screen};
+use vt_screen::{Callbacks, ModeStep, Screen};
 
 /// Sets (if `on` is true) or resets each private mode that a sequence names,
 /// and reports each parameter group that names no known mode.
@@ -108,16 +109,16 @@ fn set_other_mode<CB: Callbacks>(
         (mode_step on (report_of sequence.entry) number) callbacks.new screen.new }
 {
     match number {
-        1 => controls::set_application_cursor(screen, on),
-        6 => controls::set_origin_mode(screen, on),
-        9 => set_mouse_mode(screen, on, MouseProtocolMode::Press),
+        1 => controls::set_mode(screen, ModeStep::UseApplicationCursor(on)),
+        6 => controls::apply(screen, PageStep::UseOrigin(on)),
+        9 => controls::set_mode(screen, mouse_step(on, MouseProtocolMode::Press)),
         25 => controls::set_hidden(screen, !on),
-        1000 => set_mouse_mode(screen, on, MouseProtocolMode::PressRelease),
-        1002 => set_mouse_mode(screen, on, MouseProtocolMode::ButtonMotion),
-        1003 => set_mouse_mode(screen, on, MouseProtocolMode::AnyMotion),
-        1005 => set_mouse_encoding(screen, on, MouseProtocolEncoding::Utf8),
-        1006 => set_mouse_encoding(screen, on, MouseProtocolEncoding::Sgr),
-        2004 => controls::set_bracketed_paste(screen, on),
+        1000 => controls::set_mode(screen, mouse_step(on, MouseProtocolMode::PressRelease)),
+        1002 => controls::set_mode(screen, mouse_step(on, MouseProtocolMode::ButtonMotion)),
+        1003 => controls::set_mode(screen, mouse_step(on, MouseProtocolMode::AnyMotion)),
+        1005 => controls::set_mode(screen, encoding_step(on, MouseProtocolEncoding::Utf8)),
+        1006 => controls::set_mode(screen, encoding_step(on, MouseProtocolEncoding::Sgr)),
+        2004 => controls::set_mode(screen, ModeStep::UseBracketedPaste(on)),
         _ => sequence.report(screen, callbacks),
     }
 }
@@ -163,28 +164,24 @@ fn show_fresh_alternate(screen: &mut Screen, on: bool) -> Result<(), Error>
     Ok(())
 }
 
-/// Sets the mouse mode to `mode` if `on` is true. Otherwise turns mouse
-/// reporting off if `mode` is the active mode, and changes nothing if it is
-/// not.
-fn set_mouse_mode(screen: &mut Screen, on: bool, mode: MouseProtocolMode)
-    ensures { screen.new ≡ display_after (mouse_step on mode) screen.old }
+/// Returns the step that sets the mouse mode to `mode` if `on` is true, and
+/// otherwise turns mouse reporting off if `mode` is the active mode.
+fn mouse_step(on: bool, mode: MouseProtocolMode) -> ModeStep
+    ensures { result ≡ mouse_step on mode }
 {
     if on {
-        controls::set_mouse_mode(screen, mode);
-        return;
+        return ModeStep::SetMouseMode(mode);
     }
-    controls::clear_mouse_mode(screen, mode);
+    ModeStep::ClearMouseMode(mode)
 }
 
-/// Sets the mouse encoding to `encoding` if `on` is true. Otherwise restores
-/// the default encoding if `encoding` is the active one, and changes nothing if
-/// it is not.
-fn set_mouse_encoding(screen: &mut Screen, on: bool, encoding: MouseProtocolEncoding)
-    ensures { screen.new ≡ display_after (encoding_step on encoding) screen.old }
+/// Returns the step that sets the mouse encoding to `encoding` if `on` is true,
+/// and otherwise restores the default encoding if `encoding` is the active one.
+fn encoding_step(on: bool, encoding: MouseProtocolEncoding) -> ModeStep
+    ensures { result ≡ encoding_step on encoding }
 {
     if on {
-        controls::set_mouse_encoding(screen, encoding);
-        return;
+        return ModeStep::SetMouseEncoding(encoding);
     }
-    controls::clear_mouse_encoding(screen, encoding);
+    ModeStep::ClearMouseEncoding(encoding)
 }

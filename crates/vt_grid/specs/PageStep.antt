@@ -1,7 +1,13 @@
--- The steps of a page that scroll no row off its top, and their effects.
-use Rattle.std.specs.Prelude.{ℕ, Bool}
+-- The effects of the steps of a page.
 use Rattle.vt_cells.specs.Attrs.{Attrs}
 use Rattle.vt_grid.specs.Page.{Page}
+use Rattle.vt_grid.specs.declared.page_step.PageStep.{PageStep}
+use Rattle.vt_grid.specs.declared.page_step.PageStep.TheVariants.{CarriageReturn, ReverseIndex, MoveUp, MoveDown}
+use Rattle.vt_grid.specs.declared.page_step.PageStep.TheVariants.{MoveRight, MoveLeft, NextLine, PreviousLine, Tab}
+use Rattle.vt_grid.specs.declared.page_step.PageStep.TheVariants.{MoveTo, MoveToColumn, MoveToRow, SetRegion, UseOrigin}
+use Rattle.vt_grid.specs.declared.page_step.PageStep.TheVariants.{EraseBelow, EraseAbove, ErasePage, EraseRest}
+use Rattle.vt_grid.specs.declared.page_step.PageStep.TheVariants.{EraseStart, EraseRow, EraseChars, InsertChars}
+use Rattle.vt_grid.specs.declared.page_step.PageStep.TheVariants.{DeleteChars, InsertLines, DeleteLines, ScrollDown}
 use Rattle.vt_grid.specs.Moves.{carriage_return, moved_left, moved_right, moved_to}
 use Rattle.vt_grid.specs.Regions.{moved_up, moved_down, next_line, previous_line, tabbed}
 use Rattle.vt_grid.specs.Regions.{moved_to_column, moved_to_row, region_set, origin_set}
@@ -9,35 +15,6 @@ use Rattle.vt_grid.specs.Shifts.{reverse_index, scrolled_down, lines_inserted}
 use Rattle.vt_grid.specs.Shifts.{lines_deleted, chars_inserted, chars_deleted}
 use Rattle.vt_grid.specs.Erasing.{erased_below, erased_above, erased_page, erased_rest}
 use Rattle.vt_grid.specs.Erasing.{erased_start, erased_row, erased_chars}
-
--- A step of a page that scrolls no row off its top.
-pub data PageStep : Type 0 where
-  CarriageReturn : PageStep
-  ReverseIndex : PageStep
-  MoveUp : (count : ℕ) → PageStep
-  MoveDown : (count : ℕ) → PageStep
-  MoveRight : (count : ℕ) → PageStep
-  MoveLeft : (count : ℕ) → PageStep
-  NextLine : (count : ℕ) → PageStep
-  PreviousLine : (count : ℕ) → PageStep
-  Tab : PageStep
-  MoveTo : (row col : ℕ) → PageStep
-  MoveToColumn : (col : ℕ) → PageStep
-  MoveToRow : (row : ℕ) → PageStep
-  SetRegion : (top bottom : ℕ) → PageStep
-  UseOrigin : (on : Bool) → PageStep
-  EraseBelow : PageStep
-  EraseAbove : PageStep
-  ErasePage : PageStep
-  EraseRest : PageStep
-  EraseStart : PageStep
-  EraseRow : PageStep
-  EraseChars : (count : ℕ) → PageStep
-  InsertChars : (count : ℕ) → PageStep
-  DeleteChars : (count : ℕ) → PageStep
-  InsertLines : (count : ℕ) → PageStep
-  DeleteLines : (count : ℕ) → PageStep
-  ScrollDown : (count : ℕ) → PageStep
 
 -- The page after a step. Erased cells become blanks with the attributes `attrs`.
 abbrev pub page_after : Attrs → PageStep → Page → Page

@@ -5,7 +5,7 @@ use Rattle.std.proofs.Common.{min, Option, Some, None, refl, sym, ap, subst, ◌
 use Rattle.std.specs.Prelude.{IfSome, drop, if◌then◌else◌, nat_lt}
 use Rattle.vt_cells.specs.Op.{bytes_of_all, csi}
 use Rattle.vt_grid.specs.Canvas.{and_then}
-use Rattle.vt_grid.specs.PageStep.{SetRegion, UseOrigin}
+use Rattle.vt_grid.specs.declared.page_step.PageStep.TheVariants.{SetRegion, UseOrigin}
 use Rattle.vt_grid.specs.Page.{IsPage, Page, SameSize}
 use Rattle.vt_grid.specs.Regions.{last_row, origin_set, region_set}
 use Rattle.vt_grid.proofs.Regions.{page_origin_set, page_region_set}

@@ -6,7 +6,7 @@ use Rattle.std.specs.Char.{IsScalar}
 use Rattle.std.specs.List.{AllByRecursion}
 use Rattle.std.proofs.lemmas.Bool.{eqb-true}
 use Rattle.vt_cells.specs.declared.modes.CursorStyle.{CursorStyle}
-use Rattle.vt_grid.specs.PageStep.{PageStep}
+use Rattle.vt_grid.specs.declared.page_step.PageStep.{PageStep}
 use Rattle.vt_scan.specs.Automaton.{State, Event, Character, Executed, EscDispatch, CsiDispatch, OscDispatch}
 use Rattle.vt_scan.specs.Run.{run}
 use Rattle.vt_scan.proofs.Scalars.{IsCoded, AreCoded, coded_run}

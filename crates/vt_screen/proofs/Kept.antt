@@ -6,7 +6,8 @@ use Rattle.vt_cells.specs.Op.{FitsAttrs}
 use Rattle.vt_cells.specs.Attrs.{Attrs}
 use Rattle.vt_grid.specs.Page.{Page, blank_page, scrolled_up}
 use Rattle.vt_grid.specs.Moves.{line_feed, cursor_saved, cursor_restored}
-use Rattle.vt_grid.specs.PageStep.{PageStep, page_after}
+use Rattle.vt_grid.specs.PageStep.{page_after}
+use Rattle.vt_grid.specs.declared.page_step.PageStep.{PageStep}
 use Rattle.vt_grid.specs.Printing.{printed}
 use Rattle.vt_grid.proofs.Pages.{page_blank, page_cursor_saved, page_cursor_restored, page_line_feed, page_scrolled_up}
 use Rattle.vt_grid.proofs.Printed.{page_printed}

@@ -6,7 +6,7 @@ use Rattle.vt_cells.specs.Attrs.{Attrs, default_attrs, same_attrs}
 use Rattle.vt_cells.specs.Op.{MoveTo}
 use Rattle.vt_cells.specs.Op.{ChangeAttrs, bytes_of}
 use Rattle.vt_cells.specs.Op.{FitsAttrs, bytes_of_all, counted}
-use Rattle.vt_grid.specs.PageStep as page
+use Rattle.vt_grid.specs.declared.page_step.PageStep.TheVariants as page
 use Rattle.vt_redraw.specs.Moved.{IsBand, IsScrolling, band_text, down_text, lines_deleted_text, lines_inserted_text}
 use Rattle.vt_redraw.specs.Moved.{moved, scrolling_text, up_text}
 use Rattle.vt_redraw.specs.Redraw.{difference}

@@ -10,7 +10,7 @@ use Rattle.vt_rows.specs.Row.{RowValue}
 use Rattle.vt_grid.specs.Page.{Page, IsPage, IsPlainPage, SameSize, row_or, rows_up, up_source}
 use Rattle.vt_grid.specs.Shifts.{rows_down}
 use Rattle.vt_grid.specs.Moves.{moved_to}
-use Rattle.vt_grid.specs.PageStep.{DeleteLines, InsertLines}
+use Rattle.vt_grid.specs.declared.page_step.PageStep.TheVariants.{DeleteLines, InsertLines}
 use Rattle.vt_grid.proofs.Pages.{length-moved_rows, page_at, page_of_rows}
 use Rattle.vt_redraw.specs.Moved.{IsBand, IsScrolling, band_text, down_text, last_moved, moved}
 use Rattle.vt_redraw.specs.Moved.{lines_deleted_text, lines_inserted_text, moving_text, rows_moved, scrolling_text, up_text}

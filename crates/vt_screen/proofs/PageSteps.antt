@@ -4,10 +4,14 @@ use Rattle.vt_cells.specs.Attrs.{Attrs}
 use Rattle.vt_cells.specs.Cell.{CellValue}
 use Rattle.vt_grid.specs.Page.{Page, IsPage, SameSize}
 use Rattle.vt_grid.specs.Regions.{moved_up, moved_down}
-use Rattle.vt_grid.specs.PageStep.{PageStep, page_after, CarriageReturn, ReverseIndex, MoveUp, MoveDown, MoveRight}
-use Rattle.vt_grid.specs.PageStep.{MoveLeft, NextLine, PreviousLine, Tab, MoveTo, MoveToColumn, MoveToRow, SetRegion}
-use Rattle.vt_grid.specs.PageStep.{UseOrigin, EraseBelow, EraseAbove, ErasePage, EraseRest, EraseStart, EraseRow}
-use Rattle.vt_grid.specs.PageStep.{EraseChars, InsertChars, DeleteChars, InsertLines, DeleteLines, ScrollDown}
+use Rattle.vt_grid.specs.PageStep.{page_after}
+use Rattle.vt_grid.specs.declared.page_step.PageStep.{PageStep}
+use Rattle.vt_grid.specs.declared.page_step.PageStep.TheVariants.{CarriageReturn, ReverseIndex, MoveUp, MoveDown}
+use Rattle.vt_grid.specs.declared.page_step.PageStep.TheVariants.{MoveRight, MoveLeft, NextLine, PreviousLine, Tab}
+use Rattle.vt_grid.specs.declared.page_step.PageStep.TheVariants.{MoveTo, MoveToColumn, MoveToRow, SetRegion, UseOrigin}
+use Rattle.vt_grid.specs.declared.page_step.PageStep.TheVariants.{EraseBelow, EraseAbove, ErasePage, EraseRest}
+use Rattle.vt_grid.specs.declared.page_step.PageStep.TheVariants.{EraseStart, EraseRow, EraseChars, InsertChars}
+use Rattle.vt_grid.specs.declared.page_step.PageStep.TheVariants.{DeleteChars, InsertLines, DeleteLines, ScrollDown}
 use Rattle.vt_grid.proofs.Pages.{page_carriage_return, page_moved_left, page_moved_right, page_moved_to}
 use Rattle.vt_grid.proofs.Pages.{page_erased_chars, page_erased_rest, page_erased_below}
 use Rattle.vt_grid.proofs.Regions.{page_moved_up, page_moved_down, page_next_line, page_previous_line}

@@ -12,7 +12,7 @@ use Rattle.vt_grid.specs.Canvas.{Canvas, drawn}
 use Rattle.vt_grid.specs.Moves.{carriage_return, moved_left, moved_right, moved_to, cursor_saved, cursor_restored}
 use Rattle.vt_grid.specs.Erasing.{erased_below, erased_rest, erased_chars}
 use Rattle.vt_grid.specs.Page.{IsWhole, SameSize}
-use Rattle.vt_grid.specs.PageStep as page
+use Rattle.vt_grid.specs.declared.page_step.PageStep.TheVariants as page
 use Rattle.vt_grid.specs.Scrollback.{Scrollback, kept_after, grown_in_view, no_scrollback, pushed}
 use Rattle.vt_rows.specs.Row.{RowValue}
 use Rattle.vt_redraw.specs.Fits.{Fits, IsDrawn}

@@ -19,7 +19,8 @@ use Rattle.vt_grid.specs.Canvas.{Canvas, and_then, drawn, drawn_all, drawn_text,
 use Rattle.vt_redraw.specs.Fits.{Fits, IsDrawn}
 use Rattle.vt_grid.specs.Moves.{carriage_return, line_feed, feeds_out}
 use Rattle.vt_grid.specs.Printing.{pushes}
-use Rattle.vt_grid.specs.PageStep as page
+use Rattle.vt_grid.specs.declared.page_step.PageStep.{PageStep}
+use Rattle.vt_grid.specs.declared.page_step.PageStep.TheVariants as page
 use Rattle.vt_scan.specs.Automaton.{Character, Executed, start, fresh_step}
 use Rattle.vt_scan.specs.Parameters.{table_of, groups_of, numbers_of, number_of}
 use Rattle.vt_scan.specs.Table.{class_of}
@@ -100,7 +101,7 @@ count_read : (n : ℕ) (rest : List (List ℕ)) → 0 < n → number_or 1 0 ((n 
 count_read n rest h = let t : (n == 0) ≡ false = grind (arith, nat_tests) in rw t refl
 
 -- A control sequence with a count: the step of the sequence with this count.
-pub counted_read : (n final : ℕ) (step : ℕ → page.PageStep) (screen : ScreenValue) → suc n < 2 ^ 16 → IsFinal final
+pub counted_read : (n final : ℕ) (step : ℕ → PageStep) (screen : ScreenValue) → suc n < 2 ^ 16 → IsFinal final
     → ((groups : List (List ℕ))
     → quiet_steps (unmarked_steps groups final (seen_of screen)) screen
     ≡ Some (display_after (OnPage (step (number_or 1 0 groups))) screen))

@@ -18,7 +18,7 @@ use Rattle.vt_grid.specs.Erasing.{erased_below, erased_rest, erased_chars}
 use Rattle.vt_grid.specs.Moves.{at_bottom, carriage_return, cursor_restored, cursor_saved}
 use Rattle.vt_grid.specs.Moves.{feeds_out, line_feed, moved_left, moved_right, moved_to}
 use Rattle.vt_grid.specs.Printing.{printed, pushes, wraps}
-use Rattle.vt_grid.specs.PageStep as page
+use Rattle.vt_grid.specs.declared.page_step.PageStep.TheVariants as page
 use Rattle.vt_redraw.specs.Fits.{Fits, IsDrawn}
 use Rattle.vt_redraw.specs.Touching.{CharTouches, TextTouches, OpTouches, Touches}
 use Rattle.vt_scan.specs.Automaton.{State, Event, Character, Executed, CsiDispatch, step_in, start, fresh_step}

@@ -9,16 +9,22 @@ use Rattle.vt_cells.specs.declared.modes.MouseProtocolEncoding.{MouseProtocolEnc
 use Rattle.vt_cells.specs.declared.modes.MouseProtocolEncoding.TheVariants as encoding
 use Rattle.vt_cells.specs.declared.modes.CursorStyle.{CursorStyle}
 use Rattle.vt_cells.specs.declared.modes.CursorStyle.TheVariants as style
-use Rattle.vt_grid.specs.PageStep.{PageStep, CarriageReturn, ReverseIndex, MoveUp, MoveDown, MoveRight, MoveLeft}
-use Rattle.vt_grid.specs.PageStep.{NextLine, PreviousLine, Tab, MoveTo, MoveToColumn, MoveToRow, SetRegion, UseOrigin}
-use Rattle.vt_grid.specs.PageStep.{EraseBelow, EraseAbove, ErasePage, EraseRest, EraseStart, EraseRow, EraseChars}
-use Rattle.vt_grid.specs.PageStep.{InsertChars, DeleteChars, InsertLines, DeleteLines, ScrollDown}
+use Rattle.vt_grid.specs.declared.page_step.PageStep.{PageStep}
+use Rattle.vt_grid.specs.declared.page_step.PageStep.TheVariants.{CarriageReturn, ReverseIndex, MoveUp, MoveDown}
+use Rattle.vt_grid.specs.declared.page_step.PageStep.TheVariants.{MoveRight, MoveLeft, NextLine, PreviousLine, Tab}
+use Rattle.vt_grid.specs.declared.page_step.PageStep.TheVariants.{MoveTo, MoveToColumn, MoveToRow, SetRegion, UseOrigin}
+use Rattle.vt_grid.specs.declared.page_step.PageStep.TheVariants.{EraseBelow, EraseAbove, ErasePage, EraseRest}
+use Rattle.vt_grid.specs.declared.page_step.PageStep.TheVariants.{EraseStart, EraseRow, EraseChars, InsertChars}
+use Rattle.vt_grid.specs.declared.page_step.PageStep.TheVariants.{DeleteChars, InsertLines, DeleteLines, ScrollDown}
 use Rattle.vt_scan.specs.Automaton.{Event, Character, Executed, EscDispatch, CsiDispatch, OscDispatch}
 use Rattle.vt_screen.specs.Calls.{CallValue, AudibleBell, VisualBell, Resize, SetWindowIconName}
 use Rattle.vt_screen.specs.Calls.{SetWindowTitle, CopyToClipboard, PasteFromClipboard, UnhandledChar}
 use Rattle.vt_screen.specs.Calls.{UnhandledControl, UnhandledEscape, UnhandledCsi, UnhandledOsc}
-use Rattle.vt_screen.specs.ModeStep.{UseApplicationKeypad, UseApplicationCursor, UseBracketedPaste}
-use Rattle.vt_screen.specs.ModeStep.{SetMouseMode, ClearMouseMode, SetMouseEncoding, ClearMouseEncoding, SetCursorStyle}
+use Rattle.vt_screen.specs.declared.mode_step.ModeStep.{ModeStep}
+use Rattle.vt_screen.specs.declared.mode_step.ModeStep.TheVariants.{UseApplicationKeypad, UseApplicationCursor}
+use Rattle.vt_screen.specs.declared.mode_step.ModeStep.TheVariants.{UseBracketedPaste, SetMouseMode, ClearMouseMode}
+use Rattle.vt_screen.specs.declared.mode_step.ModeStep.TheVariants.{SetMouseEncoding, ClearMouseEncoding}
+use Rattle.vt_screen.specs.declared.mode_step.ModeStep.TheVariants.{SetCursorStyle}
 use Rattle.vt_screen.specs.Sgr.{group_read}
 use Rattle.vt_screen.specs.Screen.{ScreenValue}
 use Rattle.vt_screen.specs.declared.sgr.Wanted.{Wanted}
@@ -193,11 +199,11 @@ abbrev pub style_steps : CallValue → Option CursorStyle → List Step
 style_steps report (Some look) = SetMode (SetCursorStyle look) ∷ []
 style_steps report None = CallBack report ∷ []
 
-abbrev pub mouse_step : Bool → MouseProtocolMode → Step
-mouse_step on mode = SetMode (if on then SetMouseMode mode else ClearMouseMode mode)
+abbrev pub mouse_step : Bool → MouseProtocolMode → ModeStep
+mouse_step on mode = if on then SetMouseMode mode else ClearMouseMode mode
 
-abbrev pub encoding_step : Bool → MouseProtocolEncoding → Step
-encoding_step on form = SetMode (if on then SetMouseEncoding form else ClearMouseEncoding form)
+abbrev pub encoding_step : Bool → MouseProtocolEncoding → ModeStep
+encoding_step on form = if on then SetMouseEncoding form else ClearMouseEncoding form
 
 abbrev pub alternate_step : Bool → Step
 alternate_step on = if on then EnterAlternate else LeaveAlternate
@@ -210,14 +216,14 @@ unfoldable pub mode_step : Bool → CallValue → ℕ → List Step
 mode_step on report n =
     if n == 1 then SetMode (UseApplicationCursor on) ∷ []
     else if n == 6 then OnPage (UseOrigin on) ∷ []
-    else if n == 9 then mouse_step on mouse.Press ∷ []
+    else if n == 9 then SetMode (mouse_step on mouse.Press) ∷ []
     else if n == 25 then HideCursor (not on) ∷ []
     else if n == 47 then alternate_step on ∷ []
-    else if n == 1000 then mouse_step on mouse.PressRelease ∷ []
-    else if n == 1002 then mouse_step on mouse.ButtonMotion ∷ []
-    else if n == 1003 then mouse_step on mouse.AnyMotion ∷ []
-    else if n == 1005 then encoding_step on encoding.Utf8 ∷ []
-    else if n == 1006 then encoding_step on encoding.Sgr ∷ []
+    else if n == 1000 then SetMode (mouse_step on mouse.PressRelease) ∷ []
+    else if n == 1002 then SetMode (mouse_step on mouse.ButtonMotion) ∷ []
+    else if n == 1003 then SetMode (mouse_step on mouse.AnyMotion) ∷ []
+    else if n == 1005 then SetMode (encoding_step on encoding.Utf8) ∷ []
+    else if n == 1006 then SetMode (encoding_step on encoding.Sgr) ∷ []
     else if n == 1049 then fresh_alternate_step on ∷ []
     else if n == 2004 then SetMode (UseBracketedPaste on) ∷ []
     else CallBack report ∷ []

@@ -1,23 +1,15 @@
--- The steps that only change modes, and the modes after each.
+-- The modes after each step that only changes modes.
 use Rattle.std.specs.Prelude.{Bool, true, false, if◌then◌else◌}
 use Rattle.vt_cells.specs.declared.modes.MouseProtocolMode.{MouseProtocolMode}
 use Rattle.vt_cells.specs.declared.modes.MouseProtocolMode.TheVariants as mouse
 use Rattle.vt_cells.specs.declared.modes.MouseProtocolEncoding.{MouseProtocolEncoding}
 use Rattle.vt_cells.specs.declared.modes.MouseProtocolEncoding.TheVariants as encoding
-use Rattle.vt_cells.specs.declared.modes.CursorStyle.{CursorStyle}
+use Rattle.vt_screen.specs.declared.mode_step.ModeStep.{ModeStep}
+use Rattle.vt_screen.specs.declared.mode_step.ModeStep.TheVariants.{UseApplicationKeypad, UseApplicationCursor}
+use Rattle.vt_screen.specs.declared.mode_step.ModeStep.TheVariants.{UseBracketedPaste, SetMouseMode, ClearMouseMode}
+use Rattle.vt_screen.specs.declared.mode_step.ModeStep.TheVariants.{SetMouseEncoding, ClearMouseEncoding}
+use Rattle.vt_screen.specs.declared.mode_step.ModeStep.TheVariants.{SetCursorStyle}
 use Rattle.vt_screen.specs.declared.modes.Modes.{Modes}
-
-pub data ModeStep : Type 0 where
-  UseApplicationKeypad : (on : Bool) → ModeStep
-  UseApplicationCursor : (on : Bool) → ModeStep
-  UseBracketedPaste : (on : Bool) → ModeStep
-  SetMouseMode : MouseProtocolMode → ModeStep
-  -- Resets the mouse mode to `None`, if this mode is active.
-  ClearMouseMode : MouseProtocolMode → ModeStep
-  SetMouseEncoding : MouseProtocolEncoding → ModeStep
-  -- Resets the mouse encoding to the default, if this encoding is active.
-  ClearMouseEncoding : MouseProtocolEncoding → ModeStep
-  SetCursorStyle : CursorStyle → ModeStep
 
 abbrev pub same_mouse_mode : MouseProtocolMode → MouseProtocolMode → Bool
 same_mouse_mode mouse.None mouse.None = true

@@ -4,13 +4,15 @@ use Rattle.std.specs.Prelude.{[], length, Option, Some, None, if◌then◌else�
 use Rattle.vt_cells.specs.Glyph.{columns_of}
 use Rattle.vt_grid.specs.Page.{scrolled_up}
 use Rattle.vt_grid.specs.Moves.{line_feed}
-use Rattle.vt_grid.specs.PageStep.{PageStep, page_after}
+use Rattle.vt_grid.specs.PageStep.{page_after}
+use Rattle.vt_grid.specs.declared.page_step.PageStep.{PageStep}
 use Rattle.vt_grid.specs.Printing.{printed}
 use Rattle.vt_grid.specs.Outgoing.{printed_out, fed_out, scrolled_out}
 use Rattle.vt_grid.specs.Scrollback.{TakesMemory, pushed, reported, cleared}
 use Rattle.vt_rows.specs.Row.{RowValue}
 use Rattle.vt_screen.specs.Calls.{CallValue}
-use Rattle.vt_screen.specs.ModeStep.{ModeStep, modes_after}
+use Rattle.vt_screen.specs.ModeStep.{modes_after}
+use Rattle.vt_screen.specs.declared.mode_step.ModeStep.{ModeStep}
 use Rattle.vt_screen.specs.Sgr.{rendered}
 use Rattle.vt_screen.specs.Pages.{saved, restored, entered, entered_fresh, left_alternate, left_restored, reset}
 use Rattle.vt_screen.specs.Screen.{ScreenValue, with_page, above_page}

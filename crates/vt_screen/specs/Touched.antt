@@ -5,8 +5,11 @@ use Rattle.vt_cells.specs.Glyph.{columns_of}
 use Rattle.vt_cells.specs.Attrs.{Attrs}
 use Rattle.vt_grid.specs.Moves.{at_bottom}
 use Rattle.vt_grid.specs.Page.{Page}
-use Rattle.vt_grid.specs.PageStep.{PageStep, ReverseIndex, EraseBelow, EraseAbove, ErasePage, EraseRest, EraseStart}
-use Rattle.vt_grid.specs.PageStep.{EraseRow, EraseChars, InsertChars, DeleteChars, InsertLines, DeleteLines, ScrollDown}
+use Rattle.vt_grid.specs.declared.page_step.PageStep.{PageStep}
+use Rattle.vt_grid.specs.declared.page_step.PageStep.TheVariants.{ReverseIndex, EraseBelow, EraseAbove, ErasePage}
+use Rattle.vt_grid.specs.declared.page_step.PageStep.TheVariants.{EraseRest, EraseStart, EraseRow, EraseChars}
+use Rattle.vt_grid.specs.declared.page_step.PageStep.TheVariants.{InsertChars, DeleteChars, InsertLines, DeleteLines}
+use Rattle.vt_grid.specs.declared.page_step.PageStep.TheVariants.{ScrollDown}
 use Rattle.vt_grid.specs.Printing.{wraps}
 use Rattle.vt_redraw.specs.Locality.{IsLocal}
 use Rattle.vt_redraw.specs.Steady.{IsSteady}

@@ -4,6 +4,7 @@
 
 pub mod callbacks;
 pub mod laws;
+pub mod mode_step;
 pub mod modes;
 mod reporter;
 pub mod rows;
@@ -11,6 +12,7 @@ pub mod screen;
 pub mod sgr;
 
 pub use callbacks::{Call, Callbacks};
+pub use mode_step::ModeStep;
 pub use rows::{Rows, RowsDiff, RowsFormatted};
 pub use screen::Screen;
 pub use vt_cells::{CursorStyle, MouseProtocolEncoding, MouseProtocolMode, Pos};

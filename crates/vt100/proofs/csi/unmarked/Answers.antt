@@ -1,6 +1,6 @@
 -- SGR and CUP, decided by their final bytes.
 use Rattle.std.proofs.Common.{◌-◌, refl}
-use Rattle.vt_grid.specs.PageStep.{MoveTo}
+use Rattle.vt_grid.specs.declared.page_step.PageStep.TheVariants.{MoveTo}
 use Rattle.vt_screen.specs.Controls.{number_or, seen_of}
 use Rattle.vt_screen.specs.Steps.{OnPage}
 use Rattle.vt100.proofs.Dispatching.{unmarked_place, unmarked_sgr}

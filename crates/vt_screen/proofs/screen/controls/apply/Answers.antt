@@ -1,11 +1,10 @@
 use Rattle.std.proofs.Common.{rules}
 use Rattle.vt_cells.proofs.Packing.{attrs_fit}
-use Rattle.vt_grid.specs.PageStep.{MoveUp}
 use Rattle.vt_screen.proofs.Kept.{kept_page_after}
-use Rattle.vt_screen.proofs.screen.controls.cuu.Goals as goal
+use Rattle.vt_screen.proofs.screen.controls.apply.Goals as goal
 
 pub invariant_of-screen : goal.invariant_of-screen
 invariant_of-screen c =
-    rw c.row_dec_clamp.ensures
-    (kept_page_after c.screen.inside.attrs (MoveUp c.args.count) c.screen.inside.grid c.screen.inside.last _
+    rw c.apply.ensures
+    (kept_page_after c.screen.inside.attrs c.args.page_step c.screen.inside.grid c.screen.inside.last _
     (search (rules, attrs_fit)) c.screen.invariant)

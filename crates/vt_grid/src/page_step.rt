@@ -1,0 +1,154 @@
+//! The steps of a page that scroll no row off its top.
+
+ghost use Rattle.std.specs.Prelude.{◌≡◌};
+ghost use Rattle.vt_grid.specs.PageStep.{page_after};
+
+use crate::grid::Grid;
+use vt_cells::Attrs;
+
+/// A change of a page that scrolls no row off its top. Rows and columns are zero-based.
+#[derive(Clone, Copy, PartialEq, Eq, Debug)]
+pub enum PageStep {
+    /// Moves the cursor to the first column (CR).
+    CarriageReturn,
+
+    /// Moves the cursor up by one row, keeping its column (RI). If the cursor is in the top row of
+    /// the scroll region or of the page, the region scrolls down instead.
+    ReverseIndex,
+
+    /// Moves the cursor up by a number of rows, keeping its column (CUU). The cursor stops at the
+    /// top of the scroll region if it starts inside the region, and at the first row otherwise.
+    MoveUp(u16),
+
+    /// Moves the cursor down by a number of rows, keeping its column (CUD). The cursor stops at the
+    /// bottom of the scroll region if it starts inside the region, and at the last row otherwise.
+    MoveDown(u16),
+
+    /// Moves the cursor right by a number of columns, stopping at the last column (CUF).
+    MoveRight(u16),
+
+    /// Moves the cursor left by a number of columns, stopping at the first column (BS, CUB).
+    MoveLeft(u16),
+
+    /// Moves the cursor down by a number of rows, as [`PageStep::MoveDown`] does, and to the first
+    /// column (CNL).
+    NextLine(u16),
+
+    /// Moves the cursor up by a number of rows, as [`PageStep::MoveUp`] does, and to the first
+    /// column (CPL).
+    PreviousLine(u16),
+
+    /// Moves the cursor right to the next column that is a multiple of 8, stopping at the last
+    /// column (HT).
+    Tab,
+
+    /// Moves the cursor to a row and column, each limited to the last one (CUP, HVP). In origin
+    /// mode, the row is relative to the top of the scroll region and limited to the region.
+    MoveTo {
+        /// The row.
+        row: u16,
+
+        /// The column.
+        col: u16,
+    },
+
+    /// Moves the cursor to a column, limited to the last one (CHA, HPA).
+    MoveToColumn(u16),
+
+    /// Moves the cursor to a row, limited to the last one (VPA).
+    MoveToRow(u16),
+
+    /// Sets the scroll region and moves the cursor to its home position (DECSTBM). If the region
+    /// would have fewer than two rows, it becomes the whole page.
+    SetRegion {
+        /// The first row of the region.
+        top: u16,
+
+        /// The last row of the region.
+        bottom: u16,
+    },
+
+    /// Turns origin mode on or off and moves the cursor to its home position in that mode (DECOM).
+    UseOrigin(bool),
+
+    /// Erases from the cursor to the end of the page (ED 0). If a wrap is pending, the cursor's row
+    /// is unchanged.
+    EraseBelow,
+
+    /// Erases from the beginning of the page through the cursor (ED 1).
+    EraseAbove,
+
+    /// Erases the whole page (ED 2).
+    ErasePage,
+
+    /// Erases from the cursor to the end of its row (EL 0). If a wrap is pending, nothing is
+    /// erased.
+    EraseRest,
+
+    /// Erases from the beginning of the cursor's row through the cursor (EL 1).
+    EraseStart,
+
+    /// Erases the cursor's row (EL 2).
+    EraseRow,
+
+    /// Erases a number of columns from the cursor on, stopping at the end of the row (ECH). If a
+    /// wrap is pending, nothing is erased.
+    EraseChars(u16),
+
+    /// Inserts a number of default blanks at the cursor (ICH). Cells that move past the last column
+    /// are lost.
+    InsertChars(u16),
+
+    /// Deletes a number of columns at the cursor and fills the end of the row with default blanks
+    /// (DCH).
+    DeleteChars(u16),
+
+    /// Inserts a number of default blank rows at the cursor's row (IL). Rows that move past the
+    /// bottom of the scroll region are lost. If the cursor is outside the region, nothing happens.
+    InsertLines(u16),
+
+    /// Deletes a number of rows at the cursor's row and fills the bottom of the scroll region with
+    /// default blank rows (DL). If the cursor is outside the region, nothing happens.
+    DeleteLines(u16),
+
+    /// Scrolls the scroll region down by a number of rows and fills its top with default blank rows
+    /// (SD).
+    ScrollDown(u16),
+}
+
+impl Grid {
+    /// Applies a step to the page. Erased cells become blanks with the attributes `attrs`.
+    #[inline(always)]
+    pub fn apply(&mut self, step: PageStep, attrs: Attrs)
+        ensures { self.new ≡ page_after attrs step self.old }
+    {
+        match step {
+            PageStep::CarriageReturn => self.cr(),
+            PageStep::ReverseIndex => self.reverse_index(),
+            PageStep::MoveUp(count) => self.row_dec_clamp(count),
+            PageStep::MoveDown(count) => self.row_inc_clamp(count),
+            PageStep::MoveRight(count) => self.col_inc_clamp(count),
+            PageStep::MoveLeft(count) => self.col_dec(count),
+            PageStep::NextLine(count) => self.next_line(count),
+            PageStep::PreviousLine(count) => self.previous_line(count),
+            PageStep::Tab => self.col_tab(),
+            PageStep::MoveTo { row, col } => self.move_to(row, col),
+            PageStep::MoveToColumn(col) => self.col_set(col),
+            PageStep::MoveToRow(row) => self.row_set(row),
+            PageStep::SetRegion { top, bottom } => self.set_scroll_region(top, bottom),
+            PageStep::UseOrigin(on) => self.set_origin_mode(on),
+            PageStep::EraseBelow => self.erase_all_forward(attrs),
+            PageStep::EraseAbove => self.erase_all_backward(attrs),
+            PageStep::ErasePage => self.erase_all(attrs),
+            PageStep::EraseRest => self.erase_row_forward(attrs),
+            PageStep::EraseStart => self.erase_row_backward(attrs),
+            PageStep::EraseRow => self.erase_row(attrs),
+            PageStep::EraseChars(count) => self.erase_cells(count, attrs),
+            PageStep::InsertChars(count) => self.insert_cells(count),
+            PageStep::DeleteChars(count) => self.delete_cells(count),
+            PageStep::InsertLines(count) => self.insert_lines(count),
+            PageStep::DeleteLines(count) => self.delete_lines(count),
+            PageStep::ScrollDown(count) => self.scroll_down(count),
+        }
+    }
+}
