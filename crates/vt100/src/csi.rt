@@ -144,7 +144,7 @@ fn scrolling<CB: Callbacks>(
 {
     match sequence.byte {
         b'S' => {
-            scrolling::su(screen, count, callbacks)?;
+            scrolling::su(screen, callbacks, count)?;
             Ok(())
         }
         b'b' => repeat(screen, callbacks, count),

@@ -261,7 +261,7 @@ impl<CB: Callbacks> Parser<CB> {
         ensures grows { IsErr result → has_size rows.value cols.value self.old.screen ≡ false }
         ensures memory { OnlyOutOfMemory result }
     {
-        resizing::set_size_with_cb(&mut self.screen, rows, cols, &mut self.callbacks)?;
+        resizing::set_size_with_cb(&mut self.screen, &mut self.callbacks, rows, cols)?;
         Ok(())
     }
 

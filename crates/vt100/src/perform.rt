@@ -118,7 +118,7 @@ pub fn print<CB: Callbacks>(
         callbacks.unhandled_char(screen, character);
         return Ok(());
     }
-    printing::text(screen, character, callbacks)?;
+    printing::text(screen, callbacks, character)?;
     Ok(())
 }
 

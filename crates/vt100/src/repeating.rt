@@ -89,7 +89,7 @@ fn repeat_some<CB: Callbacks>(
 {
     let count = left.min(printing::room(screen)).min(TEXT_ROOM as u16);
     if count == 0 {
-        printing::text(screen, char::from(byte), callbacks)?;
+        printing::text(screen, callbacks, char::from(byte))?;
         return Ok(1);
     }
     repeat_in_row(screen, byte, count);
@@ -129,7 +129,7 @@ fn repeat_other<CB: Callbacks>(
         (replicate count (step.Print character)) callbacks.new screen.new result }
 {
     for _ in 0..count {
-        printing::text(screen, character, callbacks)?;
+        printing::text(screen, callbacks, character)?;
     }
     Ok(())
 }

@@ -31,7 +31,7 @@ use vt_cells::{Error, columns};
 /// Returns `Error::OutOfMemory` if there is not enough memory to keep a row
 /// that scrolls off the top. On error, the screen is unchanged.
 #[inline(always)]
-pub fn text<CB: Callbacks>(screen: &mut Screen, c: char, callbacks: &mut CB) -> Result<(), Error>
+pub fn text<CB: Callbacks>(screen: &mut Screen, callbacks: &mut CB, c: char) -> Result<(), Error>
     requires { c ≢ 0xFFFD }
     ensures done { OnOk result
         (Takes CB.does (state callbacks.old screen.old) (step.Print c) (state callbacks.new screen.new)) }

@@ -45,7 +45,7 @@ impl Screen {
         ensures grows { IsErr result → pages.has_size rows.value cols.value self.old ≡ false }
         ensures memory { OnlyOutOfMemory result }
     {
-        set_size_with_cb(self, rows, cols, &mut ())?;
+        set_size_with_cb(self, &mut (), rows, cols)?;
         Ok(())
     }
 }
@@ -60,9 +60,9 @@ impl Screen {
 /// unchanged and no callbacks are invoked.
 pub fn set_size_with_cb<CB: Callbacks>(
     screen: &mut Screen,
+    callbacks: &mut CB,
     rows: NonZeroU16,
     cols: NonZeroU16,
-    callbacks: &mut CB,
 ) -> Result<(), Error>
     ensures ok { OnOk result (screen.new ≡ resized rows.value cols.value screen.old) }
     ensures called { OnOk result
@@ -78,7 +78,7 @@ pub fn set_size_with_cb<CB: Callbacks>(
     if has_size(screen, size) {
         return Ok(());
     }
-    resize_pages(screen, size, callbacks)?;
+    resize_pages(screen, callbacks, size)?;
     Ok(())
 }
 
@@ -99,8 +99,8 @@ fn has_size(screen: &Screen, size: Size) -> bool
 /// unchanged and no callbacks are invoked.
 fn resize_pages<CB: Callbacks>(
     screen: &mut Screen,
-    size: Size,
     callbacks: &mut CB,
+    size: Size,
 ) -> Result<(), Error>
     requires size { IsPageSize size.rows size.cols }
     requires other { pages.has_size size.rows size.cols screen.old ≡ false }
@@ -111,10 +111,10 @@ fn resize_pages<CB: Callbacks>(
     ensures memory { OnlyOutOfMemory result }
 {
     if !screen.is_alternate {
-        return resize_below(screen, size, callbacks);
+        return resize_below(screen, callbacks, size);
     }
     exchange(screen);
-    let done = resize_below(screen, size, callbacks);
+    let done = resize_below(screen, callbacks, size);
     exchange(screen);
     done
 }
@@ -127,8 +127,8 @@ fn resize_pages<CB: Callbacks>(
 /// unchanged and no callbacks are invoked.
 fn resize_below<CB: Callbacks>(
     screen: &mut Screen,
-    size: Size,
     callbacks: &mut CB,
+    size: Size,
 ) -> Result<(), Error>
     requires size { IsPageSize size.rows size.cols }
     requires main { screen.old.is_alternate ≡ false }

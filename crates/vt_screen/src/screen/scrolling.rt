@@ -50,7 +50,7 @@ pub fn lf<CB: Callbacks>(screen: &mut Screen, callbacks: &mut CB) -> Result<(), 
 ///
 /// Returns `Error::OutOfMemory` if there is not enough memory to keep the rows.
 /// On error, the screen is unchanged and no callbacks are invoked.
-pub fn su<CB: Callbacks>(screen: &mut Screen, count: u16, callbacks: &mut CB) -> Result<(), Error>
+pub fn su<CB: Callbacks>(screen: &mut Screen, callbacks: &mut CB, count: u16) -> Result<(), Error>
     ensures done { OnOk result
         (Takes CB.does (state callbacks.old screen.old) (step.ScrollUp count) (state callbacks.new screen.new)) }
     ensures refused { OnErr result
