@@ -23,9 +23,9 @@ use vt_screen::{Callbacks, ModeStep, Screen};
 /// failing one remain in effect.
 #[inline(always)]
 pub fn perform<CB: Callbacks>(
+    scanner: &Scanner,
     screen: &mut Screen,
     callbacks: &mut CB,
-    scanner: &Scanner,
     event: Event,
 ) -> Result<(), Error>
     ensures { DoesOrStops CB.does callbacks.old screen.old
@@ -35,12 +35,12 @@ pub fn perform<CB: Callbacks>(
         Event::Character(character) => print_apart(screen, callbacks, character),
         Event::Executed(byte) => execute(screen, callbacks, byte),
         Event::Escape(byte) => {
-            escape_sequence(screen, callbacks, scanner, byte);
+            escape_sequence(scanner, screen, callbacks, byte);
             Ok(())
         }
-        Event::Csi(byte) => control_sequence(screen, callbacks, scanner, byte),
+        Event::Csi(byte) => control_sequence(scanner, screen, callbacks, byte),
         Event::Osc => {
-            command(screen, callbacks, scanner);
+            command(scanner, screen, callbacks);
             Ok(())
         }
     }
@@ -55,9 +55,9 @@ pub fn perform<CB: Callbacks>(
 /// failing one remain in effect.
 #[inline(always)]
 pub fn control_sequence<CB: Callbacks>(
+    scanner: &Scanner,
     screen: &mut Screen,
     callbacks: &mut CB,
-    scanner: &Scanner,
     byte: u8,
 ) -> Result<(), Error>
     ensures { DoesOrStops CB.does callbacks.old screen.old
@@ -76,9 +76,9 @@ pub fn control_sequence<CB: Callbacks>(
 /// bytes that the scanner has collected.
 #[inline(always)]
 pub fn escape_sequence<CB: Callbacks>(
+    scanner: &Scanner,
     screen: &mut Screen,
     callbacks: &mut CB,
-    scanner: &Scanner,
     byte: u8,
 )
     ensures { Performs CB.does (state callbacks.old screen.old)
@@ -90,7 +90,7 @@ pub fn escape_sequence<CB: Callbacks>(
 /// Splits the operating system command that the scanner has collected into its
 /// parts and performs it.
 #[inline(never)]
-fn command<CB: Callbacks>(screen: &mut Screen, callbacks: &mut CB, scanner: &Scanner)
+fn command<CB: Callbacks>(scanner: &Scanner, screen: &mut Screen, callbacks: &mut CB)
     ensures { Performs CB.does (state callbacks.old screen.old)
         (event_of scanner.now Event.Osc) (state callbacks.new screen.new) }
 {

@@ -136,13 +136,13 @@ fn end_sequence<CB: Callbacks>(
         (parsing scanner.new screen.new callbacks.new) result }
 {
     if scanner.final_byte(bytes[0]) {
-        return match control_sequence(screen, callbacks, scanner, bytes[0]) {
+        return match control_sequence(scanner, screen, callbacks, bytes[0]) {
             Ok(()) => Ok(1),
             Err(_) => Err(0),
         };
     }
     if scanner.escape_byte(bytes[0]) {
-        escape_sequence(screen, callbacks, scanner, bytes[0]);
+        escape_sequence(scanner, screen, callbacks, bytes[0]);
         return Ok(1);
     }
     Ok(0)
@@ -211,7 +211,7 @@ fn process_rest<CB: Callbacks>(
     let Ok(events) = scanner.feed(bytes[0]) else {
         return Err(0);
     };
-    match perform_each(screen, callbacks, scanner, events) {
+    match perform_each(scanner, screen, callbacks, events) {
         Ok(()) => {
             scanner.release_text();
             Ok(1)
@@ -418,16 +418,16 @@ fn print_narrow_fitting<CB: Callbacks>(
 #[inline(always)]
 #[tactic(auto, using(vt_rows::proofs::Folds::folds_then, crate::proofs::Running::stops_later))]
 fn perform_each<CB: Callbacks>(
+    scanner: &Scanner,
     screen: &mut Screen,
     callbacks: &mut CB,
-    scanner: &Scanner,
     events: Events,
 ) -> Result<(), Error>
     ensures { PerformsOrBreaks CB.does (state callbacks.old screen.old)
         (events_in scanner.now events) (state callbacks.new screen.new) result }
 {
-    perform_some(screen, callbacks, scanner, events.first)?;
-    perform_some(screen, callbacks, scanner, events.second)?;
+    perform_some(scanner, screen, callbacks, events.first)?;
+    perform_some(scanner, screen, callbacks, events.second)?;
     Ok(())
 }
 
@@ -439,9 +439,9 @@ fn perform_each<CB: Callbacks>(
 /// failing one remain in effect.
 #[inline(always)]
 fn perform_some<CB: Callbacks>(
+    scanner: &Scanner,
     screen: &mut Screen,
     callbacks: &mut CB,
-    scanner: &Scanner,
     event: Option<Event>,
 ) -> Result<(), Error>
     ensures { PerformsOrBreaks CB.does (state callbacks.old screen.old)
@@ -450,6 +450,6 @@ fn perform_some<CB: Callbacks>(
     let Some(event) = event else {
         return Ok(());
     };
-    perform(screen, callbacks, scanner, event)?;
+    perform(scanner, screen, callbacks, event)?;
     Ok(())
 }
