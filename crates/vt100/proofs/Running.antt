@@ -62,6 +62,14 @@ byte_ran does p q b answer feeds folds = λ s stands.
           (follows.means ∙ sym (append-nil (step_in s.kind s.collected b).events)) folds,
     )
 
+-- What was read stays read when the scanner drops data that no state depends on.
+pub released_ran : {S : Type 0} (does : CallRelation S) (p q : Parsing S) (held : Held) (bytes : List ℕ) →
+    Ran does p bytes q → ((s : State) → StandsFor q.scanner s → StandsFor held s) →
+    Ran does p bytes (record q { scanner = held })
+released_ran does p q held bytes ran still = λ s stands.
+    let follows = ran s stands in
+    (still (run s bytes).state follows.0, follows.1)
+
 -- The byte whose allocation failed is collected into a command's text.
 pub refused_at : {S : Type 0} (does : CallRelation S) (p q : Parsing S) (bytes : List ℕ) (k : ℕ) →
     Ran does p (take k bytes) q → turn_of q.scanner.kind (class_of (slice_index_or bytes k 0)) ≡ Collect OscString →

@@ -90,7 +90,7 @@ pub fn escape_sequence<CB: Callbacks>(
 /// Splits the operating system command that the scanner has collected into its
 /// parts and performs it.
 #[inline(never)]
-fn command<CB: Callbacks>(scanner: &Scanner, screen: &mut Screen, callbacks: &mut CB)
+pub fn command<CB: Callbacks>(scanner: &Scanner, screen: &mut Screen, callbacks: &mut CB)
     ensures { Performs CB.does (state callbacks.old screen.old)
         (event_of scanner.now Event.Osc) (state callbacks.new screen.new) }
 {

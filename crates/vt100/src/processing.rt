@@ -7,7 +7,9 @@ ghost use Rattle.vt100.specs.Parser.{CallsByLast, Ran, Stopped, parsing};
 ghost use Rattle.vt_scan.specs.Scanner.{ReadsItself, event_of, events_in};
 ghost use Rattle.vt_screen.specs.Run.{state};
 
-use crate::perform::{control_sequence, escape_sequence, execute, perform, print, print_apart};
+use crate::perform::{
+    command, control_sequence, escape_sequence, execute, perform, print, print_apart,
+};
 use vt_cells::Error;
 use vt_scan::{Event, Events, Scanner};
 use vt_screen::screen::printing;
@@ -116,8 +118,9 @@ fn process_sequence<CB: Callbacks>(
     }
 }
 
-/// Parses the first byte if it ends a control sequence or an escape sequence,
-/// and performs that sequence. Returns the number of bytes read, 0 or 1.
+/// Parses the first byte if it ends a control sequence, an escape sequence or an
+/// operating system command, and performs what it ends. Returns the number of
+/// bytes read, 0 or 1.
 ///
 /// # Errors
 ///
@@ -143,6 +146,11 @@ fn end_sequence<CB: Callbacks>(
     }
     if scanner.escape_byte(bytes[0]) {
         escape_sequence(scanner, screen, callbacks, bytes[0]);
+        return Ok(1);
+    }
+    if scanner.command_byte(bytes[0]) {
+        command(scanner, screen, callbacks);
+        scanner.release_text();
         return Ok(1);
     }
     Ok(0)

@@ -216,3 +216,41 @@ fn reads_runs(rt: HostRuntime) -> Result<(), Fail> {
     assert_eq!(rt; text.as_str(), "esc \\,osc <2><\u{C3}\u{A4}>,");
     Ok(())
 }
+
+/// Checks that a command ends at BEL and at ESC, and that ESC abandons the ESC before it.
+#[test]
+fn ends_commands(rt: HostRuntime) -> Result<(), Fail> {
+    let mut scanner = Scanner::new(rt.alloc());
+    assert_eq!(rt; scanner.lead_in(b"\x1B\x1B\x1B]2;x"), 4);
+    assert_eq!(rt; scanner.command_text(b"2;x\x07")?, 3);
+    assert!(rt; !scanner.command_byte(b'\n') && scanner.command_byte(0x07));
+    let parts = scanner.parts();
+    assert_eq!(rt; parts.as_slice().len(), 2);
+    assert_eq!(rt; parts.as_slice()[1], &b"x"[..]);
+    assert_eq!(rt; scanner.lead_in(b"\x1B]"), 2);
+    assert!(rt; scanner.command_byte(0x1B) && scanner.escape_byte(b'\\'));
+    assert_eq!(rt; scanner.lead_in(b"\x1B[?25h"), 5);
+    assert_eq!(rt; scanner.intermediates(), &b"?"[..]);
+    Ok(())
+}
+
+/// Checks that the end of a long string is found, and that EM (0x19) does not end one.
+#[test]
+fn finds_ends_of_long_strings(rt: HostRuntime) -> Result<(), Fail> {
+    let mut scanner = Scanner::new(rt.alloc());
+    assert_eq!(rt; scanner.lead_in(b"\x1B_"), 2);
+    assert_eq!(rt;
+        scanner.skipped_len(b"0123456789abcdef\x19123456789\x19bcdef0123\x1A0123456789abcdef"),
+        36
+    );
+    assert_eq!(rt; scanner.skipped_len(b"0123456789abcdef0\x18"), 17);
+    assert!(rt; scanner.feed(0x18)?.second.is_none());
+    assert_eq!(rt; scanner.lead_in(b"\x1B]"), 2);
+    let text = b"0123456789;bcdef0123456789abcde;0123\x07";
+    assert_eq!(rt; scanner.command_text(text)?, 36);
+    let parts = scanner.parts();
+    assert_eq!(rt; parts.as_slice().len(), 3);
+    assert_eq!(rt; parts.as_slice()[1], &b"bcdef0123456789abcde"[..]);
+    assert_eq!(rt; parts.as_slice()[2], &b"0123"[..]);
+    Ok(())
+}

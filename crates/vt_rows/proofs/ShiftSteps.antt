@@ -11,7 +11,7 @@ use Rattle.vt_cells.specs.Attrs.{default_attrs}
 use Rattle.vt_cells.specs.Cell.{CellValue, blank, glyph, right_half, default_blank, is_wide, is_right_half, attrs_of}
 use Rattle.vt_rows.specs.Cells.{at, IsPaired, blanks, moved, moved_at, inserted, deleted}
 use Rattle.vt_rows.specs.Cells.{resized, insert_source, delete_source, insert_column}
-use Rattle.vt_rows.specs.Internals.{left_blanked, right_replaced, end_blanked, turn_source}
+use Rattle.vt_rows.specs.Internals.{left_blanked, right_replaced, end_blanked}
 use Rattle.vt_rows.proofs.Columns.{at-past, at-blanks}
 use Rattle.vt_rows.proofs.Pairs.{not_both, wide_mended}
 use Rattle.vt_rows.proofs.Steps.{HasRoom-paired, at-set, at-put_mid, length-put_mid}
@@ -220,20 +220,21 @@ insert_steps s n cells ys p le rs e f =
           (at cells (insert_source (length cells) s n k))
           (λ l. grind (arith, nat_tests)) (λ l w. behind k h l w) (λ r. before k h r))
 
--- The cell at each column after the rotation and the blanks.
-inserted_column : (s n m k : ℕ) (cells turned new : List CellValue) → s ≤ length cells →
-    m ≡ min n (length cells - s) → length turned ≡ length cells → k < length cells →
-    ((j : ℕ) → at turned j ≡ at cells (turn_source s (length cells) (length cells - s - m) j)) →
+-- The cell at each column after the copy and the blanks.
+inserted_column : (s n m k : ℕ) (cells slid new : List CellValue) → s ≤ length cells →
+    m ≡ min n (length cells - s) → length slid ≡ length cells → k < length cells →
+    ((j : ℕ) → j < s → at slid j ≡ at cells j) →
+    ((j : ℕ) → s + m ≤ j → j < length cells → at slid j ≡ at cells (s + (j - (s + m)))) →
     new ≡ blanks default_attrs m →
-    at (put_mid s m turned new) k ≡ at cells (insert_source (length cells) s n k)
-inserted_column s n m k cells turned new le e l h t b =
+    at (put_mid s m slid new) k ≡ at cells (insert_source (length cells) s n k)
+inserted_column s n m k cells slid new le e l h before behind b =
     let size : length new ≡ m = ap length b ∙ length-replicate m default_blank in
-    let fits : s + m ≤ length turned = omega arith in
-    at-put_mid s m k turned new size fits ∙ elim (cases_lt k s) [
+    let fits : s + m ≤ length slid = omega arith in
+    at-put_mid s m k slid new size fits ∙ elim (cases_lt k s) [
       | inl lt ↦
-          let i : turn_source s (length cells) (length cells - s - m) k ≡ insert_source (length cells) s n k =
-          grind (arith, nat_tests) in
-          let a : at turned k ≡ at cells (insert_source (length cells) s n k) = t k ∙ ap (λ (j : ℕ). at cells j) i in
+          let i : k ≡ insert_source (length cells) s n k = grind (arith, nat_tests) in
+          let a : at slid k ≡ at cells (insert_source (length cells) s n k) =
+          before k lt ∙ ap (λ (j : ℕ). at cells j) i in
           grind (arith, nat_tests)
       | inr ge ↦ elim (cases_lt k (s + m)) [
         | inl new_one ↦
@@ -246,26 +247,27 @@ inserted_column s n m k cells turned new le e l h t b =
             grind (arith, nat_tests)
         | inr far ↦
             let same : m ≡ n = omega arith in
-            let i : turn_source s (length cells) (length cells - s - m) k ≡ insert_source (length cells) s n k =
-            grind (arith, nat_tests) in
-            let a : at turned k ≡ at cells (insert_source (length cells) s n k) = t k ∙ ap (λ (j : ℕ). at cells j) i in
+            let i : s + (k - (s + m)) ≡ insert_source (length cells) s n k = grind (arith, nat_tests) in
+            let a : at slid k ≡ at cells (insert_source (length cells) s n k) =
+            behind k far h ∙ ap (λ (j : ℕ). at cells j) i in
             grind (arith, nat_tests)
       ]
     ]
 
-pub insert_code : (c n s m : ℕ) (cells turned new : List CellValue) → IsPaired cells →
-    s ≡ insert_column c cells → s ≤ length cells → m ≡ min n (length cells - s) → length turned ≡ length cells →
-    ((j : ℕ) → at turned j ≡ at cells (turn_source s (length cells) (length cells - s - m) j)) →
+pub insert_code : (c n s m : ℕ) (cells slid new : List CellValue) → IsPaired cells →
+    s ≡ insert_column c cells → s ≤ length cells → m ≡ min n (length cells - s) → length slid ≡ length cells →
+    ((j : ℕ) → j < s → at slid j ≡ at cells j) →
+    ((j : ℕ) → s + m ≤ j → j < length cells → at slid j ≡ at cells (s + (j - (s + m)))) →
     new ≡ blanks default_attrs m →
-    end_blanked (put_mid s m turned new) ≡ inserted c n cells
+    end_blanked (put_mid s m slid new) ≡ inserted c n cells
 unfolding inserted
-insert_code c n s m cells turned new p is le e l t b =
+insert_code c n s m cells slid new p is le e l before behind b =
     let rs : is_right_half (at cells s) ≡ false =
     ap (λ (j : ℕ). is_right_half (at cells j)) is ∙ inserted_behind c cells p in
     let size : length new ≡ m = ap length b ∙ length-replicate m default_blank in
-    let fits : s + m ≤ length turned = omega arith in
-    insert_steps s n cells (put_mid s m turned new) p le rs (length-put_mid s m turned new size fits ∙ l)
-    (λ k h. inserted_column s n m k cells turned new le e l h t b)
+    let fits : s + m ≤ length slid = omega arith in
+    insert_steps s n cells (put_mid s m slid new) p le rs (length-put_mid s m slid new size fits ∙ l)
+    (λ k h. inserted_column s n m k cells slid new le e l h before behind b)
     ∙ ap (λ (j : ℕ). moved (length cells) (insert_source (length cells) j n) cells) is
 
 -- ---- Deleted
@@ -361,41 +363,40 @@ delete_right c n k cells p some ge =
     (λ f. grind (arith, nat_tests))
     (λ f r. grind (arith, nat_tests))
 
-pub delete_code : (c n m : ℕ) (cells turned new : List CellValue) → IsPaired cells →
-    c ≤ length cells → m ≡ min n (length cells - c) → 0 < m → length turned ≡ length cells →
-    ((j : ℕ) →
-    at turned j
-    ≡ at (right_replaced (c + m - 1) default_blank (left_blanked c cells)) (turn_source c (length cells) m j)) →
+pub delete_code : (c n m : ℕ) (cells slid new : List CellValue) → IsPaired cells →
+    c ≤ length cells → m ≡ min n (length cells - c) → 0 < m → length slid ≡ length cells →
+    ((j : ℕ) → j < c → at slid j ≡ at (right_replaced (c + m - 1) default_blank (left_blanked c cells)) j) →
+    ((j : ℕ) → c ≤ j → j < length cells - m →
+    at slid j ≡ at (right_replaced (c + m - 1) default_blank (left_blanked c cells)) (c + m + (j - c))) →
     new ≡ blanks default_attrs m →
-    put_mid (length cells - m) m turned new ≡ deleted c n cells
+    put_mid (length cells - m) m slid new ≡ deleted c n cells
 unfolding deleted
-delete_code c n m cells turned new p le e pos l t b =
+delete_code c n m cells slid new p le e pos l before behind b =
     let size : length new ≡ m = ap length b ∙ length-replicate m default_blank in
-    let fits : length cells - m + m ≤ length turned = omega arith in
-    moved_is (length cells) (delete_source c n) cells (put_mid (length cells - m) m turned new)
-    (length-put_mid (length cells - m) m turned new size fits ∙ l) column where
-      source : (j i : ℕ) → turn_source c (length cells) m j ≡ i →
-          at turned j
+    let fits : length cells - m + m ≤ length slid = omega arith in
+    moved_is (length cells) (delete_source c n) cells (put_mid (length cells - m) m slid new)
+    (length-put_mid (length cells - m) m slid new size fits ∙ l) column where
+      source : (j i : ℕ) → at slid j ≡ at (right_replaced (c + m - 1) default_blank (left_blanked c cells)) i →
+          at slid j
           ≡ (if (i == c + m - 1 + 1) && is_wide (at cells (c + m - 1)) then default_blank
           else if (i + 1 == c) && is_wide (at cells i) then blank (attrs_of (at cells i)) else at cells i)
       source j i q =
-          t j
-          ∙ (ap (λ (x : ℕ). at (right_replaced (c + m - 1) default_blank (left_blanked c cells)) x) q
-          ∙ repaired_column c m i cells p (omega arith) pos)
+          q ∙ repaired_column c m i cells p (omega arith) pos
 
-      left : (k : ℕ) → k < c → at turned k ≡ moved_at (length cells) (delete_source c n) cells k
+      left : (k : ℕ) → k < c → at slid k ≡ moved_at (length cells) (delete_source c n) cells k
       left k lt =
-          let i : turn_source c (length cells) m k ≡ k = grind (arith, nat_tests) in
-          let s = source k k i in
+          let s = source k k (before k lt) in
           let d = delete_left c n m k cells p (omega arith) (omega arith) lt in
           let f : (k == c + m - 1 + 1) ≡ false = grind (arith, nat_tests) in
           s ∙ (rw f refl ∙ d)
 
-      right : (k : ℕ) → c ≤ k → k < length cells - m → at turned k ≡ moved_at (length cells) (delete_source c n) cells k
+      right : (k : ℕ) → c ≤ k → k < length cells - m → at slid k ≡ moved_at (length cells) (delete_source c n) cells k
       right k ge lt =
-          let i : turn_source c (length cells) m k ≡ delete_source c n k = grind (arith, nat_tests) in
+          let i : c + m + (k - c) ≡ delete_source c n k = grind (arith, nat_tests) in
           let g : delete_source c n k ≡ k + n = grind (arith, nat_tests) in
-          let s = source k (delete_source c n k) i in
+          let s = source k (delete_source c n k)
+          (behind k ge lt
+          ∙ ap (λ (x : ℕ). at (right_replaced (c + m - 1) default_blank (left_blanked c cells)) x) i) in
           let d = delete_right c n k cells p (omega arith) ge in
           let f : (delete_source c n k + 1 == c) ≡ false = grind (arith, nat_tests) in
           s ∙ (rw f (first k ge lt g) ∙ d)
@@ -429,13 +430,13 @@ delete_code c n m cells turned new p le e pos l t b =
           far k ge lt = let i : delete_source c n k ≡ k + n = grind (arith, nat_tests) in omega arith
 
       column : (k : ℕ) → k < length cells →
-          at (put_mid (length cells - m) m turned new) k ≡ moved_at (length cells) (delete_source c n) cells k
+          at (put_mid (length cells - m) m slid new) k ≡ moved_at (length cells) (delete_source c n) cells k
       column k h =
           let size : length new ≡ m = ap length b ∙ length-replicate m default_blank in
-          at-put_mid (length cells - m) m k turned new size (omega arith) ∙ elim (cases_lt k (length cells - m)) [
+          at-put_mid (length cells - m) m k slid new size (omega arith) ∙ elim (cases_lt k (length cells - m)) [
             | inl lt ↦ elim (cases_lt k c) [
-              | inl before ↦ let e = left k before in grind (arith, nat_tests)
-              | inr behind ↦ let e = right k behind lt in grind (arith, nat_tests)
+              | inl head ↦ let e = left k head in grind (arith, nat_tests)
+              | inr tail ↦ let e = right k tail lt in grind (arith, nat_tests)
             ]
             | inr ge ↦
                 let a : at new (k - (length cells - m)) ≡ default_blank =

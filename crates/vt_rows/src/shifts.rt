@@ -1,8 +1,8 @@
 //! Insertion and deletion of columns within a row.
 
-ghost use Rattle.std.specs.Prelude.{◌≡◌, ◌≤◌, ◌+◌, ℕ, All, length, slice_index_or};
+ghost use Rattle.std.specs.Prelude.{◌≡◌, ◌≤◌, ◌<◌, ◌+◌, ◌-◌, ℕ, All, length, slice_index_or};
 ghost use Rattle.vt_cells.specs.Cell.{IsCell};
-ghost use Rattle.vt_rows.specs.Cells.{IsPaired, deleted, insert_column, inserted};
+ghost use Rattle.vt_rows.specs.Cells.{IsPaired, at, deleted, insert_column, inserted};
 ghost use Rattle.vt_rows.specs.Internals.{turn_source};
 
 use crate::{cells, cuts};
@@ -23,7 +23,7 @@ pub fn insert(cells: &mut [Cell], column: usize, count: usize)
     let start = insert_column(cells, column);
     let len = cells.len();
     let count = count.min(len - start);
-    turn(cells, start, len, len - start - count);
+    open_gap(cells, start, count);
     cells::clear(&mut cells[start..start + count], Attrs::new());
     cuts::blank_end(cells);
 }
@@ -46,8 +46,47 @@ pub fn delete(cells: &mut [Cell], column: usize, count: usize)
     }
     cells::blank_left(cells, column);
     cells::blank_right(cells, column + count - 1, Attrs::new());
-    turn(cells, column, len, count);
+    close_gap(cells, column, count);
     cells::clear(&mut cells[len - count..len], Attrs::new());
+}
+
+/// Moves the cells from `start` on to the right by `count` columns. Cells that are pushed past the
+/// end of the row are lost, and the cells of the gap are left for the caller to overwrite.
+///
+/// A rotation by one column moves the other cells as one block of memory, but further rotations
+/// move each cell several times.
+fn open_gap(cells: &mut [Cell], start: usize, count: usize)
+    requires inside { start + count ≤ length cells.old }
+    ensures len { length cells.new ≡ length cells.old }
+    ensures before { (k : ℕ) → k < start → at cells.new k ≡ at cells.old k }
+    ensures after { (k : ℕ) → start + count ≤ k → k < length cells.old →
+        at cells.new k ≡ at cells.old (start + (k - (start + count))) }
+{
+    let len = cells.len();
+    if count == 1 {
+        turn(cells, start, len, len - start - count);
+        return;
+    }
+    cells.copy_within(start..len - count, start + count);
+}
+
+/// Moves the cells after `count` columns at `column` to the left by `count` columns. The last
+/// `count` cells of the row are left for the caller to overwrite.
+///
+/// As in [`open_gap`], only a rotation by one column is fast.
+fn close_gap(cells: &mut [Cell], column: usize, count: usize)
+    requires inside { column + count ≤ length cells.old }
+    ensures len { length cells.new ≡ length cells.old }
+    ensures before { (k : ℕ) → k < column → at cells.new k ≡ at cells.old k }
+    ensures after { (k : ℕ) → column ≤ k → k < length cells.old - count →
+        at cells.new k ≡ at cells.old (column + count + (k - column)) }
+{
+    let len = cells.len();
+    if count == 1 {
+        turn(cells, column, len, count);
+        return;
+    }
+    cells.copy_within(column + count..len, column);
 }
 
 /// Rotates `items[from..to]` left by `count`.

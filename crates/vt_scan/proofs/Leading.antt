@@ -15,7 +15,7 @@ use Rattle.vt_scan.specs.Internals.{Begins, Fits, IsUnended, Opens}
 use Rattle.vt_scan.specs.Parameters.{table_of}
 use Rattle.vt_scan.specs.Run.{run}
 use Rattle.vt_scan.specs.Scanner.{EndsEscape, Feeds, FeedsAll, Held, Reads, ReadsSequence, Follows, StandsFor}
-use Rattle.vt_scan.specs.Scanner.{is_final, is_intermediate}
+use Rattle.vt_scan.specs.Scanner.{is_final, is_intermediate, is_marker, starts_skipped}
 use Rattle.vt_scan.specs.Texts.{IsParameterText}
 use Rattle.vt_scan.specs.Table.{class_of, turn_of}
 use Rattle.vt_scan.specs.declared.table.Kind.{Kind}
@@ -23,10 +23,11 @@ use Rattle.vt_scan.specs.declared.table.Kind.TheVariants.{Ground, Escape, Escape
 use Rattle.vt_scan.specs.declared.table.Kind.TheVariants.{OscString, Skip}
 use Rattle.vt_scan.specs.declared.event.Event.TheVariants as event
 use Rattle.vt_scan.specs.declared.table.Turn.TheVariants.{Collect, End}
-use Rattle.vt_scan.specs.declared.table.Ending.TheVariants.{CsiDispatch, EscDispatch}
+use Rattle.vt_scan.specs.declared.table.Ending.TheVariants.{CsiDispatch, EscDispatch, Nothing, OscDispatch}
 use Rattle.vt_scan.proofs.Collecting.{collect_intermediate}
 use Rattle.vt_scan.proofs.Feeding.{fed_end, follows_as, no_event, one_event, fresh_escape}
 use Rattle.vt_scan.proofs.Readback.{run-known}
+use Rattle.vt_scan.proofs.Running.{run-append}
 use Rattle.vt_scan.proofs.Sequences.{class_of-final, class_of-parameter, no_intermediates, parameters_only, step_parameter}
 use Rattle.vt_scan.proofs.Stepping.{gives, either, class_of-control, class_of-text, step_in-table}
 
@@ -80,6 +81,95 @@ intermediate_feeds old new b was tells is same pushed = λ s stands.
       stands = record { kind = is; reads = subst (λ (k : Kind). Reads new k (s.collected ++ b ∷ [])) (sym is) reads };
       means = refl;
     })
+
+marker_turn : (b : ℕ) → 0x3C ≤ b → b ≤ 0x3F → turn_of CsiEntry (class_of b) ≡ Collect CsiParam
+marker_turn b low high =
+    let t0 : nat_lt b 0x30 ≡ false = grind (arith, nat_tests) in
+    let t1 : nat_lt b 0x3C ≡ false = grind (arith, nat_tests) in
+    let t2 : nat_lt b 0x40 ≡ true = grind (arith, nat_tests) in
+    class_of-text (λ k. turn_of CsiEntry k ≡ Collect CsiParam) b (omega (arith, low)) (rw (t0, t1, t2) refl)
+
+pub marker_feeds : (old new : Held) (b : ℕ) → old.kind ≡ CsiEntry → is_marker b ≡ true →
+    new.kind ≡ CsiParam → new.table ≡ old.table →
+    ((all : List ℕ) → old.intermediates ≡ take 2 all → new.intermediates ≡ take 2 (all ++ b ∷ [])) →
+    Feeds old b new no_event
+marker_feeds old new b was tells is same pushed = λ s stands.
+    let low : 0x3C ≤ b = grind (arith, nat_tests) in
+    let high : b ≤ 0x3F = grind (arith, nat_tests) in
+    let other : is_parameter b ≡ false = grind (arith, nat_tests) in
+    let kind : s.kind ≡ CsiEntry = sym stands.kind ∙ was in
+    let fits : Fits old.kind (Collect CsiParam) =
+    subst (λ (k : Kind). Fits k (Collect CsiParam)) (sym was) (inl (tt, tt)) in
+    let reads : Reads new CsiParam (s.collected ++ b ∷ []) =
+    collect_intermediate old new CsiParam b fits (λ e. cc) other same pushed s.collected stands.reads in
+    follows_as new no_event (step_in s.kind s.collected b) (gives CsiParam (s.collected ++ b ∷ []) [])
+    (step_in-table s.kind s.collected b (λ e. cc)
+    ∙ ap (step_after s.kind s.collected b) (ap (λ k. turn_of k (class_of b)) kind ∙ marker_turn b low high))
+    (record {
+      stands = record { kind = is; reads = subst (λ (k : Kind). Reads new k (s.collected ++ b ∷ [])) (sym is) reads };
+      means = refl;
+    })
+
+-- ---- The introducers of strings
+
+begun_feeds : (old new : Held) (next : Kind) (b : ℕ) → old.kind ≡ Escape →
+    turn_of Escape (class_of b) ≡ End next Nothing → Begins old new next → Feeds old b new no_event
+begun_feeds old new next b is turn begun =
+    fed_end old new next Nothing b no_event (subst (λ (k : Kind). k ≢ Ground) (sym is) (λ e. cc))
+    (ap (λ k. turn_of k (class_of b)) is ∙ turn) tt begun refl
+
+command_start : turn_of Escape (class_of 0x5D) ≡ End OscString Nothing
+unfolding class_of
+command_start = refl
+
+skip_turn : (b : ℕ) → starts_skipped b ≡ true → turn_of Escape (class_of b) ≡ End Skip Nothing
+skip_turn b is =
+    let low : 0x50 ≤ b = grind (arith, nat_tests) in
+    let high : b ≤ 0x5F = grind (arith, nat_tests) in
+    let t0 : nat_lt b 0x30 ≡ false = grind (arith, nat_tests) in
+    let t1 : nat_lt b 0x3C ≡ false = grind (arith, nat_tests) in
+    let t2 : nat_lt b 0x40 ≡ false = grind (arith, nat_tests) in
+    let t3 : nat_lt b 0x7F ≡ true = grind (arith, nat_tests) in
+    let t4 : (b == 0x5B) ≡ false = grind (arith, nat_tests) in
+    let t5 : (b == 0x5D) ≡ false = grind (arith, nat_tests) in
+    class_of-text (λ k. turn_of Escape k ≡ End Skip Nothing) b (omega (arith, low)) (rw (t0, t1, t2, t3, t4, t5, is) refl)
+
+pub command_begins : (old new : Held) (b : ℕ) → old.kind ≡ Escape → b ≡ 0x5D → Begins old new OscString →
+    Feeds old b new no_event
+command_begins old new b is same begun =
+    begun_feeds old new OscString b is (ap (λ (x : ℕ). turn_of Escape (class_of x)) same ∙ command_start) begun
+
+pub skip_begins : (old new : Held) (b : ℕ) → old.kind ≡ Escape → starts_skipped b ≡ true → Begins old new Skip →
+    Feeds old b new no_event
+skip_begins old new b is starts begun = begun_feeds old new Skip b is (skip_turn b starts) begun
+
+-- ---- ESC after ESC
+
+escape_again : (text : List ℕ) (b : ℕ) → b ≡ 0x1B → step_in Escape text b ≡ gives Escape [] []
+unfolding class_of
+escape_again text b is = rw is refl
+
+run_escapes : (text bytes : List ℕ) → AllByRecursion (λ b. b ≡ 0x1B) bytes → 0 < length bytes →
+    run (record { kind = Escape; collected = text }) bytes ≡ gives Escape [] []
+run_escapes text [] all some = absurd (omega (arith, some))
+run_escapes text (b ∷ []) all some =
+    run-known (record { kind = Escape; collected = text }) b [] (gives Escape [] []) (escape_again text b all.0)
+run_escapes text (b ∷ next ∷ bytes) all some =
+    run-known (record { kind = Escape; collected = text }) b (next ∷ bytes) (gives Escape [] [])
+    (escape_again text b all.0)
+    ∙ run_escapes [] (next ∷ bytes) all.1 (omega arith)
+
+pub escapes_feed : (old new : Held) (bytes : List ℕ) → old.kind ≡ Escape → AllByRecursion (λ b. b ≡ 0x1B) bytes →
+    0 < length bytes → Begins old new Escape → FeedsAll old bytes new []
+escapes_feed old new bytes is all some begun = λ s stands.
+    let kind : s.kind ≡ Escape = sym stands.kind ∙ is in
+    let known : run s bytes ≡ gives Escape [] [] =
+    subst (λ (k : Kind). run (record { kind = k; collected = s.collected }) bytes ≡ gives Escape [] [])
+    (sym kind) (run_escapes s.collected bytes all some) in
+    subst (λ (step : Step). StandsFor new step.state × (step.events ≡ [])) (sym known) (
+      record { kind = begun.kind; reads = subst (λ (k : Kind). Reads new k []) (sym begun.kind) begun.reads },
+      refl,
+    )
 
 -- ---- Parameter bytes
 
@@ -211,6 +301,33 @@ pub escape_byte_feeds : (old new : Held) (b : ℕ) → EndsEscape old.kind b →
 escape_byte_feeds old new b ends fits begun =
     fed_end old new Ground EscDispatch b (one_event (event.Escape b)) (escape_other old.kind fits) ends fits begun refl
 
+-- ---- The byte that ends an operating system command
+
+command_bell : turn_of OscString (class_of 0x07) ≡ End Ground OscDispatch
+unfolding class_of
+command_bell = refl
+
+command_escape : turn_of OscString (class_of 0x1B) ≡ End Escape OscDispatch
+unfolding class_of
+command_escape = refl
+
+command_other : (kind : Kind) → kind ≡ OscString → kind ≢ Ground
+command_other kind is = subst (λ (k : Kind). k ≢ Ground) (sym is) (λ e. cc)
+
+pub bell_feeds : (old new : Held) (b : ℕ) → old.kind ≡ OscString → b ≡ 0x07 → Begins old new Ground →
+    Feeds old b new (one_event event.Osc)
+bell_feeds old new b is same begun =
+    fed_end old new Ground OscDispatch b (one_event event.Osc) (command_other old.kind is)
+    (ap (λ k. turn_of k (class_of b)) is ∙ (ap (λ (x : ℕ). turn_of OscString (class_of x)) same ∙ command_bell))
+    (is, inl refl) begun refl
+
+pub escape_ends : (old new : Held) (b : ℕ) → old.kind ≡ OscString → b ≡ 0x1B → Begins old new Escape →
+    Feeds old b new (one_event event.Osc)
+escape_ends old new b is same begun =
+    fed_end old new Escape OscDispatch b (one_event event.Osc) (command_other old.kind is)
+    (ap (λ k. turn_of k (class_of b)) is ∙ (ap (λ (x : ℕ). turn_of OscString (class_of x)) same ∙ command_escape))
+    (is, inr refl) begun refl
+
 -- ---- Strings that are ignored
 
 skip_step : (text : List ℕ) (b : ℕ) → IsUnended b → step_in Skip text b ≡ gives Skip text []
@@ -297,6 +414,14 @@ feeds_first old middle new b bytes first second = λ s stands.
     let step = step_in s.kind s.collected b in
     let rest = second step.state follows.stands in
     (rest.0, ap (λ (l : List automaton.Event). l ++ (run step.state bytes).events) (sym follows.means) ∙ rest.1)
+
+pub feeds_then : (old middle new : Held) (a b : List ℕ) → FeedsAll old a middle [] → FeedsAll middle b new [] →
+    FeedsAll old (a ++ b) new []
+feeds_then old middle new a b first second = λ s stands.
+    let begun = first s stands in
+    let done = second (run s a).state begun.0 in
+    subst (λ (step : Step). StandsFor new step.state × (step.events ≡ [])) (sym (run-append s a b))
+    (done.0, ap (λ (l : List automaton.Event). l ++ (run (run s a).state b).events) begun.1 ∙ done.1)
 
 -- What is held after ESC, between ESC and `[`.
 abbrev pub opened : Held → Held

@@ -8,5 +8,5 @@ pub mod Run
 pub mod Texts
 pub mod Selectors
 pub mod Internals
-pub mod Printable
+pub mod Ranges
 pub mod NarrowTexts

@@ -100,12 +100,25 @@ HasNoEvent held bytes = (state : State) → StandsFor held state → (run state 
 abbrev pub is_intermediate : ℕ → Bool
 is_intermediate b = nat_le 0x20 b && nat_le b 0x2F
 
--- The byte is part of the beginning of a sequence: ESC in the ground state with no incomplete character, then an
--- intermediate byte, or `[` followed by parameter bytes.
+-- The byte is a private marker (ECMA-48, section 5.4.1).
+abbrev pub is_marker : ℕ → Bool
+is_marker b = nat_le 0x3C b && nat_le b 0x3F
+
+-- After ESC, the byte introduces a string that is ignored: DCS, SOS, PM or APC.
+abbrev pub starts_skipped : ℕ → Bool
+starts_skipped b = (b == 0x50) || ((b == 0x58) || ((b == 0x5E) || (b == 0x5F)))
+
+-- After ESC, the byte introduces an operating system command or a string that is ignored.
+abbrev pub starts_string : ℕ → Bool
+starts_string b = (b == 0x5D) || starts_skipped b
+
+-- The byte is part of the beginning of a sequence: ESC in the ground state with no incomplete character, any number
+-- of ESC after it, and then an intermediate byte, a byte that introduces a string, or `[` followed by a private marker
+-- and parameter bytes.
 abbrev pub leads_in : Kind → List ℕ → ℕ → Bool
 leads_in Ground unfinished b = (length unfinished == 0) && (b == 0x1B)
-leads_in Escape unfinished b = (b == 0x5B) || is_intermediate b
-leads_in CsiEntry unfinished b = is_parameter b
+leads_in Escape unfinished b = (b == 0x1B) || ((b == 0x5B) || (starts_string b || is_intermediate b))
+leads_in CsiEntry unfinished b = is_marker b || is_parameter b
 leads_in CsiParam unfinished b = is_parameter b
 leads_in _ unfinished b = false
 
@@ -122,3 +135,8 @@ ends_sequence _ b = false
 -- The byte ends an escape sequence, which is then dispatched.
 abbrev pub EndsEscape : Kind → ℕ → Type 0
 EndsEscape kind b = turn_of kind (class_of b) ≡ End Ground EscDispatch
+
+-- The byte ends an operating system command, which is then dispatched as the only event.
+abbrev pub ends_command : Kind → ℕ → Bool
+ends_command OscString b = (b == 0x07) || (b == 0x1B)
+ends_command _ b = false

@@ -6,6 +6,7 @@ pub mod event;
 pub mod groups;
 pub mod intermediates;
 pub mod laws;
+mod lengths;
 pub mod narrow;
 pub mod parameters;
 pub mod parts;

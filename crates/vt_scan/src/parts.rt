@@ -1,8 +1,9 @@
 //! The parts of an operating system command as slices.
 
-ghost use Rattle.std.specs.Prelude.{◌≡◌, ℕ, ◌≤◌, List, [], ◌∷◌, ◌++◌, map, take};
+ghost use Rattle.std.specs.Prelude.{◌≡◌, ℕ, ◌≤◌, List, [], ◌∷◌, ◌++◌, length, map, nat_le, take};
 ghost use Rattle.vt_scan.specs.Automaton.{parts_of};
 
+use crate::lengths::part_len;
 use std::marker::Model;
 
 /// The maximum number of parts kept for an operating system command.
@@ -35,14 +36,22 @@ impl<'a> Parts<'a> {
             len: 0,
         };
         let mut start = 0;
-        for (i, byte) in text.iter().enumerate() {
-            if *byte == b';' {
-                parts.push(&text[start..i]);
-                start = i + 1;
-            }
+        let mut end = part_len(text);
+        while end < text.len() && !parts.is_full() {
+            parts.push(&text[start..end]);
+            start = end + 1;
+            let len = part_len(&text[start..]);
+            end = start + len;
         }
-        parts.push(&text[start..]);
+        parts.push(&text[start..end]);
         parts
+    }
+
+    /// Returns whether the list has 16 parts.
+    fn is_full(&self) -> bool
+        ensures { result ≡ nat_le 16 (length self.now) }
+    {
+        self.len >= MAX_PARTS
     }
 
     /// Appends a part unless the list already has 16.

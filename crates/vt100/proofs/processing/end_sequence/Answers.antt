@@ -1,13 +1,13 @@
 -- The byte that ends a control sequence or an escape sequence.
-use Rattle.std.proofs.Common.{[], List, ℕ, get_or, inl, inr, refl, subst, sym, arith}
+use Rattle.std.proofs.Common.{[], ◌∷◌, ◌∙◌, List, ℕ, get_or, inl, inr, refl, subst, sym, arith}
 use Rattle.std.proofs.lemmas.List.{take_more}
 use Rattle.vt_scan.specs.Scanner.{Feeds, Held}
-use Rattle.vt_scan.specs.declared.event.Event.TheVariants.{Csi, Escape}
+use Rattle.vt_scan.specs.declared.event.Event.TheVariants.{Csi, Escape, Osc}
 use Rattle.vt_scan.proofs.Feeding.{one_event}
 use Rattle.vt_scan.proofs.Leading.{feeds_none}
 use Rattle.vt100.specs.Parser.{Ran, parsing, stage}
 use Rattle.vt100.proofs.Refusing.{stopped_at_first}
-use Rattle.vt100.proofs.Running.{byte_ran, known_ran, some_read, stopped_in, stopped_within}
+use Rattle.vt100.proofs.Running.{byte_ran, known_ran, released_ran, some_read, stopped_in, stopped_within}
 use Rattle.vt100.proofs.processing.end_sequence.Goals as goal
 
 pub returns-in-Err-clause-read : goal.returns-in-Err-clause-read
@@ -51,11 +51,32 @@ returns-then-escape_byte-clause-read g c =
     (subst (λ (text : List ℕ). Ran does before text now) (sym (take_more bytes 0 0 c.requires))
     (byte_ran does before now byte (one_event (Escape byte)) fed (stage now, c.escape_sequence.ensures, refl)))
 
+pub returns-then-command_byte-clause-read : goal.returns-then-command_byte-clause-read
+returns-then-command_byte-clause-read g c =
+    let does = g.CB.Callbacks.does in
+    let bytes = c.args.bytes.now in
+    let byte = get_or bytes 0 0 in
+    let before = parsing c.args.scanner.now c.args.screen.now c.args.callbacks.now in
+    let told = parsing c.command_byte.new.self c.command.new.screen c.command.new.callbacks in
+    let now = parsing c.release_text.new.self c.command.new.screen c.command.new.callbacks in
+    let fed : Feeds c.args.scanner.now byte c.command_byte.new.self (one_event Osc) =
+    subst (λ (held : Held). Feeds held byte c.command_byte.new.self (one_event Osc))
+    (c.escape_byte.ensures.kept c.if-escape_byte.false ∙ c.final_byte.ensures.kept c.if-final_byte.false)
+    (c.command_byte.ensures.fed c.if-command_byte.true) in
+    some_read does before now bytes 1 c.requires
+    (subst (λ (text : List ℕ). Ran does before text now) (sym (take_more bytes 0 0 c.requires))
+    (released_ran does before told c.release_text.new.self (byte ∷ [])
+    (byte_ran does before told byte (one_event Osc) fed (stage told, c.command.ensures, refl))
+    c.release_text.ensures.stands))
+
 pub returns-in-Ok-clause-last : goal.returns-in-Ok-clause-last
 returns-in-Ok-clause-last g c = inr (omega arith, λ s stands. refl)
 
 pub returns-then-escape_byte-clause-last : goal.returns-then-escape_byte-clause-last
 returns-then-escape_byte-clause-last g c = inr (omega arith, λ s stands. refl)
+
+pub returns-then-command_byte-clause-last : goal.returns-then-command_byte-clause-last
+returns-then-command_byte-clause-last g c = inr (omega arith, λ s stands. refl)
 
 pub returns-clause-last : goal.returns-clause-last
 returns-clause-last g c = inl refl

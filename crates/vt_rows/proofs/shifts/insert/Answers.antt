@@ -2,7 +2,6 @@ use Rattle.std.proofs.Common.{◌≡◌, ℕ, ◌+◌, ◌-◌, length, take, dr
 use Rattle.std.proofs.lemmas.List.{length-take, length-drop}
 use borrow.Rule.Slice.PartMut.{put_mid}
 use Rattle.vt_cells.specs.Attrs.{default_attrs, Attrs}
-use Rattle.vt_cells.specs.Cell.{default_blank}
 use Rattle.vt_rows.specs.Cells.{blanks}
 use Rattle.vt_rows.specs.Internals.{end_blanked}
 use Rattle.vt_rows.proofs.Moves.{IsPaired-inserted, All-inserted}
@@ -14,18 +13,18 @@ returns-clause-value c =
     let cells = c.args.cells.now in
     let start = c.insert_column-start.result in
     let m = c.min-count.result in
-    let turned = c.turn.new.items in
+    let slid = c.open_gap.new.cells in
     let w : start + m - start ≡ m = omega arith in
-    let size : length (take (start + m - start) (drop start turned)) ≡ m =
-    omega (arith, length-take (start + m - start) (drop start turned), length-drop start turned, c.turn.ensures.len) in
+    let size : length (take (start + m - start) (drop start slid)) ≡ m =
+    omega (arith, length-take (start + m - start) (drop start slid), length-drop start slid, c.open_gap.ensures.len) in
     let new : c.clear.new.cells ≡ blanks default_attrs m =
     c.clear.ensures
-    ∙ (ap (λ (a : Attrs). blanks a (length (take (start + m - start) (drop start turned)))) c.new.ensures
+    ∙ (ap (λ (a : Attrs). blanks a (length (take (start + m - start) (drop start slid)))) c.new.ensures
     ∙ ap (λ (n : ℕ). blanks default_attrs n) size) in
-    c.blank_end.ensures ∙ (ap (λ (n : ℕ). end_blanked (put_mid start n turned c.clear.new.cells)) w
-    ∙ insert_code c.args.column c.args.count start m cells turned c.clear.new.cells c.requires.paired
-    c.insert_column-start.ensures.value c.insert_column-start.ensures.inside c.min-count.ensures c.turn.ensures.len
-    (λ j. c.turn.ensures.by_index j default_blank) new)
+    c.blank_end.ensures ∙ (ap (λ (n : ℕ). end_blanked (put_mid start n slid c.clear.new.cells)) w
+    ∙ insert_code c.args.column c.args.count start m cells slid c.clear.new.cells c.requires.paired
+    c.insert_column-start.ensures.value c.insert_column-start.ensures.inside c.min-count.ensures c.open_gap.ensures.len
+    c.open_gap.ensures.before c.open_gap.ensures.after new)
 
 pub returns-clause-paired : goal.returns-clause-paired
 returns-clause-paired c =

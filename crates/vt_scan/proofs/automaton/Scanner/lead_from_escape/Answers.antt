@@ -1,26 +1,21 @@
--- One byte, and the introducing bytes after it.
-use Rattle.std.proofs.Common.{◌<◌, [], List, ℕ, arith, drop, get_or, length, subst, sym, take}
-use Rattle.std.proofs.lemmas.Bool.Decides.{nat_tests}
-use Rattle.vt_scan.specs.Scanner.{Feeds, FeedsAll, Held}
-use Rattle.vt_scan.proofs.Feeding.{no_event}
-use Rattle.vt_scan.proofs.Leading.{feeds_first}
-use Rattle.vt_scan.proofs.Lists.{all_left, take_next}
+-- Further ESCs, and what they introduce.
+use Rattle.std.proofs.Common.{[], List, ℕ, drop, subst, sym, take}
+use Rattle.std.proofs.Math.Seq.{take-add}
+use Rattle.vt_scan.specs.Scanner.{FeedsAll}
+use Rattle.vt_scan.proofs.Leading.{feeds_then}
+use Rattle.vt_scan.proofs.Lists.{all_left}
 use Rattle.vt_scan.proofs.automaton.Scanner.lead_from_escape.Goals as goal
 
 pub returns-clause-fed : goal.returns-clause-fed
 returns-clause-fed c =
     let bytes = c.args.bytes.now in
-    let more = c.lead_parameters-more.result in
-    let told = c.if-is_empty.ensures in
-    let some : 0 < length bytes = grind (arith, nat_tests) in
-    let rest : FeedsAll c.takes_bracket.new.self (take more (drop 1 bytes)) c.lead_parameters-more.new.self [] =
-    subst (λ (left : List ℕ). FeedsAll c.takes_bracket.new.self (take more left) c.lead_parameters-more.new.self [])
-    (all_left bytes 1) c.lead_parameters-more.ensures.fed in
-    let first : Feeds c.args.self.now (get_or bytes 0 0) c.takes_bracket.new.self no_event =
-    subst (λ (held : Held). Feeds held (get_or bytes 0 0) c.takes_bracket.new.self no_event)
-    (c.takes_intermediate.ensures.kept c.if-takes_intermediate.false)
-    (c.takes_bracket.ensures.fed c.if-not-takes_bracket.false) in
-    subst (λ (text : List ℕ). FeedsAll c.args.self.now text c.lead_parameters-more.new.self [])
-    (sym (take_next bytes more some))
-    (feeds_first c.args.self.now c.takes_bracket.new.self c.lead_parameters-more.new.self (get_or bytes 0 0)
-    (take more (drop 1 bytes)) first rest)
+    let escapes = c.takes_escapes-escapes.result in
+    let more = c.lead_after_escapes-more.result in
+    let middle = c.takes_escapes-escapes.new.self in
+    let new = c.lead_after_escapes-more.new.self in
+    let rest : FeedsAll middle (take more (drop escapes bytes)) new [] =
+    subst (λ (left : List ℕ). FeedsAll middle (take more left) new [])
+    (all_left bytes escapes) c.lead_after_escapes-more.ensures.fed in
+    subst (λ (text : List ℕ). FeedsAll c.args.self.now text new []) (sym (take-add escapes more bytes))
+    (feeds_then c.args.self.now middle new (take escapes bytes) (take more (drop escapes bytes))
+    c.takes_escapes-escapes.ensures.fed rest)

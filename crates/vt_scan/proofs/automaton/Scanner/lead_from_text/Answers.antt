@@ -8,14 +8,14 @@ use Rattle.vt_scan.proofs.automaton.Scanner.lead_from_text.Goals as goal
 pub returns-clause-fed : goal.returns-clause-fed
 returns-clause-fed c =
     let bytes = c.args.bytes.now in
-    let more = c.lead_parameters-more.result in
+    let more = c.lead_from_entry-more.result in
     let led = c.takes_opening.new.self in
-    let now = c.lead_parameters-more.new.self in
+    let now = c.lead_from_entry-more.new.self in
     let told = c.if-not-takes_opening.false in
     let count : suc (suc more) ≡ 2 + more = omega arith in
     let rest : FeedsAll led (take more (drop 2 bytes)) now [] =
     subst (λ (left : List ℕ). FeedsAll led (take more left) now []) (all_left bytes 2)
-    c.lead_parameters-more.ensures.fed in
+    c.lead_from_entry-more.ensures.fed in
     subst (λ (k : ℕ). FeedsAll c.args.self.now (take k bytes) now []) count
     (opening_feeds c.args.self.now led now bytes more c.requires (c.takes_opening.ensures.fresh told)
     (c.takes_opening.ensures.opens told) (c.takes_opening.ensures.begins told) rest)

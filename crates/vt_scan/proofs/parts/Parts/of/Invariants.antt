@@ -1,10 +1,11 @@
--- The parts so far, and the one from `start` on, are those of the text so far.
-use Rattle.std.proofs.Common.{◌≡◌, ℕ, ◌-◌, ◌==◌, ◌≤◌, List, [], ◌∷◌, ◌++◌, take, drop}
-use Rattle.std.specs.List.{slice_split}
+-- The parts so far, the next one, and those after it are those of the text.
+use Rattle.std.proofs.Common.{◌≡◌, ℕ, ◌-◌, List, length, take}
+use Rattle.vt_scan.proofs.Cutting.{Cuts, IsPart}
 use Rattle.vt_scan.proofs.parts.Parts.of.Given as goal
 
-abbrev pub invariant-loop-i : goal.invariant-loop-i
-invariant-loop-i l =
-    (l.start ≤ l.i)
-    × ((all : List (List ℕ)) × (l.parts ≡ take 16 all)
-    × (all ++ take (l.i - l.start) (drop l.start l.text) ∷ [] ≡ slice_split (λ b. b == 0x3B) (take l.i l.text)))
+abbrev pub invariant-loop-end : goal.invariant-loop-end
+invariant-loop-end l =
+    IsPart l.start l.end l.text × ((all : List (List ℕ)) × (l.parts ≡ take 16 all) × Cuts all l.start l.text)
+
+abbrev pub decreases-loop-end : goal.decreases-loop-end
+decreases-loop-end l = length l.text - l.end

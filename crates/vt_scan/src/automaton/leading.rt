@@ -1,0 +1,415 @@
+//! The beginnings and the last bytes of sequences.
+
+ghost use Rattle.std.specs.Prelude.{◌≡◌, ◌≢◌, ◌≤◌, ◌<◌, ◌==◌, ◌&&◌, ◌||◌, ◌↔◌, ◌⊎◌};
+ghost use Rattle.std.specs.Prelude.{[], IsTrue, None, Some, false, length, slice_index_or, take};
+ghost use Rattle.vt_scan.specs.Automaton.{is_parameter};
+ghost use Rattle.vt_scan.specs.Internals.{Begins, Opens};
+ghost use Rattle.vt_scan.specs.Scanner.{EndsEscape, Feeds, FeedsAll, ends_command, ends_sequence, is_final};
+ghost use Rattle.vt_scan.specs.Scanner.{is_intermediate, is_marker, leads_in, starts_skipped, starts_string};
+ghost use Rattle.vt_scan.specs.declared.event.Event.{Event};
+ghost use Rattle.vt_scan.specs.declared.table.Ending.{Ending};
+ghost use Rattle.vt_scan.specs.declared.table.Kind.{Kind};
+ghost use Rattle.vt_scan.specs.declared.table.Turn.{Turn};
+
+use super::Scanner;
+use crate::lengths::escapes_len;
+use crate::table::{Ending, Kind, Turn, turn_at};
+
+impl Scanner {
+    /// Parses the leading bytes that introduce a sequence, and returns how many it parsed. Such
+    /// bytes are ESC in the ground state, any number of ESC after it, and then an intermediate, a
+    /// byte that introduces a string, or `[` with a private marker and parameter bytes. Parsing
+    /// them causes no event and allocates nothing. If all bytes are parsed, the next call continues
+    /// where this one stopped.
+    #[inline]
+    pub fn lead_in(&mut self, bytes: &[u8]) -> usize
+        ensures inside { result ≤ length bytes.now }
+        ensures fed { FeedsAll self.old (take result bytes.now) self.new [] }
+        ensures longest { result < length bytes.now →
+            leads_in self.new.kind self.new.unfinished (slice_index_or bytes.now result 0) ≡ false }
+    {
+        match self.kind {
+            Kind::Ground => self.lead_from_text(bytes),
+            Kind::Escape => self.lead_from_escape(bytes),
+            Kind::CsiEntry => self.lead_from_entry(bytes),
+            Kind::CsiParam => self.lead_parameters(bytes),
+            _ => 0,
+        }
+    }
+
+    /// Parses `byte` if it is the final byte of a control sequence without intermediates. Returns
+    /// whether it was parsed. If so, that sequence is the only event.
+    #[inline(always)]
+    pub fn final_byte(&mut self, byte: u8) -> bool
+        ensures answers { result ≡ ends_sequence self.old.kind byte }
+        ensures fed { IsTrue result
+            → Feeds self.old byte self.new (record { first = Some (Event.Csi byte); second = None }) }
+        ensures kept { result ≡ false → self.new ≡ self.old }
+    {
+        match self.kind {
+            Kind::CsiEntry | Kind::CsiParam => self.ends_with(byte),
+            _ => false,
+        }
+    }
+
+    /// Parses `byte` if it is the final byte of an escape sequence. Returns whether it was parsed.
+    /// If so, that sequence is the only event.
+    #[inline]
+    pub fn escape_byte(&mut self, byte: u8) -> bool
+        ensures answers { IsTrue result ↔ EndsEscape self.old.kind byte }
+        ensures fed { IsTrue result
+            → Feeds self.old byte self.new (record { first = Some (Event.Escape byte); second = None }) }
+        ensures kept { result ≡ false → self.new ≡ self.old }
+    {
+        match self.kind {
+            Kind::Escape => self.dispatches(turn_at(Kind::Escape, byte)),
+            Kind::EscapeIntermediate => self.dispatches(turn_at(Kind::EscapeIntermediate, byte)),
+            _ => false,
+        }
+    }
+
+    /// Parses `byte` if it is BEL or ESC and ends an operating system command. Returns whether it
+    /// was parsed. If so, that command is the only event.
+    #[inline]
+    pub fn command_byte(&mut self, byte: u8) -> bool
+        ensures answers { result ≡ ends_command self.old.kind byte }
+        ensures fed { IsTrue result
+            → Feeds self.old byte self.new (record { first = Some Event.Osc; second = None }) }
+        ensures kept { result ≡ false → self.new ≡ self.old }
+    {
+        match self.kind {
+            Kind::OscString => self.takes_command_end(byte),
+            _ => false,
+        }
+    }
+
+    /// Parses the leading bytes that introduce a sequence, starting from the ground state, and
+    /// returns how many it parsed. Tests for ESC and `[` together first.
+    #[inline(always)]
+    fn lead_from_text(&mut self, bytes: &[u8]) -> usize
+        requires { self.old.kind ≡ Kind.Ground }
+        ensures inside { result ≤ length bytes.now }
+        ensures fed { FeedsAll self.old (take result bytes.now) self.new [] }
+        ensures longest { result < length bytes.now →
+            leads_in self.new.kind self.new.unfinished (slice_index_or bytes.now result 0) ≡ false }
+    {
+        if !self.takes_opening(bytes) {
+            return self.lead_by_bytes(bytes);
+        }
+        let more = self.lead_from_entry(&bytes[2..]);
+        2 + more
+    }
+
+    /// Parses the leading bytes that introduce a sequence, starting from the ground state, and
+    /// returns how many it parsed. Tests for ESC and `[` separately, because the input may end
+    /// between them.
+    #[inline]
+    fn lead_by_bytes(&mut self, bytes: &[u8]) -> usize
+        requires { self.old.kind ≡ Kind.Ground }
+        ensures inside { result ≤ length bytes.now }
+        ensures fed { FeedsAll self.old (take result bytes.now) self.new [] }
+        ensures longest { result < length bytes.now →
+            leads_in self.new.kind self.new.unfinished (slice_index_or bytes.now result 0) ≡ false }
+    {
+        if bytes.is_empty() {
+            return 0;
+        }
+        if !self.takes_escape(bytes[0]) {
+            return 0;
+        }
+        let more = self.lead_from_escape(&bytes[1..]);
+        1 + more
+    }
+
+    /// Parses the bytes after an ESC that introduce a sequence, and returns how many it parsed.
+    #[inline(always)]
+    fn lead_from_escape(&mut self, bytes: &[u8]) -> usize
+        requires { self.old.kind ≡ Kind.Escape }
+        ensures inside { result ≤ length bytes.now }
+        ensures fed { FeedsAll self.old (take result bytes.now) self.new [] }
+        ensures longest { result < length bytes.now →
+            leads_in self.new.kind self.new.unfinished (slice_index_or bytes.now result 0) ≡ false }
+    {
+        let escapes = self.takes_escapes(bytes);
+        let more = self.lead_after_escapes(&bytes[escapes..]);
+        escapes + more
+    }
+
+    /// Parses the bytes after the last of several ESCs that introduce a sequence, and returns how
+    /// many it parsed.
+    #[inline(always)]
+    fn lead_after_escapes(&mut self, bytes: &[u8]) -> usize
+        requires kind { self.old.kind ≡ Kind.Escape }
+        requires ended { 0 < length bytes.now → slice_index_or bytes.now 0 0 ≢ 0x1B }
+        ensures inside { result ≤ length bytes.now }
+        ensures fed { FeedsAll self.old (take result bytes.now) self.new [] }
+        ensures longest { result < length bytes.now →
+            leads_in self.new.kind self.new.unfinished (slice_index_or bytes.now result 0) ≡ false }
+    {
+        if bytes.is_empty() {
+            return 0;
+        }
+        if self.takes_intermediate(bytes[0]) {
+            return 1;
+        }
+        if self.takes_string_start(bytes[0]) {
+            return 1;
+        }
+        if !self.takes_bracket(bytes[0]) {
+            return 0;
+        }
+        let more = self.lead_from_entry(&bytes[1..]);
+        1 + more
+    }
+
+    /// Parses the private marker and the parameter bytes at the start of `bytes`, after `[`, and
+    /// returns how many bytes it parsed.
+    #[inline(always)]
+    fn lead_from_entry(&mut self, bytes: &[u8]) -> usize
+        requires { self.old.kind ≡ Kind.CsiEntry }
+        ensures inside { result ≤ length bytes.now }
+        ensures fed { FeedsAll self.old (take result bytes.now) self.new [] }
+        ensures longest { result < length bytes.now →
+            leads_in self.new.kind self.new.unfinished (slice_index_or bytes.now result 0) ≡ false }
+    {
+        if bytes.is_empty() {
+            return 0;
+        }
+        if !self.takes_marker(bytes[0]) {
+            return self.lead_parameters(bytes);
+        }
+        let more = self.lead_parameters(&bytes[1..]);
+        1 + more
+    }
+
+    /// Parses the leading parameter bytes of a control sequence, and returns how many it parsed.
+    #[inline(always)]
+    fn lead_parameters(&mut self, bytes: &[u8]) -> usize
+        requires { (self.old.kind ≡ Kind.CsiEntry) ⊎ (self.old.kind ≡ Kind.CsiParam) }
+        ensures inside { result ≤ length bytes.now }
+        ensures fed { FeedsAll self.old (take result bytes.now) self.new [] }
+        ensures longest { result < length bytes.now → is_parameter (slice_index_or bytes.now result 0) ≡ false }
+        ensures kind { (self.new.kind ≡ Kind.CsiParam) ⊎ ((self.new.kind ≡ self.old.kind) × (result ≡ 0)) }
+    {
+        let count = self.parameters.push_all(bytes);
+        if count == 0 {
+            return 0;
+        }
+        self.kind = Kind::CsiParam;
+        count
+    }
+
+    /// Parses `byte` if it ends a control sequence, and returns whether it was parsed.
+    #[inline(always)]
+    fn ends_with(&mut self, byte: u8) -> bool
+        requires { (self.old.kind ≡ Kind.CsiEntry) ⊎ (self.old.kind ≡ Kind.CsiParam) }
+        ensures answers { result ≡ is_final byte }
+        ensures fed { IsTrue result
+            → Feeds self.old byte self.new (record { first = Some (Event.Csi byte); second = None }) }
+        ensures kept { result ≡ false → self.new ≡ self.old }
+    {
+        let ends = is_final_byte(byte);
+        if ends {
+            self.begin(Kind::Ground);
+        }
+        ends
+    }
+
+    /// Parses `byte` within an operating system command if it is BEL or ESC, and returns whether it
+    /// was parsed.
+    #[inline(always)]
+    fn takes_command_end(&mut self, byte: u8) -> bool
+        requires { self.old.kind ≡ Kind.OscString }
+        ensures answers { result ≡ ((byte == 0x07) || (byte == 0x1B)) }
+        ensures fed { IsTrue result
+            → Feeds self.old byte self.new (record { first = Some Event.Osc; second = None }) }
+        ensures kept { result ≡ false → self.new ≡ self.old }
+    {
+        if byte == 0x07 {
+            self.begin(Kind::Ground);
+            return true;
+        }
+        if byte == 0x1B {
+            self.begin(Kind::Escape);
+            return true;
+        }
+        false
+    }
+
+    /// Enters the ground state if `turn` dispatches an escape sequence, and returns whether it does.
+    #[inline(always)]
+    fn dispatches(&mut self, turn: Turn) -> bool
+        ensures answers { IsTrue result ↔ (turn ≡ Turn.End Kind.Ground Ending.EscDispatch) }
+        ensures begins { IsTrue result → Begins self.old self.new Kind.Ground }
+        ensures kept { result ≡ false → self.new ≡ self.old }
+    {
+        match turn {
+            Turn::End(Kind::Ground, Ending::EscDispatch) => {
+                self.begin(Kind::Ground);
+                true
+            }
+            _ => false,
+        }
+    }
+
+    /// Parses a leading `ESC [` if no character is incomplete, and returns whether it was parsed.
+    #[inline(always)]
+    fn takes_opening(&mut self, bytes: &[u8]) -> bool
+        requires { self.old.kind ≡ Kind.Ground }
+        ensures opens { IsTrue result → Opens bytes.now }
+        ensures fresh { IsTrue result → self.old.unfinished ≡ [] }
+        ensures begins { IsTrue result → Begins self.old self.new Kind.CsiEntry }
+        ensures kept { result ≡ false → self.new ≡ self.old }
+    {
+        if !is_opening(bytes) || !self.unfinished.is_empty() {
+            return false;
+        }
+        self.begin(Kind::CsiEntry);
+        true
+    }
+
+    /// Parses `byte` if it is a `[` after ESC, and returns whether it was parsed.
+    #[inline]
+    fn takes_bracket(&mut self, byte: u8) -> bool
+        requires { self.old.kind ≡ Kind.Escape }
+        ensures answers { result ≡ (byte == 0x5B) }
+        ensures begins { IsTrue result → self.new.kind ≡ Kind.CsiEntry }
+        ensures fed { IsTrue result → Feeds self.old byte self.new (record { first = None; second = None }) }
+        ensures kept { result ≡ false → self.new ≡ self.old }
+    {
+        let takes = byte == b'[';
+        if takes {
+            self.begin(Kind::CsiEntry);
+        }
+        takes
+    }
+
+    /// Parses `byte` if it is an intermediate after ESC, and returns whether it was parsed.
+    #[inline]
+    fn takes_intermediate(&mut self, byte: u8) -> bool
+        requires { self.old.kind ≡ Kind.Escape }
+        ensures answers { result ≡ is_intermediate byte }
+        ensures kind { IsTrue result → self.new.kind ≡ Kind.EscapeIntermediate }
+        ensures fed { IsTrue result → Feeds self.old byte self.new (record { first = None; second = None }) }
+        ensures kept { result ≡ false → self.new ≡ self.old }
+    {
+        let takes = is_intermediate_byte(byte);
+        if takes {
+            self.kind = Kind::EscapeIntermediate;
+            self.intermediates.push(byte);
+        }
+        takes
+    }
+
+    /// Parses `byte` if it is a private marker after `[`, and returns whether it was parsed.
+    #[inline(always)]
+    fn takes_marker(&mut self, byte: u8) -> bool
+        requires { self.old.kind ≡ Kind.CsiEntry }
+        ensures answers { result ≡ is_marker byte }
+        ensures kind { IsTrue result → self.new.kind ≡ Kind.CsiParam }
+        ensures fed { IsTrue result → Feeds self.old byte self.new (record { first = None; second = None }) }
+        ensures kept { result ≡ false → self.new ≡ self.old }
+    {
+        let takes = is_marker_byte(byte);
+        if takes {
+            self.kind = Kind::CsiParam;
+            self.intermediates.push(byte);
+        }
+        takes
+    }
+
+    /// Parses `byte` if it introduces a string after ESC, and returns whether it was parsed.
+    #[inline]
+    fn takes_string_start(&mut self, byte: u8) -> bool
+        requires { self.old.kind ≡ Kind.Escape }
+        ensures answers { result ≡ starts_string byte }
+        ensures kind { IsTrue result → (self.new.kind ≡ Kind.OscString) ⊎ (self.new.kind ≡ Kind.Skip) }
+        ensures fed { IsTrue result → Feeds self.old byte self.new (record { first = None; second = None }) }
+        ensures kept { result ≡ false → self.new ≡ self.old }
+    {
+        if byte == b']' {
+            self.begin(Kind::OscString);
+            return true;
+        }
+        let is_skipped = is_skip_start(byte);
+        if is_skipped {
+            self.begin(Kind::Skip);
+        }
+        is_skipped
+    }
+
+    /// Parses the ESCs at the start of `bytes`, after another ESC, and returns how many it parsed.
+    /// Each of them abandons the sequence before it.
+    #[inline(always)]
+    fn takes_escapes(&mut self, bytes: &[u8]) -> usize
+        requires { self.old.kind ≡ Kind.Escape }
+        ensures inside { result ≤ length bytes.now }
+        ensures kind { self.new.kind ≡ Kind.Escape }
+        ensures fed { FeedsAll self.old (take result bytes.now) self.new [] }
+        ensures ended { result < length bytes.now → slice_index_or bytes.now result 0 ≢ 0x1B }
+    {
+        let count = escapes_len(bytes);
+        if count == 0 {
+            return 0;
+        }
+        self.begin(Kind::Escape);
+        count
+    }
+
+    /// Parses `byte` if it is ESC and no character is incomplete, and returns whether it was
+    /// parsed.
+    #[inline]
+    fn takes_escape(&mut self, byte: u8) -> bool
+        requires { self.old.kind ≡ Kind.Ground }
+        ensures answers { result ≡ ((byte == 0x1B) && (length self.old.unfinished == 0)) }
+        ensures begins { IsTrue result → self.new.kind ≡ Kind.Escape }
+        ensures fed { IsTrue result → Feeds self.old byte self.new (record { first = None; second = None }) }
+        ensures kept { result ≡ false → self.new ≡ self.old }
+    {
+        if byte != 0x1B || !self.unfinished.is_empty() {
+            return false;
+        }
+        self.begin(Kind::Escape);
+        true
+    }
+}
+
+/// Returns whether `bytes` begins with ESC and `[`.
+#[inline(always)]
+fn is_opening(bytes: &[u8]) -> bool
+    ensures { IsTrue result → Opens bytes.now }
+{
+    bytes.len() >= 2 && bytes[0] == 0x1B && bytes[1] == b'['
+}
+
+/// Returns whether `byte` is a private marker (0x3C to 0x3F).
+#[inline(always)]
+fn is_marker_byte(byte: u8) -> bool
+    ensures { result ≡ is_marker byte }
+{
+    byte >= 0x3C && byte <= 0x3F
+}
+
+/// Returns whether `byte` introduces a string that is ignored (DCS, SOS, PM or APC) after ESC.
+#[inline(always)]
+fn is_skip_start(byte: u8) -> bool
+    ensures { result ≡ starts_skipped byte }
+{
+    byte == b'P' || byte == b'X' || byte == b'^' || byte == b'_'
+}
+
+/// Returns whether `byte` is an intermediate byte (0x20 to 0x2F).
+#[inline(always)]
+fn is_intermediate_byte(byte: u8) -> bool
+    ensures { result ≡ is_intermediate byte }
+{
+    byte >= 0x20 && byte <= 0x2F
+}
+
+/// Returns whether `byte` is a final byte of a control sequence (0x40 to 0x7E).
+#[inline(always)]
+fn is_final_byte(byte: u8) -> bool
+    ensures { result ≡ is_final byte }
+{
+    byte >= 0x40 && byte <= 0x7E
+}

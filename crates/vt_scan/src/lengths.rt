@@ -1,0 +1,111 @@
+//! Searches for the end of a run of bytes.
+
+ghost use Rattle.std.specs.Prelude.{◌≡◌, ◌≢◌, ◌<◌, ◌≤◌, All, false, length, map, slice_index_or, take, true, ℕ};
+ghost use Rattle.std.specs.List.{AllByRecursion};
+ghost use Rattle.std.specs.Simd.Lanes.{mask_l};
+ghost use Rattle.vt_scan.specs.Internals.{IsUnended};
+ghost use Rattle.vt_scan.specs.Ranges.{is_in_range};
+ghost use Rattle.vt_scan.specs.Scanner.{IsPrintableByte};
+
+use std::simd::prelude::*;
+
+/// Returns the number of leading bytes that are printable ASCII.
+#[inline]
+pub fn printable_len(bytes: &[u8]) -> usize
+    ensures inside { result ≤ length bytes.now }
+    ensures printable { All IsPrintableByte (take result bytes.now) }
+    ensures longest { result < length bytes.now → IsPrintableByte (slice_index_or bytes.now result 0) → ⊥ }
+{
+    len_before(bytes, 0x7F, 0xA0)
+}
+
+/// Returns the number of leading bytes before the first C0 control character.
+#[inline]
+pub fn text_len(bytes: &[u8]) -> usize
+    ensures inside { result ≤ length bytes.now }
+    ensures text { AllByRecursion (λ b. 0x20 ≤ b) (take result bytes.now) }
+    ensures longest { result < length bytes.now → slice_index_or bytes.now result 0 < 0x20 }
+{
+    len_before(bytes, 0x00, 0x1F)
+}
+
+/// Returns the number of leading bytes before the first `;`.
+#[inline]
+pub fn part_len(bytes: &[u8]) -> usize
+    ensures inside { result ≤ length bytes.now }
+    ensures part { All (λ b. b ≢ 0x3B) (take result bytes.now) }
+    ensures longest { result < length bytes.now → slice_index_or bytes.now result 0 ≡ 0x3B }
+{
+    len_before(bytes, b';', 0)
+}
+
+/// Returns the number of leading bytes before the first CAN, SUB or ESC, which may end a string.
+///
+/// EM (0x19), which is between them, also ends a quick search, which is then continued.
+#[inline]
+pub fn unended_len(bytes: &[u8]) -> usize
+    ensures inside { result ≤ length bytes.now }
+    ensures unended { AllByRecursion IsUnended (take result bytes.now) }
+    ensures longest { result < length bytes.now → IsUnended (slice_index_or bytes.now result 0) → ⊥ }
+{
+    let mut len = len_before(bytes, 0x18, 3);
+    while len < bytes.len() && bytes[len] == 0x19 {
+        let more = len_before(&bytes[len + 1..], 0x18, 3);
+        len += 1 + more;
+    }
+    len
+}
+
+/// Returns the number of leading bytes that are ESC.
+#[inline(always)]
+pub fn escapes_len(bytes: &[u8]) -> usize
+    ensures inside { result ≤ length bytes.now }
+    ensures escapes { AllByRecursion (λ b. b ≡ 0x1B) (take result bytes.now) }
+    ensures longest { result < length bytes.now → slice_index_or bytes.now result 0 ≢ 0x1B }
+{
+    let mut len = 0;
+    while len < bytes.len() && bytes[len] == 0x1B {
+        len += 1;
+    }
+    len
+}
+
+/// Returns the number of leading bytes before the first one from `low` to `low + width`, where
+/// bytes after 0xFF start again at 0.
+#[inline(always)]
+fn len_before(bytes: &[u8], low: u8, width: u8) -> usize
+    ensures inside { result ≤ length bytes.now }
+    ensures outside { (k : ℕ) → k < result → is_in_range low width (slice_index_or bytes.now k 0) ≡ false }
+    ensures longest { result < length bytes.now → is_in_range low width (slice_index_or bytes.now result 0) ≡ true }
+{
+    let mut len = 0;
+    while bytes.len() - len >= 16 {
+        let found = lanes_in_range(u8x16::from_slice(&bytes[len..]), low, width);
+        if found != 0 {
+            return len + found.trailing_zeros() as usize;
+        }
+        len += 16;
+    }
+    while len < bytes.len() && !is_in_range(bytes[len], low, width) {
+        len += 1;
+    }
+    len
+}
+
+/// Returns a mask in which a bit is set for each lane that [`is_in_range`].
+#[inline(always)]
+fn lanes_in_range(lanes: u8x16, low: u8, width: u8) -> u64
+    ensures { result ≡ mask_l (map (is_in_range low width) lanes) }
+{
+    (lanes - u8x16::splat(low))
+        .simd_le(u8x16::splat(width))
+        .to_bitmask()
+}
+
+/// Returns whether `byte` is from `low` to `low + width`, where bytes after 0xFF start again at 0.
+#[inline(always)]
+fn is_in_range(byte: u8, low: u8, width: u8) -> bool
+    ensures { result ≡ is_in_range low width byte }
+{
+    byte.wrapping_sub(low) <= width
+}
