@@ -426,7 +426,8 @@ vt100_status vt100_input_mode_formatted(vt100_handle *handle, size_t *len);
 vt100_status vt100_contents_diff(vt100_handle *handle, vt100_handle *prev, size_t *len);
 
 /*
- * A difference that may move rows first and is never longer than that of vt100_contents_diff.
+ * A difference that may move rows or columns first and is never longer than that of
+ * vt100_contents_diff.
  * Statuses: as for vt100_contents_diff.
  */
 vt100_status vt100_contents_diff_scrolling(vt100_handle *handle, vt100_handle *prev, size_t *len);
@@ -598,9 +599,9 @@ vt100_status vt100_update(vt100_handle *mirror, uint64_t viewer, uint16_t *rows,
                           size_t *len);
 
 /*
- * As vt100_update, but differences may move rows first and are never longer. If the screen of the
- * viewer's last update was not steady, the update is a redraw, so that a viewer that displayed that
- * screen incorrectly is corrected.
+ * As vt100_update, but differences may move rows or columns first and are never longer. If the
+ * screen of the viewer's last update was not steady, the update is a redraw, so that a viewer that
+ * displayed that screen incorrectly is corrected.
  */
 vt100_status vt100_update_scrolling(vt100_handle *mirror, uint64_t viewer, uint16_t *rows,
                                     uint16_t *cols, size_t *len);

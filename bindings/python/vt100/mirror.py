@@ -59,8 +59,8 @@ class Mirror(Object):
         return self._update(library.vt100_update, viewer)
 
     def update_scrolling(self, viewer: SupportsIndex) -> Update:
-        """Returns the next update of a viewer. It may move rows first and is never longer than that
-        of `update`.
+        """Returns the next update of a viewer. It may move rows or columns first and is never longer
+        than that of `update`.
 
         If the screen of the viewer's last update had a glyph that does not reproduce itself when it
         is printed (only glyphs with U+FE0F may not), the update is a full redraw, which corrects

@@ -280,7 +280,7 @@ class Screen(HasState):
         return self._diff(library.vt100_contents_diff, prev)
 
     def contents_diff_scrolling(self, prev: Screen) -> str:
-        """Returns a difference that may move rows first and is never longer than
+        """Returns a difference that may move rows or columns first and is never longer than
         `contents_diff`."""
         return self._diff(library.vt100_contents_diff_scrolling, prev)
 

@@ -95,8 +95,8 @@ impl Mirror {
     }
 
     /// Returns the next update of a viewer, or `None` if there is no viewer with this number. A
-    /// difference may move rows first, and is never longer than that of [`update`](Self::update). A
-    /// viewer may alternate between both kinds of updates.
+    /// difference may move rows or columns first, and is never longer than that of
+    /// [`update`](Self::update). A viewer may alternate between both kinds of updates.
     ///
     /// If the screen of the viewer's last update had a glyph that does not reproduce itself when it
     /// is printed (only glyphs with U+FE0F may not), the update is a full one, which corrects the

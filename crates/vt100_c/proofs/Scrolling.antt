@@ -4,21 +4,21 @@ use Rattle.std.specs.Global.{Global}
 use Rattle.std.proofs.Common.{subst}
 use Rattle.vt_cells.specs.Op.{bytes_of_all}
 use Rattle.vt_cells.specs.declared.error.Error.{Error}
-use Rattle.vt_redraw.specs.Moved.{IsScrolling}
+use Rattle.vt_redraw.specs.Shifted.{IsMoving}
 use Rattle.vt_redraw.specs.Redraw.{difference}
 use Rattle.vt_screen.specs.Screen.{ScreenValue}
 use Rattle.vt_screen.specs.Shown.{shown}
 use Rattle.vt100_c.specs.Texts.{IsScrollingDiff}
 
 pub scrolls : (screen prev : ScreenValue) (answer : Result (String Global) Error) (made : Result (String Global) ℕ)
-    → IfOk answer (λ text. IsScrolling (shown screen) (shown prev) (string_bytes text))
+    → IfOk answer (λ text. IsMoving (shown screen) (shown prev) (string_bytes text))
     → IfOk answer (λ text.
     length (string_bytes text) ≤ length (bytes_of_all (difference (shown screen) (shown prev))))
     → IfOk made (λ text. answer ≡ Ok text)
     → IfOk made (λ text. IsScrollingDiff screen prev (string_bytes text))
 scrolls screen prev answer (Ok text) draws shorter is = record {
   draws = subst (λ (a : Result (String Global) Error).
-      IfOk a (λ text. IsScrolling (shown screen) (shown prev) (string_bytes text))) is draws;
+      IfOk a (λ text. IsMoving (shown screen) (shown prev) (string_bytes text))) is draws;
   shorter = subst (λ (a : Result (String Global) Error).
       IfOk a (λ text. length (string_bytes text)
       ≤ length (bytes_of_all (difference (shown screen) (shown prev))))) is shorter;

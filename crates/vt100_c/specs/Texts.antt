@@ -1,7 +1,7 @@
 -- The text or output that each call generates.
 use Rattle.std.specs.Prelude.{◌≡◌, ◌<◌, ◌≤◌, ℕ, List, Option, length}
 use Rattle.vt_cells.specs.Op.{bytes_of_all}
-use Rattle.vt_redraw.specs.Moved.{IsScrolling}
+use Rattle.vt_redraw.specs.Shifted.{IsMoving}
 use Rattle.vt_redraw.specs.Redraw.{cursor_state, difference, redraw}
 use Rattle.vt_rows.specs.Basic.{unwritten}
 use Rattle.vt_screen.specs.AnyRegion.{reset_text}
@@ -40,9 +40,9 @@ due_for _ screen = any_screen screen
 
 -- ---- two screens
 
--- The text is a difference that may move rows first and is never longer than the difference that moves no rows.
+-- The text is a difference that may move rows or columns first and is never longer than the one that moves nothing.
 pub record IsScrollingDiff (screen prev : ScreenValue) (text : List ℕ) : Type 0 where
-  pub draws : IsScrolling (shown screen) (shown prev) text
+  pub draws : IsMoving (shown screen) (shown prev) text
   pub shorter : length text ≤ length (bytes_of_all (difference (shown screen) (shown prev)))
 
 abbrev pub IsDifference : Difference → ScreenValue → ScreenValue → List ℕ → Type 0

@@ -47,7 +47,7 @@ unchanged_scrolling self is colored steady =
     record {
       diff = drawn.diff;
       from_steady = steady;
-      is = inl drawn.is;
+      is = inl (inl drawn.is);
       controls = scrolling_made self self [] is colored colored (inl drawn.is);
       shorter = omega arith;
     }

@@ -5,7 +5,7 @@ use Rattle.std.specs.Global.{Global}
 use Rattle.vt_cells.specs.declared.error.Error.{Error}
 use Rattle.vt_grid.specs.Page.{SameSize}
 use Rattle.vt_redraw.specs.Locality.{IsLocal}
-use Rattle.vt_redraw.specs.Moved.{IsScrolling}
+use Rattle.vt_redraw.specs.Shifted.{IsMoving}
 use Rattle.vt_redraw.specs.Steady.{IsSteady}
 use Rattle.vt_screen.specs.Again.{KeepsPlain}
 use Rattle.vt_screen.specs.MadeOf.{IsMadeOf, drawing_controls, drawing_finals, scrolling_finals}
@@ -56,7 +56,7 @@ drawn_from self seen noted copy text e alike size is redraws empty none touches 
 
 pub scrolled_from : (self seen noted copy : ScreenValue) (text : List ℕ)
     → seen ≡ self → ShowsAlike noted copy → SameSize self.page noted.page → IsSteady (shown copy)
-    → IsScrolling (shown seen) (shown copy) text → length text ≤ length (shown_change copy seen)
+    → IsMoving (shown seen) (shown copy) text → length text ≤ length (shown_change copy seen)
     → RedrawsFrom copy seen text → (IsSteady (shown seen) → text ≡ [] → shown seen ≡ shown copy)
     → (shown seen ≡ shown copy → text ≡ []) → IsMadeOf scrolling_finals drawing_controls text → KeepsPlain text
     → Scrolls self noted text

@@ -6,7 +6,7 @@ use Rattle.vt_cells.specs.Op.{bytes_of_all}
 use Rattle.vt_cells.specs.declared.error.Error.{Error}
 use Rattle.vt_cells.specs.declared.error.Error.TheVariants.{NoNumber, OutOfMemory}
 use Rattle.vt_grid.specs.Page.{SameSize}
-use Rattle.vt_redraw.specs.Moved.{IsScrolling}
+use Rattle.vt_redraw.specs.Shifted.{IsMoving}
 use Rattle.vt_redraw.specs.Redraw.{difference, redraw}
 use Rattle.vt_redraw.specs.Steady.{IsSteady}
 use Rattle.vt_screen.specs.Again.{KeepsPlain}
@@ -100,12 +100,12 @@ pub record IsDrawn (self prev : ScreenValue) (text : List ℕ) : Type 0 where
   pub controls : IsMadeOf drawing_finals drawing_controls text
   pub touches : TouchesNear prev self text
 
--- The text is a difference that may move rows first. It starts from a steady screen and is never longer than the
--- difference that moves no rows.
+-- The text is a difference that may move rows or columns first. It starts from a steady screen and is never longer
+-- than the difference that moves nothing.
 pub record Scrolls (self prev : ScreenValue) (text : List ℕ) : Type 0 where
   pub diff : IsDiff self prev text
   pub from_steady : IsSteady (shown prev)
-  pub is : IsScrolling (shown self) (shown prev) text
+  pub is : IsMoving (shown self) (shown prev) text
   pub controls : IsMadeOf scrolling_finals drawing_controls text
   pub shorter : length text ≤ length (bytes_of_all (difference (shown self) (shown prev)))
 

@@ -204,7 +204,7 @@ impl Mirror {
     }
 
     /// Returns the viewer's next update, as [`update`](Mirror::update) does,
-    /// but with a difference that may move rows first.
+    /// but with a difference that may move rows or columns first.
     ///
     /// As with `Screen::contents_diff_scrolling`, the difference is never
     /// longer than the plain one, may be much shorter after text has scrolled,

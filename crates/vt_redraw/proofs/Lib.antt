@@ -44,6 +44,7 @@ pub mod Writing
 pub mod Filling
 pub mod CellSteps
 pub mod Moving
+pub mod Shifting
 pub mod BandPages
 pub mod Viewing
 pub mod RowSteps

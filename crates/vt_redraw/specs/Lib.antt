@@ -8,4 +8,6 @@ pub mod Touching
 pub mod Locality
 pub mod Items
 pub mod Moved
+pub mod Shifted
+pub mod ShiftInternals
 pub mod Internals

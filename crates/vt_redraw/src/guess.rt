@@ -4,9 +4,12 @@
 ghost use Rattle.std.specs.Prelude.{◌≡◌, ◌+◌, ◌<◌, ◌≤◌, IfSome, IsSome, length};
 ghost use Rattle.vt_redraw.specs.Moved.{IsBand};
 ghost use Rattle.vt_redraw.specs.Picture.{SamePictureSize};
+ghost use Rattle.vt_redraw.specs.Shifted.{IsMove, IsRowShift};
 
 use crate::band::Band;
 use crate::picture_row::PictureRow;
+use crate::row_guess::likely_row_shift;
+use crate::row_shift::RowShift;
 use crate::view::View;
 use vt_cells::Attrs;
 
@@ -28,6 +31,13 @@ const LEAST_TEXT: usize = 20;
 /// The number of columns, starting after the margin, whose text determines the
 /// key of a row.
 const KEYED: u16 = 16;
+
+/// The minimum cost of a row, in bytes, whose columns are examined.
+const LEAST_COST: i32 = 12;
+
+/// The maximum number of such rows that are examined before a row is found whose
+/// columns seem to have moved.
+const MOST_TRIED: u32 = 6;
 
 /// One number for each examined row.
 type Numbers = [i32; 256];
@@ -52,12 +62,23 @@ struct Stretch {
     behind: u16,
 }
 
-/// Returns the band of rows that has most likely moved between `prev` and
-/// `view`, or `None` if a move is not expected to save output. `text` is the
-/// difference without a move. Only the first 256 rows are examined.
-pub fn likely_band(view: &View<'_>, prev: &View<'_>, text: &str) -> Option<Band>
+/// A move that the output may make before the difference is drawn.
+#[derive(Clone, Copy, PartialEq, Eq, Debug)]
+pub enum Move {
+    /// A band of rows moves up or down.
+    Rows(Band),
+
+    /// Columns of some rows move right or left. This is the shift of the first
+    /// such row.
+    Columns(RowShift),
+}
+
+/// Returns the move that most likely happened between `prev` and `view`, or
+/// `None` if a move is not expected to save output. `text` is the difference
+/// without a move. Only the first 256 rows are examined.
+pub fn likely_move(view: &View<'_>, prev: &View<'_>, text: &str) -> Option<Move>
     requires { SamePictureSize view.now prev.now }
-    ensures band { IfSome result (λ band. IsBand (length prev.now.rows) band) }
+    ensures inside { IfSome result (IsMove (length prev.now.rows) prev.now.width) }
     ensures text { IsSome result → 0 < length text.now }
 {
     if text.len() < LEAST_TEXT {
@@ -65,14 +86,57 @@ pub fn likely_band(view: &View<'_>, prev: &View<'_>, text: &str) -> Option<Band>
     }
     let height = view.rows().min(MOST_ROWS);
     let here = costs(view, prev, height);
-    let shift = likely_shift(view, prev, height, &here)?;
-    let stretch = best_stretch(view, prev, height, &here, shift)?;
+    if let Some(band) = likely_band(view, prev, height, &here) {
+        return Some(Move::Rows(band));
+    }
+    match first_row_shift(view, prev, height, &here) {
+        None => None,
+        Some(shift) => Some(Move::Columns(shift)),
+    }
+}
+
+/// Returns the band of rows that has most likely moved between `prev` and
+/// `view`, or `None` if no rows seem to have moved.
+fn likely_band(view: &View<'_>, prev: &View<'_>, height: u16, here: &Numbers) -> Option<Band>
+    requires size { SamePictureSize view.now prev.now }
+    requires inside { height ≤ length view.now.rows }
+    requires few { height ≤ 256 }
+    ensures { IfSome result (λ band. IsBand (length prev.now.rows) band) }
+{
+    let shift = likely_shift(view, prev, height, here)?;
+    let stretch = best_stretch(view, prev, height, here, shift)?;
     let band = stretch.band(shift);
     if band.is_within(prev.rows()) {
         Some(band)
     } else {
         None
     }
+}
+
+/// Returns the shift of the first row whose columns seem to have moved between
+/// `prev` and `view`. Only the first [`MOST_TRIED`] rows that cost much are
+/// examined.
+fn first_row_shift(
+    view: &View<'_>,
+    prev: &View<'_>,
+    height: u16,
+    here: &Numbers,
+) -> Option<RowShift>
+    requires size { SamePictureSize view.now prev.now }
+    requires inside { height ≤ length view.now.rows }
+    requires few { height ≤ 256 }
+    ensures { IfSome result (IsRowShift (length prev.now.rows) prev.now.width) }
+{
+    let mut tried = 0;
+    for row in 0..height {
+        if here[usize::from(row)] > LEAST_COST && tried < MOST_TRIED {
+            tried += 1;
+            if let Some(shift) = likely_row_shift(view, prev, row) {
+                return Some(shift);
+            }
+        }
+    }
+    None
 }
 
 /// Returns, for each row of `view`, the approximate number of bytes that it

@@ -222,7 +222,7 @@ abbrev pub state_nexts : List ℕ
 state_nexts = codes "[78=>"
 
 scrolling_low : AllLow scrolling_finals
-scrolling_low = (refl, (refl, (refl, (refl, (refl, (refl, (refl, (refl, tt))))))))
+scrolling_low = (refl, (refl, (refl, (refl, (refl, (refl, (refl, (refl, (refl, (refl, tt))))))))))
 
 -- Output that draws and moves rows: only `[`, `7` and `8` follow ESC.
 pub scrolling_only : (text : List ℕ) → IsMadeOf scrolling_finals drawing_controls text → HasOnlyEscapes drawing_nexts text
@@ -233,12 +233,12 @@ scrolling_only text made =
 pub drawn_only : (text : List ℕ) → IsMadeOf drawing_finals drawing_controls text → HasOnlyEscapes drawing_nexts text
 drawn_only text made =
     made_only drawing_nexts drawing_finals drawing_controls
-    (one_visible drawing_finals scrolling_low.1.1 drawing_nexts (inl refl)) (drawing_only drawing_nexts ((inr (inl refl), refl), ((inr (inr (inl refl)), refl), ((inl refl, refl), ((inl refl, refl), tt))))) text made
+    (one_visible drawing_finals scrolling_low.1.1.1.1 drawing_nexts (inl refl)) (drawing_only drawing_nexts ((inr (inl refl), refl), ((inr (inr (inl refl)), refl), ((inl refl, refl), ((inl refl, refl), tt))))) text made
 
 pub reset_only : (text : List ℕ) → IsMadeOf drawing_finals reset_controls text → HasOnlyEscapes drawing_nexts text
 reset_only text made =
     made_only drawing_nexts drawing_finals reset_controls
-    (one_visible drawing_finals scrolling_low.1.1 drawing_nexts (inl refl))
+    (one_visible drawing_finals scrolling_low.1.1.1.1 drawing_nexts (inl refl))
     (λ bytes is. by_kind bytes (either bytes (escapes reset_tails) drawing_controls is)) text made
   where
     by_kind : (bytes : List ℕ) → IsOneOf bytes (escapes reset_tails) ⊎ IsOneOf bytes drawing_controls →
@@ -251,7 +251,7 @@ reset_only text made =
 pub state_only : (text : List ℕ) → IsMadeOf drawing_finals state_controls text → HasOnlyEscapes state_nexts text
 state_only text made =
     made_only state_nexts drawing_finals state_controls
-    (one_visible drawing_finals scrolling_low.1.1 state_nexts (inl refl))
+    (one_visible drawing_finals scrolling_low.1.1.1.1 state_nexts (inl refl))
     (λ bytes is. by_kind bytes (either bytes input_controls drawing_controls is)) text made
   where
     by_kind : (bytes : List ℕ) → IsOneOf bytes input_controls ⊎ IsOneOf bytes drawing_controls →

@@ -7,6 +7,7 @@ pub mod Redrawing
 pub mod Became
 pub mod EqualTexts
 pub mod MovedRead
+pub mod ShiftedRead
 pub mod AnyRegion
 pub mod Chains
 pub mod Viewing
@@ -58,4 +59,6 @@ mod Framing
 mod QuietSteps
 pub mod PlainAgain
 mod MovedAgain
+mod ShiftedAgain
+mod ShiftedViews
 pub mod NoCallbacks

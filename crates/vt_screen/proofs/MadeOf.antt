@@ -32,6 +32,9 @@ use Rattle.vt_redraw.specs.Locality.{row_of_picture}
 use Rattle.vt_redraw.specs.Moved.{IsScrolling, band_text, down_text, lines_deleted_text, lines_inserted_text}
 use Rattle.vt_redraw.specs.Moved.{moved, moving_text, scrolling_text, up_text}
 use Rattle.vt_redraw.specs.Script.{attr_ops}
+use Rattle.vt_redraw.specs.Shifted.{IsMoving, in_default_attrs, shift_text, shifted_all, shifting_text, shifts_text}
+use Rattle.vt_redraw.specs.declared.row_shift.RowShift.{RowShift}
+use Rattle.vt_redraw.proofs.Shifting.{attrs_shifted}
 use Rattle.vt_redraw.proofs.ItemFits.{difference_item_fits, redraw_item_fits}
 use Rattle.vt_screen.specs.InputTexts.{input_change, input_text, mouse_and_style_text, where_changed}
 use Rattle.vt_screen.specs.RowsShown.{changed_text, formatted_text}
@@ -207,19 +210,22 @@ IsScrollingText text = IsMadeOf scrolling_finals drawing_controls text
 
 drawing_scrolls : (text : List ℕ) → IsMadeOf drawing_finals drawing_controls text → IsScrollingText text
 drawing_scrolls text made =
-    made_more drawing_finals scrolling_finals drawing_controls drawing_controls (λ x one. inr (inr one)) (λ x one. one) text made
+    made_more drawing_finals scrolling_finals drawing_controls drawing_controls (λ x one. inr (inr (inr (inr one))))
+    (λ x one. one) text made
+
+-- The cursor moves to a position, and rows or columns are deleted or inserted there.
+placed_made : (count row col final : ℕ) → IsOneOf final scrolling_finals →
+    IsScrollingText (csi (place row col) 0x48 ++ counted count final)
+placed_made count row col final is =
+    made_append scrolling_finals drawing_controls (csi (place row col) 0x48) (counted count final)
+    (made_place scrolling_finals drawing_controls row col 0x48 (inr (inr (inr (inr (inl refl))))))
+    (made_counted scrolling_finals drawing_controls count final is)
 
 deleted_made : (row count : ℕ) → IsScrollingText (lines_deleted_text row count)
-deleted_made row count =
-    made_append scrolling_finals drawing_controls (csi (place row 0) 0x48) (counted count 0x4D)
-    (made_place scrolling_finals drawing_controls row 0 0x48 (inr (inr (inl refl))))
-    (made_counted scrolling_finals drawing_controls count 0x4D (inr (inl refl)))
+deleted_made row count = placed_made count row 0 0x4D (inr (inr (inr (inl refl))))
 
 inserted_made : (row count : ℕ) → IsScrollingText (lines_inserted_text row count)
-inserted_made row count =
-    made_append scrolling_finals drawing_controls (csi (place row 0) 0x48) (counted count 0x4C)
-    (made_place scrolling_finals drawing_controls row 0 0x48 (inr (inr (inl refl))))
-    (made_counted scrolling_finals drawing_controls count 0x4C (inl refl))
+inserted_made row count = placed_made count row 0 0x4C (inr (inr (inl refl)))
 
 band_made : (height : ℕ) (band : Band) → IsScrollingText (band_text height band)
 unfolding up_text down_text
@@ -458,3 +464,36 @@ row_change_made screen prev r start_ stop is colored low le inside =
     made_ops (item_of_difference r start_ stop (row_of_picture picture r) (row_of_picture (shown prev) r)).ops
     (difference_item_fits picture r start_ stop (row_of_picture (shown prev) r)
     (shown_is screen is) (shown_colored screen is colored) (omega arith) le inside)
+
+-- ---- shifting columns
+
+shift_made : (insert : Bool) (count row col : ℕ) →
+    IsScrollingText (shift_text (record { row = row; col = col; count = count; insert = insert }))
+shift_made true count row col = placed_made count row col 0x40 (inl refl)
+shift_made false count row col = placed_made count row col 0x50 (inr (inl refl))
+
+shifts_made : (shifts : List RowShift) → IsScrollingText (shifts_text shifts)
+shifts_made [] = made_nothing scrolling_finals drawing_controls
+shifts_made (shift ∷ shifts) =
+    made_append scrolling_finals drawing_controls (shift_text shift) (shifts_text shifts)
+    (shift_made shift.insert shift.count shift.row shift.col) (shifts_made shifts)
+
+shifted_made : (screen prev : ScreenValue) (shifts : List RowShift) → IsScreen screen → IsColored screen →
+    IsScrollingText (shifting_text shifts (shown screen) (shown prev))
+shifted_made screen prev shifts is colored =
+    let between = shifted_all shifts (in_default_attrs (shown prev)) in
+    let change = bytes_of_all (attr_ops (shown prev).attrs default_attrs) in
+    let rest = bytes_of_all (difference (shown screen) between) in
+    made_append scrolling_finals drawing_controls change (shifts_text shifts ++ rest)
+    (drawing_scrolls change (attr_ops_made (shown prev).attrs default_attrs))
+    (made_append scrolling_finals drawing_controls (shifts_text shifts) rest (shifts_made shifts)
+    (drawing_scrolls rest
+    (made_ops (difference (shown screen) between)
+    (difference_fits (shown screen) between (shown_is screen is) (shown_colored screen is colored)
+    (subst FitsAttrs (sym (attrs_shifted shifts (in_default_attrs (shown prev)))) (tt, tt))))))
+
+pub moving_made : (screen prev : ScreenValue) (text : List ℕ) → IsScreen screen → IsColored screen →
+    IsColored prev → IsMoving (shown screen) (shown prev) text → IsMadeOf scrolling_finals drawing_controls text
+moving_made screen prev text is colored other (inl told) = scrolling_made screen prev text is colored other told
+moving_made screen prev text is colored other (inr it) =
+    subst IsScrollingText (sym it.bytes) (shifted_made screen prev (it.first ∷ it.rest) is colored)

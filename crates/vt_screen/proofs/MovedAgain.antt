@@ -87,7 +87,7 @@ band_goes height band reader screen tall is h =
     (inserted_go band.top band.count reader screen (omega arith) a (omega arith) h)
     (both_go (band.bottom - band.count) band.top band.count reader screen (omega arith) (omega arith) a (omega arith) h))
 
-change_goes : (was : Attrs) (reader screen : ScreenValue) → FitsAttrs was → Holds false reader screen →
+pub change_goes : (was : Attrs) (reader screen : ScreenValue) → FitsAttrs was → Holds false reader screen →
     Goes false reader screen (bytes_of_all (attr_ops was default_attrs))
 unfolding attr_ops
 change_goes was reader screen fits h = by_same (same_attrs was default_attrs)

@@ -201,7 +201,7 @@ band_when false false band screen u e plain tall is =
 abbrev with_shown : Picture → ScreenValue → ScreenValue
 with_shown picture reader = with_canvas (with_picture picture (canvas_of reader)) reader
 
-change_read : (reader : ScreenValue) →
+pub change_read : (reader : ScreenValue) →
     ReadsTo (bytes_of_all (attr_ops reader.attrs default_attrs)) reader (record reader { attrs = default_attrs })
 change_read reader =
     ap (read (terminal start reader)) (sym (change_written reader.attrs default_attrs))
@@ -327,11 +327,11 @@ scrolling_redraws self prev text d (inr (band, inside, told)) =
 
 -- ---- empty output
 
-empty_left : (xs ys : List ℕ) → xs ++ ys ≡ [] → xs ≡ []
+pub empty_left : (xs ys : List ℕ) → xs ++ ys ≡ [] → xs ≡ []
 empty_left [] ys e = refl
 empty_left (x ∷ xs) ys e = absurd cc
 
-empty_right : (xs ys : List ℕ) → xs ++ ys ≡ [] → ys ≡ []
+pub empty_right : (xs ys : List ℕ) → xs ++ ys ≡ [] → ys ≡ []
 empty_right [] ys e = e
 empty_right (x ∷ xs) ys e = absurd cc
 

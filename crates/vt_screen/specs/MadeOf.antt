@@ -54,10 +54,10 @@ drawing_controls =
     (0x0D ∷ 0x0A ∷ []) ∷ (0x0A ∷ []) ∷ (0x08 ∷ [])
     ∷ escapes (codes "7" ∷ codes "8" ∷ codes "[?25h" ∷ codes "[?25l" ∷ [])
 
--- The final bytes of the control sequences that may occur in drawing output that moves rows: those of IL and DL, and
--- those in `drawing_finals`.
+-- The final bytes of the control sequences that may occur in drawing output that moves rows or columns: those of ICH,
+-- DCH, IL and DL, and those in `drawing_finals`.
 abbrev pub scrolling_finals : List ℕ
-scrolling_finals = codes "LMHCXKJm"
+scrolling_finals = codes "@PLMHCXKJm"
 
 -- The other sequences that may occur in drawing output that also resets the scroll region: the reset of origin mode,
 -- DECSTBM without parameters, and those in `drawing_controls`.

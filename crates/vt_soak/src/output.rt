@@ -3,8 +3,8 @@
 use std::str::Chars;
 
 /// The final bytes of the control sequences in output for terminals: CUP, CUF, ECH, EL, ED, SGR,
-/// and IL and DL in differences that move rows.
-const FINALS: &str = "HCXKJmLM";
+/// and ICH, DCH, IL and DL in differences that move rows or columns.
+const FINALS: &str = "HCXKJm@PLM";
 
 /// Returns whether a text contains no control characters other than line ends, backspaces, and the
 /// escape sequences that draw.

@@ -1,34 +1,43 @@
-//! Differences that may move rows first and are never longer than the plain
-//! difference.
+//! Differences that may move rows or columns first and are never longer than the
+//! plain difference.
 //!
 //! The module `redraw` defines what a screen displays, when a terminal is
 //! plain, and when a screen is steady.
 
 ghost use Rattle.std.specs.Prelude.{◌≡◌, ◌≤◌, ◌++◌, [], IsOk, OnOk, length, string_bytes};
+ghost use Rattle.vt_cells.specs.Attrs.{default_attrs};
 ghost use Rattle.vt_cells.specs.Refusals.{OnlyOutOfMemory};
-ghost use Rattle.vt_grid.specs.Page.{SameSize};
-ghost use Rattle.vt_redraw.specs.Moved.{IsBand, IsScrolling, moved, scrolling_text};
+ghost use Rattle.vt_grid.specs.Page.{IsPage, SameSize};
+ghost use Rattle.vt_redraw.specs.Moved.{IsBand, moved, scrolling_text};
+ghost use Rattle.vt_redraw.specs.Picture.{picture_of};
+ghost use Rattle.vt_redraw.specs.Shifted.{IsMoving, IsRowShift};
+ghost use Rattle.vt_redraw.specs.ShiftInternals.{AppendsShifting};
 ghost use Rattle.vt_redraw.specs.Refusals.{RefusedOnlyIfSome};
 ghost use Rattle.vt_screen.specs.Again.{KeepsPlain};
 ghost use Rattle.vt_screen.specs.MadeOf.{IsMadeOf, drawing_controls, scrolling_finals};
 ghost use Rattle.vt_screen.specs.Screen.{IsColored, IsScreen};
-ghost use Rattle.vt_screen.specs.Shown.{IsSameIfEmpty, RedrawsFrom, shown, shown_change};
+ghost use Rattle.vt_screen.specs.Shown.{IsSameIfEmpty, RedrawsFrom, ShowsOwnPage, shown, shown_change};
 ghost use Rattle.vt_screen.specs.TextResults.{IfText};
 
 use crate::screen::Screen;
-use vt_cells::{Error, Sink};
-use vt_redraw::{Band, View, likely_band, write_contents_diff, write_moves};
+use vt_cells::{Attrs, Error, Sink};
+use vt_grid::Grid;
+use vt_redraw::pen::write_change;
+use vt_redraw::{
+    Band, Move, RowShift, View, likely_move, write_contents_diff, write_moves, write_row_shifts,
+};
 
 impl Screen {
     /// Returns the escape sequences that turn the display of `prev` into the
-    /// display of this screen, moving rows first if they have scrolled. The
-    /// output is never longer than that of [`Screen::contents_diff`]. Both
+    /// display of this screen, moving rows or columns first if they have moved.
+    /// The output is never longer than that of [`Screen::contents_diff`]. Both
     /// screens must have the same size.
     ///
     /// If rows have scrolled, even in only a part of the screen, the output may
-    /// move them with DL and IL, which can make the output much shorter. The
-    /// rows to move are guessed from the first 256 rows. The output may touch
-    /// any row.
+    /// move them with DL and IL. If text has moved within its row, the output
+    /// may move it with DCH and ICH. Either can make the output much shorter.
+    /// The moves are guessed, those of rows from the first 256 rows. The output
+    /// may touch any row.
     ///
     /// A terminal is plain if it is in ground state, with the full scroll
     /// region, origin mode off and no scrollback displayed. A screen is steady
@@ -55,7 +64,7 @@ impl Screen {
     /// ```
     pub fn contents_diff_scrolling(&self, prev: &Screen) -> Result<String, Error>
         requires { SameSize self.now.page prev.now.page }
-        ensures text { IfText result (IsScrolling (shown self.now) (shown prev.now)) }
+        ensures text { IfText result (IsMoving (shown self.now) (shown prev.now)) }
         ensures controls { IfText result (IsMadeOf scrolling_finals drawing_controls) }
         ensures again { IfText result KeepsPlain }
         ensures shorter { IfText result (λ text. length text ≤ length (shown_change prev.now self.now)) }
@@ -73,7 +82,7 @@ impl Screen {
     }
 
     /// Returns the plain difference `text`, or shorter output that moves rows
-    /// first.
+    /// or columns first.
     ///
     /// # Errors
     ///
@@ -86,14 +95,15 @@ impl Screen {
         ensures colored { IsColored self.now }
         ensures other { IsScreen prev.now }
         ensures other_colored { IsColored prev.now }
-        ensures text { IfText result (IsScrolling (shown self.now) (shown prev.now)) }
+        ensures text { IfText result (IsMoving (shown self.now) (shown prev.now)) }
         ensures shorter { IfText result (λ text. length text ≤ length (shown_change prev.now self.now)) }
         ensures memory { OnlyOutOfMemory result }
         ensures some { RefusedOnlyIfSome result (shown_change prev.now self.now) }
     {
-        match likely_band(&self.view(), &prev.view(), text.as_str()) {
+        match likely_move(&self.view(), &prev.view(), text.as_str()) {
             None => Ok(text),
-            Some(band) => self.shorter_of(prev, band, text),
+            Some(Move::Rows(band)) => self.shorter_of(prev, band, text),
+            Some(Move::Columns(first)) => self.shorter_with_shifts(prev, first, text),
         }
     }
 
@@ -108,7 +118,7 @@ impl Screen {
         requires size { SameSize self.now.page prev.now.page }
         requires band { IsBand (length (shown prev.now).rows) band }
         requires text { string_bytes text ≡ shown_change prev.now self.now }
-        ensures text { IfText result (IsScrolling (shown self.now) (shown prev.now)) }
+        ensures text { IfText result (IsMoving (shown self.now) (shown prev.now)) }
         ensures shorter { IfText result (λ text. length text ≤ length (shown_change prev.now self.now)) }
         ensures memory { OnlyOutOfMemory result }
     {
@@ -135,6 +145,76 @@ impl Screen {
     {
         write_moves(sink, &prev.view(), band)?;
         write_contents_diff(sink, &self.view(), &prev.moved_view(band))
+    }
+
+    /// Returns the shorter of the plain difference `text` and the output that
+    /// shifts columns first, beginning with the shift `first`. Returns `text`
+    /// if scrollback is displayed on `prev`.
+    ///
+    /// # Errors
+    ///
+    /// Returns `Error::OutOfMemory` if the alternative output, or the copy of
+    /// the page that it is made from, cannot be allocated.
+    fn shorter_with_shifts(
+        &self,
+        prev: &Screen,
+        first: RowShift,
+        text: String,
+    ) -> Result<String, Error>
+        requires size { SameSize self.now.page prev.now.page }
+        requires first { IsRowShift (length (shown prev.now).rows) (shown prev.now).width first }
+        requires text { string_bytes text ≡ shown_change prev.now self.now }
+        ensures text { IfText result (IsMoving (shown self.now) (shown prev.now)) }
+        ensures shorter { IfText result (λ text. length text ≤ length (shown_change prev.now self.now)) }
+        ensures memory { OnlyOutOfMemory result }
+    {
+        if prev.scrollback.offset() != 0 {
+            return Ok(text);
+        }
+        let mut grid = prev.grid.try_clone(self.alloc)?;
+        let mut shifted = String::new(self.alloc);
+        match self.write_shifted_diff(&mut shifted, prev, &mut grid, first) {
+            Err(_) => Err(Error::OutOfMemory),
+            Ok(()) if shifted.len() < text.len() => Ok(shifted),
+            Ok(()) => Ok(text),
+        }
+    }
+
+    /// Writes the escape sequences that shift columns, beginning with the shift
+    /// `first`, followed by those that turn the resulting display into that of
+    /// this screen. The shifts are applied to `grid`, a copy of the page of
+    /// `prev`.
+    fn write_shifted_diff<S: Sink>(
+        &self,
+        sink: &mut S,
+        prev: &Screen,
+        grid: &mut Grid,
+        first: RowShift,
+    ) -> Result<(), S::Error>
+        requires size { SameSize self.now.page prev.now.page }
+        requires own { ShowsOwnPage prev.now }
+        requires page { grid.old ≡ prev.now.page }
+        requires first { IsRowShift (length (shown prev.now).rows) (shown prev.now).width first }
+        ensures { OnOk result (AppendsShifting (S.text sink.old) (S.text sink.new) (shown self.now) (shown prev.now)) }
+    {
+        write_change(sink, prev.attrs(), Attrs::new())?;
+        write_row_shifts(sink, grid, &self.view(), &prev.view(), first)?;
+        write_contents_diff(sink, &self.view(), &prev.view_of(grid))
+    }
+
+    /// Returns a view of what the screen would display with default attributes
+    /// if `grid` were its active page.
+    fn view_of<'a>(&'a self, grid: &'a Grid) -> View<'a>
+        requires own { ShowsOwnPage self.now }
+        requires page { IsPage grid.now }
+        ensures { result ≡ picture_of (record {
+          page = grid.now;
+          attrs = default_attrs;
+          saved_attrs = default_attrs;
+          hidden = self.now.hidden;
+        }) }
+    {
+        View::new(&self.scrollback, grid, Attrs::new(), self.hidden)
     }
 
     /// Returns a view of what a terminal displays after it has displayed this

@@ -1,4 +1,4 @@
-//! Differences that move rows first: their escape sequences, and the display of a terminal that
+//! Differences that move rows or columns first: their escape sequences, and the display of a terminal that
 //! parses them.
 
 use super::difference_tests::{Example, expect_at_each_cut};
@@ -11,6 +11,12 @@ const FOUR: &str = "aaaaaaaaa\r\nbbbbbbbbb\r\nccccccccc\r\nddddddddd";
 
 /// Input with a fifth row, which stays; the cursor ends after the fourth.
 const FIFTH: &str = "\r\nsssssssss\x1b[4;10H";
+
+/// Input with a row of words.
+const SIX: &str = "one two three four five six";
+
+/// Input with the same row of words, but without the second one.
+const FIVE: &str = "one three four five six";
 
 #[rattlefmt::skip]
 const MOVED: [Example; 7] = [
@@ -61,6 +67,49 @@ const MOVED: [Example; 7] = [
     // Nothing has moved.
     ((4, 10), 0, &[Text(FOUR)], &[Text(FOUR), Text("\x1b[H0")], "\x1b[H0"),
 ];
+
+#[rattlefmt::skip]
+const SHIFTED: [Example; 4] = [
+    // Columns are deleted.
+    (
+        (1, 30), 0,
+        &[Text(SIX)],
+        &[Text(SIX), Text("\x1b[1;6H\x1b[4P")],
+        "\x1b[1;6H\x1b[4P",
+    ),
+
+    // Columns are inserted, and the blanks are drawn over.
+    (
+        (1, 30), 0,
+        &[Text(FIVE)],
+        &[Text(FIVE), Text("\x1b[1;6H\x1b[4@wo t")],
+        "\x1b[1;6H\x1b[4@wo t",
+    ),
+
+    // Columns of two rows are deleted, but not those of the row between them.
+    (
+        (3, 30), 0,
+        &[Text(SIX), Text("\r\nsix\r\n"), Text(SIX)],
+        &[Text(SIX), Text("\r\nsix\r\n"), Text(SIX), Text("\x1b[1;6H\x1b[4P\x1b[3;6H\x1b[4P")],
+        "\x1b[1;6H\x1b[4P\x1b[3;6H\x1b[4P",
+    ),
+
+    // The attributes are reset to their defaults first.
+    (
+        (1, 30), 0,
+        &[Text(SIX), Text("\x1b[41m")],
+        &[Text(FIVE), Text("\x1b[1;6H")],
+        "\x1b[m\x1b[1;6H\x1b[4P",
+    ),
+];
+
+#[test]
+fn columns_move_first(rt: HostRuntime) -> Result<(), Fail> {
+    for example in &SHIFTED {
+        expect_at_each_cut(rt.alloc(), Change::Scrolling, example)?;
+    }
+    Ok(())
+}
 
 #[test]
 fn rows_move_first(rt: HostRuntime) -> Result<(), Fail> {

@@ -1,17 +1,17 @@
 use Rattle.std.proofs.Common.{string_bytes}
-use Rattle.vt_screen.proofs.MovedRead.{scrolling_redraws, scrolling_tells}
+use Rattle.vt_screen.proofs.ShiftedRead.{moving_redraws, moving_tells}
 use Rattle.vt_screen.proofs.Viewing.{same_shown}
 use Rattle.vt_screen.specs.Shown.{shown}
 use Rattle.vt_screen.proofs.ContentTexts.{none_refused}
 use Rattle.vt_screen.proofs.EqualTexts.{difference_none}
-use Rattle.vt_screen.proofs.MadeOf.{scrolling_made}
-use Rattle.vt_screen.proofs.MovedAgain.{scrolling_keeps}
+use Rattle.vt_screen.proofs.MadeOf.{moving_made}
+use Rattle.vt_screen.proofs.ShiftedAgain.{moving_keeps}
 use Rattle.vt_screen.proofs.screen.Screen.contents_diff_scrolling.Goals as goal
 
 pub returns-clause-redraws : goal.returns-clause-redraws
 returns-clause-redraws c =
     let is = c.in_ok-shorter.ensures in
-    scrolling_redraws c.args.self.now c.args.prev.now (string_bytes c.in_ok-shorter.shorter)
+    moving_redraws c.args.self.now c.args.prev.now (string_bytes c.in_ok-shorter.shorter)
     (record {
       sound = is.whole;
       colored = is.colored;
@@ -23,7 +23,7 @@ returns-clause-redraws c =
 pub returns-clause-empty : goal.returns-clause-empty
 returns-clause-empty c steady empty =
     let is = c.in_ok-shorter.ensures in
-    scrolling_tells c.args.self.now c.args.prev.now (string_bytes c.in_ok-shorter.shorter)
+    moving_tells c.args.self.now c.args.prev.now (string_bytes c.in_ok-shorter.shorter)
     (record {
       sound = is.whole;
       colored = is.colored;
@@ -45,11 +45,11 @@ returns-in_err-shorter-clause-never c same =
 pub returns-clause-controls : goal.returns-clause-controls
 returns-clause-controls c =
     let is = c.in_ok-shorter.ensures in
-    scrolling_made c.args.self.now c.args.prev.now (string_bytes c.in_ok-shorter.shorter)
+    moving_made c.args.self.now c.args.prev.now (string_bytes c.in_ok-shorter.shorter)
     is.whole is.colored is.other_colored is.text
 
 pub returns-clause-again : goal.returns-clause-again
 returns-clause-again c =
     let is = c.in_ok-shorter.ensures in
-    scrolling_keeps c.args.self.now c.args.prev.now (string_bytes c.in_ok-shorter.shorter)
+    moving_keeps c.args.self.now c.args.prev.now (string_bytes c.in_ok-shorter.shorter)
     is.whole is.colored is.other is.other_colored is.text

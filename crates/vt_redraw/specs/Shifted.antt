@@ -1,0 +1,89 @@
+-- Inserting or deleting columns in rows of a terminal before a difference is drawn, and the picture displayed after
+-- that.
+use Rattle.std.specs.Prelude.{◌≡◌, ◌⊎◌, ℕ, ◌+◌, ◌<◌, ◌≤◌, List, [], ◌∷◌, ◌++◌, length, slice_set, if◌then◌else◌}
+use Rattle.std.specs.List.{AllByRecursion, flat_map}
+use Rattle.vt_cells.specs.Attrs.{default_attrs}
+use Rattle.vt_cells.specs.Op.{MoveTo, bytes_of, bytes_of_all, counted}
+use Rattle.vt_rows.specs.Row.{RowValue, deleted_row, inserted_row}
+use Rattle.vt_grid.specs.Page.{Page, row_at, row_or, with_row}
+use Rattle.vt_redraw.specs.Picture.{Picture}
+use Rattle.vt_redraw.specs.Redraw.{difference}
+use Rattle.vt_redraw.specs.Script.{attr_ops}
+use Rattle.vt_redraw.specs.Moved.{IsBand, IsScrolling}
+use Rattle.vt_redraw.specs.declared.guess.Move.{Move}
+use Rattle.vt_redraw.specs.declared.guess.Move.TheVariants.{Rows, Columns}
+use Rattle.vt_redraw.specs.declared.row_shift.RowShift.{RowShift}
+
+-- The shift moves columns and lies within a picture of this size.
+pub record IsRowShift (height width : ℕ) (shift : RowShift) : Type 0 where
+  pub some : 0 < shift.count
+  pub row : shift.row < height
+  pub columns : shift.col + shift.count ≤ width
+
+-- The move is valid for a picture of this size.
+abbrev pub IsMove : (height width : ℕ) → Move → Type 0
+IsMove height width (Rows band) = IsBand height band
+IsMove height width (Columns shift) = IsRowShift height width shift
+
+-- A row after blanks are inserted in it or columns are deleted from it.
+abbrev pub shifted_row : RowShift → RowValue → RowValue
+shifted_row shift row =
+    if shift.insert then inserted_row shift.col shift.count row else deleted_row shift.col shift.count row
+
+-- A page after a shift. The cursor is where the columns were inserted or deleted.
+abbrev pub shifted_page : RowShift → Page → Page
+shifted_page shift page =
+    with_row shift.row (shifted_row shift (row_at page shift.row))
+    (record page { row = shift.row; column = shift.col })
+
+-- A page after several shifts, in order.
+abbrev pub shifted_pages : List RowShift → Page → Page
+shifted_pages [] page = page
+shifted_pages (shift ∷ shifts) page = shifted_pages shifts (shifted_page shift page)
+
+-- A picture after a shift. The cursor is where the columns were inserted or deleted.
+abbrev pub shifted : RowShift → Picture → Picture
+shifted shift picture = record picture {
+  rows = slice_set picture.rows shift.row (shifted_row shift (row_or picture.width picture.rows shift.row));
+  row = shift.row;
+  column = shift.col;
+}
+
+-- A picture after several shifts, in order.
+abbrev pub shifted_all : List RowShift → Picture → Picture
+shifted_all [] picture = picture
+shifted_all (shift ∷ shifts) picture = shifted_all shifts (shifted shift picture)
+
+-- The picture with default attributes. They are set before columns are shifted, because a terminal may fill inserted
+-- columns with the current background colour.
+abbrev pub in_default_attrs : Picture → Picture
+in_default_attrs picture = record picture { attrs = default_attrs }
+
+-- ---- the sequences
+
+-- The sequences that move the cursor to where a shift begins, and insert blanks (ICH) or delete columns (DCH) there.
+abbrev pub shift_text : RowShift → List ℕ
+shift_text shift =
+    bytes_of (MoveTo shift.row shift.col) ++ counted shift.count (if shift.insert then 0x40 else 0x50)
+
+-- The sequences of several shifts.
+abbrev pub shifts_text : List RowShift → List ℕ
+shifts_text shifts = flat_map shift_text shifts
+
+-- A change to the default attributes and the sequences of several shifts, followed by the difference from the picture
+-- displayed after that.
+abbrev pub shifting_text : List RowShift → (self prev : Picture) → List ℕ
+shifting_text shifts self prev =
+    bytes_of_all (attr_ops prev.attrs default_attrs)
+    ++ (shifts_text shifts ++ bytes_of_all (difference self (shifted_all shifts (in_default_attrs prev))))
+
+-- The text is a difference that first makes one or more shifts.
+pub record IsShifting (self prev : Picture) (text : List ℕ) : Type 0 where
+  pub first : RowShift
+  pub rest : List RowShift
+  pub inside : AllByRecursion (IsRowShift (length prev.rows) prev.width) (first ∷ rest)
+  pub bytes : text ≡ shifting_text (first ∷ rest) self prev
+
+-- The text is a difference that may first move a band of rows or shift columns.
+abbrev pub IsMoving : (self prev : Picture) → List ℕ → Type 0
+IsMoving self prev text = IsScrolling self prev text ⊎ IsShifting self prev text

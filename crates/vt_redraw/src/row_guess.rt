@@ -1,0 +1,208 @@
+//! A guess at the columns that have moved in a row between two pictures.
+//! Correctness does not depend on it: after any columns have moved, the
+//! difference draws the rest.
+
+ghost use Rattle.std.specs.Prelude.{◌<◌, IfSome, length};
+ghost use Rattle.vt_redraw.specs.Picture.{SamePictureSize};
+ghost use Rattle.vt_redraw.specs.Shifted.{IsRowShift};
+
+use crate::picture_row::PictureRow;
+use crate::row_shift::RowShift;
+use crate::view::View;
+use vt_cells::{Attrs, Cell, cell};
+
+/// The approximate number of bytes that it takes to move the cursor within a
+/// row, or to erase a run of blanks.
+const RUN: i32 = 4;
+
+/// The approximate number of bytes that it takes to change attributes.
+const CHANGE: i32 = 6;
+
+/// The approximate number of bytes in the escape sequences of a shift.
+const SEQUENCES: i32 = 10;
+
+/// The maximum number of counts that are examined for a shift in one direction.
+/// It bounds the time that a row of equal cells takes.
+const MOST_COUNTS: u32 = 8;
+
+/// The best shift so far, and the approximate number of bytes that it takes to
+/// draw the row after that shift.
+#[derive(Drop)]
+struct Best {
+    shift: Option<RowShift>,
+    bytes: i32,
+}
+
+/// The approximate length of the output that draws a row, and what the output
+/// has drawn last.
+#[derive(Drop)]
+struct Estimate {
+    bytes: i32,
+    drew: bool,
+    drew_blank: bool,
+    attrs: Attrs,
+}
+
+/// Returns the shift of columns in row `row` that most likely happened between
+/// `prev` and `view`, or `None` if a shift is not expected to save output.
+pub fn likely_row_shift(view: &View<'_>, prev: &View<'_>, row: u16) -> Option<RowShift>
+    requires size { SamePictureSize view.now prev.now }
+    requires row { row < length view.now.rows }
+    ensures { IfSome result (IsRowShift (length prev.now.rows) prev.now.width) }
+{
+    let cells = view.row(row);
+    let over = prev.row(row);
+    let col = first_difference(&cells, &over)?;
+    let shift = best_shift(&cells, &over, row, col)?;
+    if shift.is_within(prev.rows(), prev.cols()) {
+        Some(shift)
+    } else {
+        None
+    }
+}
+
+/// Returns the first column in which the two rows differ.
+fn first_difference(cells: &PictureRow<'_>, over: &PictureRow<'_>) -> Option<u16> {
+    let cols = cells.cols().min(over.cols());
+    let same = cells.same_run(over, 0);
+    let first = u16::try_from(same).unwrap_or(cols);
+    for col in first..cols {
+        if *cells.cell(col) != *over.cell(col) {
+            return Some(col);
+        }
+    }
+    None
+}
+
+/// Returns the shift at a position that saves the most bytes, or `None` if none
+/// saves any.
+fn best_shift(
+    cells: &PictureRow<'_>,
+    over: &PictureRow<'_>,
+    row: u16,
+    col: u16,
+) -> Option<RowShift> {
+    let none = RowShift {
+        row,
+        col,
+        count: 0,
+        insert: false,
+    };
+    let mut best = Best {
+        shift: None,
+        bytes: i32::MAX,
+    };
+    best.consider_all(cells, over, none);
+    let inserted = RowShift {
+        insert: true,
+        ..none
+    };
+    best.consider_all(cells, over, inserted);
+    let shift = best.shift?;
+    if best.bytes.saturating_add(SEQUENCES) < drawing(cells, over, none) {
+        Some(shift)
+    } else {
+        None
+    }
+}
+
+impl Best {
+    /// Considers shifts like `start` that bring the first columns that they move
+    /// to the right place, up to [`MOST_COUNTS`] of them.
+    fn consider_all(&mut self, cells: &PictureRow<'_>, over: &PictureRow<'_>, start: RowShift) {
+        let near = usize::from(start.col);
+        let (own, others) = if start.insert {
+            (over.own_cells(), cells.own_cells())
+        } else {
+            (cells.own_cells(), over.own_cells())
+        };
+        if near >= own.len() || !own[near].has_contents() {
+            return;
+        }
+        let mut left = MOST_COUNTS;
+        for far in near + 1..others.len() {
+            if own[near] == others[far] && begin_alike(&own[near..], &others[far..]) {
+                if left == 0 {
+                    return;
+                }
+                left -= 1;
+                let count = u16::try_from(far - near).unwrap_or(0);
+                self.consider(cells, over, RowShift { count, ..start });
+            }
+        }
+    }
+
+    /// Takes the given shift if it is better.
+    fn consider(&mut self, cells: &PictureRow<'_>, over: &PictureRow<'_>, shift: RowShift) {
+        let bytes = drawing(cells, over, shift);
+        if bytes < self.bytes {
+            self.shift = Some(shift);
+            self.bytes = bytes;
+        }
+    }
+}
+
+/// Returns whether the first four cells of the two rows are equal.
+fn begin_alike(own: &[Cell], others: &[Cell]) -> bool {
+    own.len() >= 4
+        && others.len() >= 4
+        && own[0] == others[0]
+        && own[1] == others[1]
+        && own[2] == others[2]
+        && own[3] == others[3]
+}
+
+/// Returns the approximate number of bytes that it takes to draw the row
+/// `cells` over the row `over` after a shift, from the first column of the
+/// shift on.
+fn drawing(cells: &PictureRow<'_>, over: &PictureRow<'_>, shift: RowShift) -> i32 {
+    let cols = cells.cols().min(over.cols());
+    let blank = cell::default_blank();
+    let mut estimate = Estimate {
+        bytes: 0,
+        drew: true,
+        drew_blank: false,
+        attrs: Attrs::new(),
+    };
+    for col in shift.col..cols {
+        let cell = cells.cell(col);
+        let differs = match shift.source(col, cols) {
+            Some(from) => *cell != *over.cell(from),
+            None => *cell != blank,
+        };
+        estimate.add(cell, differs);
+    }
+    estimate.bytes
+}
+
+impl Estimate {
+    /// Adds the output for one cell, which is drawn if it differs from what the
+    /// terminal displays.
+    fn add(&mut self, cell: &Cell, differs: bool) {
+        if !differs {
+            self.drew = false;
+            return;
+        }
+        let attrs = cell::attrs(cell);
+        if attrs != self.attrs && !cell.is_wide_continuation() {
+            self.attrs = attrs;
+            self.bytes = self.bytes.saturating_add(CHANGE);
+        }
+        let blank = cell::is_blank(cell);
+        self.bytes = self
+            .bytes
+            .saturating_add(if self.drew { 0 } else { RUN })
+            .saturating_add(self.text_len(cell, blank));
+        self.drew = true;
+        self.drew_blank = blank;
+    }
+
+    /// Returns the number of bytes of a glyph's text, or the approximate number
+    /// that it takes to erase a run of blanks, counted at its first blank.
+    fn text_len(&self, cell: &Cell, blank: bool) -> i32 {
+        if !blank {
+            return i32::try_from(cell.contents().len()).unwrap_or(0);
+        }
+        if self.drew && self.drew_blank { 0 } else { RUN }
+    }
+}
