@@ -237,4 +237,9 @@ impl Callbacks for Events {
     fn on_scroll(&mut self, row: RowContents<'_>, alternate: bool) {
         self.note_row(&row, alternate);
     }
+
+    /// Returns whether rows are currently recorded.
+    fn wants_rows(&self) -> bool {
+        self.keeps(ON_SCROLL)
+    }
 }

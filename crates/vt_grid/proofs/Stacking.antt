@@ -1,7 +1,7 @@
 -- Rows appended to those that are kept: all at once equals one after the other.
-use Rattle.std.proofs.Common.{◌≡◌, ℕ, suc, ◌+◌, ◌-◌, ◌≤◌, ◌==◌, min, List, [], ◌∷◌, ◌++◌, ◌<◌, get_or}
+use Rattle.std.proofs.Common.{◌≡◌, ℕ, suc, ◌+◌, ◌-◌, ◌≤◌, ◌==◌, min, List, [], ◌∷◌, ◌++◌, ◌<◌, get_or, slice_set}
 use Rattle.std.proofs.Common.{length, take, drop, map, sym, ap, subst, ◌∙◌, append_assoc, arith}
-use Rattle.std.proofs.Math.Seq.{take-add}
+use Rattle.std.proofs.Math.Seq.{take-add, get_or-append_seam, set-append_seam}
 use Rattle.std.proofs.lemmas.List.{take_more, drop_more, map_push, get_or-take, length-take, drop-append-le}
 use Rattle.std.proofs.lemmas.List.{take-append-le, drop-drop, length-append, length-drop, length-map}
 use Rattle.std.proofs.lemmas.List.Elements.{All-append, All-cons, All-drop, All-map, All-nil, All-take, All-weaker}
@@ -105,6 +105,24 @@ pub first_more : (n k : ℕ) (rows : List RowValue) (d : RowValue) → k < n →
 first_more n k rows d h l =
     ap (map trimmed_row) (drop_more (take n rows) k d (omega (arith, length-take n rows)))
     ∙ ap (λ (row : RowValue). trimmed_row row ∷ map trimmed_row (drop (k + 1) (take n rows))) (get_or-take n rows k d h)
+
+-- The oldest row has become the newest one.
+pub newest_turned : (rows turned : List RowValue) (n : ℕ) (d : RowValue) → 0 < length rows →
+    turned ≡ drop 1 rows ++ take 1 rows → n ≡ length turned → get_or turned (n - 1) d ≡ get_or rows 0 d
+newest_turned [] turned n d h e l = absurd (omega (arith, h))
+newest_turned (x ∷ xs) turned n d h e l =
+    let k : n - 1 ≡ length xs = omega (arith, l, ap length e ∙ length-append xs (x ∷ [])) in
+    (λ z. get_or (e z) (k z) d) ∙ get_or-append_seam xs x [] d
+
+-- The oldest row has become the newest one, and then a copy of the first row of a page.
+pub turned_over : (rows turned page : List RowValue) (n : ℕ) (row d : RowValue) → 0 < length rows → 0 < length page →
+    turned ≡ drop 1 rows ++ take 1 rows → n ≡ length turned → row ≡ trimmed_row (get_or page 0 d) →
+    slice_set turned (n - 1) row ≡ drop 1 rows ++ map trimmed_row (take 1 page)
+turned_over [] turned page n row d h p e l r = absurd (omega (arith, h))
+turned_over (x ∷ xs) turned [] n row d h p e l r = absurd (omega (arith, p))
+turned_over (x ∷ xs) turned (y ∷ ys) n row d h p e l r =
+    let k : n - 1 ≡ length xs = omega (arith, l, ap length e ∙ length-append xs (x ∷ [])) in
+    (λ z. slice_set (e z) (k z) (r z)) ∙ set-append_seam xs x [] (trimmed_row y)
 
 pub copied_more : (k : ℕ) (rows : List RowValue) (d : RowValue) → k < length rows →
     map trimmed_row (take (k + 1) rows) ≡ map trimmed_row (take k rows) ++ trimmed_row (get_or rows k d) ∷ []

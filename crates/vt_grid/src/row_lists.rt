@@ -109,8 +109,14 @@ pub fn turn_over<L: Leaving>(
     ensures grows { IsErr result → OldestIsShorter page.now.rows rows.old.items }
 {
     let row = page.row(0);
-    rows[0].leave_for(row.cells(), row.wrapped(), leaving)?;
+    // The row moves before it is filled: a move right after it would wait for the cells just
+    // written to reach memory.
     rows.rotate_left(1);
+    let newest = rows.len() - 1;
+    if let Err(error) = rows[newest].leave_for(row.cells(), row.wrapped(), leaving) {
+        rows.rotate_right(1);
+        return Err(error);
+    }
     Ok(())
 }
 
@@ -126,11 +132,15 @@ pub fn report_all<L: Leaving>(rows: &mut VecDeque<Row>, leaving: &mut L)
 }
 
 /// Passes the first `count` rows of a page to `leaving`, each without the default blanks at its
-/// end.
+/// end. Does nothing if `leaving` wants no rows.
+#[tactic(auto, using(vt_rows::proofs::Folds::folds_unchanged))]
 pub fn report_trimmed<L: Leaving>(page: &PageRows, count: usize, leaving: &mut L)
     requires { HasRows count page.now }
     ensures { FoldsTo L.leaves leaving.old (map trimmed_row (take count page.now.rows)) leaving.new }
 {
+    if !leaving.wants() {
+        return;
+    }
     for k in 0..count {
         let row = page.row(k);
         leaving.leave(trimmed(&row));

@@ -56,7 +56,8 @@ pub enum Call<'a> {
 /// that screen.
 ///
 /// Only [`Callbacks::otherwise`] and [`Callbacks::on_scroll`] must be
-/// implemented. Every other method calls `otherwise` by default:
+/// implemented. Every other method except [`Callbacks::wants_rows`] calls
+/// `otherwise` by default:
 ///
 /// ```
 /// struct Tally {
@@ -85,7 +86,8 @@ pub enum Call<'a> {
 /// }
 /// ```
 pub trait Callbacks {
-    ghost use Rattle.std.specs.Prelude.{map};
+    ghost use Rattle.std.specs.Prelude.{◌≡◌, Bool, false, map};
+    ghost use Rattle.vt_rows.specs.Row.{RowValue};
     ghost use Rattle.vt_screen.specs.Calls as calls;
     ghost use Rattle.vt_screen.specs.Calls.{CallValue};
     ghost use Rattle.vt_screen.specs.Meanings.{call_of};
@@ -112,6 +114,19 @@ pub trait Callbacks {
     /// callbacks.
     fn on_scroll(&mut self, row: RowContents<'_>, alternate: bool)
         ensures { (screen : ScreenValue) → does (calls.OnScroll row.entry alternate) self.old screen self.new screen };
+
+    /// Returns whether [`Callbacks::on_scroll`] must be called. If it returns
+    /// `false`, a call would have no effect, so the terminal may skip the call,
+    /// and with it the work of preparing the row.
+    ///
+    /// The terminal asks each time rows are dropped. By default, all rows are
+    /// wanted.
+    fn wants_rows(&self) -> bool
+        ensures { result ≡ false → (row : RowValue) (alternate : Bool) (screen : ScreenValue) →
+            does (calls.OnScroll row alternate) self.now screen self.now screen }
+    {
+        true
+    }
 
     /// Called for BEL (ECMA-48), the audible bell.
     fn audible_bell(&mut self, screen: &mut Screen)
@@ -251,4 +266,9 @@ impl Callbacks for () {
     fn otherwise(&mut self, _screen: &mut Screen, _call: Call<'_>) {}
 
     fn on_scroll(&mut self, _row: RowContents<'_>, _alternate: bool) {}
+
+    #[inline]
+    fn wants_rows(&self) -> bool {
+        false
+    }
 }

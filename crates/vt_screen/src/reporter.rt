@@ -19,6 +19,10 @@ impl<'a, CB: Callbacks> Leaving for Reporter<'a, CB> {
 
     ghost leaves = { Reports CB.does };
 
+    fn wants(&self) -> bool {
+        self.callbacks.wants_rows()
+    }
+
     fn leave(&mut self, row: RowContents<'_>) {
         self.callbacks.on_scroll(row, self.alternate);
     }

@@ -17,3 +17,4 @@ mod printing_tests;
 mod rendition_tests;
 mod scrolling_tests;
 mod sizes_tests;
+mod wanting_tests;

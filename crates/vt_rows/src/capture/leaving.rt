@@ -4,9 +4,18 @@ use super::RowContents;
 
 /// A receiver of rows that scroll off the top of a page and are not kept in scrollback.
 pub trait Leaving {
+    ghost use Rattle.std.specs.Prelude.{◌≡◌, false};
     ghost use Rattle.vt_rows.specs.Row.{RowValue};
 
     ghost leaves: { Self → RowValue → Self → Type 0 };
+
+    /// Returns whether rows must be passed. If it returns `false`, receiving a row has no effect,
+    /// so a caller may skip the call to [`Leaving::leave`] and the work for it.
+    fn wants(&self) -> bool
+        ensures { result ≡ false → (row : RowValue) → leaves self.now row self.now }
+    {
+        true
+    }
 
     /// Receives a row that scrolls off the top. Rows are passed oldest first.
     fn leave(&mut self, row: RowContents<'_>)
@@ -18,6 +27,11 @@ impl Leaving for () {
     ghost use Rattle.std.specs.Prelude.{◌≡◌};
 
     ghost leaves = { λ old _ new. new ≡ old };
+
+    #[inline]
+    fn wants(&self) -> bool {
+        false
+    }
 
     fn leave(&mut self, _row: RowContents<'_>) {}
 }
