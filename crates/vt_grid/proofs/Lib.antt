@@ -1,4 +1,5 @@
 pub mod Flats
+pub mod Packing
 pub mod Drawing
 pub mod Dispatch
 pub mod Carries
@@ -23,4 +24,5 @@ pub mod Growing
 pub mod Scrolling
 pub mod Moving
 pub mod Resizing
+pub mod Heights
 pub mod ResizeExamples

@@ -8,9 +8,8 @@ use Rattle.std.proofs.lemmas.Grind.{get_or-set_at}
 use Rattle.std.proofs.lemmas.List.{get_or_default, get_or-set_other, get_or-take}
 use Rattle.std.proofs.lemmas.List.{length-take, take-take, take_all, nil_from_length}
 use Rattle.std.proofs.lemmas.List.Elements.{All-get_or}
-use Rattle.vt_cells.specs.Attrs.{default_attrs}
 use Rattle.vt_rows.specs.Cells.{IsPaired}
-use Rattle.vt_rows.specs.Row.{RowValue, IsRow, blank_row, resized_row}
+use Rattle.vt_rows.specs.Row.{RowValue, IsRow, resized_row}
 
 -- The blank rows from k to before n have taken over: row j took that at index `source j`.
 abbrev pub MovedInto : (ℕ → ℕ) → (k n : ℕ) → (from blanks fresh : List RowValue) → Type 0
@@ -38,15 +37,6 @@ still_blank source k n from blanks fresh d m =
     ∙ ap (λ (b : Bool). if b
     then resized_row (length (get_or blanks k d).cells) (get_or from (source k) d) else get_or blanks k d)
     t
-
-pub blank_there : (source : ℕ → ℕ) (k n : ℕ) (from blanks fresh : List RowValue) (d : RowValue) →
-    k < length blanks → All (λ row. row ≡ blank_row default_attrs (length row.cells)) blanks →
-    MovedInto source (k + 1) n from blanks fresh →
-    get_or fresh k d ≡ blank_row default_attrs (length (get_or fresh k d).cells)
-blank_there source k n from blanks fresh d h all m =
-    subst (λ (row : RowValue). row ≡ blank_row default_attrs (length row.cells))
-    (sym (still_blank source k n from blanks fresh d m))
-    (All-get_or (λ row. row ≡ blank_row default_attrs (length row.cells)) blanks k d h all)
 
 pub moved_more : (source : ℕ → ℕ) (k n : ℕ) (from blanks fresh : List RowValue) (row old new : RowValue) →
     k < n → k < length blanks → length fresh ≡ length blanks → source k < length from →

@@ -64,11 +64,11 @@ row_or-window v h down up above rows k l =
     then blank_row default_attrs v else row_or v (above ++ rows) (length above + down + k - up))
     0 h k k (blank_row default_attrs v) l (omega arith)
 
-picks : {X : Type 0} (b : Bool) (x y : X) → b ≡ true → (if b then x else y) ≡ x
+pub picks : {X : Type 0} (b : Bool) (x y : X) → b ≡ true → (if b then x else y) ≡ x
 picks true x y e = refl
 picks false x y e = absurd (grind arith)
 
-passes : {X : Type 0} (b : Bool) (x y : X) → b ≡ false → (if b then x else y) ≡ y
+pub passes : {X : Type 0} (b : Bool) (x y : X) → b ≡ false → (if b then x else y) ≡ y
 passes true x y e = absurd (grind arith)
 passes false x y e = refl
 

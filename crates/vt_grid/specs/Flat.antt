@@ -1,6 +1,7 @@
 -- The rows of a page as one list of cells, divided into places for one row each, and a table that holds the place and
 -- the wrapped flag of each row.
-use Rattle.std.specs.Prelude.{◌≡◌, ℕ, ◌+◌, ◌*◌, ◌<◌, false, List, length, map, slice_index_or}
+use Rattle.std.specs.Prelude.{◌≡◌, ℕ, ◌+◌, ◌*◌, ◌<◌, ◌≤◌, false, List, length, map, slice_index_or}
+use Rattle.std.specs.Prelude.{vec_capacity}
 use Rattle.std.specs.List.{slice_range, range_with_len}
 use Rattle.vt_cells.specs.Cell.{CellValue}
 use Rattle.vt_rows.specs.Row.{RowValue}
@@ -45,3 +46,12 @@ IsFlat flat = IsTable flat.width flat.cells.items flat.lines.items
 -- The table of `n` rows in which row `k` is at place `k` and no row is wrapped.
 abbrev pub in_order : ℕ → List Line
 in_order n = map (λ place. record { place = place; wrapped = false }) (range_with_len 0 n)
+
+-- The table entries of `n` rows that are not wrapped, the first of them at place `first`.
+abbrev pub lines_from : (first n : ℕ) → List Line
+lines_from first n = map (λ place. record { place = place; wrapped = false }) (range_with_len first n)
+
+-- The storage has memory for this number of rows.
+pub record HasRoom (rows : ℕ) (flat : Flat) : Type 0 where
+  pub cells : rows * flat.width ≤ vec_capacity flat.cells
+  pub lines : rows ≤ vec_capacity flat.lines

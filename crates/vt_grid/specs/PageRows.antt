@@ -1,5 +1,5 @@
 -- The rows of a page without its cursor: edits of single rows, and moves of rows.
-use Rattle.std.specs.Prelude.{◌≡◌, ℕ, ◌≤◌, List, length, slice_set, replicate, All, Bool, Option, Some, None}
+use Rattle.std.specs.Prelude.{◌≡◌, ℕ, ◌-◌, ◌≤◌, List, ◌++◌, length, slice_set, replicate, All, Bool, Option, Some, None}
 use Rattle.vt_cells.specs.Attrs.{default_attrs}
 use Rattle.vt_cells.specs.Cell.{CellValue}
 use Rattle.vt_rows.specs.Row.{RowValue, IsRow, blank_row, with_cells}
@@ -52,3 +52,9 @@ page_rows_up top bottom n page_rows =
 abbrev pub page_rows_down : (top bottom n : ℕ) → PageRowsValue → PageRowsValue
 page_rows_down top bottom n page_rows =
     record page_rows { rows = rows_down page_rows.width top bottom n page_rows.rows }
+
+-- The rows of a page with default blank rows appended, so that there are `height` rows.
+abbrev pub with_blank_rows : (height : ℕ) → PageRowsValue → PageRowsValue
+with_blank_rows height page_rows = record page_rows {
+  rows = page_rows.rows ++ replicate (height - length page_rows.rows) (blank_row default_attrs page_rows.width);
+}

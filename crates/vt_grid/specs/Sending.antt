@@ -44,3 +44,11 @@ pub record ResizesPage {S : Type 0} (leaves : S → RowValue → S → Type 0) (
   pub err : OnErr result ((after ≡ before) × ((kept ≡ was) × (new ≡ old)))
   pub grows : IsErr result → TakesMemory (take (leaving height before) before.rows) (out_of_view was)
   pub memory : OnlyOutOfMemory result
+
+-- The page is resized to this height, at least its own. If an allocation fails, nothing is changed.
+pub record AddsRows (height : ℕ) (before : Page) (was : Scrollback) (after : Page) (kept : Scrollback)
+    (result : Result (Unit {0}) Error) : Type 0 where
+  pub page : OnOk result (after ≡ page_resized height before.width was before)
+  pub above : OnOk result (kept ≡ scrollback_resized height before was)
+  pub err : OnErr result ((after ≡ before) × (kept ≡ was))
+  pub memory : OnlyOutOfMemory result

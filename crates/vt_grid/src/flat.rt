@@ -10,6 +10,8 @@ ghost use Rattle.vt_rows.specs.Cells.{blanks};
 ghost use Rattle.vt_rows.specs.Internals.{turn_source};
 ghost use Rattle.vt_grid.specs.Flat.{line_at};
 
+mod resizing;
+
 use crate::size::Size;
 use std::alloc::Global;
 use vt_cells::{Attrs, Cell, Error};

@@ -190,14 +190,15 @@ impl Scrollback {
         Ok(())
     }
 
-    /// Moves the newest `up` rows back into the first `up` rows of a blank page, in order. If fewer
-    /// rows are kept, the topmost rows of the page stay blank.
+    /// Moves the newest `up` rows back into the first `up` rows of a page, in order. These must be
+    /// blank. If fewer rows are kept, the topmost rows of the page stay blank.
     ///
     /// All `up` rows count as having come back, even rows that were not kept. The offset must be 0.
     pub fn give_back(&mut self, page: &mut PageRows, up: usize)
         requires hidden { self.old.offset ≡ 0 }
         requires inside { up ≤ length page.old.rows }
-        requires blank { All (λ row. row ≡ blank_row default_attrs (length row.cells)) page.old.rows }
+        requires blank { (k : ℕ) (d : RowValue) → k < up → slice_index_or page.old.rows k d
+            ≡ blank_row default_attrs (length (slice_index_or page.old.rows k d).cells) }
         ensures above { self.new ≡ taken_back up self.old }
         ensures len { length page.new.rows ≡ length page.old.rows }
         ensures width { page.new.width ≡ page.old.width }
@@ -391,11 +392,11 @@ fn push_row<L: Leaving>(row: Row, kept: &mut VecDeque<Row>, capacity: usize, lea
     kept.push_back_reserved(row);
 }
 
-/// Moves the newest `up` rows into the first rows of a blank page, as [`Scrollback::give_back`]
-/// describes.
+/// Moves the newest `up` rows into the first rows of a page, as [`Scrollback::give_back`] describes.
 fn give_rows(kept: &mut VecDeque<Row>, page: &mut PageRows, up: usize)
     requires inside { up ≤ length page.old.rows }
-    requires blank { All (λ row. row ≡ blank_row default_attrs (length row.cells)) page.old.rows }
+    requires blank { (k : ℕ) (d : RowValue) → k < up → slice_index_or page.old.rows k d
+        ≡ blank_row default_attrs (length (slice_index_or page.old.rows k d).cells) }
     requires sound { AreRows kept.old.items }
     ensures kept { kept.new.items ≡ take (length kept.old.items - up) kept.old.items }
     ensures len { length page.new.rows ≡ length page.old.rows }

@@ -1,7 +1,7 @@
 -- Both pages resized, composed of the parts that the code performs.
-use Rattle.std.proofs.Common.{◌≡◌, ℕ, ◌-◌, ◌<◌, ◌^◌, Bool, true, false, List}
+use Rattle.std.proofs.Common.{◌≡◌, ℕ, ◌-◌, ◌<◌, ◌≤◌, ◌^◌, Bool, true, false, List, None, [], ◌++◌, map, arith}
 use Rattle.std.proofs.Common.{length, take, Option, Some, refl, sym, subst, ap, ◌∙◌}
-use Rattle.std.specs.Prelude.{Result, Ok, Err, OnOk, is_ok, option_map}
+use Rattle.std.specs.Prelude.{Result, Ok, Err, IfSome, OnOk, is_ok, option_map}
 use Rattle.std.specs.List.{FoldsTo}
 use Rattle.std.proofs.Math.Seq.{take-nil}
 use Rattle.std.proofs.lemmas.Bool.{false≢true}
@@ -11,8 +11,10 @@ use Rattle.vt_grid.specs.Page.{Page, blank_page}
 use Rattle.vt_grid.proofs.Resizing.{fresh_height, fresh_width}
 use Rattle.vt_grid.specs.Resize.{leaving, out_of_view, page_resized, resize_reports}
 use Rattle.vt_grid.specs.Resize.{returning, scrollback_resized, taken_back}
-use Rattle.vt_grid.specs.Scrollback.{Scrollback, no_scrollback, pushed}
-use Rattle.vt_screen.specs.Internals.{Aside, IsKept, IsNothing, main_scrollback, reports_of_pages}
+use Rattle.vt_grid.specs.Scrollback.{Scrollback, no_scrollback, pushed, reported}
+use Rattle.vt_screen.specs.Internals.{Aside, IsKept, IsNothing, IsOther, main_scrollback}
+use Rattle.vt_screen.specs.Internals.{pages_resized, reports_of_pages}
+use Rattle.vt_screen.specs.Calls.{OnScroll}
 use Rattle.vt_screen.specs.Pages.{reports_of}
 use Rattle.vt_screen.specs.Run.{CallRelation, CalledOnScroll, CalledOnAnyScreen}
 use Rattle.vt_screen.specs.Screen.{ScreenValue}
@@ -131,3 +133,123 @@ called_by_steps {S} does rows cols v now active idle page_rows s m t same w main
     (subst (λ (z : Scrollback). TakesCalls does s (reports_of false rows (Some v.page) z) m)
     whole (main_done does rows cols v.page page_rows active s m fresh called))
     told)
+
+-- ---- both pages, if their width stays
+
+-- The alternate page has been resized in place.
+pub alternate_in_place : {S : Type 0} (does : CallRelation S) (rows cols : ℕ)
+    (o : Option Page) (p new : Page) (above after : Scrollback) (s t : S)
+    → o ≡ Some p → cols ≡ p.width → above ≡ no_scrollback 0
+    → new ≡ page_resized rows p.width above p → after ≡ scrollback_resized rows p above
+    → FoldsTo (CalledOnScroll does true) s (resize_reports rows p above) t
+    → AlternateDone does rows cols o new after s t
+alternate_in_place {S} does rows cols o p new above after s t h w n page scrolled called =
+    let there : new ≡ page_resized rows cols (no_scrollback 0) p = page ∙ (λ z. page_resized rows (sym w z) (n z) p) in
+    let beyond : after ≡ scrollback_resized rows p (no_scrollback 0) = scrolled ∙ ap (scrollback_resized rows p) n in
+    let same : resize_reports rows p above ≡ resize_reports rows p (no_scrollback 0) = ap (resize_reports rows p) n in
+    record {
+      page = rw h (ap Some there);
+      called =
+          rw h (called_rows does true (resize_reports rows p (no_scrollback 0)) s t
+          (subst (λ (all : List RowValue). FoldsTo (CalledOnScroll does true) s all t) same called));
+      nothing = subst IsNothing (sym beyond) (nothing_resized rows p);
+    }
+
+pub kept_in_place : (rows cols : ℕ) (page new : Page) (last : Option ℕ)
+    (aside : Aside) (o : Option Page) (above idle : Scrollback) → cols ≡ page.width
+    → 0 < rows → rows < 2 ^ 16 → 0 < cols → cols < 2 ^ 16 → aside.is_alternate ≡ false
+    → new ≡ page_resized rows page.width aside.active page → above ≡ scrollback_resized rows page aside.active
+    → o ≡ option_map (page_resized rows cols (no_scrollback 0)) aside.other → IsNothing idle → IsKept page last aside
+    → IsKept new last (record { other = o; is_alternate = aside.is_alternate; active = above; idle = idle })
+kept_in_place rows cols page new last aside o above idle w a b c d main n m k nothing kept =
+    let there : new ≡ page_resized rows cols aside.active page =
+    n ∙ ap (λ (i : ℕ). page_resized rows i aside.active page) (sym w) in
+    rw (there, m, k) (kept_resized rows cols page last aside idle a b c d main nothing kept)
+
+pub called_in_place : {S : Type 0} (does : CallRelation S)
+    (rows : ℕ) (v now : ScreenValue) (active idle : Scrollback) (s m t : S)
+    → v ≡ now → v.scrollback ≡ main_scrollback v.is_alternate active idle → now.is_alternate ≡ false
+    → FoldsTo (CalledOnScroll does false) s (resize_reports rows v.page active) m
+    → TakesCalls does m (reports_of true rows v.other (no_scrollback 0)) t
+    → TakesCalls does s (reports_of_pages rows now) t
+called_in_place {S} does rows v now active idle s m t same w main called told =
+    let whole : active ≡ v.scrollback =
+    above_main v.is_alternate active idle v.scrollback w (ap (λ (x : ScreenValue). x.is_alternate) same ∙ main) in
+    subst (λ (x : ScreenValue). TakesCalls does s (reports_of_pages rows x) t) same
+    (folds_then (CalledOnAnyScreen does) (reports_of false rows (Some v.page) v.scrollback)
+    (reports_of true rows v.other (no_scrollback 0)) s m t
+    (subst (λ (z : Scrollback). TakesCalls does s (reports_of false rows (Some v.page) z) m)
+    whole (called_rows does false (resize_reports rows v.page active) s m called))
+    told)
+
+-- The view of a screen with both pages resized in place.
+pub view_in_place : (rows cols : ℕ) (v now : ScreenValue) (active idle above after : Scrollback) (new : Page)
+    (o : Option Page) → v ≡ now → v.scrollback ≡ main_scrollback v.is_alternate active idle →
+    now.is_alternate ≡ false → cols ≡ now.page.width → new ≡ page_resized rows v.page.width active v.page →
+    above ≡ scrollback_resized rows v.page active →
+    o ≡ option_map (page_resized rows cols (no_scrollback 0)) v.other →
+    record v { page = new; other = o; scrollback = main_scrollback v.is_alternate above after }
+    ≡ pages_resized rows cols now
+view_in_place rows cols v now active idle above after new o same w main wide n m k =
+    let not_alternate : v.is_alternate ≡ false = ap (λ (x : ScreenValue). x.is_alternate) same ∙ main in
+    let whole : active ≡ v.scrollback = above_main v.is_alternate active idle v.scrollback w not_alternate in
+    let width : v.page.width ≡ cols = ap (λ (x : ScreenValue). x.page.width) same ∙ sym wide in
+    let page : new ≡ page_resized rows cols v.scrollback v.page = n ∙ (λ z. page_resized rows (width z) (whole z) v.page) in
+    let scrollback : main_scrollback v.is_alternate above after ≡ scrollback_resized rows v.page v.scrollback =
+    ap (λ (b : Bool). main_scrollback b above after) not_alternate
+    ∙ (m ∙ ap (scrollback_resized rows v.page) whole) in
+    (λ z. record v { page = page z; other = k z; scrollback = scrollback z }) ∙ ap (pages_resized rows cols) same
+
+-- Clearing the other scrollback does not change the view.
+pub main_any : (b : Bool) (active idle after : Scrollback) → b ≡ false →
+    main_scrollback b active after ≡ main_scrollback b active idle
+main_any true active idle after e = absurd (false≢true (sym e))
+main_any false active idle after e = refl
+
+-- The other page, resized to its own width.
+pub other_in_place : (rows cols : ℕ) (page : Page) (o : Option Page) → cols ≡ page.width → IfSome o (IsOther page) →
+    option_map (λ p. page_resized rows p.width (no_scrollback 0) p) o
+    ≡ option_map (page_resized rows cols (no_scrollback 0)) o
+other_in_place rows cols page None w k = refl
+other_in_place rows cols page (Some p) w k =
+    ap (λ (i : ℕ). Some (page_resized rows i (no_scrollback 0) p)) (k.same.width ∙ sym w)
+
+pub fewer_in_place : (rows : ℕ) (page : Page) (o : Option Page) → rows ≤ length page.rows → IfSome o (IsOther page) →
+    IfSome o (λ p. rows ≤ length p.rows)
+fewer_in_place rows page None h k = tt
+fewer_in_place rows page (Some p) h k = omega (arith, h, k.same.height)
+
+pub width_in_place : (cols : ℕ) (page : Page) (o : Option Page) → cols ≡ page.width → IfSome o (IsOther page) →
+    IfSome o (λ p. cols ≡ p.width)
+width_in_place cols page None w k = tt
+width_in_place cols page (Some p) w k = w ∙ sym k.same.width
+
+pub more_in_place : (rows : ℕ) (page : Page) (o : Option Page) → length page.rows ≤ rows → IfSome o (IsOther page) →
+    IfSome o (λ p. length p.rows ≤ rows)
+more_in_place rows page None h k = tt
+more_in_place rows page (Some p) h k = omega (arith, h, k.same.height)
+
+-- No row scrolls off if no row is removed.
+quiet_page : (rows : ℕ) (b : Bool) (page : Page) (above : Scrollback) → length page.rows ≤ rows →
+    reports_of b rows (Some page) above ≡ []
+quiet_page rows b page above h =
+    let none : leaving rows page ≡ 0 = omega (arith, h) in
+    ap (λ (n : ℕ). map (λ row. OnScroll row b) (reported (take n page.rows) above)) none
+
+quiet_other : (rows : ℕ) (page : Page) (o : Option Page) → length page.rows ≤ rows → IfSome o (IsOther page) →
+    reports_of true rows o (no_scrollback 0) ≡ []
+quiet_other rows page None h k = refl
+quiet_other rows page (Some p) h k = quiet_page rows true p (no_scrollback 0) (omega (arith, h, k.same.height))
+
+pub quiet_in_place : (rows : ℕ) (v now : ScreenValue) → v ≡ now → length v.page.rows ≤ rows →
+    IfSome v.other (IsOther v.page) → reports_of_pages rows now ≡ []
+quiet_in_place rows v now same h k =
+    ap (reports_of_pages rows) (sym same)
+    ∙ (λ z. quiet_page rows false v.page v.scrollback h z ++ quiet_other rows v.page v.other h k z)
+
+pub nothing_in_place : (rows : ℕ) (o : Option Page) (before after : Scrollback) → before ≡ no_scrollback 0 →
+    IfSome o (λ page. after ≡ scrollback_resized rows page before) → (o ≡ None → after ≡ before) → IsNothing after
+nothing_in_place rows None before after z h n =
+    subst IsNothing (sym (n refl ∙ z)) (record { capacity = refl; rows = refl; offset = refl })
+nothing_in_place rows (Some p) before after z h n =
+    subst IsNothing (sym (h ∙ ap (scrollback_resized rows p) z)) (nothing_resized rows p)

@@ -1,10 +1,10 @@
 //! Resizing a page as xterm does: rows scroll off the top, and come back at the top.
 
-ghost use Rattle.std.specs.Prelude.{◌≡◌, ◌^◌, ◌-◌, ◌<◌, length, min};
+ghost use Rattle.std.specs.Prelude.{◌≡◌, ◌^◌, ◌-◌, ◌<◌, ◌≤◌, IfSome, None, OnErr, OnOk, length, min, option_map};
 ghost use Rattle.vt_grid.specs.Page.{blank_page};
 ghost use Rattle.vt_grid.specs.PageRows.{blank_page_rows};
-ghost use Rattle.vt_grid.specs.Resize.{row_resized};
-ghost use Rattle.vt_grid.specs.Sending.{ResizesPage};
+ghost use Rattle.vt_grid.specs.Resize.{page_resized, row_resized, scrollback_resized};
+ghost use Rattle.vt_grid.specs.Sending.{AddsRows, ResizesPage};
 
 use super::Grid;
 use crate::page_rows::PageRows;
@@ -43,6 +43,143 @@ impl Grid {
             self.new above.new leaving.new result }
     {
         self.fill(fresh.page_rows, above, leaving)?;
+        Ok(())
+    }
+
+    /// Resizes the page to `rows` rows, at most as many as it has. The width is unchanged, and the
+    /// rows that are kept stay in place. The rules are those of [`Grid::set_size`].
+    ///
+    /// # Errors
+    ///
+    /// Returns [`Error::OutOfMemory`] if memory for scrollback cannot be allocated. On error,
+    /// nothing is changed and no row is reported.
+    pub fn remove_rows<L: Leaving>(
+        &mut self,
+        rows: u16,
+        above: &mut Scrollback,
+        leaving: &mut L,
+    ) -> Result<(), Error>
+        requires some { 0 < rows }
+        requires fewer { rows ≤ length self.old.rows }
+        ensures { ResizesPage L.leaves rows self.old.width self.old above.old leaving.old
+            self.new above.new leaving.new result }
+    {
+        let size = Size {
+            rows,
+            cols: self.size.cols,
+        };
+        let below = self.size.rows - (self.pos.row + 1);
+        let down = (self.size.rows - rows).saturating_sub(below);
+        above.push_out_of_view(&self.page_rows, usize::from(down), self.size, leaving)?;
+        self.page_rows.keep_rows(down, rows);
+        self.pos = resized(self.pos, down, 0, size);
+        self.saved_pos = resized(self.saved_pos, down, 0, size);
+        self.scroll_top = 0;
+        self.scroll_bottom = rows - 1;
+        self.size = size;
+        Ok(())
+    }
+
+    /// Resizes this page and `other`, if there is one, to `rows` rows, at least as many as each of
+    /// them has. The widths are unchanged, and the rows stay in place. The rules are those of
+    /// [`Grid::set_size`], with `above` as the scrollback of this page and `other_above` as that of
+    /// the other page.
+    ///
+    /// # Errors
+    ///
+    /// Returns [`Error::OutOfMemory`] if the rows cannot be allocated. On error, nothing is changed.
+    pub fn add_rows(
+        &mut self,
+        other: &mut Option<Grid>,
+        rows: u16,
+        above: &mut Scrollback,
+        other_above: &mut Scrollback,
+    ) -> Result<(), Error>
+        requires own { length self.old.rows ≤ rows }
+        requires other { IfSome other.old (λ page. length page.rows ≤ rows) }
+        ensures own { AddsRows rows self.old above.old self.new above.new result }
+        ensures other { OnOk result (other.new
+            ≡ option_map (λ page. page_resized rows page.width other_above.old page) other.old) }
+        ensures other_above { OnOk result (IfSome other.old (λ page.
+            other_above.new ≡ scrollback_resized rows page other_above.old)) }
+        ensures none { other.old ≡ None → other_above.new ≡ other_above.old }
+        ensures err { OnErr result ((other.new ≡ other.old) × (other_above.new ≡ other_above.old)) }
+    {
+        let Some(page) = other else {
+            return self.add_own_rows(rows, above);
+        };
+        self.add_rows_to_both(page, rows, above, other_above)?;
+        Ok(())
+    }
+
+    /// Resizes this page alone, as [`Grid::add_rows`] does.
+    ///
+    /// # Errors
+    ///
+    /// Returns [`Error::OutOfMemory`] if the rows cannot be allocated. On error, nothing is changed.
+    fn add_own_rows(&mut self, rows: u16, above: &mut Scrollback) -> Result<(), Error>
+        requires { length self.old.rows ≤ rows }
+        ensures { AddsRows rows self.old above.old self.new above.new result }
+    {
+        let size = Size {
+            rows,
+            cols: self.size.cols,
+        };
+        let up = at_most(rows - self.size.rows, above.theoretical_len());
+        self.page_rows.append_rows(rows)?;
+        above.leave_view();
+        self.page_rows.bring_back(up, above);
+        self.pos = resized(self.pos, 0, up, size);
+        self.saved_pos = resized(self.saved_pos, 0, up, size);
+        self.scroll_top = 0;
+        self.scroll_bottom = rows - 1;
+        self.size = size;
+        Ok(())
+    }
+
+    /// Resizes this page and `other`, as [`Grid::add_rows`] does.
+    ///
+    /// # Errors
+    ///
+    /// Returns [`Error::OutOfMemory`] if the rows cannot be allocated. On error, nothing is changed.
+    fn add_rows_to_both(
+        &mut self,
+        other: &mut Grid,
+        rows: u16,
+        above: &mut Scrollback,
+        other_above: &mut Scrollback,
+    ) -> Result<(), Error>
+        requires own { length self.old.rows ≤ rows }
+        requires other { length other.old.rows ≤ rows }
+        ensures own { AddsRows rows self.old above.old self.new above.new result }
+        ensures other { AddsRows rows other.old other_above.old other.new other_above.new result }
+    {
+        let size = Size {
+            rows,
+            cols: self.size.cols,
+        };
+        let other_size = Size {
+            rows,
+            cols: other.size.cols,
+        };
+        let up = at_most(rows - self.size.rows, above.theoretical_len());
+        let other_up = at_most(rows - other.size.rows, other_above.theoretical_len());
+        self.page_rows
+            .append_rows_to_both(&mut other.page_rows, rows)?;
+        above.leave_view();
+        self.page_rows.bring_back(up, above);
+        self.pos = resized(self.pos, 0, up, size);
+        self.saved_pos = resized(self.saved_pos, 0, up, size);
+        self.scroll_top = 0;
+        self.scroll_bottom = rows - 1;
+        self.size = size;
+        other_above.leave_view();
+        other.page_rows.bring_back(other_up, other_above);
+        other.pos = resized(other.pos, 0, other_up, other_size);
+        other.saved_pos = resized(other.saved_pos, 0, other_up, other_size);
+        other.scroll_top = 0;
+        other.scroll_bottom = rows - 1;
+        other.size = other_size;
         Ok(())
     }
 

@@ -1,20 +1,102 @@
-//! Resizing the rows of a page: the old rows are copied into new ones.
+//! Resizing the rows of a page: in place, or by copying them into new rows if the width changes.
 
-ghost use Rattle.std.specs.Prelude.{◌≡◌, ◌<◌, ◌≤◌, ℕ, All, length, slice_index_or};
+ghost use Rattle.std.specs.Prelude.{◌≡◌, ◌+◌, ◌-◌, ◌<◌, ◌≤◌, ◌++◌, ℕ, All, List, OnErr, OnOk};
+ghost use Rattle.std.specs.Prelude.{length, replicate, slice_index_or};
 ghost use Rattle.vt_cells.specs.Attrs.{default_attrs};
+ghost use Rattle.vt_cells.specs.Refusals.{OnlyOutOfMemory};
 ghost use Rattle.vt_rows.specs.Row.{RowValue, IsRow, blank_row, resized_row};
 ghost use Rattle.vt_grid.specs.Internals.{refilled, taken_over};
 ghost use Rattle.vt_rows.specs.Cells.{IsPaired};
 ghost use Rattle.vt_grid.specs.Resize.{rows_resized, taken_back, window};
-ghost use Rattle.vt_grid.specs.PageRows.{blank_page_rows, page_row, with_page_row};
+ghost use Rattle.vt_grid.specs.PageRows.{blank_page_rows, page_row, with_blank_rows, with_page_row};
 
 use super::PageRows;
 use crate::scrollback::Scrollback;
-use vt_cells::Cell;
+use vt_cells::{Cell, Error};
 use vt_rows::cuts;
 use vt_rows::row::flag_kept;
 
 impl PageRows {
+    /// Appends default blank rows until there are `rows` rows.
+    ///
+    /// # Errors
+    ///
+    /// Returns [`Error::OutOfMemory`] if the rows cannot be allocated. On error, nothing is changed.
+    pub fn append_rows(&mut self, rows: u16) -> Result<(), Error>
+        requires { length self.old.rows ≤ rows }
+        ensures ok { OnOk result (self.new ≡ with_blank_rows rows self.old) }
+        ensures err { OnErr result (self.new ≡ self.old) }
+        ensures memory { OnlyOutOfMemory result }
+    {
+        self.flat.reserve(rows)?;
+        self.flat.append_rows(rows);
+        Ok(())
+    }
+
+    /// Appends default blank rows to this page and to `other` until each has `rows` rows.
+    ///
+    /// # Errors
+    ///
+    /// Returns [`Error::OutOfMemory`] if the rows cannot be allocated. On error, neither page is
+    /// changed.
+    pub fn append_rows_to_both(&mut self, other: &mut PageRows, rows: u16) -> Result<(), Error>
+        requires own { length self.old.rows ≤ rows }
+        requires other { length other.old.rows ≤ rows }
+        ensures own { OnOk result (self.new ≡ with_blank_rows rows self.old) }
+        ensures other { OnOk result (other.new ≡ with_blank_rows rows other.old) }
+        ensures err { OnErr result ((self.new ≡ self.old) × (other.new ≡ other.old)) }
+        ensures memory { OnlyOutOfMemory result }
+    {
+        self.flat.reserve(rows)?;
+        other.flat.reserve(rows)?;
+        self.flat.append_rows(rows);
+        other.flat.append_rows(rows);
+        Ok(())
+    }
+
+    /// Moves the newest `up` scrollback rows back to the top of the page. The rows of the page move
+    /// down by `up` rows, over blank rows at its bottom. The wrapped flag of the last row is
+    /// cleared.
+    pub fn bring_back(&mut self, up: u16, above: &mut Scrollback)
+        requires some { 0 < length self.old.rows }
+        requires inside { up ≤ length self.old.rows }
+        requires blank { (k : ℕ) (d : RowValue) → length self.old.rows ≤ k + up → k < length self.old.rows →
+            slice_index_or self.old.rows k d ≡ blank_row default_attrs self.old.width }
+        requires hidden { above.old.offset ≡ 0 }
+        requires sound { All (IsRow self.old.width) self.old.rows }
+        ensures rows { (own : List RowValue) → length own + up ≤ length self.old.rows →
+            self.old.rows
+            ≡ own ++ replicate (length self.old.rows - length own) (blank_row default_attrs self.old.width) →
+            self.new.rows
+            ≡ rows_resized self.old.width
+            (window self.old.width (length self.old.rows) 0 up above.old.rows own) }
+        ensures width { self.new.width ≡ self.old.width }
+        ensures above { above.new ≡ taken_back up above.old }
+    {
+        let len = self.len();
+        let up = usize::from(up);
+        self.flat.rotate(0, len, len - up);
+        above.give_back(self, up);
+        self.wrap(len - 1, false);
+    }
+
+    /// Keeps `rows` rows, beginning with row `down`, and removes the others. The wrapped flag of
+    /// the last row is cleared.
+    pub fn keep_rows(&mut self, down: u16, rows: u16)
+        requires some { 0 < rows }
+        requires inside { down + rows ≤ length self.old.rows }
+        requires sound { All (IsRow self.old.width) self.old.rows }
+        ensures rows { (above : List RowValue) → self.new.rows
+            ≡ rows_resized self.old.width (window self.old.width rows down 0 above self.old.rows) }
+        ensures width { self.new.width ≡ self.old.width }
+    {
+        let len = self.len();
+        let rows = usize::from(rows);
+        self.flat.rotate(0, len, usize::from(down));
+        self.flat.truncate(rows);
+        self.wrap(rows - 1, false);
+    }
+
     /// Replaces the page with `fresh`, a page of default blanks, and fills it with the newest `up`
     /// scrollback rows and, below them, the rows of the old page after its first `down` rows. The
     /// wrapped flag of the last row is cleared.

@@ -1,6 +1,7 @@
 //! Resizing the screen.
 
-ghost use Rattle.std.specs.Prelude.{◌≡◌, IfOk, IsErr, OnErr, OnOk, false, option_map, true};
+ghost use Rattle.std.specs.Prelude.{◌≡◌, ◌≤◌, [], IfOk, IfSome, IsErr, OnErr, OnOk};
+ghost use Rattle.std.specs.Prelude.{false, length, option_map, true};
 ghost use Rattle.vt_cells.specs.Refusals.{OnlyOutOfMemory};
 ghost use Rattle.vt_grid.specs.Page.{blank_page};
 ghost use Rattle.vt_grid.specs.Resize.{page_resized};
@@ -129,6 +130,130 @@ fn resize_below<CB: Callbacks>(
     screen: &mut Screen,
     callbacks: &mut CB,
     size: Size,
+) -> Result<(), Error>
+    requires size { IsPageSize size.rows size.cols }
+    requires main { screen.old.is_alternate ≡ false }
+    ensures ok { OnOk result (screen.new ≡ pages_resized size.rows size.cols screen.old) }
+    ensures called { OnOk result (TakesCalls CB.does callbacks.old (reports_of_pages size.rows screen.old) callbacks.new) }
+    ensures err { OnErr result ((screen.new ≡ screen.old) × (callbacks.new ≡ callbacks.old)) }
+    ensures memory { OnlyOutOfMemory result }
+{
+    let now = screen.grid.size();
+    if size.cols != now.cols {
+        return refit_pages(screen, size, callbacks);
+    }
+    if size.rows > now.rows {
+        return add_rows(screen, size);
+    }
+    remove_rows(screen, size, callbacks)
+}
+
+/// Resizes both pages to at most as many rows as they have, without changing
+/// their width, while the main page is active.
+///
+/// # Errors
+///
+/// Returns `Error::OutOfMemory` if an allocation fails. On error, the screen is
+/// unchanged and no callbacks are invoked.
+fn remove_rows<CB: Callbacks>(
+    screen: &mut Screen,
+    size: Size,
+    callbacks: &mut CB,
+) -> Result<(), Error>
+    requires size { IsPageSize size.rows size.cols }
+    requires fewer { size.rows ≤ length screen.old.page.rows }
+    requires width { size.cols ≡ screen.old.page.width }
+    requires main { screen.old.is_alternate ≡ false }
+    ensures ok { OnOk result (screen.new ≡ pages_resized size.rows size.cols screen.old) }
+    ensures called { OnOk result (TakesCalls CB.does callbacks.old (reports_of_pages size.rows screen.old) callbacks.new) }
+    ensures err { OnErr result ((screen.new ≡ screen.old) × (callbacks.new ≡ callbacks.old)) }
+    ensures memory { OnlyOutOfMemory result }
+{
+    let mut reporter = Reporter {
+        callbacks: &mut *callbacks,
+        alternate: false,
+    };
+    screen
+        .grid
+        .remove_rows(size.rows, &mut screen.scrollback, &mut reporter)?;
+    screen.other_scrollback.clear(&mut ());
+    remove_alternate_rows(
+        &mut screen.other,
+        size,
+        &mut screen.other_scrollback,
+        callbacks,
+    );
+    Ok(())
+}
+
+/// Resizes the alternate page, if there is one, to at most as many rows as it
+/// has, without changing its width, and reports the rows that scroll off its
+/// top. Allocates nothing, since rows of that page are never kept in
+/// scrollback.
+fn remove_alternate_rows<CB: Callbacks>(
+    page: &mut Option<Grid>,
+    size: Size,
+    nothing: &mut Scrollback,
+    callbacks: &mut CB,
+)
+    requires size { IsPageSize size.rows size.cols }
+    requires fewer { IfSome page.old (λ page. size.rows ≤ length page.rows) }
+    requires width { IfSome page.old (λ page. size.cols ≡ page.width) }
+    requires nothing { nothing.old ≡ no_scrollback 0 }
+    ensures page { page.new ≡ option_map (page_resized size.rows size.cols (no_scrollback 0)) page.old }
+    ensures called { TakesCalls CB.does callbacks.old (reports_of true size.rows page.old (no_scrollback 0)) callbacks.new }
+    ensures nothing { IsNothing nothing.new }
+{
+    let Some(page) = page else {
+        return;
+    };
+    let mut reporter = Reporter {
+        callbacks,
+        alternate: true,
+    };
+    let done = page.remove_rows(size.rows, nothing, &mut reporter);
+    prove!(done.is_ok());
+    // Only for the proof: the result is `Ok` and holds nothing to drop.
+    let _ = done;
+}
+
+/// Resizes both pages to at least as many rows as they have, without changing
+/// their width, while the main page is active. No row scrolls off.
+///
+/// # Errors
+///
+/// Returns `Error::OutOfMemory` if an allocation fails. On error, the screen is
+/// unchanged.
+fn add_rows(screen: &mut Screen, size: Size) -> Result<(), Error>
+    requires more { length screen.old.page.rows ≤ size.rows }
+    requires width { size.cols ≡ screen.old.page.width }
+    requires main { screen.old.is_alternate ≡ false }
+    ensures ok { OnOk result (screen.new ≡ pages_resized size.rows size.cols screen.old) }
+    ensures quiet { reports_of_pages size.rows screen.old ≡ [] }
+    ensures err { OnErr result (screen.new ≡ screen.old) }
+    ensures memory { OnlyOutOfMemory result }
+{
+    screen.other_scrollback.clear(&mut ());
+    screen.grid.add_rows(
+        &mut screen.other,
+        size.rows,
+        &mut screen.scrollback,
+        &mut screen.other_scrollback,
+    )?;
+    Ok(())
+}
+
+/// Resizes both pages to a size with a different width while the main page is
+/// active.
+///
+/// # Errors
+///
+/// Returns `Error::OutOfMemory` if an allocation fails. On error, the screen is
+/// unchanged and no callbacks are invoked.
+fn refit_pages<CB: Callbacks>(
+    screen: &mut Screen,
+    size: Size,
+    callbacks: &mut CB,
 ) -> Result<(), Error>
     requires size { IsPageSize size.rows size.cols }
     requires main { screen.old.is_alternate ≡ false }

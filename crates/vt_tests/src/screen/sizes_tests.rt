@@ -5,7 +5,7 @@ use crate::aids::steps::Step::{Resize, ResizeParser, Text, View};
 use std::test::Fail;
 
 #[rattlefmt::skip]
-const RESIZED: [Example; 35] = [
+const RESIZED: [Example; 37] = [
     // Rows come back from scrollback, and as blank rows if they were not kept.
     (
         (2, 4),
@@ -76,6 +76,20 @@ const RESIZED: [Example; 35] = [
         10,
         &[Text("a\r\nb\r\nc\x1b[?47hx\r\ny\r\nz"), ResizeParser(2, 4), Text("\x1b[?47l")],
         "0:b 1:c @1,1 kept 1\nscroll 78 1\n",
+    ),
+
+    // A page that has scrolled keeps its upper rows if rows below the cursor are removed.
+    (
+        (4, 2),
+        0,
+        &[Text("a\r\nb\r\nc\r\nd\r\ne\x1b[H"), Resize(2, 2)],
+        "0:b 1:c @0,0\nscroll 61 0\n",
+    ),
+    (
+        (4, 2),
+        0,
+        &[Text("a\r\nb\r\nc\r\nd\r\ne\x1b[H"), Resize(2, 2), Resize(5, 2)],
+        "1:b 2:c @1,0\nscroll 61 0\n",
     ),
 
     // Columns: a wide glyph that is cut becomes blank, and a row stays wrapped only if its length

@@ -7,7 +7,7 @@ use Rattle.vt_cells.specs.Attrs.{default_attrs}
 use Rattle.vt_rows.specs.Cells.{IsPaired}
 use Rattle.vt_rows.specs.Row.{RowValue, blank_row, resized_row}
 use Rattle.vt_grid.specs.PageRows.{PageRowsValue}
-use Rattle.vt_grid.proofs.Moving.{MovedInto, moved_none, blank_there, moved_more, moved_all}
+use Rattle.vt_grid.proofs.Moving.{MovedInto, moved_none, still_blank, moved_more, moved_all}
 use Rattle.vt_grid.proofs.Moving.{last_taken, last_paired, left_taken, none_left}
 use Rattle.vt_grid.proofs.scrollback.give_rows.Goals as goal
 
@@ -54,11 +54,13 @@ fit_row-requires-clause-blank c =
     let at = c.loop-k in
     let n = c.args.up in
     let kept = c.args.kept.now.items in
+    let d = blank_row default_attrs at.page.width in
     let s : at.k ≡ (at.k - 1) + 1 = omega arith in
-    blank_there (λ j. length kept + j - n) (at.k - 1) n kept c.args.page.now.rows at.page.rows
-    (blank_row default_attrs at.page.width) (omega (arith, at.invariant.few, c.requires.inside)) c.requires.blank
+    let still = still_blank (λ j. length kept + j - n) (at.k - 1) n kept c.args.page.now.rows at.page.rows d
     (subst (λ (k : ℕ). MovedInto (λ j. length kept + j - n) k n kept c.args.page.now.rows at.page.rows)
-    s at.invariant.moved)
+    s at.invariant.moved) in
+    subst (λ (row : RowValue). row ≡ blank_row default_attrs (length row.cells)) (sym still)
+    (c.requires.blank (at.k - 1) d (omega (arith, at.invariant.few)))
 
 pub fit_row-requires-clause-paired : goal.fit_row-requires-clause-paired
 fit_row-requires-clause-paired c =

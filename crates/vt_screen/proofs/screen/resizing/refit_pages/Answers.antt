@@ -8,7 +8,7 @@ use Rattle.vt_screen.specs.Screen.{ScreenValue}
 use Rattle.vt_screen.specs.contracts.screen.Screen.{the_view}
 use Rattle.vt_screen.proofs.Reporting.{same_callbacks, reported_to}
 use Rattle.vt_screen.proofs.Resized.{kept_by_steps, called_by_steps}
-use Rattle.vt_screen.proofs.screen.resizing.resize_below.Goals as goal
+use Rattle.vt_screen.proofs.screen.resizing.refit_pages.Goals as goal
 
 pub invariant_of-screen-2 : goal.invariant_of-screen-2
 invariant_of-screen-2 g c =

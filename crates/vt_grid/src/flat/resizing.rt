@@ -1,0 +1,156 @@
+//! Adding rows to a page and removing rows from it in place.
+
+ghost use Rattle.std.specs.Prelude.{◌≡◌, ◌≢◌, ◌++◌, ◌+◌, ◌-◌, ◌*◌, ◌<◌, ◌≤◌, ℕ, OnOk, length, vec_capacity};
+ghost use Rattle.vt_cells.specs.Attrs.{default_attrs};
+ghost use Rattle.vt_cells.specs.Refusals.{OnlyOutOfMemory};
+ghost use Rattle.vt_rows.specs.Cells.{blanks};
+ghost use Rattle.vt_grid.specs.Flat.{IsTable, line_at, lines_from};
+
+use super::{Flat, Line};
+use vt_cells::{Error, cell};
+
+impl Flat {
+    ghost use Rattle.vt_grid.specs.Flat.{HasRoom, IsFlat, row_in};
+
+    /// Reserves memory for `rows` rows. The rows are unchanged.
+    ///
+    /// # Errors
+    ///
+    /// Returns [`Error::OutOfMemory`] if the memory cannot be allocated.
+    pub fn reserve(&mut self, rows: u16) -> Result<(), Error>
+        ensures cells { self.new.cells.items ≡ self.old.cells.items }
+        ensures lines { self.new.lines.items ≡ self.old.lines.items }
+        ensures width { self.new.width ≡ self.old.width }
+        ensures room { OnOk result (HasRoom rows self.new) }
+        ensures memory { OnlyOutOfMemory result }
+    {
+        let cells = usize::from(rows) * usize::from(self.width);
+        self.cells
+            .reserve_exact(cells.saturating_sub(self.cells.len()))?;
+        self.lines
+            .reserve_exact(usize::from(rows).saturating_sub(self.lines.len()))?;
+        Ok(())
+    }
+
+    /// Appends rows of default blanks until there are `rows` rows. There must be memory for them.
+    pub fn append_rows(&mut self, rows: u16)
+        requires flat { IsFlat self.old }
+        requires room { HasRoom rows self.old }
+        requires more { length self.old.lines.items ≤ rows }
+        ensures cells { self.new.cells.items
+            ≡ self.old.cells.items
+            ++ blanks default_attrs (rows * self.old.width - length self.old.cells.items) }
+        ensures lines { self.new.lines.items
+            ≡ self.old.lines.items
+            ++ lines_from (length self.old.lines.items) (rows - length self.old.lines.items) }
+        ensures width { self.new.width ≡ self.old.width }
+    {
+        let cells = usize::from(rows) * usize::from(self.width);
+        // There is memory for the blanks.
+        let _ = self.cells.resize(cells, cell::default_blank());
+        push_lines(&mut self.lines, rows);
+    }
+
+    /// Keeps the first `rows` rows and removes the others. Only rows whose place is past the new
+    /// end are moved.
+    pub fn truncate(&mut self, rows: usize)
+        requires flat { IsFlat self.old }
+        requires inside { rows ≤ length self.old.lines.items }
+        ensures flat { IsFlat self.new }
+        ensures len { length self.new.lines.items ≡ rows }
+        ensures width { self.new.width ≡ self.old.width }
+        ensures rows { (k : ℕ) → k < rows →
+            row_in self.old.width self.new.cells.items (line_at self.new.lines.items k)
+            ≡ row_in self.old.width self.old.cells.items (line_at self.old.lines.items k) }
+    {
+        self.pack(rows);
+        self.lines.truncate(rows);
+        self.cells.truncate(rows * usize::from(self.width));
+    }
+
+    /// Moves the first `rows` rows to the first `rows` places.
+    fn pack(&mut self, rows: usize)
+        requires flat { IsFlat self.old }
+        requires inside { rows ≤ length self.old.lines.items }
+        ensures flat { IsFlat self.new }
+        ensures len { length self.new.lines.items ≡ length self.old.lines.items }
+        ensures width { self.new.width ≡ self.old.width }
+        ensures rows { (k : ℕ) → k < rows →
+            row_in self.old.width self.new.cells.items (line_at self.new.lines.items k)
+            ≡ row_in self.old.width self.old.cells.items (line_at self.old.lines.items k) }
+        ensures packed { (k : ℕ) → k < rows → (line_at self.new.lines.items k).place < rows }
+    {
+        let mut free = rows;
+        for row in 0..rows {
+            if usize::from(self.lines[row].place) >= rows {
+                free = free_row(&self.lines, free, rows);
+                self.trade(row, free);
+            }
+        }
+    }
+
+    /// Copies the cells of a row to the place of another row, and swaps the places of the two rows.
+    /// The cells of the other row are lost.
+    fn trade(&mut self, row: usize, other: usize)
+        requires flat { IsFlat self.old }
+        requires row { row < length self.old.lines.items }
+        requires other { other < length self.old.lines.items }
+        requires apart { row ≢ other }
+        ensures flat { IsFlat self.new }
+        ensures len { length self.new.lines.items ≡ length self.old.lines.items }
+        ensures width { self.new.width ≡ self.old.width }
+        ensures row { line_at self.new.lines.items row
+            ≡ record (line_at self.old.lines.items row) { place = (line_at self.old.lines.items other).place } }
+        ensures other { (line_at self.new.lines.items other).place ≡ (line_at self.old.lines.items row).place }
+        ensures lines { (k : ℕ) → k ≢ row → k ≢ other →
+            line_at self.new.lines.items k ≡ line_at self.old.lines.items k }
+        ensures rows { (k : ℕ) → k < length self.old.lines.items → k ≢ other →
+            row_in self.old.width self.new.cells.items (line_at self.new.lines.items k)
+            ≡ row_in self.old.width self.old.cells.items (line_at self.old.lines.items k) }
+    {
+        let width = usize::from(self.width);
+        let place = self.lines[row].place;
+        let free = self.lines[other].place;
+        let start = usize::from(place) * width;
+        self.cells
+            .copy_within(start..start + width, usize::from(free) * width);
+        self.lines[row].place = free;
+        self.lines[other].place = place;
+    }
+}
+
+/// Appends table entries until there are `rows` entries, each with its own index as place. There
+/// must be memory for them.
+fn push_lines(lines: &mut Vec<Line>, rows: u16)
+    requires room { rows ≤ vec_capacity lines.old }
+    requires more { length lines.old.items ≤ rows }
+    ensures { lines.new.items ≡ lines.old.items ++ lines_from (length lines.old.items) (rows - length lines.old.items) }
+{
+    for place in lines.len() as u16..rows {
+        lines.push_reserved(Line {
+            place,
+            wrapped: false,
+        });
+    }
+}
+
+/// Returns the first index from `from` on whose row is at one of the first `rows` places. There is
+/// one because one of the first `rows` rows is at a later place.
+fn free_row(lines: &[Line], from: usize, rows: usize) -> usize
+    requires after { rows ≤ from }
+    requires later { (k : ℕ) → rows ≤ k → k < from → rows ≤ (line_at lines.now k).place }
+    requires table { (k : ℕ) → k < length lines.now → (line_at lines.now k).place < length lines.now }
+    requires distinct { (j k : ℕ) → j < length lines.now → k < length lines.now →
+        (line_at lines.now j).place ≡ (line_at lines.now k).place → j ≡ k }
+    requires some { (row : ℕ) × (row < rows) × (row < length lines.now) × (rows ≤ (line_at lines.now row).place) }
+    ensures after { from ≤ result }
+    ensures inside { result < length lines.now }
+    ensures found { (line_at lines.now result).place < rows }
+    ensures later { (k : ℕ) → rows ≤ k → k < result → rows ≤ (line_at lines.now k).place }
+{
+    let mut row = from;
+    while usize::from(lines[row].place) >= rows {
+        row += 1;
+    }
+    row
+}
