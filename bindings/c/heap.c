@@ -1,5 +1,5 @@
-/* The heap that the library takes its memory from: that of the C library. A refusal carries an
-   address too, which nobody reads. */
+/* The library's heap, which is the heap of the C library. A failed allocation also returns an
+   address, which is never used. */
 #include <stdbool.h>
 #include <stddef.h>
 #include <stdlib.h>

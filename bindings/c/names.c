@@ -1,5 +1,5 @@
-/* The names of the version and of statuses: the two calls of the library that are written in C, and
-   make no promise that a proof would carry. */
+/* The strings for the version and for statuses. Only these two functions of the library are written
+   in C; nothing about them is proved. */
 #include "vt100.h"
 
 #define TEXT_OF(number) #number

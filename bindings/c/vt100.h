@@ -109,7 +109,7 @@ extern "C" {
 
 /* ---- handles and statuses */
 
-/* One machine word; null means that the handle is empty. Initialize with VT100_EMPTY. */
+/* A handle: one machine word, which is null if the handle is empty. Initialize with VT100_EMPTY. */
 typedef struct vt100_handle {
     void *at;
 } vt100_handle;
@@ -168,7 +168,10 @@ enum {
 
 /* ---- the display */
 
-/* kind 0: the default color; 1: a palette color, with its index in red; 2: red, green and blue. */
+/*
+ * A color: the default color if `kind` is 0, the palette color whose index is in `red` if `kind` is
+ * 1, and the color with the components `red`, `green` and `blue` if `kind` is 2.
+ */
 typedef struct vt100_color {
     uint8_t kind, red, green, blue;
 } vt100_color;
@@ -231,16 +234,19 @@ typedef struct vt100_state {
 vt100_status vt100_parser_new(uint16_t rows, uint16_t cols, size_t scrollback_capacity,
                               uint16_t wanted, vt100_handle *out);
 
-/* Creates a mirror with a blank screen and no viewers. Statuses: as for vt100_parser_new. */
+/*
+ * Creates a mirror with a blank screen and no viewers, and stores it in `out`.
+ * Statuses: as for vt100_parser_new.
+ */
 vt100_status vt100_mirror_new(uint16_t rows, uint16_t cols, size_t scrollback_capacity,
                               vt100_handle *out);
 
-/* Creates an empty capture. VT100_IN_USE, VT100_OUT_OF_MEMORY. */
+/* Creates an empty capture and stores it in `out`. VT100_IN_USE, VT100_OUT_OF_MEMORY. */
 vt100_status vt100_capture_new(vt100_handle *out);
 
 /*
- * Stores a copy in `out`. From a parser or a saved screen, this is a saved screen with both pages
- * and the scrollback. From a capture, it is a capture in the same state, without text.
+ * Stores a copy in `out`. The copy of a parser or a saved screen is a saved screen with both pages
+ * and the scrollback. The copy of a capture is a capture in the same state, without text.
  * VT100_NO_OBJECT. VT100_WRONG_KIND: the handle holds a mirror. VT100_IN_USE: `out` is not empty,
  * or is the same handle. VT100_OUT_OF_MEMORY.
  */
@@ -250,7 +256,7 @@ vt100_status vt100_save(vt100_handle *handle, vt100_handle *out);
  * Stores in `out` a saved screen that displays the same content as a parser or a saved screen and
  * has the same size. The copy has neither the scrollback nor the inactive page, so that it takes
  * less memory than one made by vt100_save. It can serve as `prev` of differences. While scrollback
- * is displayed, the copy is complete.
+ * is displayed, the copy is complete, as from vt100_save.
  * VT100_NO_OBJECT, VT100_WRONG_KIND. VT100_IN_USE: `out` is not empty, or is the same handle.
  * VT100_OUT_OF_MEMORY.
  */
@@ -258,12 +264,12 @@ vt100_status vt100_shown_copy(vt100_handle *handle, vt100_handle *out);
 
 /*
  * Swaps the screens of two handles that each hold a parser or a saved screen. A parser keeps its
- * events and its unfinished sequence. This never allocates.
+ * events and its unfinished sequence. This function never allocates.
  * VT100_NO_OBJECT, VT100_WRONG_KIND. VT100_BAD_ARGUMENT: both are the same handle.
  */
 vt100_status vt100_swap(vt100_handle *handle, vt100_handle *other);
 
-/* Frees the object in the handle and empties the handle. Does nothing if it is empty. */
+/* Frees the object in the handle and empties the handle. Does nothing if the handle is empty. */
 void vt100_free(vt100_handle *handle);
 
 /* Returns the kind of object in the handle: VT100_NONE to VT100_CAPTURE. */
@@ -283,10 +289,10 @@ vt100_status vt100_process(vt100_handle *handle, const uint8_t *bytes, size_t le
 
 /*
  * Parses bytes up to and including the first byte that logs or loses an event, and stores the
- * number of bytes read in `*used`. Call it until all bytes are read. Rows that are logged without
- * text don't stop it until those of this call take 64 KiB or the log reaches its limit. If the
- * status is not VT100_OK, `*used` is the number of bytes before the one whose allocation failed.
- * Only for a parser.
+ * number of bytes read in `*used`. Call this function until all bytes are read. Rows that are
+ * logged without text don't stop parsing until the rows that this call has logged take 64 KiB or
+ * the log reaches its limit. If the status is not VT100_OK, `*used` is the number of bytes before
+ * the one whose allocation failed. Only for a parser.
  * Statuses: as for vt100_process, but VT100_OK if there are no bytes.
  */
 vt100_status vt100_process_until(vt100_handle *handle, const uint8_t *bytes, size_t len,
@@ -294,10 +300,10 @@ vt100_status vt100_process_until(vt100_handle *handle, const uint8_t *bytes, siz
 
 /*
  * Stores the number of bytes that a parser holds of an unfinished operating system command (OSC,
- * which also sets titles): the bytes read after ESC ], not counting control characters. 0 if no
- * command is unfinished. Only memory limits the length of a command. To end one at a limit of your
- * own, pass CAN (byte 24) to vt100_process, which dispatches the part that was read. Only for a
- * parser.
+ * which also sets titles): the bytes read after ESC ], not counting control characters. Stores 0 if
+ * no command is unfinished. Only memory limits the length of a command. To end one at a limit of
+ * your own, pass CAN (byte 24) to vt100_process, which dispatches the part that was read. Only for
+ * a parser.
  * VT100_NO_OBJECT, VT100_WRONG_KIND.
  */
 vt100_status vt100_pending_len(vt100_handle *handle, size_t *len);
@@ -373,54 +379,56 @@ vt100_status vt100_is_steady(vt100_handle *handle, uint8_t *out);
  */
 
 /*
- * The plain text. A newline follows each row that is not wrapped, and precedes a row without text
- * after a wrapped row. There are no newlines at the end.
+ * Generates the plain text of the displayed rows. A newline follows each row that is not wrapped,
+ * and precedes a row without text after a wrapped row. There are no newlines at the end.
  */
 vt100_status vt100_contents(vt100_handle *handle, size_t *len);
 
 /*
- * The plain text from one position up to but excluding another. If the range has more than one row,
- * start_col must not be greater than the number of columns, otherwise VT100_BAD_ARGUMENT.
+ * Generates the plain text from one position up to but excluding a second one. If the range has
+ * more than one row, start_col must not be greater than the number of columns, otherwise the status
+ * is VT100_BAD_ARGUMENT.
  */
 vt100_status vt100_contents_between(vt100_handle *handle, uint16_t start_row, uint16_t start_col,
                                     uint16_t end_row, uint16_t end_col, size_t *len);
 
 /*
- * A redraw: the escape sequences that make any plain terminal of this size display this screen (see
- * REDRAWS above).
+ * Generates a redraw: the escape sequences that make any plain terminal of this size display this
+ * screen (see REDRAWS above).
  */
 vt100_status vt100_contents_formatted(vt100_handle *handle, size_t *len);
 
-/* A redraw for terminals of this size with any scroll region and origin mode. */
+/* Generates a redraw for terminals of this size with any scroll region and origin mode. */
 vt100_status vt100_contents_formatted_reset(vt100_handle *handle, size_t *len);
 
-/* The text with its colors and attributes, and no other escape sequences. */
+/* Generates the text with SGR sequences for colors and attributes, and no other sequences. */
 vt100_status vt100_contents_formatted_basic(vt100_handle *handle, size_t *len);
 
 /*
- * A redraw followed by the input modes, for a terminal as described for vt100_input_mode_formatted.
+ * Generates a redraw followed by the sequences that set the input modes. The terminal must be as
+ * described for both vt100_contents_formatted and vt100_input_mode_formatted.
  */
 vt100_status vt100_state_formatted(vt100_handle *handle, size_t *len);
 
 /*
- * The part of a redraw that sets the cursor, for a plain terminal that displays these rows and has
- * default attributes. It may print and erase characters to do so.
+ * Generates the part of a redraw that sets the cursor, for a plain terminal that displays these
+ * rows and has default attributes. This part may print and erase characters to set the cursor.
  */
 vt100_status vt100_cursor_state_formatted(vt100_handle *handle, size_t *len);
 
-/* The part of a redraw that sets the attributes of the next character. */
+/* Generates the part of a redraw that sets the attributes of the next character. */
 vt100_status vt100_attributes_formatted(vt100_handle *handle, size_t *len);
 
 /*
- * The sequences that set the input modes. Keypad mode, cursor key mode and bracketed paste mode are
- * always set. The mouse modes and the cursor style are set only if they are not the default, so the
- * terminal must have the defaults.
+ * Generates the sequences that set the input modes. Keypad mode, cursor key mode and bracketed
+ * paste mode are always set. The mouse modes and the cursor style are set only if they are not the
+ * default, so the terminal must have the defaults.
  */
 vt100_status vt100_input_mode_formatted(vt100_handle *handle, size_t *len);
 
 /*
- * The difference from another screen: it makes a plain terminal that displays `prev` display this
- * screen.
+ * Generates the difference from the screen `prev`: the escape sequences that turn the display of
+ * `prev` on a plain terminal into the display of this screen.
  * VT100_BAD_ARGUMENT: both are the same handle. VT100_OTHER_SIZE.
  */
 vt100_status vt100_contents_diff(vt100_handle *handle, vt100_handle *prev, size_t *len);
@@ -433,35 +441,40 @@ vt100_status vt100_contents_diff(vt100_handle *handle, vt100_handle *prev, size_
 vt100_status vt100_contents_diff_scrolling(vt100_handle *handle, vt100_handle *prev, size_t *len);
 
 /*
- * The difference of the contents, followed by that of the input modes. VT100_BAD_ARGUMENT,
- * VT100_OTHER_SIZE.
+ * Generates the output of vt100_contents_diff, followed by that of vt100_input_mode_diff.
+ * VT100_BAD_ARGUMENT, VT100_OTHER_SIZE.
  */
 vt100_status vt100_state_diff(vt100_handle *handle, vt100_handle *prev, size_t *len);
 
-/* The difference of the input modes. The screens may have different sizes. VT100_BAD_ARGUMENT. */
+/*
+ * Generates the sequences that turn the input modes of `prev` into those of this screen. The
+ * screens may have different sizes.
+ * VT100_BAD_ARGUMENT: both are the same handle.
+ */
 vt100_status vt100_input_mode_diff(vt100_handle *handle, vt100_handle *prev, size_t *len);
 
 /*
- * The concatenated plain texts of all displayed rows, each limited to `width` columns from column
- * `start` on. The text of row k ends at ends[k] and begins where the previous one ends. `room` is
- * the number of values that `ends` has room for.
+ * Generates the concatenated plain texts of all displayed rows, each limited to `width` columns
+ * from column `start` on. The text of row k ends at ends[k] and begins where the previous one ends.
+ * `room` is the number of values that `ends` has room for.
  * VT100_BAD_ARGUMENT: `room` is less than the number of rows.
  */
 vt100_status vt100_rows(vt100_handle *handle, uint16_t start, uint16_t width, size_t *ends,
                         size_t room, size_t *len);
 
 /*
- * As vt100_rows, with the output that draws each row on a blank row of a terminal. The terminal
- * must have default attributes and its cursor in column `start` of that row, and neither end of the
- * range may split a wide character. The wrapped flag of a row is drawn together with the row below.
+ * Works like vt100_rows, but generates the output that draws each row on a blank row of a terminal.
+ * The terminal must have default attributes and its cursor in column `start` of that row, and
+ * neither end of the range may split a wide character. The wrapped flag of a row is drawn together
+ * with the row below.
  * VT100_BAD_ARGUMENT: also if `start` is not a column of the screen.
  */
 vt100_status vt100_rows_formatted(vt100_handle *handle, uint16_t start, uint16_t width,
                                   size_t *ends, size_t room, size_t *len);
 
 /*
- * As vt100_rows_formatted, with the output that turns each row of `prev` into that row of this
- * screen.
+ * Works like vt100_rows_formatted, but generates the output that turns each row of `prev` into the
+ * same row of this screen.
  * VT100_BAD_ARGUMENT: also if both are the same handle. VT100_OTHER_SIZE.
  */
 vt100_status vt100_rows_diff(vt100_handle *handle, vt100_handle *prev, uint16_t start,
@@ -469,7 +482,8 @@ vt100_status vt100_rows_diff(vt100_handle *handle, vt100_handle *prev, uint16_t 
 
 /*
  * Copies the handle's text, or as much of it as there is room for, and returns the number of bytes
- * copied; 0 for an empty handle. Works for every kind of object. The text stays in the handle.
+ * copied, which is 0 for an empty handle. Works for every kind of object. The text stays in the
+ * handle.
  */
 size_t vt100_copy(vt100_handle *handle, uint8_t *out, size_t room);
 
@@ -498,9 +512,9 @@ vt100_status vt100_capture_row(vt100_handle *parser, size_t index, vt100_handle 
                                size_t *len);
 
 /*
- * Finds the next piece of a capture's text without escape sequences, from byte `at` on:
- * text[*start] up to but excluding text[*end]. Both are len if there is no such piece. Continue at
- * *end.
+ * Finds the next piece of a capture's text without escape sequences, from byte `at` on. The piece
+ * is text[*start] up to but excluding text[*end]; both indices are len if there is no such piece.
+ * Continue at *end.
  * VT100_BAD_ARGUMENT: the text is not UTF-8, or `at` is inside a character or past the end.
  */
 vt100_status vt100_next_plain(const uint8_t *text, size_t len, size_t at, size_t *start,
@@ -549,16 +563,16 @@ vt100_status vt100_next_row(const uint8_t *text, size_t len, uint16_t width, siz
 enum { VT100_ROWS_WITHOUT_TEXT = 1 << 13 };
 
 /*
- * Stores the number of bytes that the records take. *is_whole is 0 if an event was lost because its
- * allocation failed or the log had reached its limit, otherwise 1. After a loss, all further events
- * are lost too, until vt100_clear_events, so that the log has no gaps.
+ * Stores the number of bytes that the logged records take. *is_whole is 0 if an event was lost
+ * because its allocation failed or the log had reached its limit, otherwise 1. After a loss, all
+ * further events are lost too, until vt100_clear_events, so that the log has no gaps.
  * VT100_NO_OBJECT, VT100_WRONG_KIND.
  */
 vt100_status vt100_events(vt100_handle *handle, size_t *len, uint8_t *is_whole);
 
 /*
- * Copies the records, or as much of them as there is room for. Returns the number of bytes copied;
- * 0 if the handle holds no parser.
+ * Copies the logged records, or as much of them as there is room for. Returns the number of bytes
+ * copied, which is 0 if the handle holds no parser.
  */
 size_t vt100_copy_events(vt100_handle *handle, uint8_t *out, size_t room);
 
@@ -566,16 +580,17 @@ size_t vt100_copy_events(vt100_handle *handle, uint8_t *out, size_t room);
 vt100_status vt100_clear_events(vt100_handle *handle);
 
 /*
- * Sets the limit of the log in bytes, and clears the log. SIZE_MAX: no limit except memory.
+ * Sets the limit of the log in bytes, and clears the log. With SIZE_MAX, only memory limits the
+ * log.
  * VT100_NO_OBJECT, VT100_WRONG_KIND.
  */
 vt100_status vt100_set_event_limit(vt100_handle *handle, size_t bytes);
 
 /* ---- viewers of a mirror
  *
- * A viewer is a terminal elsewhere. Its first update is a redraw, and each later one is the
- * difference since its previous update; after a resize, the next update is a redraw again. A viewer
- * displays the mirror's screen as it was at the viewer's last update.
+ * A viewer is a terminal outside the library. A viewer's first update is a redraw, and each later
+ * one is the difference since its previous update; after a resize, the next update is a redraw
+ * again. A viewer displays the mirror's screen as it was at the viewer's last update.
  */
 
 /*
@@ -607,11 +622,11 @@ vt100_status vt100_update_scrolling(vt100_handle *mirror, uint64_t viewer, uint1
                                     uint16_t *cols, size_t *len);
 
 /*
- * Stores 1 if the viewer is known to be up to date, otherwise 0. Its next update is then an empty
- * difference, or, with vt100_update_scrolling and an unsteady screen, a redraw. The value is 0 if
- * the viewer has had no update since it joined or since the last resize, if vt100_process was
- * called since its last update (even if nothing displayed has changed), and if there is no such
- * viewer. This neither allocates nor reads cells.
+ * Stores 1 if the viewer is known to be up to date, otherwise 0. The next update of a viewer that
+ * is up to date is an empty difference, or, with vt100_update_scrolling and an unsteady screen, a
+ * redraw. The value is 0 if the viewer has had no update since it joined or since the last resize,
+ * if vt100_process was called since its last update (even if nothing displayed has changed), and if
+ * there is no such viewer. This function neither allocates nor reads cells.
  * VT100_NO_OBJECT, VT100_WRONG_KIND.
  */
 vt100_status vt100_mirror_is_current(vt100_handle *mirror, uint64_t viewer, uint8_t *out);

@@ -1,8 +1,9 @@
 //! Finds the library and links it.
 //!
-//! It is searched for in the folder that `VT100_LIB_DIR` names. If that is not set, in the folder
-//! `lib` of this package, and then by pkg-config. Of a folder with both, the archive is linked, so
-//! that a program needs nothing else at run time.
+//! The library is searched for in the folder that `VT100_LIB_DIR` names. If that variable is not
+//! set, it is searched for in the folder `lib` of this package, and then with pkg-config. If a
+//! folder has both the archive and the shared object, the archive is linked, so that a program
+//! needs no other files at run time.
 
 use std::env;
 use std::path::{Path, PathBuf};
@@ -21,11 +22,12 @@ fn main() {
     }
 }
 
-/// Returns the folder to search.
+/// Returns the folder in which to search for the library.
 ///
 /// # Errors
 ///
-/// `VT100_LIB_DIR` is not an absolute path, or nothing says where the library is.
+/// Returns a message if `VT100_LIB_DIR` is not an absolute path, or if it is not set and neither
+/// this package nor pkg-config has the library.
 fn library_dir() -> Result<PathBuf, String> {
     match env::var_os("VT100_LIB_DIR") {
         Some(value) => checked(value.into()),
@@ -33,7 +35,7 @@ fn library_dir() -> Result<PathBuf, String> {
     }
 }
 
-/// Returns the value of `VT100_LIB_DIR` if it is an absolute path.
+/// Returns `folder`, the value of `VT100_LIB_DIR`, if it is an absolute path, otherwise a message.
 fn checked(folder: PathBuf) -> Result<PathBuf, String> {
     let wanted = format!("the absolute path of the folder that has {ARCHIVE} or {SHARED}");
     if folder.as_os_str().is_empty() {
@@ -50,7 +52,8 @@ fn checked(folder: PathBuf) -> Result<PathBuf, String> {
     Ok(folder)
 }
 
-/// Returns the folder of the archive that a prepared package contains, if it is for this target.
+/// Returns the folder of the archive that a prepared package contains, if there is one and it is
+/// for this target.
 fn packaged_dir() -> Option<PathBuf> {
     let is = |name: &str, value: &str| env::var(name).as_deref() == Ok(value);
     let folder = Path::new(&env::var_os("CARGO_MANIFEST_DIR")?).join("lib");
@@ -58,7 +61,7 @@ fn packaged_dir() -> Option<PathBuf> {
     (fits && folder.join(ARCHIVE).is_file()).then_some(folder)
 }
 
-/// Returns the folder that pkg-config knows.
+/// Returns the folder of the library according to pkg-config.
 fn pkg_config_dir() -> Result<PathBuf, String> {
     let output = Command::new("pkg-config")
         .args(["--variable=libdir", "vt100"])
@@ -73,11 +76,11 @@ fn pkg_config_dir() -> Result<PathBuf, String> {
     }
 }
 
-/// Links the archive of a folder, or else its shared object.
+/// Links the archive in a folder, or the shared object if there is no archive.
 ///
 /// # Errors
 ///
-/// The folder has neither.
+/// Returns a message if the folder has neither.
 fn link(folder: &Path) -> Result<(), String> {
     let (kind, name) = [("static", ARCHIVE), ("dylib", SHARED)]
         .into_iter()

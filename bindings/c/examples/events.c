@@ -1,8 +1,8 @@
 /*
  * events ROWS COLS: reads what a program wrote to its terminal, and writes a line for each event:
  * what the program asked of its terminal besides drawing, what the screen does not support, and
- * each row that scrolled off the top. The status is 0, 1 if it could not be done, and 2 for other
- * arguments.
+ * each row that scrolled off the top. The exit status is 0 on success, 1 on failure, and 2 if the
+ * arguments are invalid.
  */
 #include <vt100.h>
 
@@ -25,7 +25,7 @@ static const char *const names[] = {
     [VT100_EVENT_ON_SCROLL] = "on_scroll",
 };
 
-/* Bytes that were not read yet. */
+/* Bytes that have not been read yet. */
 struct bytes {
     const uint8_t *at;
     size_t len;
@@ -39,7 +39,7 @@ static struct bytes take(struct bytes *rest, size_t len) {
     return taken;
 }
 
-/* Reads a number of `len` bytes, its low byte first. */
+/* Reads a little-endian number of `len` bytes. */
 static uint64_t take_number(struct bytes *rest, size_t len) {
     struct bytes taken = take(rest, len);
     uint64_t number = 0;
@@ -47,7 +47,7 @@ static uint64_t take_number(struct bytes *rest, size_t len) {
     return number;
 }
 
-/* Prints a text in quotes; a byte that is not printable ASCII as \xNN. */
+/* Prints a text in quotes, with each byte that is not printable ASCII as \xNN. */
 static void print_text(struct bytes text) {
     printf(" \"");
     for (size_t k = 0; k < text.len; k++) {
@@ -57,7 +57,7 @@ static void print_text(struct bytes text) {
     printf("\"");
 }
 
-/* Prints texts, each after its length. */
+/* Prints the texts in a record that stores each of them after its length. */
 static void print_parts(struct bytes text) {
     while (text.len > 0) print_text(take(&text, take_number(&text, 8)));
 }
@@ -80,7 +80,7 @@ static void print_csi(struct bytes text) {
     printf(" %c", (int)final);
 }
 
-/* Prints what a record says besides its kind. */
+/* Prints the contents of a record except its kind. */
 static void print_record(uint64_t kind, uint64_t first, uint64_t second, struct bytes text) {
     switch (kind) {
     case VT100_EVENT_RESIZE: printf(" %u %u", (unsigned)first, (unsigned)second); break;
@@ -124,7 +124,7 @@ static int failed(const char *what) {
     return 1;
 }
 
-/* Prints the events that the parser keeps, and forgets them. */
+/* Prints the events that the parser has logged, and clears the log. */
 static int print_events(vt100_handle *parser) {
     size_t len;
     uint8_t is_whole;
@@ -139,8 +139,9 @@ static int print_events(vt100_handle *parser) {
 }
 
 /*
- * Processes bytes up to each event in turn, and prints it. The screen is then that of the event; a
- * program that does not look at it can call vt100_process, and print the events of all bytes.
+ * Processes bytes up to each event in turn, and prints the event. At that moment, the screen is as
+ * the event left it. A program that does not look at the screen can call vt100_process instead, and
+ * then print the events of all bytes.
  */
 static int process(vt100_handle *parser, const uint8_t *bytes, size_t count) {
     size_t used;

@@ -1,7 +1,8 @@
 /*
- * mirror ROWS COLS EVERY: reads what a program writes to its terminal, and keeps a second terminal
- * equal to it: writes a redraw, and then what has changed, once after every EVERY bytes and once at
- * the end. The status is 0, 1 where it could not be done, and 2 for other words.
+ * mirror ROWS COLS EVERY: reads what a program writes to its terminal, and writes the escape
+ * sequences that keep a second terminal equal to it: a redraw, then a difference after every EVERY
+ * bytes and one at the end. The exit status is 0 on success, 1 on failure, and 2 if the arguments
+ * are invalid.
  */
 #include <vt100.h>
 
@@ -13,14 +14,14 @@ static int failed(const char *what) {
     return 1;
 }
 
-/* A number from 1 up to a bound, or 0. */
+/* Returns the number in `word` if it is from 1 to `bound`, otherwise 0. */
 static unsigned long number_of(const char *word, unsigned long bound) {
     char *end;
     unsigned long number = *word >= '0' && *word <= '9' ? strtoul(word, &end, 10) : 0;
     return number > 0 && *end == 0 && number <= bound ? number : 0;
 }
 
-/* Writes the text that was made with this handle last. */
+/* Writes the text that was last generated with this handle. */
 static int write_text(vt100_handle *handle, size_t len) {
     uint8_t *text = malloc(len + 1);
     if (text == NULL) return failed("out of memory");
@@ -30,7 +31,7 @@ static int write_text(vt100_handle *handle, size_t len) {
     return written < len || fflush(stdout) != 0 ? failed("write failed") : 0;
 }
 
-/* Writes what has changed since `shown`, and makes that the screen as it is now. */
+/* Writes the difference from the screen `shown`, and stores the current screen in `shown`. */
 static int update(vt100_handle *parser, vt100_handle *shown) {
     size_t len;
     if (vt100_contents_diff(parser, shown, &len) != VT100_OK) return failed("out of memory");
@@ -39,7 +40,7 @@ static int update(vt100_handle *parser, vt100_handle *shown) {
     return vt100_shown_copy(parser, shown) != VT100_OK ? failed("out of memory") : 0;
 }
 
-/* Writes a redraw, and from then on what changes. */
+/* Writes a redraw, and then a difference after every `every` bytes of input. */
 static int follow(vt100_handle *parser, vt100_handle *shown, size_t every) {
     size_t len, count, held = 0;
     uint8_t *bytes = malloc(every);

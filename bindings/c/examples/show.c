@@ -1,7 +1,7 @@
 /*
  * show ROWS COLS plain|formatted|basic: reads what a program wrote to its terminal, and writes the
- * screen that it shows then: its text, a redraw for another terminal of that size, or its text and
- * attributes. The status is 0, 1 where it could not be done, and 2 for other words.
+ * resulting screen: its text, a redraw for another terminal of that size, or its text and
+ * attributes. The exit status is 0 on success, 1 on failure, and 2 if the arguments are invalid.
  */
 #include <vt100.h>
 
@@ -9,7 +9,7 @@
 #include <stdlib.h>
 #include <string.h>
 
-/* A number from 1 to 65535 in decimal digits, or 0. */
+/* Returns the number in `word` if it has only digits and is from 1 to 65535, otherwise 0. */
 static uint16_t size_of(const char *word) {
     unsigned long number = 0;
     if (*word == 0) return 0;
@@ -45,7 +45,7 @@ static int read_all(vt100_handle *parser) {
     return ferror(stdin) ? failed("read failed") : 0;
 }
 
-/* Writes the text of the screen. */
+/* Writes the text of the screen that `make` generates. */
 static int write_text(vt100_handle *parser, make_text *make) {
     size_t len;
     if (make(parser, &len) != VT100_OK) return failed("out of memory");

@@ -1,9 +1,9 @@
 /*
- * bench PIECE WHAT ROWS COLS CAPACITY TIMES FILE: one parser processes FILE so many times, in
- * pieces of PIECE bytes, as `vt_bench process` does in pieces of 4096. WHAT is done besides:
+ * bench PIECE WHAT ROWS COLS CAPACITY TIMES FILE: one parser processes FILE TIMES times, in chunks
+ * of PIECE bytes, as `vt_bench process` does in chunks of 4096. WHAT says what is done in addition:
  *     process  nothing
- *     events   all events are kept, and copied after each piece
- *     cell     after each piece, a cell of the first row is fetched
+ *     events   all events are logged, and copied after each chunk
+ *     cell     a cell of the first row is fetched after each chunk
  */
 #include "lines.h"
 

@@ -1,6 +1,7 @@
 /*
  * cases FILE..: replays recorded cases and scripts (crates/vt_cases/README.md). Prints a line for
- * each that differs, and the counts; the status is 1 if one does, or if there are none.
+ * each difference, and the counts. The exit status is 1 if something differs or if there are no
+ * cases.
  */
 #include "lines.h"
 
@@ -10,14 +11,17 @@
 
 static unsigned seen, differing;
 
-/* The number of a word, and the words behind it. */
+/* Parses the number at the beginning of `*words`, and moves `*words` to the next word. */
 static size_t number(char **words) {
     size_t count = strtoul(*words, words, 10);
     if (**words == ' ') ++*words;
     return count;
 }
 
-/* The bytes of a word in hexadecimal, made in its own place; the words behind it. */
+/*
+ * Decodes the hexadecimal bytes of the first word in place, and moves `*words` to the next word.
+ * Returns the number of bytes.
+ */
 static size_t bytes_of(char **words, uint8_t **bytes) {
     char *word = *words;
     size_t len = strcspn(word, " ");
@@ -32,7 +36,9 @@ static size_t bytes_of(char **words, uint8_t **bytes) {
     return len / 2;
 }
 
-/* Whether a text that was made, from one place up to another, is that of the next word. */
+/*
+ * Returns whether the bytes from `start` to `end` of the handle's text are those of the next word.
+ */
 static int is_text(vt100_handle *handle, size_t start, size_t end, char **words) {
     uint8_t *told;
     size_t len = bytes_of(words, &told);
@@ -44,7 +50,7 @@ static int is_text(vt100_handle *handle, size_t start, size_t end, char **words)
     return same;
 }
 
-/* Whether the texts of rows are those of the words behind start and width. */
+/* Returns whether the texts of the rows are those of the words after the start and the width. */
 static int are_rows(vt100_handle *handle, vt100_handle *prev, const char *name, char *words) {
     vt100_state state;
     must(vt100_get_state(handle, &state) == VT100_OK);
@@ -67,7 +73,9 @@ static int are_rows(vt100_handle *handle, vt100_handle *prev, const char *name, 
     return same && *words == 0;
 }
 
-/* Whether the handle gives the text that a line tells. */
+/*
+ * Returns whether the handle has the output that a line specifies by its name and its other words.
+ */
 static int is_told(vt100_handle *handle, vt100_handle *prev, const char *name, char *words) {
     size_t len = 0;
     vt100_status status = VT100_BAD_ARGUMENT;
@@ -98,7 +106,7 @@ static int is_of_state(const char *word) {
     return 0;
 }
 
-/* Splits a line behind its first word. */
+/* Ends the string `line` after its first word, and returns the remaining words. */
 static char *behind(char *line) {
     size_t len = strcspn(line, " ");
     if (line[len] == 0) return line + len;
@@ -106,7 +114,7 @@ static char *behind(char *line) {
     return line + len + 1;
 }
 
-/* The next line of a block, without its end, or null. */
+/* Returns the next line of a block, without its newline, or null if there is none. */
 static char *next_line(char **lines) {
     char *line = *lines;
     if (*line == 0) return NULL;
@@ -122,7 +130,10 @@ static void differs(const char *name, const char *word, struct text *state, stru
     if (state != NULL) printf("%sand not\n%s", state->bytes, told->bytes);
 }
 
-/* What a case is of: bytes, how many come before the screen that differences start from, lines. */
+/*
+ * A case: its bytes, how many of them produce the screen from which differences start, and its
+ * lines.
+ */
 struct one {
     uint8_t *bytes;
     size_t len, before;
@@ -199,7 +210,7 @@ static void take_step(vt100_handle *parser, const char *call, char *words) {
     must(status == VT100_OK);
 }
 
-/* Reads what has to stand now up to the next step, and looks at it. */
+/* Reads the lines up to the next step, and compares the state and the output with them. */
 static void expect(const char *name, vt100_handle *parser, vt100_handle *prev, char **lines) {
     struct text state = {0}, told = {0};
     clear(&told);
@@ -242,7 +253,10 @@ static void replay_script(const char *name, uint16_t rows, uint16_t cols, size_t
     vt100_free(&prev);
 }
 
-/* A block behind its "= ": NAME ROWS COLS, or with a capacity a script. */
+/*
+ * Replays a block, given without its "= ". It is a case if its first line is NAME ROWS COLS, and a
+ * script if that line also has a capacity.
+ */
 static void replay(char *block) {
     char *name = next_line(&block), *words = behind(name);
     uint16_t rows = (uint16_t)number(&words), cols = (uint16_t)number(&words);

@@ -1,6 +1,6 @@
 /*
- * events: the log of a parser's events. Where vt100_process_until stops, what a record of a row
- * has, and what a log with a limit keeps, loses and allocates.
+ * events: tests of the log of a parser's events: where vt100_process_until stops, what the record
+ * of a row contains, and what a log with a limit keeps, loses and allocates.
  */
 #include "heap_refusing.h"
 #include "lines.h"
@@ -18,19 +18,22 @@ static vt100_handle made(uint16_t rows, uint16_t cols, uint16_t wanted) {
     return parser;
 }
 
-/* How many of these bytes are read up to an event. */
+/* Processes bytes up to the first event, and returns how many were processed. */
 static size_t until(vt100_handle *parser, const char *bytes) {
     size_t used = 4711;
     must(vt100_process_until(parser, (const uint8_t *)bytes, strlen(bytes), &used) == VT100_OK);
     return used;
 }
 
-/* Whether the records take so many bytes, and none is missing. */
+/* Checks that the records take `bytes` bytes, and whether the log is whole. */
 static void has_records(vt100_handle *parser, size_t bytes, int whole) {
     must(vt100_events(parser, &len, &is_whole) == VT100_OK && len == bytes && is_whole == whole);
 }
 
-/* With its text a row stops the reading; without it only what comes after it does. */
+/*
+ * A row that is logged with its text stops processing. Rows without text do not; a later event
+ * does.
+ */
 static void rows(void) {
     uint8_t records[HEAD + 1];
     vt100_handle parser = made(2, 4, BELLS | ROWS);
@@ -54,7 +57,7 @@ static void rows(void) {
     vt100_free(&parser);
 }
 
-/* An event is kept as long as the limit isn't reached, and then lost until the log is cleared. */
+/* Events are logged until the limit is reached, and are then lost until the log is cleared. */
 static void limits(void) {
     vt100_handle parser = made(2, 4, BELLS | BARE_ROWS);
     must(vt100_set_event_limit(&parser, 2 * HEAD + 1) == VT100_OK);
@@ -69,7 +72,7 @@ static void limits(void) {
     must(until(&parser, "x\ay") == 2);
     has_records(&parser, HEAD, 1);
 
-    /* A row of one cell counts 57 bytes, so the second one reaches the limit. */
+    /* A row of one cell counts as 57 bytes, so the second row reaches the limit. */
     must(vt100_set_event_limit(&parser, HEAD + 40 + 1) == VT100_OK);
     has_records(&parser, 0, 1);
     must(until(&parser, "\x1b[H\x1b[Ja\r\nb\r\nc\r\nd\r\ne") == 15);
@@ -77,7 +80,7 @@ static void limits(void) {
     vt100_free(&parser);
 }
 
-/* Some bytes that scroll 819 rows off each, with all events wanted. */
+/* Some sequences each scroll 819 rows off, while all events are logged. */
 static void hostile(void) {
     static const char repeat[] = "\x1b[65535b";
     uint8_t bytes[4096];

@@ -1,4 +1,4 @@
-/* A heap in the place of ../heap.c that counts its allocations, and refuses some. */
+/* A replacement for ../heap.c that counts its allocations and makes some of them fail. */
 #include "heap_refusing.h"
 
 #include <stdbool.h>
@@ -8,7 +8,7 @@
 struct block { bool is_granted; void *at; };
 static char nowhere;
 
-/* What stands before each block. */
+/* The header that is stored before each block. */
 union head { size_t size; max_align_t aligned; };
 
 size_t heap_bytes, heap_peak;
@@ -25,7 +25,10 @@ static bool is_refused(void) {
                                       && allocation > heap_refused);
 }
 
-/* A block of so many bytes, with its head before it; another block's memory, or new. */
+/*
+ * Returns a block of `size` bytes after its header. Resizes the block of the header `old`, or
+ * allocates a new block if `old` is null.
+ */
 static struct block block_of(union head *old, size_t size) {
     union head *head = realloc(old, sizeof *head + size);
     if (head == NULL) return (struct block){false, &nowhere};

@@ -1,6 +1,7 @@
-/* A heap that counts its allocations, and refuses the one with the number heap_refused, from 0; all
-   behind it too where that is said. heap_live is how many blocks are not given back, heap_bytes how
-   many bytes these have, and heap_peak the most that they had. */
+/* A heap that counts its allocations. The allocation with the number heap_refused, counted from 0,
+   fails, and if heap_refuses_all_behind is not 0, so do all later ones. heap_live is the number of
+   blocks that have not been freed, heap_bytes their total size in bytes, and heap_peak the maximum
+   of heap_bytes. */
 #ifndef HEAP_REFUSING_H
 #define HEAP_REFUSING_H
 

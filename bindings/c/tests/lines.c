@@ -84,7 +84,7 @@ static void add_cell(struct text *text, uint16_t row, uint16_t col, const vt100_
     add(text, "\n");
 }
 
-/* The cells of a row one by one; those that vt100_get_cells gives are the same. */
+/* Adds lines for the cells of a row, and checks that vt100_get_cells stores the same cells. */
 static void add_row(struct text *text, vt100_handle *handle, uint16_t row, uint16_t cols) {
     vt100_cell cell;
     vt100_cell *cells = malloc(cols * sizeof *cells);
@@ -135,7 +135,7 @@ static uint64_t number_at(const uint8_t *bytes, int count) {
     return number;
 }
 
-/* Bytes as text between double quotes, as Rust writes it. */
+/* Adds bytes as a string in double quotes, as Rust prints it. */
 static void add_quoted(struct text *text, const uint8_t *bytes, size_t len) {
     add(text, "\"");
     for (size_t i = 0; i < len; i++) {
@@ -155,7 +155,7 @@ static void add_option(struct text *text, uint64_t number) {
     else add(text, "Some(%u)", (unsigned)number);
 }
 
-/* Parts, each behind its length. */
+/* Adds the parts in a text that stores each of them after its length. */
 static void add_parts(struct text *text, const uint8_t *bytes, size_t len) {
     for (size_t at = 0; at < len;) {
         size_t count = (size_t)number_at(bytes + at, 8);
@@ -180,7 +180,7 @@ static void add_groups(struct text *text, const uint8_t *bytes, size_t len) {
     add(text, "]");
 }
 
-/* What stands between a call's parentheses. */
+/* Adds the arguments between the parentheses of a call. */
 static void add_arguments(struct text *text, const uint8_t *record) {
     uint64_t first = number_at(record + 1, 4), second = number_at(record + 5, 4);
     size_t len = (size_t)number_at(record + 9, 8);
@@ -201,7 +201,7 @@ static void add_arguments(struct text *text, const uint8_t *record) {
     add(text, last == '\\' ? ", '\\%c'" : ", '%c'", last);
 }
 
-/* The index-th row that left, as the text of a fresh capture. */
+/* Adds the logged row at `index`, as the text of a fresh capture. */
 static void add_scroll(struct text *text, vt100_handle *parser, size_t index, uint64_t alternate) {
     vt100_handle capture = VT100_EMPTY;
     size_t len;

@@ -1,8 +1,8 @@
 /*
- * Each call with a handle that is empty, and with one of each kind; each status that a call may
- * answer but VT100_OUT_OF_MEMORY and VT100_FAILED (refused.c), and VT100_NO_NUMBER, which needs
- * 2^64 viewers; null where there is nothing; the same handle twice. What is answered so has changed
- * nothing.
+ * misuse: tests each function with an empty handle and with a handle of each kind; each status that
+ * a function may return, except VT100_OUT_OF_MEMORY and VT100_FAILED (see refused.c) and
+ * VT100_NO_NUMBER, which needs 2^64 viewers; null pointers to empty buffers; and the same handle
+ * passed twice. A call that returns an error must not have changed anything.
  */
 #include "lines.h"
 
@@ -12,7 +12,7 @@
 
 enum { ROWS = 3, COLS = 7, UNTOUCHED = 4711 };
 
-/* Bits of kinds. */
+/* One bit for each kind of object. */
 enum {
     P = 1 << VT100_PARSER,
     S = 1 << VT100_SCREEN,
@@ -22,7 +22,7 @@ enum {
 
 static const uint8_t *const some = (const uint8_t *)"ab";
 
-/* A handle of this kind; of a parser or mirror one that read something. */
+/* Returns a handle with an object of this kind. A parser has parsed some bytes. */
 static vt100_handle made(int kind) {
     vt100_handle handle = VT100_EMPTY, parser = VT100_EMPTY;
     if (kind == VT100_CAPTURE) must(vt100_capture_new(&handle) == VT100_OK);
@@ -38,7 +38,7 @@ static vt100_handle made(int kind) {
     return handle;
 }
 
-/* ---- calls of one handle, each with other arguments that are right */
+/* ---- calls with one handle, each with otherwise valid arguments */
 
 typedef vt100_status call_of_one(vt100_handle *handle);
 
@@ -156,7 +156,7 @@ static void calls_of_one(void) {
     }
 }
 
-/* ---- calls of two handles */
+/* ---- calls with two handles */
 
 typedef vt100_status call_of_two(vt100_handle *handle, vt100_handle *other);
 
@@ -191,7 +191,7 @@ static const struct {
     {"capture_screen", capture, P | S, C, 0},
 };
 
-/* Whether a call of handles of these kinds answers what it has to. */
+/* Checks the status of a call with two handles of these kinds. */
 static void call_of_kinds(size_t i, int kind, int other) {
     vt100_handle one = kind == VT100_NONE ? (vt100_handle)VT100_EMPTY : made(kind);
     vt100_handle two = other == VT100_NONE ? (vt100_handle)VT100_EMPTY : made(other);
@@ -222,7 +222,7 @@ static void calls_of_two(void) {
     }
 }
 
-/* The same handle twice. */
+/* Checks that calls to which the same handle is passed twice return a status and change nothing. */
 static void twice(void) {
     vt100_handle parser = made(VT100_PARSER);
     for (size_t i = 0; i < sizeof of_two / sizeof *of_two; i++) {
@@ -302,7 +302,7 @@ static void viewers(void) {
     vt100_free(&mirror);
 }
 
-/* Null is nothing, where nothing is lent. */
+/* Checks that a null pointer is allowed for a buffer of length 0. */
 static void null(void) {
     vt100_handle parser = made(VT100_PARSER), empty = VT100_EMPTY;
     size_t start = UNTOUCHED, end = UNTOUCHED;
@@ -319,7 +319,7 @@ static void null(void) {
     vt100_free(&parser);
 }
 
-/* Captures whose text is no text, or that are begun within a character. */
+/* Checks captures that are not UTF-8, and positions inside a character. */
 static void no_texts(void) {
     const uint8_t *mark = (const uint8_t *)"\xc3\xa9\x1b[1mx";
     size_t start = UNTOUCHED, end = UNTOUCHED;
@@ -337,7 +337,7 @@ static void no_texts(void) {
     must(vt100_next_row(mark, 7, 1, 6, &start, &end) == VT100_OK && start == 7 && end == SIZE_MAX);
 }
 
-/* Records that are cut where there is no room, and cleared. */
+/* Checks that records are cut if there is not enough room, and that they can be cleared. */
 static void log_of(void) {
     vt100_handle parser = VT100_EMPTY;
     uint8_t records[64];
@@ -355,7 +355,7 @@ static void log_of(void) {
     vt100_free(&parser);
 }
 
-/* Each status has a text of its own, and a number that is no status another one. */
+/* Checks that each status has a text of its own, and that all other numbers have the same text. */
 static void names(void) {
     for (unsigned first = 0; first <= VT100_NO_NUMBER; first++) {
         const char *text = vt100_status_text((vt100_status)first);

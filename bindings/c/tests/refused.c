@@ -1,10 +1,11 @@
 /*
- * refused [FIRST]: a run of calls, once with all memory, and then once for each of its allocations
- * with that allocation refused, and once more with all behind it refused too. A refused call answers
- * VT100_OUT_OF_MEMORY and has changed nothing that is shown; made again, it gives what it gave in
- * the first run. A parser or mirror that was refused memory while it read answers VT100_FAILED from
- * then on, and shows what it read before. A record that was refused has none behind it. In the end
- * all memory is given back. FIRST is how many allocations are tried, all without it.
+ * refused [FIRST]: runs a list of calls once without failures. Then, for each allocation of that
+ * run, runs the calls once with that allocation failing, and once with all later allocations
+ * failing as well. A call whose allocation fails must return VT100_OUT_OF_MEMORY and change nothing
+ * that can be observed; when repeated, it must produce the same output as in the first run. A
+ * parser or mirror for which an allocation failed while it parsed must return VT100_FAILED from
+ * then on. If a record is lost, no records may follow it. At the end, all memory must have been
+ * freed. FIRST is the number of allocations to try; by default, all are tried.
  */
 #include "heap_refusing.h"
 #include "lines.h"
@@ -15,7 +16,7 @@
 
 enum { STEPS = 40, UNTOUCHED = 4711 };
 
-/* What is made, and what the first run made of it. */
+/* The objects of a run, and the texts that the first run generated. */
 static vt100_handle parser, saved, copied, mirror, capture;
 static struct text texts[STEPS];
 static uint64_t viewer;
@@ -34,9 +35,12 @@ static vt100_status read_into(vt100_handle *handle, const char *bytes) {
     return vt100_process(handle, (const uint8_t *)bytes, strlen(bytes));
 }
 
-/* ---- a step's call; it says how long a text is that it made, and with which handle */
+/* ---- the call of a step, which stores the length of the text that it generates */
 
-/* Texts of rows; where they end is told of all four rows, or of none where it is refused. */
+/*
+ * Generates the texts of rows. Checks that the ends of all four rows are stored, or none if the
+ * call fails.
+ */
 static vt100_status rows_of(int step, size_t *len) {
     size_t ends[16];
     for (size_t i = 0; i < 16; i++) ends[i] = UNTOUCHED;
@@ -102,7 +106,7 @@ static int makes_text(int step) {
     return step == 4 || step == 9 || (step >= 10 && step < 28) || step == 33;
 }
 
-/* All that is shown, with nothing refused meanwhile. */
+/* Returns the observable state of all objects. No allocation fails in this function. */
 static struct text shown(void) {
     struct text text = {0};
     long refused = heap_refused;
@@ -120,7 +124,7 @@ static struct text shown(void) {
     return text;
 }
 
-/* Looks at the text that a step made, of `len` bytes: it is that of the first run. */
+/* Checks that the text that a step generated, of `len` bytes, is the same as in the first run. */
 static void compare(int step, size_t len) {
     uint8_t *bytes = malloc(len + 1);
     must(bytes != NULL && vt100_copy(handle_of(step), bytes, len + 1) == len);
@@ -138,7 +142,10 @@ static void compare(int step, size_t len) {
 
 static int reads(int step) { return step == 5 || step == 7 || step == 8; }
 
-/* The parser or mirror was refused memory: it reads no more. What it shows is not compared. */
+/*
+ * Checks that the parser or mirror for which an allocation failed parses nothing more. Its state is
+ * not compared.
+ */
 static void fail(int step) {
     vt100_handle *handle = step == 8 ? &mirror : &parser;
     failures++;
@@ -148,7 +155,7 @@ static void fail(int step) {
     must(read_into(handle, "") == VT100_FAILED);
 }
 
-/* Takes a step, and once more with all memory if it was refused. */
+/* Takes a step, and repeats it without failures if it returned VT100_OUT_OF_MEMORY. */
 static void take(int step) {
     int has_failed = step == 8 || step == 9 ? mirror_failed : parser_failed;
     struct text before = shown();
@@ -176,7 +183,7 @@ static void take(int step) {
     free(before.bytes);
 }
 
-/* Whether the log is whole; one that isn't is a beginning of the first run's. */
+/* Checks that the log is that of the first run, or a prefix of it if records were lost. */
 static void look_at_log(void) {
     static uint8_t whole[4096];
     static size_t whole_len;

@@ -1,6 +1,6 @@
 /*
- * screens: whether a screen is steady, copies of what a screen displays, whether a viewer is up to
- * date, unfinished commands, and the version.
+ * screens: tests of whether a screen is steady, of copies of what a screen displays, of whether a
+ * viewer is up to date, of unfinished commands, and of the version.
  */
 #include "heap_refusing.h"
 #include "lines.h"
@@ -24,7 +24,7 @@ static void read_into(vt100_handle *handle, const char *bytes) {
     must(vt100_process(handle, (const uint8_t *)bytes, strlen(bytes)) == VT100_OK);
 }
 
-/* Whether a handle's text that was just made is this one. */
+/* Returns whether the text that was last generated with a handle is `text`. */
 static int is_text(vt100_handle *handle, size_t len, const char *text) {
     uint8_t *bytes = malloc(len + 1);
     must(bytes != NULL && vt100_copy(handle, bytes, len + 1) == len);
@@ -45,7 +45,9 @@ static int is_steady(vt100_handle *handle) {
     return answer;
 }
 
-/* A glyph that U+FE0F made narrow is not steady while it is shown; all others here are. */
+/*
+ * A screen that displays a glyph that U+FE0F made narrow is not steady; all other screens here are.
+ */
 static void steady(void) {
     static const struct {
         const char *bytes;
@@ -67,7 +69,10 @@ static void steady(void) {
     vt100_free(&parser);
 }
 
-/* A copy has what is displayed, and neither scrollback nor the other page; it takes less memory. */
+/*
+ * A copy contains what is displayed, but neither scrollback nor the other page, and takes less
+ * memory.
+ */
 static void shown_copies(void) {
     vt100_handle parser = made(2, 4, 1000), copy = VT100_EMPTY, whole = VT100_EMPTY;
     vt100_state state;
@@ -107,7 +112,10 @@ static int is_current(vt100_handle *mirror, uint64_t viewer) {
     return answer;
 }
 
-/* A viewer is up to date from its update on, until the mirror reads, is resized, or it leaves. */
+/*
+ * A viewer is up to date from its update until the mirror parses bytes or is resized, or the viewer
+ * leaves.
+ */
 static void viewers(void) {
     vt100_handle mirror = VT100_EMPTY;
     uint64_t viewer, other;
@@ -130,7 +138,10 @@ static void viewers(void) {
     vt100_free(&mirror);
 }
 
-/* The bytes of a command count until it ends; other sequences and strings have none. */
+/*
+ * The bytes of an unfinished command are counted until it ends; those of other sequences and
+ * strings are not.
+ */
 static void pending(void) {
     static const struct {
         const char *bytes;
@@ -155,7 +166,7 @@ static void pending(void) {
     vt100_free(&parser);
 }
 
-/* The version is that of the header. */
+/* The version of the library is that of the header. */
 static void version(void) {
     char text[16];
     snprintf(text, sizeof text, "%d.%d", VT100_VERSION_MAJOR, VT100_VERSION_MINOR);

@@ -1,4 +1,7 @@
-/* Two threads with a parser each, which one of them did not make, show what one thread shows. */
+/*
+ * threads: two threads, each with a parser that was created by the main thread, must produce the
+ * same redraws as a single thread.
+ */
 #include "lines.h"
 
 #include <pthread.h>
@@ -14,7 +17,7 @@ struct task {
     struct text text;
 };
 
-/* Reads many lines, and takes the redraw into the task's text. */
+/* Parses many lines, and copies the redraw to the task's text. */
 static void *run(void *given) {
     struct task *task = given;
     size_t len;

@@ -1,4 +1,4 @@
-"""bench.py: prints how many milliseconds it takes to read a colored screen of 24x80, in each way."""
+"""bench.py: prints how many milliseconds each method takes to read a colored screen of 24x80."""
 
 import time
 
@@ -6,7 +6,7 @@ import vt100
 
 
 def screen():
-    """A screen of words in colors, as a program draws it."""
+    """Returns a parser whose screen is full of colored words."""
     parser = vt100.Parser(24, 80)
     for row in range(24):
         words = (b"\x1b[%dmword %d\x1b[m " % (30 + col % 8, row + col) for col in range(9))
@@ -15,7 +15,7 @@ def screen():
 
 
 def best_of(function, runs=20):
-    """Returns the least number of milliseconds of processor time that some runs take."""
+    """Returns the smallest processor time, in milliseconds, of several runs of a function."""
     times = []
     for _ in range(runs):
         begin = time.process_time()

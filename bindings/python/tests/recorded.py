@@ -15,7 +15,7 @@ _SGR = re.compile(r"\x1b\[[0-9;]*m")
 
 
 def blocks(name):
-    """Yields the head of each case of a file, as words, and its lines."""
+    """Yields the words of the first line of each case in a file, and its other lines."""
     with open(os.path.join(DATA, name + ".cases"), encoding="ascii") as file:
         for block in file.read()[2:].split("\n= "):
             head, *lines = block.rstrip("\n").split("\n")
@@ -59,7 +59,7 @@ def _cell_lines(screen, row):
 
 
 def picture(screen):
-    """Returns the lines of cursor, flags and cells."""
+    """Returns the lines that describe the cursor, the wrapped flags and the cells."""
     rows = range(screen.size.rows)
     flags = "".join("01"[screen.row_wrapped(row)] for row in rows)
     cells = [line for row in rows for line in _cell_lines(screen, row)]
@@ -67,7 +67,7 @@ def picture(screen):
 
 
 def modes(screen):
-    """Returns the line of the modes and the attributes of the next character."""
+    """Returns the line that describes the modes and the attributes of the next character."""
     flags = (
         screen.hide_cursor,
         screen.alternate_screen,
@@ -89,7 +89,7 @@ def modes(screen):
 
 
 def sizes(screen):
-    """Returns the lines of size and scrollback."""
+    """Returns the lines that describe the size and the scrollback."""
     lengths = []
     for row in range(screen.lines):
         col = 0
@@ -105,8 +105,9 @@ def sizes(screen):
 
 
 def plain(line):
-    """Returns a line; of one about a row that scrolled off only the plain text, without blanks at
-    the end: the recorded text has SGR sequences, and blanks for colored cells without text."""
+    """Returns a line in the form in which Python reports it. For a row that scrolled off, Python
+    reports the plain text without trailing blanks, while the recorded text has SGR sequences, and
+    blanks for colored cells without text."""
     if not line.startswith("scroll "):
         return line
     word, text, alternate = line.split(" ")
@@ -125,7 +126,7 @@ def _option(number):
 
 
 class Notes(vt100.Callbacks):
-    """Writes each callback as a line of the cases."""
+    """Callbacks that write a line in the format of the cases for each call."""
 
     def __init__(self):
         self.lines = []

@@ -1,4 +1,4 @@
-"""Callbacks."""
+"""Tests of callbacks."""
 
 import threading
 import unittest
@@ -8,7 +8,7 @@ import vt100
 
 
 class Log(vt100.Callbacks):
-    """Keeps what each callback was called with, except the screen."""
+    """Callbacks that keep the arguments of each call, except the screen."""
 
     def __init__(self):
         self.calls = []
@@ -184,7 +184,7 @@ class Lost(unittest.TestCase):
         library, was_asked = vt100.parser.library, []
 
         class Losing:
-            """The library, which loses an event the first time that it is asked for events."""
+            """The library, except that an event is lost when events are first requested."""
 
             def __getattr__(self, name):
                 return getattr(library, name)

@@ -1,4 +1,4 @@
-"""Replays the recorded cases and scripts."""
+"""Tests that replay the recorded cases and scripts."""
 
 import unittest
 
@@ -7,7 +7,7 @@ import vt100
 
 
 def text_of(screen, prev, line):
-    """Returns the line that a screen gives for a line about a text."""
+    """Returns the line that describes the output of a screen of the kind that `line` names."""
     name, *words = line.split(" ")
     if name.startswith("rows"):
         before = [prev] if name == "rows_diff" else []
@@ -33,7 +33,7 @@ class Replay(unittest.TestCase):
     maxDiff = None
 
     def assert_lines(self, name, lines, state, screen, prev):
-        """Asserts that state and texts are those of some lines."""
+        """Asserts that the state and the output are those that some lines specify."""
         told = [line for line in lines if line.split(" ")[0] in recorded.STATE]
         self.assertEqual([*map(recorded.plain, state)], [*map(recorded.plain, told)], name)
         for line in lines:

@@ -1,4 +1,4 @@
-"""What makes screens convenient: cells in bulk, display, indexing, search, changes, equality."""
+"""Tests of conveniences of screens: cells in bulk, display, indexing, search, changes, equality."""
 
 import copy
 import re

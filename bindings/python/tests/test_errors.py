@@ -1,4 +1,4 @@
-"""What is refused, and by which exception."""
+"""Tests of errors, and of the exceptions that they raise."""
 
 import array
 import copy
@@ -250,7 +250,7 @@ class Threads(unittest.TestCase):
 
     def test_no_other_thread_changes_the_size_within_a_call(self):
         class Interrupted(vt100.Parser):
-            """Has another thread change the size as soon as the size was read, if it can."""
+            """Lets another thread change the size as soon as the size has been read, if it can."""
 
             @property
             def _state(self):

@@ -1,4 +1,4 @@
-"""Mirrors and their viewers."""
+"""Tests of mirrors and their viewers."""
 
 import unittest
 

@@ -1,4 +1,4 @@
-"""Sizes, modes, attributes, scrollback, cells and texts of screens."""
+"""Tests of the sizes, modes, attributes, scrollback, cells and texts of screens."""
 
 import unittest
 

@@ -1,4 +1,4 @@
-"""Programs in a terminal: vt100.testing."""
+"""Tests of vt100.testing, which runs programs in a terminal."""
 
 import os
 import signal

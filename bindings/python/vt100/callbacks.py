@@ -97,5 +97,5 @@ class Callbacks:
         """
 
     def events_lost(self, screen: Screen) -> None:
-        """Handles a loss of events. It is invoked after the callbacks of the events before the lost
-        ones."""
+        """Handles a loss of events. This callback is invoked after the callbacks of the events
+        before the lost ones."""

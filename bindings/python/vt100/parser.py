@@ -85,8 +85,8 @@ class Parser(Screen):
         return length.value
 
     def set_size(self, rows: SupportsIndex, cols: SupportsIndex) -> None:
-        """Resizes the screen, and invokes `on_scroll` for rows that scroll off and are not kept. If
-        it is called by a callback, it invokes no callbacks."""
+        """Resizes the screen, and invokes `on_scroll` for rows that scroll off and are not kept.
+        When a callback calls this method, it invokes no callbacks."""
         size = size_in_range(rows, cols)
         with self._lock:
             if self._is_reporting:

@@ -50,8 +50,8 @@ class Screen(HasState):
 
     def shown_copy(self) -> Screen:
         """Returns a screen of the same size that displays the same content, without scrollback and
-        without the inactive page. If scrollback is displayed, it is a complete copy. It can serve
-        as `prev` of `contents_diff` and takes less memory than a copy made by `save`."""
+        without the inactive page. If scrollback is displayed, the copy is complete. The copy
+        can serve as `prev` of `contents_diff` and takes less memory than one made by `save`."""
         copy = Screen.__new__(Screen)
         self._call(library.vt100_shown_copy, copy._at)
         return copy
@@ -92,8 +92,8 @@ class Screen(HasState):
         return cell_of(record.raw)
 
     def cells(self, row: _Index) -> List[Cell]:
-        """Returns the cells of a displayed row, one for each column of the screen. Faster than
-        calling `cell` for each of them."""
+        """Returns the cells of a displayed row, one for each column of the screen. This is
+        faster than calling `cell` for each column."""
         row = in_range("row", row, 0, MAX_U16)
         with self._lock:
             cols = self._state.cols
@@ -252,7 +252,8 @@ class Screen(HasState):
         return self._text(library.vt100_contents_formatted_reset)
 
     def contents_formatted_basic(self) -> str:
-        """Returns the text with its colors and attributes, and with no other escape sequences."""
+        """Returns the text with SGR sequences for its colors and attributes, and without other
+        escape sequences."""
         return self._text(library.vt100_contents_formatted_basic)
 
     def state_formatted(self) -> str:

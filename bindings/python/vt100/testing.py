@@ -67,8 +67,8 @@ _CURSOR_KEYS = ("up", "down", "right", "left", "home", "end")
 
 
 class WaitFailed(AssertionError):
-    """The screen did not satisfy the condition. The message contains the screen; `screen` is a copy
-    of it."""
+    """Raised if the screen does not satisfy a condition in time. The message contains the screen;
+    `screen` is a copy of it."""
 
     def __init__(self, message: str, screen: Screen) -> None:
         super().__init__(f"{message}\n{framed(screen)}")
@@ -244,7 +244,7 @@ class Terminal:
         return self._has_output
 
     def _output(self) -> bytes:
-        """Returns a chunk of output; empty at the end of the output."""
+        """Returns a chunk of the program's output, which is empty at the end of the output."""
         try:
             return os.read(self._file, 4096)
         except OSError as error:
@@ -253,7 +253,8 @@ class Terminal:
             return b""
 
     def close(self) -> None:
-        """Hangs up, and kills the program if that does not end it. May be called more than once."""
+        """Hangs up the terminal, and kills the program if that does not end it. May be called more
+        than once."""
         if self._file >= 0:
             os.close(self._file)
             self._file, self._has_output = -1, False

@@ -1,7 +1,7 @@
-//! `bench PIECE WHAT ROWS COLS CAPACITY TIMES FILE`: one parser processes FILE so many times, in
-//! pieces of PIECE bytes, as `vt_bench process` does in pieces of 4096. WHAT is done besides:
-//! `process` nothing, `callbacks` callbacks that do nothing, `rows` an `on_scroll` that writes the
-//! row, `cell` a look at a cell of the first row after each piece.
+//! `bench PIECE WHAT ROWS COLS CAPACITY TIMES FILE`: one parser processes FILE TIMES times, in
+//! chunks of PIECE bytes, as `vt_bench process` does in chunks of 4096. WHAT says what is done in
+//! addition: `process` for nothing, `callbacks` for callbacks that do nothing, `rows` for an
+//! `on_scroll` that writes the row, `cell` for reading a cell of the first row after each chunk.
 
 use std::hint::black_box;
 use std::num::NonZeroU16;
@@ -13,7 +13,7 @@ struct Empty;
 
 impl Callbacks for Empty {}
 
-/// Writes each row that scrolls off.
+/// Callbacks that write each row that scrolls off the top.
 #[derive(Default)]
 struct Rows(BasicFormattedCaptureState);
 
@@ -49,7 +49,7 @@ impl Work {
         }
     }
 
-    /// Processes all bytes, and looks at the screen after each piece.
+    /// Processes all bytes, and calls `look` with the screen after each chunk.
     fn run<CB: Callbacks>(&self, callbacks: CB, look: impl Fn(&Screen)) {
         let (rows, cols, capacity) = (self.rows, self.cols, self.capacity);
         let parser = Parser::new_with_callbacks(rows, cols, capacity, callbacks);

@@ -1,9 +1,10 @@
-//! Answers what programs ask their terminal: device attributes (DA1, DA2), status (DSR 5), the
-//! position of the cursor (DSR 6), and the default colors (OSC 10 and 11).
+//! Replies to the queries that programs send to their terminal: device attributes (DA1, DA2),
+//! status (DSR 5), the cursor position (DSR 6), and the default colors (OSC 10 and 11).
 //!
 //! `replies COMMAND` runs a shell command in a terminal of 24 rows and 80 columns, sends it the
-//! replies that it asks for, and prints the screen that it leaves. `script` of util-linux makes the
-//! terminal. Without a command it asks itself, and tests the replies.
+//! replies that it asks for, and prints the final screen. The program `script` of util-linux
+//! provides the terminal. Without a command, `replies` sends the queries itself and tests the
+//! replies.
 
 use std::env;
 use std::io::{self, Read, Write};
@@ -14,7 +15,7 @@ use vt100::{Callbacks, Parser, Screen};
 const ROWS: u16 = 24;
 const COLS: u16 = 80;
 
-/// Light gray on black, for programs that choose colors by the background.
+/// The default colors: light gray on black, for programs that choose colors by the background.
 const FOREGROUND: &str = "rgb:d0d0/d0d0/d0d0";
 const BACKGROUND: &str = "rgb:0000/0000/0000";
 
@@ -43,7 +44,7 @@ impl Callbacks for Replies {
             _ => return,
         };
         match (i1, i2, c, number) {
-            // DA1: a VT100 with the advanced video option, which claims no more than there is.
+            // DA1: a VT100 with the advanced video option, which claims no more than is supported.
             (None, None, 'c', 0) => self.reply("\x1b[?1;2c"),
             // DA2: a VT100 without a version, so that no program takes it for one that it knows.
             (Some(b'>'), None, 'c', 0) => self.reply("\x1b[>0;0;0c"),
@@ -62,7 +63,8 @@ impl Callbacks for Replies {
     }
 }
 
-/// Returns the reply to DSR 6. It counts from 1; a cursor after the last column is reported in it.
+/// Returns the reply to DSR 6, with rows and columns counted from 1. If a wrap is pending, the last
+/// column is reported.
 fn cursor_report(screen: &Screen) -> String {
     let (row, col) = screen.cursor_position();
     let (_, cols) = screen.size();
@@ -81,7 +83,7 @@ fn replies(parser: &mut Parser<Replies>, bytes: &[u8]) -> Vec<u8> {
     std::mem::take(&mut parser.callbacks_mut().0)
 }
 
-/// Runs a shell command and returns the terminal as the command leaves it.
+/// Runs a shell command, and returns the terminal after all of the command's output.
 fn run(command: &str) -> io::Result<Parser<Replies>> {
     let mut child = Command::new("script")
         .args(["-qfec", &format!("stty rows {ROWS} cols {COLS}; {command}")])
@@ -107,7 +109,7 @@ fn run(command: &str) -> io::Result<Parser<Replies>> {
     Ok(parser)
 }
 
-/// Asks for each reply, and tests it.
+/// Sends each query to a new terminal, and tests the reply.
 fn ask() {
     let asked: [(&[u8], &str); 10] = [
         (b"\x1b[c", "\x1b[?1;2c"),

@@ -1,6 +1,6 @@
 //! The synopsis of the crate `vt100`, unmodified.
 
-// It makes a copy of the first screen, and does not look at it.
+// The synopsis makes a copy of the first screen and never uses it.
 #![allow(unused_variables)]
 
 fn main() {

@@ -79,11 +79,11 @@ impl<'a> RowContents<'a> {
         Self { parser, index }
     }
 
-    /// Writes the row, continuing a capture from this state.
+    /// Writes the row, continuing a capture from `state`.
     ///
     /// # Errors
     ///
-    /// Returns an error if the writer fails. The state is then the one after the row.
+    /// Returns an error if the writer fails. The state is then that after the row.
     pub fn write_formatted_basic(
         &self,
         writer: &mut impl fmt::Write,
@@ -189,8 +189,8 @@ impl<'a> Iterator for BasicFormattedRows<'a> {
 
 impl FusedIterator for BasicFormattedRows<'_> {}
 
-/// Returns the rows of a capture on a screen of this width, with their escape sequences but without
-/// the newlines between them. If `capture` is not a capture, the rows are unspecified.
+/// Returns the rows of a capture on a screen of `screen_width` columns, with their escape sequences
+/// but without the newlines between them. If `capture` is not a capture, the rows are unspecified.
 #[must_use]
 pub fn basic_formatted_rows(capture: &str, screen_width: u16) -> BasicFormattedRows<'_> {
     BasicFormattedRows {
@@ -202,10 +202,10 @@ pub fn basic_formatted_rows(capture: &str, screen_width: u16) -> BasicFormattedR
 /// The number of bytes in the first prefix of a capture that is passed to the library.
 const FIRST_WINDOW: usize = 256;
 
-/// Returns the result of `find` for the shortest of several prefixes of `text` that gives one. The
-/// first prefix has `first` bytes, and each later one is twice as long. The result for a prefix
-/// must be that for the whole text. This avoids passing a long capture for each row to the library,
-/// which examines all bytes that it gets.
+/// Returns the result of `find` for the shortest of several prefixes of `text` for which there is a
+/// result. The first prefix has `first` bytes, and each later one is twice as long. The result for
+/// a prefix must be that for the whole text. This avoids passing a long capture for each row to the
+/// library, which examines all bytes that it gets.
 fn in_windows<T>(text: &str, first: usize, find: impl Fn(&str) -> Option<T>) -> Option<T> {
     let mut len = first;
     while len < text.len() {

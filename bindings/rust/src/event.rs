@@ -21,11 +21,11 @@ pub enum Event<'a> {
     UnhandledCsi(Option<u8>, Option<u8>, Vec<Vec<u16>>, char),
     UnhandledOsc(Vec<&'a [u8]>),
 
-    /// A row scrolled off; `true` if it was on the alternate screen.
+    /// A row scrolled off; the value is `true` if the row was on the alternate screen.
     OnScroll(bool),
 }
 
-/// Returns the events of these records, in order.
+/// Decodes the records in `log`, and returns their events in order.
 pub fn records(mut log: &[u8]) -> impl Iterator<Item = Event<'_>> {
     std::iter::from_fn(move || {
         if log.is_empty() {

@@ -45,11 +45,14 @@ pub const INVERSE: u8 = 16;
 pub const WIDE: u8 = 32;
 pub const WIDE_CONTINUATION: u8 = 64;
 
-/// Arguments of [`Handle::parser`]: log no events, and log all of them.
+/// The argument `wanted` of [`Handle::parser`] with which no events are logged.
 pub const NO_EVENTS: u16 = 0;
+
+/// The argument `wanted` of [`Handle::parser`] with which all events are logged.
 pub const ALL_EVENTS: u16 = ((1 << 13) - 1) | ROWS_WITHOUT_TEXT;
 
-/// Rows are read with [`Handle::capture_row`], so their records need no text.
+/// The bit of `wanted` that omits the text from the records of rows. They are read with
+/// [`Handle::capture_row`] instead.
 const ROWS_WITHOUT_TEXT: u16 = 1 << 13;
 
 const OK: u8 = 0;
@@ -238,7 +241,7 @@ unsafe impl Sync for Handle {}
 
 impl Drop for Handle {
     fn drop(&mut self) {
-        // SAFETY: the handle is empty, or the only handle of its object.
+        // SAFETY: the handle is empty, or it is the only handle of its object.
         unsafe { vt100_free(self) }
     }
 }
@@ -363,7 +366,7 @@ impl Handle {
         state
     }
 
-    /// Returns the cell at a position, if there is one.
+    /// Returns the displayed cell at a row and column, or `None` if there is no such cell.
     pub fn cell(&mut self, row: u16, col: u16) -> Option<Cell> {
         let mut cell = Cell::default();
         match unsafe { vt100_get_cell(self, row, col, &mut cell) } {
@@ -412,7 +415,7 @@ impl Handle {
         self.copied(len)
     }
 
-    /// Returns the difference from another screen, or `None` if the sizes differ.
+    /// Returns the difference from the screen `prev`, or `None` if the sizes differ.
     pub fn difference(&mut self, prev: &mut Self, difference: Difference) -> Option<String> {
         let mut len = 0;
         match unsafe { (difference.0)(self, prev, &mut len) } {
@@ -424,7 +427,7 @@ impl Handle {
         }
     }
 
-    /// Returns the text of each displayed row; `rows` must be the number of rows.
+    /// Returns the text of each displayed row; `rows` must be the number of rows of the screen.
     pub fn rows(&mut self, texts: RowTexts, start: u16, width: u16, rows: u16) -> Vec<String> {
         let mut ends = vec![0; usize::from(rows)];
         let mut len = 0;
@@ -433,8 +436,8 @@ impl Handle {
         cut(&self.copied(len), &ends)
     }
 
-    /// Returns the escape sequences that turn each row of another screen into that row of this one,
-    /// or `None` if the sizes differ.
+    /// Returns the escape sequences that turn each row of the screen `prev` into the same row of
+    /// this screen, or `None` if the sizes differ.
     pub fn rows_diff(
         &mut self,
         prev: &mut Self,
@@ -491,7 +494,7 @@ impl Handle {
         viewer
     }
 
-    /// Removes a viewer, and returns whether there was one.
+    /// Removes a viewer, and returns whether there was a viewer with this number.
     pub fn leave(&mut self, viewer: u64) -> bool {
         match unsafe { vt100_leave(self, viewer) } {
             BAD_ARGUMENT => false,
@@ -509,8 +512,9 @@ impl Handle {
         current == 1
     }
 
-    /// Returns the update that a viewer must read, with the rows and columns that its terminal must
-    /// have first, both 0 if it keeps its size; or `None` if there is no such viewer.
+    /// Returns the update that a viewer must read next, and the rows and columns that the viewer's
+    /// terminal must have before that, both 0 if the terminal keeps its size. Returns `None` if
+    /// there is no such viewer.
     pub fn update(&mut self, updates: Updates, viewer: u64) -> Option<((u16, u16), String)> {
         let (mut rows, mut cols, mut len) = (0, 0, 0);
         match unsafe { (updates.0)(self, viewer, &mut rows, &mut cols, &mut len) } {
@@ -522,7 +526,7 @@ impl Handle {
         }
     }
 
-    /// Returns a copy of the handle's text, which has this length.
+    /// Returns a copy of the handle's text, which has `len` bytes.
     fn copied(&mut self, len: usize) -> String {
         let mut text = Vec::with_capacity(len);
         // SAFETY: there is room for `len` bytes, and the returned number of bytes was written.
@@ -534,7 +538,7 @@ impl Handle {
     }
 }
 
-/// Splits a text into texts that end at these positions.
+/// Splits `text` into strings that end at the byte indices in `ends`.
 fn cut(text: &str, ends: &[usize]) -> Vec<String> {
     let mut start = 0;
     let mut texts = Vec::with_capacity(ends.len());
@@ -545,8 +549,8 @@ fn cut(text: &str, ends: &[usize]) -> Vec<String> {
     texts
 }
 
-/// Returns the start and end of the next piece of a capture without escape sequences; both are the
-/// length of the text if there is none.
+/// Returns the start and end of the first chunk of a capture without escape sequences. Both are the
+/// length of the text if there is no such chunk.
 pub fn next_plain(text: &str) -> (usize, usize) {
     let (mut start, mut end) = (0, 0);
     let (bytes, len) = (text.as_ptr(), text.len());
@@ -554,7 +558,8 @@ pub fn next_plain(text: &str) -> (usize, usize) {
     (start, end)
 }
 
-/// Returns the end of the first row of a capture, and the start of the next one, if there is one.
+/// Returns the end of the first row of a capture, and the start of the next row, or `None` if there
+/// is no next row.
 pub fn next_row(text: &str, width: u16) -> (usize, Option<usize>) {
     let (mut end, mut next) = (0, 0);
     let (bytes, len) = (text.as_ptr(), text.len());

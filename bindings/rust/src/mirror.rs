@@ -49,7 +49,8 @@ impl Update {
 /// assert_eq!(update, Update::Diff("\x1b[H\x1b[M\x1b[3;1H".to_owned()));
 /// ```
 pub struct Mirror {
-    /// Each call of the library needs exclusive access, even one that only reads.
+    /// The library's mirror. Each call to the library needs exclusive access, even a call that only
+    /// reads.
     handle: Mutex<Handle>,
 }
 
@@ -69,7 +70,7 @@ impl Mirror {
             .unwrap_or_else(PoisonError::into_inner)
     }
 
-    /// Processes bytes. Input may be split anywhere.
+    /// Parses bytes and applies them to the screen. Input may be split anywhere.
     pub fn process(&mut self, bytes: &[u8]) {
         self.handle().process(bytes);
     }
@@ -89,7 +90,7 @@ impl Mirror {
         self.handle().leave(viewer)
     }
 
-    /// Returns the next update of a viewer, or `None` if there is no viewer of this number.
+    /// Returns the next update of a viewer, or `None` if there is no viewer with this number.
     pub fn update(&mut self, viewer: u64) -> Option<Update> {
         self.next(Updates::DRAWN, viewer)
     }

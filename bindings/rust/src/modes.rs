@@ -1,7 +1,7 @@
 /// The mouse events that a program has requested.
 #[derive(Copy, Clone, Debug, Eq, PartialEq, Default)]
 pub enum MouseProtocolMode {
-    /// No events.
+    /// The program has requested no events.
     #[default]
     None,
 
@@ -33,14 +33,14 @@ impl MouseProtocolMode {
 /// The encoding of the mouse events that a program receives.
 #[derive(Copy, Clone, Debug, Eq, PartialEq, Default)]
 pub enum MouseProtocolEncoding {
-    /// One byte for each number.
+    /// Each number is encoded as one byte.
     #[default]
     Default,
 
-    /// One UTF-8 character for each number (xterm mode 1005).
+    /// Each number is encoded as one UTF-8 character (xterm mode 1005).
     Utf8,
 
-    /// Decimal digits (xterm mode 1006, SGR).
+    /// Each number is encoded in decimal digits (xterm mode 1006, SGR).
     Sgr,
 }
 

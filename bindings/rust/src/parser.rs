@@ -8,14 +8,14 @@ use std::sync::{Mutex, PoisonError};
 
 /// A terminal that processes what a program writes and maintains the screen.
 pub struct Parser<CB: Callbacks = ()> {
-    /// Normally, the handle of the library's parser, which contains the screen. While the two are
-    /// separate, it holds the screen alone. They are separated when the screen is borrowed as
-    /// `&mut`, because it may then be swapped with a different screen.
+    /// The handle of the library's parser, which contains the screen. When the screen is borrowed
+    /// as `&mut`, it is separated from the parser, because it may then be swapped with a different
+    /// screen. While they are separate, this handle holds the screen alone.
     screen: Screen,
 
-    /// Normally, a screen of one cell, or nothing if the screen and the parser were never
-    /// separated. While they are separate, it is the library's parser, which then contains a screen
-    /// of one cell.
+    /// The handle of a screen of one cell, or an empty handle if the screen and the parser were
+    /// never separated. While they are separate, this handle holds the library's parser, which
+    /// then contains a screen of one cell.
     rest: Mutex<Handle>,
 
     is_together: bool,
@@ -45,7 +45,7 @@ impl Parser {
 }
 
 impl<CB: Callbacks> Parser<CB> {
-    /// Creates a parser with callbacks; otherwise as [`new`](Parser::new).
+    /// Creates a parser as [`new`](Parser::new) does, with the given callbacks.
     pub fn new_with_callbacks(
         rows: NonZeroU16,
         cols: NonZeroU16,
@@ -145,24 +145,24 @@ impl<CB: Callbacks> Parser<CB> {
         &self.screen
     }
 
-    /// Returns the screen, to be changed or replaced.
+    /// Returns a mutable reference to the screen, which may be changed or replaced.
     #[must_use]
     pub fn screen_mut(&mut self) -> &mut Screen {
         self.part();
         &mut self.screen
     }
 
-    /// Returns the callbacks.
+    /// Returns a reference to the callbacks.
     pub fn callbacks(&self) -> &CB {
         &self.callbacks
     }
 
-    /// Returns the callbacks, to be changed.
+    /// Returns a mutable reference to the callbacks.
     pub fn callbacks_mut(&mut self) -> &mut CB {
         &mut self.callbacks
     }
 
-    /// Returns the screen and the callbacks, to be changed.
+    /// Returns mutable references to the screen and the callbacks.
     pub fn screen_and_callbacks_mut(&mut self) -> (&mut Screen, &mut CB) {
         self.part();
         (&mut self.screen, &mut self.callbacks)
@@ -208,8 +208,8 @@ impl<CB: Callbacks> Parser<CB> {
         }
     }
 
-    /// Swaps the screens of the two handles, and then the handles. The screen thus stays in its
-    /// handle, but the parser moves to the other one.
+    /// Swaps the screens of the two handles, and then the handles. The screen thus remains in
+    /// `self.screen`, and the library's parser moves between `self.screen` and `self.rest`.
     fn exchange(&mut self) {
         let handle = self.screen.unchanged();
         let rest = self.rest.get_mut().unwrap_or_else(PoisonError::into_inner);

@@ -62,8 +62,8 @@ impl Screen {
         self.lock().text(Text::FORMATTED)
     }
 
-    /// Returns the text with its colors and attributes, and with no other escape sequences. Each
-    /// row ends with a newline, unless it is wrapped or is the last one.
+    /// Returns the text with SGR sequences for its colors and attributes, and without other escape
+    /// sequences. Each row ends with a newline, unless it is wrapped or is the last one.
     #[must_use]
     pub fn contents_formatted_basic(&self) -> String {
         self.lock().text(Text::BASIC)
@@ -88,7 +88,7 @@ impl Screen {
     }
 
     /// Returns the escape sequences that draw each row in `width` columns from column `start` on.
-    /// The cursor must be where the row begins; its final position is unspecified.
+    /// The cursor must be where the row begins; the final position of the cursor is unspecified.
     pub fn rows_formatted(&self, start: u16, width: u16) -> impl Iterator<Item = String> + '_ {
         let (rows, cols) = (self.state().rows, self.state().cols);
         let texts = if start < cols {
@@ -116,9 +116,9 @@ impl Screen {
     }
 
     /// Returns the escape sequences that turn each row of `prev` into that row of `self`, in
-    /// `width` columns from column `start` on. The cursor must be where the row begins; its final
-    /// position is unspecified. If the sizes differ, the sequences redraw each row that both
-    /// screens have.
+    /// `width` columns from column `start` on. The cursor must be where the row begins; the final
+    /// position of the cursor is unspecified. If the sizes differ, the sequences redraw each row
+    /// that both screens have.
     pub fn rows_diff<'a>(
         &'a self,
         prev: &'a Self,
@@ -154,15 +154,15 @@ impl Screen {
             .unwrap_or_else(|| self.input_mode_formatted())
     }
 
-    /// Returns the escape sequences that set the attributes of the next character. They are part of
-    /// a redraw.
+    /// Returns the escape sequences that set the attributes of the next character, which are part
+    /// of a redraw.
     #[must_use]
     pub fn attributes_formatted(&self) -> String {
         self.lock().text(Text::ATTRIBUTES)
     }
 
-    /// Returns the escape sequences that set the cursor. They are part of a redraw. They may draw
-    /// cells again, and so change the attributes of the next character.
+    /// Returns the escape sequences that set the cursor, which are part of a redraw. These
+    /// sequences may draw cells again and thereby change the attributes of the next character.
     #[must_use]
     pub fn cursor_state_formatted(&self) -> String {
         self.lock().text(Text::CURSOR_STATE)

@@ -1,4 +1,4 @@
-//! Callbacks: their order, the screen that they are lent, and what they may do with it.
+//! Tests of callbacks: their order, the screen that is passed to them, and how they may change it.
 
 use std::num::NonZeroU16;
 use std::panic::{catch_unwind, AssertUnwindSafe};
@@ -12,7 +12,8 @@ fn size(number: u16) -> NonZeroU16 {
     NonZeroU16::new(number).unwrap()
 }
 
-/// Notes calls with the cursor that each was lent; gives the screen the size that is asked for.
+/// Callbacks that note each call, a bell with the cursor position, and resize the screen as
+/// requested.
 #[derive(Default)]
 struct Calls(Vec<String>);
 
@@ -70,7 +71,7 @@ fn calls_come_in_order_with_the_screen_behind_their_byte() {
     assert_eq!(parser.screen().size(), (size(3), size(5)));
 }
 
-/// Puts another screen in the place of the parser's at each bell, and keeps that.
+/// Callbacks that hold a second screen, and swap it with the parser's screen at each bell.
 struct Exchanging(Screen);
 
 impl Callbacks for Exchanging {
@@ -90,7 +91,7 @@ fn a_callback_may_exchange_the_screen() {
     assert_eq!(parser.callbacks().0.contents(), "mine ");
     assert!(parser.screen().cell(0, 5).unwrap().bold());
     assert!(!parser.callbacks().0.bold());
-    // A character and a sequence that are begun go on in the parser, whatever screen it has.
+    // An incomplete character or sequence continues in the parser, whatever screen the parser has.
     parser.process(b"\x97\x07two\x1b[");
     assert_eq!(parser.screen().contents(), "mine two");
     assert_eq!(parser.callbacks().0.contents(), "otherone\u{5b57}");
@@ -122,7 +123,7 @@ fn two_parsers_may_exchange_screens() {
     assert_eq!(two.screen().scrollback_len(), 2);
 }
 
-/// Panics at each bell, and counts titles.
+/// Callbacks that panic at each bell, and count titles.
 struct Panicking(usize);
 
 impl Callbacks for Panicking {
@@ -146,7 +147,7 @@ fn a_parser_goes_on_behind_a_panic() {
     assert_eq!(parser.callbacks().0, 1);
 }
 
-/// Captures rows as they leave.
+/// Callbacks that capture rows as they scroll off.
 #[derive(Default)]
 struct Capturing {
     text: String,

@@ -1,5 +1,5 @@
-//! Replays the recorded cases and scripts of `crates/vt_cases`, whose README says what the lines
-//! are.
+//! Tests that replay the recorded cases and scripts of `crates/vt_cases`, whose README describes
+//! the lines.
 
 mod lines;
 
@@ -8,8 +8,8 @@ use std::num::NonZeroU16;
 use std::path::Path;
 use vt100::{Parser, Screen};
 
-/// Replays all cases and scripts of a file, and fails where one differs; answers how many there
-/// were.
+/// Replays all cases and scripts of a file, and returns how many there were. Panics if one of them
+/// differs.
 fn replay_file(name: &str) -> usize {
     let folder = Path::new(env!("CARGO_MANIFEST_DIR")).join("../../crates/vt_cases/data");
     let text = std::fs::read_to_string(folder.join(name)).unwrap();
@@ -34,7 +34,7 @@ fn number(word: &str) -> NonZeroU16 {
     word.parse().unwrap()
 }
 
-/// The first thing that differs in a case: its bytes are read whole, and one by one.
+/// Replays a case with its bytes in one chunk and one by one. Returns the first difference, if any.
 fn replay_case((rows, cols): (NonZeroU16, NonZeroU16), lines: &str) -> Option<String> {
     let (mut bytes, mut before) = (Vec::new(), 0);
     let (mut told, mut texts) = (String::new(), Vec::new());
@@ -69,7 +69,7 @@ fn replay_case((rows, cols): (NonZeroU16, NonZeroU16), lines: &str) -> Option<St
     is_quietly_equal(rows, cols, &bytes, &told).then_some("without callbacks".to_owned())
 }
 
-/// Whether a parser without callbacks shows something else.
+/// Returns whether a parser without callbacks has a different state than `told` specifies.
 fn is_quietly_equal(rows: NonZeroU16, cols: NonZeroU16, bytes: &[u8], told: &str) -> bool {
     let mut parser = Parser::new(rows, cols, 0);
     parser.process(bytes);
@@ -77,7 +77,7 @@ fn is_quietly_equal(rows: NonZeroU16, cols: NonZeroU16, bytes: &[u8], told: &str
     !told.starts_with(&state)
 }
 
-/// The first thing that differs in a script.
+/// Replays a script, and returns the first difference, if any.
 fn replay_script(
     (rows, cols): (NonZeroU16, NonZeroU16),
     capacity: usize,
@@ -134,7 +134,8 @@ fn is_of_state(word: &str) -> bool {
     words.split(' ').any(|other| other == word)
 }
 
-/// Whether a screen gives the texts of a line; `prev` is the screen that differences start from.
+/// Returns whether a screen has the output that a line specifies; `prev` is the screen from which
+/// differences start.
 fn is_told(screen: &Screen, prev: &Screen, line: &str) -> bool {
     let words: Vec<&str> = line.split(' ').collect();
     let place = |at: usize| words[at].parse::<u16>().unwrap();

@@ -1,4 +1,4 @@
-//! Differences that move rows, and viewers of a mirror.
+//! Tests of differences that move rows, and of the viewers of a mirror.
 
 use std::num::NonZeroU16;
 use vt100::mirror::{Mirror, Update};
@@ -8,7 +8,7 @@ fn size(number: u16) -> NonZeroU16 {
     NonZeroU16::new(number).unwrap()
 }
 
-/// Has a viewer's terminal take an update.
+/// Applies an update to a viewer's terminal.
 fn take(terminal: &mut Parser, update: &Update) {
     if let Update::Full { rows, cols, .. } = update {
         terminal.set_size(*rows, *cols);

@@ -1,4 +1,4 @@
-//! Screens: what is lent and copied, and what stands behind changes.
+//! Tests of screens: references to them, copies of them, and their state after changes.
 
 use std::io::Write;
 use std::num::NonZeroU16;
@@ -51,7 +51,7 @@ fn cells_are_those_behind_the_last_change() {
     assert_eq!(text(parser.screen(), 23, 79).as_deref(), Some(""));
 }
 
-/// The text of a cell of four columns and three rows that show these texts.
+/// Returns the text of the cell at a position on a screen of three rows that display these texts.
 fn letter(rows: [&str; 3], (row, col): (u16, u16)) -> Option<String> {
     let text = rows.get(usize::from(row))?;
     text.chars().nth(col.into()).map(String::from)
@@ -274,7 +274,7 @@ fn the_bytes_of_an_unfinished_command_are_counted() {
         parser.process(bytes);
         assert_eq!(parser.pending_len(), len, "{bytes:?}");
     }
-    // The parser holds them, not the screen.
+    // The bytes are held by the parser, not by the screen.
     *parser.screen_mut() = Parser::default().screen().clone();
     assert_eq!(parser.pending_len(), 7);
     parser.process(b"\x07");

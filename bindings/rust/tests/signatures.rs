@@ -1,5 +1,5 @@
-//! The public items of the crate `vt100` 0.18.1, by their exact types. This file compiles with that
-//! crate, too.
+//! Tests of the exact types of the public items of the crate `vt100` 0.18.1. This file also
+//! compiles with that crate.
 
 #![allow(clippy::type_complexity, clippy::useless_conversion)]
 
@@ -179,7 +179,7 @@ fn callbacks_have_the_signatures() {
     let _: fn(&mut Nothing, RowContents<'_>, bool) = <Nothing as Callbacks>::on_scroll;
 }
 
-/// A writer that borrows one of any type.
+/// A writer that borrows a writer of any type.
 struct Borrowing<'a>(&'a mut dyn fmt::Write);
 
 impl fmt::Write for Borrowing<'_> {
@@ -221,7 +221,7 @@ fn rows_are_iterators_that_threads_share() {
     );
 }
 
-/// Hands titles on to callbacks of any type.
+/// Callbacks that pass titles on to callbacks of any type.
 struct Boxed(Box<dyn Callbacks + Send>);
 
 impl Callbacks for Boxed {
@@ -254,7 +254,7 @@ fn the_type_of_callbacks_is_inferred() {
 
 #[test]
 fn a_color_has_one_conversion() {
-    // The argument's type can be inferred, since there is but one implementation of `From`.
+    // The type of the argument can be inferred, because there is only one implementation of `From`.
     let color: Color = Color::from(Default::default());
     assert_eq!(color, Color::Default);
 }

@@ -1,4 +1,4 @@
-//! What a program asks of the terminal around it.
+//! Callbacks for what a program asks of its terminal: bells, titles and sizes.
 
 use std::alloc::Global;
 use std::num::NonZeroU16;
@@ -8,7 +8,7 @@ use vt100::{Call, Callbacks, Error, Parser, Screen};
 /// The largest size that a program may ask for, in rows and columns.
 const GREATEST: (u16, u16) = (200, 400);
 
-/// The longest command that a program may send, in bytes: enough for a clipboard.
+/// The maximum length, in bytes, of a command that a program may send: enough for a clipboard.
 const LONGEST: usize = 1 << 20;
 
 /// The control function CAN, which ends a command.
@@ -39,7 +39,7 @@ impl Window {
         self.title.as_slice()
     }
 
-    /// Returns how often the bell rang.
+    /// Returns the number of times that the bell has rung.
     pub fn bells(&self) -> u64 {
         self.bells
     }
@@ -71,8 +71,8 @@ impl Callbacks for Window {
     }
 }
 
-/// Parses `bytes`, ends a command that has become too long, and then resizes the screen if a
-/// program asked for it, at most to the largest size.
+/// Parses `bytes`. Ends an operating system command that is longer than [`LONGEST`]. If a program
+/// asked for a new size, then resizes the screen, at most to [`GREATEST`].
 ///
 /// # Errors
 ///

@@ -1,4 +1,4 @@
-//! The callers that crates/vt100/CALLING.md quotes.
+//! Example callers of the terminal, which crates/vt100/CALLING.md quotes.
 #![tactic(auto)]
 
 pub mod callbacks;

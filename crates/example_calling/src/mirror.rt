@@ -1,4 +1,4 @@
-//! A terminal that viewers elsewhere watch.
+//! A mirror, and the terminal of one of its viewers.
 
 use std::num::NonZeroU16;
 use vt_mirror::{Mirror, Update};
@@ -18,7 +18,7 @@ pub fn show(
     }
 }
 
-/// Applies an update to a viewer's terminal: the size first, if it is a full update, and then the
+/// Applies an update to a viewer's terminal: first the size, if the update is full, and then the
 /// text.
 fn take(terminal: &mut Parser, update: &Update) -> Result<(), Error> {
     let text = match update {

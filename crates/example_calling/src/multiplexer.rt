@@ -16,7 +16,7 @@ impl Client {
         Client { seen: None }
     }
 
-    /// Writes the escape sequences that make the client's terminal display this screen.
+    /// Writes the escape sequences that make the client's terminal display `screen`.
     pub fn update<W: Write>(&mut self, screen: &Screen, writer: &mut W) -> Result<()> {
         let text = match &self.seen {
             Some(seen) => text_from(screen, seen)?,
@@ -30,7 +30,8 @@ impl Client {
     }
 }
 
-/// Returns the difference from the screen before, or a redraw if that has a different size.
+/// Returns the diff from the earlier screen `seen` to `screen`, or a redraw of `screen` if the
+/// sizes differ.
 fn text_from(screen: &Screen, seen: &Screen) -> Result<String, Error> {
     if screen.is_sized_as(seen) {
         screen.contents_diff_scrolling(seen)

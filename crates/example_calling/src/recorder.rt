@@ -1,5 +1,5 @@
-//! A log of all that was displayed: the rows that scrolled off the top, and then the rows of the
-//! screen.
+//! A log of everything that was displayed: the rows that scrolled off the top, followed by the rows
+//! of the screen.
 
 ghost use Rattle.vt_cells.specs.Refusals.{OnlyOutOfMemory};
 
@@ -8,7 +8,8 @@ use std::num::NonZeroU16;
 use vt_notes::Recorder;
 use vt100::{Error, Parser};
 
-/// Returns the log of `output` on a terminal of this size, as text with SGR sequences.
+/// Returns the log of `output` on a terminal with `rows` rows and `cols` columns, as text with SGR
+/// sequences.
 pub fn log(
     alloc: Global,
     rows: NonZeroU16,
@@ -20,7 +21,8 @@ pub fn log(
     finish(alloc, &mut parser)
 }
 
-/// Returns the rows that scrolled off, followed by those that are kept and displayed.
+/// Returns the text of the rows that scrolled off, followed by the rows of scrollback and of the
+/// page.
 fn finish(alloc: Global, parser: &mut Parser<Recorder>) -> Result<String, Error>
     ensures memory { OnlyOutOfMemory result }
 {

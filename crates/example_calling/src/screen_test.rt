@@ -1,4 +1,4 @@
-//! Tests of a program's screen.
+//! Functions for tests of what a program displays.
 
 ghost use Rattle.std.specs.Prelude.{◌≡◌, ◌↔◌, true, IfOk};
 ghost use Rattle.vt_cells.specs.Refusals.{OnlyOutOfMemory};
@@ -6,7 +6,7 @@ ghost use Rattle.vt_screen.specs.Contents.{between_of, contents_of};
 
 use vt100::{Color, Error, Screen};
 
-/// Returns whether the text of the display is `text`.
+/// Returns whether the text of all displayed rows is `text`.
 pub fn shows(screen: &Screen, text: &str) -> Result<bool, Error>
     ensures shows { IfOk result (λ is. is ≡ true ↔ contents_of screen.now ≡ text.now) }
     ensures memory { OnlyOutOfMemory result }
@@ -15,7 +15,7 @@ pub fn shows(screen: &Screen, text: &str) -> Result<bool, Error>
     Ok(shown.as_str() == text)
 }
 
-/// Returns whether a displayed row has this text, without blanks at its end.
+/// Returns whether the text of a displayed row, not counting blanks at its end, is `text`.
 pub fn row_shows(screen: &Screen, row: u16, text: &str) -> Result<bool, Error>
     ensures shows { IfOk result
         (λ is. is ≡ true ↔ between_of row 0 row screen.now.page.width screen.now ≡ text.now) }
@@ -26,7 +26,7 @@ pub fn row_shows(screen: &Screen, row: u16, text: &str) -> Result<bool, Error>
     Ok(shown.as_str() == text)
 }
 
-/// Returns whether a displayed cell has this foreground colour.
+/// Returns whether the foreground color of a displayed cell is `color`.
 pub fn cell_is_in(screen: &Screen, row: u16, column: u16, color: Color) -> bool {
     match screen.cell(row, column) {
         Some(cell) => cell.fgcolor() == color,

@@ -1,4 +1,4 @@
-//! Recordings of asciinema, versions 2 and 3.
+//! Recordings made by asciinema, in versions 2 and 3 of its format.
 
 use anyhow::{Context, Result, bail};
 use serde_json::Value;
@@ -8,10 +8,11 @@ use std::num::NonZeroU16;
 /// The versions of the format that are supported.
 #[derive(Clone, Copy, PartialEq, Eq)]
 pub enum Version {
-    /// Version 2: times count from the beginning of the recording.
+    /// Version 2: the time of an event is measured from the beginning of the recording.
     Two,
 
-    /// Version 3: times count from the event before, and a line that begins with `#` is a comment.
+    /// Version 3: the time of an event is measured from the previous event, and a line that begins
+    /// with `#` is a comment.
     Three,
 }
 
@@ -23,20 +24,20 @@ pub struct Header {
     pub cols: NonZeroU16,
 }
 
-/// The content of a line after the first one.
+/// An event of a recording: the content of a line after the header.
 #[derive(Clone, Copy)]
 pub struct Event<'a> {
-    /// Seconds since the recording began.
+    /// The time in seconds since the recording began.
     pub time: f64,
     pub action: Action<'a>,
 }
 
-/// A clock that keeps the time of the last event.
+/// A clock that holds the time of the last event that was read.
 #[derive(Clone, Copy)]
 pub struct Clock {
     version: Version,
 
-    /// Seconds since the recording began.
+    /// The time in seconds since the recording began.
     time: f64,
 }
 
@@ -64,7 +65,8 @@ pub fn json(alloc: Global, line: &str) -> Result<Value> {
 }
 
 impl Version {
-    /// Returns whether a line has an event, that is, it is neither blank nor a comment.
+    /// Returns whether a line contains an event, that is, whether it is neither blank nor a
+    /// comment.
     pub fn has_event(self, line: &str) -> bool {
         let is_comment = self == Version::Three && line.starts_with('#');
         !is_comment && !line.trim().is_empty()
@@ -84,7 +86,7 @@ impl Header {
         }
     }
 
-    /// Reads the size from the fields with these names.
+    /// Reads the size of the terminal from the fields with the names `rows` and `cols`.
     fn read_size(version: Version, value: &Value, rows: &str, cols: &str) -> Result<Header> {
         Ok(Header {
             version,
@@ -100,7 +102,7 @@ impl Clock {
         Clock { version, time: 0.0 }
     }
 
-    /// Advances to an event with the time `time` in its line.
+    /// Advances the clock to an event whose line contains the time `time`.
     fn go_on(&mut self, time: f64) {
         self.time = match self.version {
             Version::Two => time,
@@ -110,7 +112,7 @@ impl Clock {
 }
 
 impl<'a> Event<'a> {
-    /// Reads an event, of any kind, from the JSON value of its line.
+    /// Reads an event of any kind from the JSON value of its line, and advances the clock to it.
     pub fn read(value: &'a Value, clock: &mut Clock) -> Result<Event<'a>> {
         let parts = value.as_array().context("an event is an array")?;
         let [time, kind, data] = parts.as_slice() else {
@@ -135,7 +137,7 @@ impl<'a> Action<'a> {
     }
 }
 
-/// Returns the number of rows or columns in the field of this name.
+/// Returns the number of rows or columns in the field `name`.
 fn read_number(value: &Value, name: &str) -> Result<NonZeroU16> {
     value
         .get(name)
@@ -143,7 +145,8 @@ fn read_number(value: &Value, name: &str) -> Result<NonZeroU16> {
         .context(format_args!("no {name} from 1 to 65535"))
 }
 
-/// Converts a number of rows or columns; returns `None` if it is not from 1 to 65535.
+/// Converts a JSON number of rows or columns to a nonzero integer. Returns `None` if the value is
+/// not an integer from 1 to 65535.
 fn size(value: &Value) -> Option<NonZeroU16> {
     NonZeroU16::new(u16::try_from(value.as_u64()?).ok()?)
 }

@@ -1,6 +1,7 @@
-//! `example_cast`: reads a recording of asciinema, version 2 or 3, and plays it through a mirror
-//! with two viewers, one for each kind of difference. Writes the amount of input, the amount of
-//! updates for each viewer, and the rows that the second viewer displays at the end.
+//! `example_cast`: reads a recording made by asciinema, version 2 or 3, and plays it through a
+//! mirror with two viewers, one for each kind of diff. Writes the number and length of the output
+//! events, the number and length of the updates for each viewer, and the rows that the second
+//! viewer displays at the end.
 #![tactic(auto)]
 
 mod cast;
@@ -20,8 +21,8 @@ use tally::Tally;
 
 const USAGE: &str = "usage: example_cast <RECORDING";
 
-/// Plays a whole recording: a header in its first line, and an event in each further line that is
-/// neither blank nor a comment.
+/// Plays a whole recording. Its first line is a header, and each further line that is neither blank
+/// nor a comment is an event.
 fn play(alloc: Global, recording: &str) -> Result<Player> {
     let (first, events) = recording.split_once('\n').unwrap_or((recording, ""));
     let header = read_header(alloc, first).context("line 1")?;
@@ -47,7 +48,7 @@ fn play_line(alloc: Global, player: &mut Player, clock: &mut Clock, line: &str) 
     player.play(Event::read(&value, clock)?)
 }
 
-/// Writes the counts and the rows.
+/// Writes the counts in `tally`, followed by `rows`, one row per line.
 fn write<R: Print>(rt: &R, tally: &Tally, rows: &[String]) -> io::Result<()> {
     println!(rt; "{tally}\n")?;
     for row in rows {
@@ -56,8 +57,8 @@ fn write<R: Print>(rt: &R, tally: &Tally, rows: &[String]) -> io::Result<()> {
     Ok(())
 }
 
-/// Reads a recording from standard input, and writes the counts and the rows. A closed output is no
-/// error.
+/// Reads a recording from standard input, and writes the counts and the rows that the second viewer
+/// displays. A closed output is not an error.
 fn run<R: AllocGlobal + Input + Print>(rt: &R) -> Result<()> {
     let recording = io::read_to_string(rt.alloc(), rt.reader()).context("reading the recording")?;
     let player = play(rt.alloc(), recording.as_str())?;
@@ -68,7 +69,7 @@ fn run<R: AllocGlobal + Input + Print>(rt: &R) -> Result<()> {
     }
 }
 
-/// Returns whether there are command-line arguments, or ones that cannot be read.
+/// Returns whether there are command-line arguments. Also returns `true` if they cannot be read.
 fn has_arguments<R: AllocGlobal + Env>(rt: &R) -> bool {
     match env::args(rt) {
         Ok(words) => words.skip(1).next().is_some(),

@@ -8,7 +8,7 @@ use std::alloc::Global;
 use std::num::NonZeroU16;
 use vt_mirror::Mirror;
 
-/// A mirror that parses the recorded output, and two viewers, one for each kind of difference.
+/// A mirror that parses the recorded output, and two viewers, one for each kind of diff.
 #[derive(Drop)]
 pub struct Player {
     mirror: Mirror,
@@ -21,7 +21,7 @@ pub struct Player {
 }
 
 impl Player {
-    /// Creates a mirror of this size with its two viewers.
+    /// Creates a mirror with `rows` rows and `cols` columns, and its two viewers.
     pub fn new(alloc: Global, rows: NonZeroU16, cols: NonZeroU16) -> Result<Player> {
         let mut mirror = Mirror::new(alloc, rows, cols, 0)?;
         let drawn = Viewer::join(alloc, &mut mirror, Kind::Drawn, (rows, cols))?;
@@ -35,8 +35,8 @@ impl Player {
         })
     }
 
-    /// Plays an event. All events of one moment are sent to the viewers together, when a later one
-    /// arrives.
+    /// Plays an event. Events with the same time are sent to the viewers together, when an event
+    /// with a different time is played.
     pub fn play(&mut self, event: Event<'_>) -> Result<()> {
         if let Action::Other = event.action {
             return Ok(());
@@ -70,7 +70,7 @@ impl Player {
         self.scrolling.rows(alloc)
     }
 
-    /// Returns the counts of what was read and written so far.
+    /// Returns the counts of the input and of the updates so far.
     pub fn tally(&self) -> Tally {
         Tally {
             read: self.read,

@@ -2,31 +2,32 @@
 
 use std::fmt;
 
-/// The counts of what was read, and of the updates of both viewers.
+/// The counts of the output events in a recording, and of the updates of both
+/// viewers.
 #[derive(Clone, Copy)]
 pub struct Tally {
-    /// Output events.
+    /// The output events of the recording.
     pub read: Count,
 
-    /// The updates of the viewer whose differences only draw.
+    /// The updates of the viewer that receives diffs that never move rows.
     pub drawn: Updates,
 
-    /// The updates of the viewer whose differences may move rows first.
+    /// The updates of the viewer that receives diffs that may move rows first.
     pub scrolling: Updates,
 }
 
-/// The counts of the updates of a viewer.
+/// The counts of the updates that a viewer received.
 #[derive(Clone, Copy, Default)]
 pub struct Updates {
-    /// Updates that draw the whole screen.
+    /// The updates that redraw the whole screen.
     pub redraws: Count,
 
-    /// Updates that draw the difference from the update before.
+    /// The updates that are diffs from the screen at the previous update.
     pub differences: Count,
 }
 
 impl Updates {
-    /// Returns the sum of both counts.
+    /// Returns the sum of the counts of redraws and diffs.
     fn all(self) -> Count {
         self.redraws.with(self.differences)
     }
@@ -40,7 +41,7 @@ pub struct Count {
 }
 
 impl Count {
-    /// Counts one more item of this length.
+    /// Counts one more item, with a length of `bytes` bytes.
     pub fn add(&mut self, bytes: usize) {
         self.times = self.times.saturating_add(1);
         self.bytes = self.bytes.saturating_add(bytes);

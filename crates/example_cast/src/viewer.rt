@@ -7,16 +7,16 @@ use std::num::NonZeroU16;
 use vt_mirror::{Mirror, Update};
 use vt100::{Error, Parser};
 
-/// The texts of rows, or the error if one cannot be allocated.
+/// The texts of rows, or the error if a text cannot be allocated.
 type Texts = std::result::Result<Vec<String>, Error>;
 
-/// The kind of differences that a viewer receives.
+/// The kind of diffs that a viewer receives.
 #[derive(Clone, Copy)]
 pub enum Kind {
-    /// Differences only draw.
+    /// Diffs that draw changed cells and never move rows.
     Drawn,
 
-    /// Differences may move rows first, if that is shorter.
+    /// Diffs that may move rows first, if doing so makes the output shorter.
     Scrolling,
 }
 
@@ -30,7 +30,7 @@ pub struct Viewer {
 }
 
 impl Viewer {
-    /// Adds a viewer to a mirror, with a terminal of this size.
+    /// Adds to a mirror a viewer whose terminal has the given size.
     pub fn join(
         alloc: Global,
         mirror: &mut Mirror,

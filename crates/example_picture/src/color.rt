@@ -1,21 +1,21 @@
-//! The RGB values of cell colours.
+//! The RGB values of cell colors.
 
 ghost use Rattle.std.specs.Prelude.{◌≡◌, ◌<◌, ◌+◌, ◌*◌, ◌==◌, if◌then◌else◌};
 
 use std::fmt;
 use vt100::Color;
 
-/// A colour by its red, green and blue components.
+/// A color by its red, green and blue components.
 #[derive(Clone, Copy, PartialEq, Eq, Debug)]
 pub struct Rgb(pub u8, pub u8, pub u8);
 
-/// The default colour of text.
+/// The default color of text.
 pub const INK: Rgb = Rgb(0xe5, 0xe5, 0xe5);
 
-/// The default colour of the background.
+/// The default color of the background.
 pub const PAPER: Rgb = Rgb(0, 0, 0);
 
-/// The first 16 colours of xterm's palette.
+/// The first 16 colors of xterm's palette.
 const NAMED: [Rgb; 16] = [
     Rgb(0, 0, 0),
     Rgb(0xcd, 0, 0),
@@ -36,7 +36,7 @@ const NAMED: [Rgb; 16] = [
 ];
 
 impl Rgb {
-    /// Returns the RGB value of a cell's colour; `default` is that of [`Color::Default`].
+    /// Returns the RGB value of a cell's color; `default` is the RGB value of [`Color::Default`].
     pub fn of(color: Color, default: Rgb) -> Rgb {
         match color {
             Color::Default => default,
@@ -45,7 +45,7 @@ impl Rgb {
         }
     }
 
-    /// Returns the colour halfway between two.
+    /// Returns the color halfway between `self` and `other`.
     pub fn mixed(self, other: Rgb) -> Rgb {
         Rgb(
             self.0.midpoint(other.0),
@@ -62,7 +62,8 @@ impl fmt::Display for Rgb {
     }
 }
 
-/// Returns a colour of xterm's palette: 16 named ones, a cube of 6 steps a side, and 24 greys.
+/// Returns a color of xterm's palette, which has 16 named colors, a cube with six steps per side,
+/// and 24 grays.
 fn of_palette(index: u8) -> Rgb {
     match index {
         0..=15 => NAMED[usize::from(index)],
@@ -74,14 +75,14 @@ fn of_palette(index: u8) -> Rgb {
     }
 }
 
-/// Returns a colour of the cube, in which blue changes fastest.
+/// Returns the color at an index in the palette's color cube, in which blue changes fastest.
 fn of_cube(place: u8) -> Rgb
     requires { place < 216 }
 {
     Rgb(level(place / 36), level(place / 6 % 6), level(place % 6))
 }
 
-/// Returns the brightness of a step of the cube, 0 to 255.
+/// Returns the brightness, from 0 to 255, of a step of the palette's color cube.
 fn level(step: u8) -> u8
     requires { step < 6 }
     ensures { result ≡ (if step == 0 then 0 else 55 + 40 * step) }

@@ -1,4 +1,4 @@
-//! The picture of a screen.
+//! Drawing a picture of a screen.
 
 use crate::color::{INK, PAPER};
 use crate::spot::{Mark, Spot, cursor_col, spots_of};
@@ -20,13 +20,13 @@ const MARGIN: u32 = 9;
 
 const FONTS: &str = "'DejaVu Sans Mono', Menlo, Consolas, monospace";
 
-/// The style sheet: blanks are kept, and glyphs run from left to right in the order of their
-/// columns.
+/// The style sheet of the picture. It preserves blanks and arranges glyphs from left to right in
+/// the order of their columns.
 const STYLE: &str = "text { white-space: pre; direction: ltr; unicode-bidi: bidi-override }";
 
-/// Returns the picture of a screen as SVG: the backgrounds and then the texts.
+/// Returns a picture of a screen as SVG, which draws first the backgrounds and then the text.
 ///
-/// Each text begins at its column and is as long as its columns, whatever font displays it.
+/// Each text element begins at its column and is as wide as its columns, whatever font displays it.
 pub fn svg(alloc: Global, screen: &Screen) -> Result<String, AllocError> {
     let mut out = String::new(alloc);
     write_head(&mut out, screen)?;
@@ -35,8 +35,8 @@ pub fn svg(alloc: Global, screen: &Screen) -> Result<String, AllocError> {
     Ok(out)
 }
 
-/// Writes the size, the style and the background of the whole picture, and the start of its only
-/// group.
+/// Writes the size, the style sheet and the background of the whole picture, and begins the group
+/// that contains all rows.
 fn write_head(out: &mut String, screen: &Screen) -> Result<(), AllocError> {
     let (rows, cols) = screen.size();
     let width = u32::from(cols.get()) * WIDTH + 2 * MARGIN;
@@ -71,7 +71,8 @@ fn write_rows(alloc: Global, out: &mut String, screen: &Screen) -> Result<(), Al
     Ok(())
 }
 
-/// Writes a rectangle for each run of one background colour, except for that of the whole picture.
+/// Writes a rectangle for each run of cells with the same background color, unless that is the
+/// background color of the whole picture.
 fn write_papers(out: &mut String, spots: &[Spot<'_>], row: u16) -> Result<(), AllocError> {
     for stretch in spots.chunk_by(|one, next| one.paint.paper == next.paint.paper) {
         write_paper(out, stretch, row)?;
@@ -106,8 +107,8 @@ fn write_texts(out: &mut String, spots: &[Spot<'_>], row: u16) -> Result<(), All
     Ok(())
 }
 
-/// Returns the part from the first spot that is not blank to the last one, or `None` if all are
-/// blank.
+/// Returns the part of a run from its first to its last spot that is not blank, or `None` if all
+/// spots are blank.
 fn inked<'a, 'b>(stretch: &'a [Spot<'b>]) -> Option<&'a [Spot<'b>]> {
     let first = stretch.iter().position(|spot| !spot.is_blank())?;
     let last = stretch.iter().rposition(|spot| !spot.is_blank())?;
@@ -162,7 +163,7 @@ fn extent(stretch: &[Spot<'_>]) -> (u32, u32) {
     (begin * WIDTH, cols.saturating_mul(WIDTH))
 }
 
-/// Writes the cursor if it is a line; a block is painted with the text.
+/// Writes the cursor if it is an underline or a bar; a block cursor is painted with the text.
 fn write_mark(
     out: &mut String,
     screen: &Screen,

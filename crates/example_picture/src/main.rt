@@ -18,7 +18,7 @@ use vt100::Parser;
 const USAGE: &str = "usage: example_picture ROWS COLS";
 
 /// Returns the rows and columns given by the command-line arguments, or `None` if the arguments are
-/// wrong.
+/// invalid.
 fn asked_size<R: AllocGlobal + Env>(rt: &R) -> Result<Option<(NonZeroU16, NonZeroU16)>> {
     let words: Vec<String> = env::args(rt)?.skip(1).collect(rt.alloc())?;
     let [rows, cols] = words.as_slice() else {
@@ -29,8 +29,8 @@ fn asked_size<R: AllocGlobal + Env>(rt: &R) -> Result<Option<(NonZeroU16, NonZer
     Ok(rows.ok().zip(cols.ok()))
 }
 
-/// Reads standard input to its end into a screen of this size, and writes the picture of the
-/// screen.
+/// Reads standard input to its end into a screen with `rows` rows and `cols` columns, and writes
+/// the picture of the screen.
 fn draw<R: AllocGlobal + Input + Print>(rt: &R, rows: NonZeroU16, cols: NonZeroU16) -> Result<()> {
     let mut bytes = Vec::new(rt.alloc());
     rt.reader().read_to_end(&mut bytes)?;
@@ -41,7 +41,7 @@ fn draw<R: AllocGlobal + Input + Print>(rt: &R, rows: NonZeroU16, cols: NonZeroU
     Ok(())
 }
 
-/// Draws the picture, and returns whether the command-line arguments were right.
+/// Draws the picture, and returns whether the command-line arguments were valid.
 fn run<R: AllocGlobal + Env + Input + Print>(rt: &R) -> Result<bool> {
     let Some((rows, cols)) = asked_size(rt)? else {
         return Ok(false);

@@ -1,4 +1,4 @@
-//! The content of a row from column to column.
+//! The contents of a row as glyphs and blanks, each with its position, colors and style.
 
 ghost use Rattle.std.specs.Prelude.{◌≡◌, ◌+◌, ◌<◌, IfSome, None, true};
 
@@ -6,7 +6,7 @@ use crate::color::{INK, PAPER, Rgb};
 use std::alloc::{AllocError, Global};
 use vt100::{Cell, CursorStyle, Screen};
 
-/// A glyph or a blank, with its position and its paint.
+/// A glyph or a blank of a row, with its position, colors and style.
 #[derive(Clone, Copy)]
 pub struct Spot<'a> {
     pub col: u16,
@@ -19,7 +19,7 @@ pub struct Spot<'a> {
     pub paint: Paint,
 }
 
-/// The colours and the style of a glyph.
+/// The colors and the style of a glyph.
 #[derive(Clone, Copy, PartialEq, Eq)]
 pub struct Paint {
     pub ink: Rgb,
@@ -29,29 +29,31 @@ pub struct Paint {
     pub underline: bool,
 }
 
-/// The marking of the cell that the cursor is on.
+/// The way in which the cursor marks the cell that it is on.
 #[derive(Clone, Copy, PartialEq, Eq)]
 pub enum Mark {
-    /// The colours of the cell are exchanged.
+    /// The foreground and background colors of the cell are exchanged.
     Block,
 
-    /// The cell has a line below it.
+    /// A line is drawn at the bottom of the cell.
     Underline,
 
-    /// The cell has a line at its left.
+    /// A line is drawn at the left edge of the cell.
     Bar,
 }
 
 impl Spot<'_> {
-    /// Returns whether nothing is drawn in the text colour.
+    /// Returns whether the spot has nothing that is drawn in the text color.
     pub fn is_blank(&self) -> bool {
         let is_empty = self.text.is_empty() || self.text == " ";
         is_empty && !self.paint.underline
     }
 
-    /// Returns whether both can be drawn as one text: they are ASCII and have the same paint.
+    /// Returns whether the spot and `next` can be drawn as one text: both are ASCII and have the
+    /// same colors and style.
     ///
-    /// Glyphs outside ASCII may come from a font of another width, and would move what follows.
+    /// A glyph outside ASCII may come from a font of a different width and would then shift the
+    /// glyphs after it.
     pub fn goes_on_in(&self, next: &Spot<'_>) -> bool {
         let is_ascii = self.text.is_ascii() && next.text.is_ascii();
         is_ascii && self.paint == next.paint
@@ -71,8 +73,8 @@ impl Spot<'_> {
 }
 
 impl Paint {
-    /// Returns the paint of a cell: inverse exchanges the colours, and dim text is halfway to its
-    /// background.
+    /// Returns the colors and style of a cell. Inverse video exchanges the two colors, and the
+    /// color of dim text is halfway to its background.
     fn of(cell: &Cell) -> Paint {
         let ink = Rgb::of(cell.fgcolor(), INK);
         let paper = Rgb::of(cell.bgcolor(), PAPER);
@@ -90,7 +92,7 @@ impl Paint {
         }
     }
 
-    /// Returns the paint with its colours exchanged.
+    /// Returns a copy with the foreground and background colors exchanged.
     fn inverted(self) -> Paint {
         Paint {
             ink: self.paper,
@@ -113,8 +115,8 @@ impl Mark {
     }
 }
 
-/// Returns the column of the cursor if it is visible and in this row. If a wrap is pending, that is
-/// the last column.
+/// Returns the column of the cursor if the cursor is visible and in this row. Returns the last
+/// column if a wrap is pending.
 pub fn cursor_col(screen: &Screen, row: u16) -> Option<u16>
     ensures inside { IfSome result (λ col. col < screen.now.page.width) }
     ensures hidden { screen.now.hidden ≡ true → result ≡ None }
@@ -128,8 +130,8 @@ pub fn cursor_col(screen: &Screen, row: u16) -> Option<u16>
     Some(cursor_col.min(cols.get() - 1))
 }
 
-/// Returns the glyphs and blanks of a row, from left to right. A continuation cell is not a spot of
-/// its own.
+/// Returns the glyphs and blanks of a row, from left to right. A wide glyph and its continuation
+/// cell are one spot.
 pub fn spots_of(alloc: Global, screen: &Screen, row: u16) -> Result<Vec<Spot<'_>>, AllocError> {
     let (_, cols) = screen.size();
     let mut spots = Vec::new(alloc);

@@ -1,4 +1,4 @@
-//! Text in XML.
+//! Text that is escaped for XML.
 
 use std::fmt;
 

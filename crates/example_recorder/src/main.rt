@@ -3,7 +3,7 @@
 //! screen.
 //!
 //! Rows are written as they scroll off, so a long recording needs no more memory than a short one.
-//! A wrapped row and the next one are written as one line.
+//! A wrapped row and the row after it are written as one line.
 #![tactic(auto)]
 
 ghost use Rattle.std.specs.Io.KnownBytes.{IsAtEnd};
@@ -31,7 +31,8 @@ struct Settings {
     keeps_colors: bool,
 }
 
-/// Returns the settings that the command-line arguments specify, or `None` if they are wrong.
+/// Returns the settings that the command-line arguments specify, or `None` if the arguments are
+/// invalid.
 fn read_words(words: &[String]) -> Option<Settings> {
     let (rows, cols, keeps_colors) = match words {
         [rows, cols] => (rows, cols, false),
@@ -45,7 +46,7 @@ fn read_words(words: &[String]) -> Option<Settings> {
     })
 }
 
-/// The part of the log that is not yet written.
+/// The part of the log that has not been written yet.
 #[derive(Drop)]
 struct Log {
     text: String,
@@ -65,8 +66,8 @@ impl Log {
     }
 }
 
-/// Rows that scroll off the main page are logged. The alternate page is for full-screen programs,
-/// which draw their rows again and again.
+/// Callbacks that log the rows that scroll off the main page. Rows of the alternate page are
+/// ignored, because full-screen programs draw their rows again and again.
 impl Callbacks for Log {
     ghost use Rattle.std.specs.Prelude.{◌≡◌};
 
@@ -110,7 +111,7 @@ fn write_rows<W: Write>(log: &mut Log, writer: &mut W, keeps_colors: bool) -> io
     Ok(())
 }
 
-/// Writes the rows of the screen at the end, without the blank ones after the last text.
+/// Writes the rows of the final screen, without the blank rows after the last text.
 fn write_screen<W: Write>(
     parser: &mut Parser<Log>,
     writer: &mut W,
@@ -127,7 +128,7 @@ fn write_screen<W: Write>(
     writer.flush()
 }
 
-/// Reads the input to its end, and writes the log of it.
+/// Reads all input, and writes the log of what was displayed.
 fn record<R: Read, W: Write>(
     parser: &mut Parser<Log>,
     reader: &mut R,
@@ -149,7 +150,7 @@ fn record<R: Read, W: Write>(
     Err(io::Error::other("no end of input"))
 }
 
-/// Records standard input.
+/// Reads standard input, and writes the log to standard output.
 fn run<R: AllocGlobal + Input + Print>(rt: &R, settings: Settings) -> io::Result<()> {
     let log = Log::new(rt.alloc());
     let mut parser = Parser::new_with_callbacks(rt.alloc(), settings.rows, settings.cols, 0, log)?;
@@ -161,7 +162,8 @@ fn run<R: AllocGlobal + Input + Print>(rt: &R, settings: Settings) -> io::Result
     )
 }
 
-/// Records standard input as the arguments ask. A closed output is no error.
+/// Writes the log of standard input as the command-line arguments specify. A closed output is not
+/// an error.
 fn main(rt: HostRuntime) -> Result<ExitCode> {
     let words: Vec<String> = env::args(&rt)?.skip(1).collect(rt.alloc())?;
     let Some(settings) = read_words(words.as_slice()) else {

@@ -1,9 +1,9 @@
-//! The tables of cases: what is written to a terminal, and what it must then display.
+//! Tables of test cases: a program's output, and what a terminal must then display.
 
 use Property::{Background, Bold, Foreground, Inverse, Underlined};
 use vt100::Color;
 
-/// A property that text must be drawn with.
+/// A property that a case may require of text.
 #[derive(Clone, Copy, Debug)]
 pub enum Property {
     Bold,
@@ -13,11 +13,11 @@ pub enum Property {
     Background(Color),
 }
 
-/// A text that must be on the screen: its row and the column of its first character, counted from
-/// 0, and the properties that each of its characters must have.
+/// Text that must be on the screen: the row and the column of its first character, both counted
+/// from 0; the text itself; and the properties that each of its characters must have.
 pub type Spot = (u16, u16, &'static str, &'static [Property]);
 
-/// Some output, and what a terminal must display after it.
+/// A test case: a program's output, and what a terminal must display after it.
 pub struct Case {
     pub name: &'static str,
     /// The number of rows of the terminal.
@@ -35,7 +35,7 @@ const BLUE: Color = Color::Idx(4);
 
 const ORANGE: Color = Color::Rgb(255, 135, 0);
 
-/// The cases that hold.
+/// The cases that pass.
 pub const CASES: [Case; 7] = [
     Case {
         name: "a prompt has the user in bold green and the folder in blue",
@@ -106,7 +106,7 @@ pub const CASES: [Case; 7] = [
     },
 ];
 
-/// The cases that fail on purpose: a wrong sum, and a missing colour.
+/// Cases that fail on purpose, because of a wrong sum and a missing color.
 pub const WRONG: [Case; 2] = [
     Case {
         name: "a bill ends with its sum",

@@ -1,4 +1,4 @@
-//! Comparison of a screen with what a case expects.
+//! Comparison of a screen with what a test case expects.
 
 use crate::cases::{Case, Property, Spot};
 use crate::picture::shown;
@@ -8,14 +8,14 @@ use vt100::{Cell, Screen};
 /// The reason why an expected text is not displayed.
 #[derive(Clone, Copy)]
 enum Miss {
-    /// Its place has a different text.
+    /// A different text is displayed at its position.
     Text,
 
-    /// The text is there, but without a property.
+    /// The text is displayed at its position but lacks the given property.
     Property(Property),
 }
 
-/// Returns whether a screen displays everything that a case expects.
+/// Returns whether a screen displays everything that a test case expects.
 pub fn holds(screen: &Screen, case: &Case) -> bool {
     for spot in case.spots {
         if miss_at(screen, spot).is_some() {
@@ -47,7 +47,7 @@ pub fn print_misses<R: Print>(rt: &R, screen: &Screen, case: &Case) -> Result<()
     Ok(())
 }
 
-/// Returns why an expected text is not displayed, or `None` if it is.
+/// Returns why an expected text is not displayed, or `None` if the text is displayed.
 fn miss_at(screen: &Screen, spot: &Spot) -> Option<Miss> {
     let (_, columns) = screen.size();
     let (row, start, text, properties) = *spot;
@@ -85,8 +85,8 @@ fn is_right_half(screen: &Screen, row: u16, column: u16) -> bool {
     }
 }
 
-/// Returns the first of these properties that a cell lacks. A continuation cell is drawn with its
-/// wide character, so it lacks none.
+/// Returns the first property in `properties` that a cell lacks, or `None` if it has all of them. A
+/// continuation cell is drawn with its wide character and therefore lacks no property.
 fn lacking(cell: &Cell, properties: &[Property]) -> Option<Property> {
     if cell.is_wide_continuation() {
         return None;

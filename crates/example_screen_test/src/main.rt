@@ -2,8 +2,8 @@
 //! in a table has some output, the size of the terminal, and the texts that must be on its screen,
 //! with their positions and attributes.
 //!
-//! Prints `ok` and the name of each case that holds. For a case that fails, prints the expected
-//! screen beside the actual one, and what is missing. The status is 1 if a case fails.
+//! Prints `ok` and the name of each case that passes. For a case that fails, prints the expected
+//! screen beside the actual one, and what is missing. The exit status is 1 if a case fails.
 #![tactic(auto)]
 
 mod cases;
@@ -18,14 +18,14 @@ use std::num::NonZeroU16;
 use std::process::ExitCode;
 use vt100::{Parser, Screen};
 
-/// The number of cases that held, and of those that failed.
+/// The number of cases that passed, and the number that failed.
 #[derive(Clone, Copy)]
 struct Tally {
     passed: u64,
     failed: u64,
 }
 
-/// Creates a terminal of a case's size.
+/// Creates a terminal of the size that a case specifies.
 fn terminal(alloc: Global, case: &Case) -> Result<Parser> {
     let rows = NonZeroU16::new(case.rows).context("a case without rows")?;
     let columns = NonZeroU16::new(case.columns).context("a case without columns")?;
@@ -67,7 +67,8 @@ fn test_all<R: AllocGlobal + Print>(rt: &R, cases: &[Case], tally: &mut Tally) -
     Ok(())
 }
 
-/// Returns whether the arguments ask for the failing cases too, or `None` if they are wrong.
+/// Returns whether the command-line arguments ask for the failing cases too, or `None` if the
+/// arguments are invalid.
 fn read_words(words: &[String]) -> Option<bool> {
     match words {
         [] => Some(false),

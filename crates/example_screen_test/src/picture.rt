@@ -8,7 +8,7 @@ use anyhow::Result;
 use std::alloc::{AllocError, Global};
 use vt100::{Cell, Parser, Screen};
 
-/// Draws what a case expects on a terminal: each text at its position.
+/// Draws the screen that a test case expects, by writing each text to a terminal at its position.
 pub fn draw(alloc: Global, parser: &mut Parser, case: &Case) -> Result<()> {
     for (row, column, text, _) in case.spots {
         let (row, column) = (u32::from(*row) + 1, u32::from(*column) + 1);
@@ -18,7 +18,7 @@ pub fn draw(alloc: Global, parser: &mut Parser, case: &Case) -> Result<()> {
     Ok(())
 }
 
-/// Prints two screens of the same size side by side, each row between bars.
+/// Prints two screens of the same size side by side, with a bar at each end of every row.
 pub fn print_both<R: AllocGlobal + Print>(rt: &R, expected: &Screen, seen: &Screen) -> Result<()> {
     let (rows, columns) = seen.size();
     let width = usize::from(columns.get()) + 2;

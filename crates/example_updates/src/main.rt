@@ -1,6 +1,6 @@
-//! `example_updates ROWS COLS EVERY`: reads what a program writes to its terminal, and keeps
-//! another terminal of that size up to date: writes a redraw first, and then, after each chunk of
-//! at most EVERY bytes, what has changed.
+//! `example_updates ROWS COLS EVERY`: reads what a program writes to its terminal, and writes the
+//! escape sequences that keep a second terminal of the same size up to date: first a redraw, and
+//! then a diff after each chunk of at most EVERY bytes.
 #![tactic(auto)]
 
 use anyhow::Result;
@@ -21,7 +21,8 @@ struct Settings {
     every: NonZeroU16,
 }
 
-/// Returns the settings that the command-line arguments specify, or `None` if they are wrong.
+/// Returns the settings that the command-line arguments specify, or `None` if the arguments are
+/// invalid.
 fn read_arguments(arguments: &[String]) -> Option<Settings> {
     let [rows, cols, every] = arguments else {
         return None;
@@ -33,7 +34,8 @@ fn read_arguments(arguments: &[String]) -> Option<Settings> {
     })
 }
 
-/// Parses a chunk of input, and writes what has changed on the screen.
+/// Parses a chunk of input, and writes the diff from the screen before the chunk to the screen
+/// after the chunk.
 fn update<W: Write>(parser: &mut Parser, writer: &mut W, piece: &[u8]) -> io::Result<()> {
     let before = parser.screen().clone()?;
     parser.process(piece)?;
@@ -47,7 +49,7 @@ fn update<W: Write>(parser: &mut Parser, writer: &mut W, piece: &[u8]) -> io::Re
     writer.flush()
 }
 
-/// Reads the input to its end, and writes the screen and its updates.
+/// Reads all input, and writes a redraw of the screen followed by its updates.
 fn run<R: Read, W: Write>(
     alloc: Global,
     reader: &mut R,
@@ -67,7 +69,7 @@ fn run<R: Read, W: Write>(
     Err(io::Error::other("no end of input"))
 }
 
-/// Runs the program as the arguments ask. A closed output is no error.
+/// Runs the program as the command-line arguments specify. A closed output is not an error.
 fn main(rt: HostRuntime) -> Result<ExitCode> {
     let arguments: Vec<String> = env::args(&rt)?.skip(1).collect(rt.alloc())?;
     let Some(settings) = read_arguments(arguments.as_slice()) else {

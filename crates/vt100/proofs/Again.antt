@@ -1,4 +1,4 @@
--- A parser that has read output that keeps it plain.
+-- A parser that was plain, after it has read output that keeps terminals plain.
 use Rattle.std.proofs.Common.{◌≡◌, ℕ, List, false, subst, sym}
 use Rattle.vt_scan.specs.Automaton.{State, start}
 use Rattle.vt_scan.specs.Run.{run}

@@ -1,4 +1,4 @@
--- The steps of a sequence, decided by the tests that the code makes.
+-- The steps of a sequence, determined by the tests that the code makes.
 use Rattle.std.proofs.Common.{◌≡◌, ◌≢◌, ℕ, ◌<◌, ◌≤◌, ◌==◌, ◌&&◌, ◌||◌, nat_le, Bool, true}
 use Rattle.std.proofs.Common.{false, List, [], ◌∷◌, length, codes, refl, arith}
 use Rattle.std.proofs.lemmas.Bool.Decides.{nat_tests}

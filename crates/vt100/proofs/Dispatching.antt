@@ -68,7 +68,7 @@ pub intermediate_stops : {S : Type 0} (does : CallRelation S)
 intermediate_stops does groups [] intermediate b s t d e h k = search rules
 intermediate_stops does groups (m ∷ intermediates) intermediate b s t d e h k = search rules
 
--- The steps of SGR and CUP, which the code tests first.
+-- The steps of SGR and of CUP, which the code tests for first.
 pub unmarked_sgr : (groups : List (List ℕ)) (b : ℕ) (seen : Seen) → b ≡ 0x6D → unmarked_steps groups b seen ≡ sgr_steps groups
 unfolding counted_step scrolling_steps other_steps
 unmarked_sgr groups b seen is = rw is refl
@@ -78,7 +78,7 @@ pub unmarked_place : (groups : List (List ℕ)) (b : ℕ) (seen : Seen) → b �
 unfolding counted_step scrolling_steps other_steps
 unmarked_place groups b seen is = rw is refl
 
--- Control sequences by their intermediate bytes; without one, by whether they take a count.
+-- The lemmas on control sequences, with and without intermediate bytes.
 pub ruleset by_intermediates = (unmarked_does, unmarked_stops, intermediate_does, intermediate_stops)
 
 pub ruleset by_counts = (unmarked_counted, unmarked_other, unmarked_other_stops)

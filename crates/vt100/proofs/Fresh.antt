@@ -1,4 +1,4 @@
--- A fresh parser and a resized one: their sizes, and that they are plain.
+-- Fresh and resized parsers: their sizes, and that they are plain.
 use Rattle.std.proofs.Common.{◌≡◌, ℕ, ◌<◌, ◌^◌, length, refl, sym, ap, subst, ◌∙◌, arith}
 use Rattle.std.proofs.lemmas.List.{length-replicate}
 use Rattle.vt_cells.specs.Attrs.{default_attrs}

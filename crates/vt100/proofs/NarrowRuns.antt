@@ -1,4 +1,4 @@
--- A run of narrow characters that fits on the cursor's row is read as the run of their events.
+-- Printing narrow characters that fit on the cursor's row has the effect of reading their bytes one by one.
 use Rattle.std.proofs.Common.{ℕ, ◌+◌, ◌<◌, ◌≤◌, List, [], ◌∷◌, length, map, refl, sym, subst, arith}
 use Rattle.std.specs.List.{FoldsTo}
 use Rattle.std.proofs.lemmas.List.Elements.{All-head, All-tail}

@@ -1,4 +1,4 @@
--- A run over joined bytes, split into runs over the chunks.
+-- A run over joined bytes can be split into runs over the chunks.
 use Rattle.std.proofs.Common.{◌≡◌, ℕ, false, List, [], ◌∷◌, ◌++◌, refl, subst}
 use Rattle.std.proofs.Math.Logic.{∥∥₁_map}
 use Rattle.std.proofs.lemmas.List.{append-nil}
@@ -12,7 +12,7 @@ use Rattle.vt_screen.specs.Run.{CallRelation, Performs}
 use Rattle.vt100.specs.Parser.{Parsing, Ran, pieces_joined, parsing, stage}
 use Rattle.vt100.proofs.Running.{folds_parted}
 
--- A parser between two chunks that has not failed.
+-- A run over two chunks passes through a parser `middle` that has not failed.
 pub record Between {S : Type 0} (does : CallRelation S)
     (p : Parsing S) (a b : List ℕ) (r : Parsing S) (there : State) : Type 0 where
   pub middle : Parsing S
@@ -21,8 +21,7 @@ pub record Between {S : Type 0} (does : CallRelation S)
   pub first : Ran does p a middle
   pub then : Ran does middle b r
 
--- The parser between two chunks, whose scanner holds what the state after the first chunk reads; what holds for a run
--- from one state holds for a run from each.
+-- A run over two chunks that is known for one state of the scanner passes through a parser between the chunks.
 pub ran_parted : {S : Type 0} (does : CallRelation S) (p r : Parsing S) (a b : List ℕ) (s : State) →
     StandsFor p.scanner s → Ran does p (a ++ b) r → Between does p a b r (run s a).state
 ran_parted {S} does p r a b s stands ran =
@@ -59,7 +58,7 @@ ran_parted_list does p r piece (next ∷ pieces) s stands ran =
       ran_parted_list does parted.middle r next pieces (run s piece).state parted.stands parted.then,
     )
 
--- The parser between two chunks, from any state that the scanner stands for.
+-- A run over two chunks passes through a parser between them, for any state that the scanner stands for.
 
 pub some_parted : {S : Type 0} (does : CallRelation S) (p r : Parsing S) (a b : List ℕ)
     → ∥ ((state : State) × StandsFor p.scanner state) ∥₁ → Ran does p (a ++ b) r

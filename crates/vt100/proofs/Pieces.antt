@@ -1,4 +1,4 @@
--- Bytes that are read without callbacks or allocations are read so in any chunks.
+-- Bytes that are read without callbacks or allocations can be read in any chunks without callbacks or allocations.
 use Rattle.std.proofs.Common.{◌≡◌, ℕ, false, List, [], ◌∷◌, map, Some, refl, sym, ap, subst, ◌∙◌}
 use Rattle.std.specs.List.{AllByRecursion, FoldsTo}
 use Rattle.vt_scan.specs.Automaton.{State, start}

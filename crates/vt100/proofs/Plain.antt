@@ -1,4 +1,4 @@
--- A run of plain characters that fits on the cursor's row is read as the run of their events.
+-- Printing ASCII text that fits on the cursor's row has the effect of reading its bytes one by one.
 use Rattle.std.proofs.Common.{◌≡◌, ℕ, ◌+◌, ◌<◌, ◌≤◌, ◌==◌, ◌&&◌, ◌||◌, nat_le, false, Some}
 use Rattle.std.proofs.Common.{List, [], ◌∷◌, length, refl, sym, ap, subst, arith}
 use Rattle.std.specs.Prelude.{All}
@@ -41,7 +41,7 @@ character_ran does c held s screen itself room =
     (text_feeds held c itself.0 itself.1 itself.2 (omega (arith, itself.3)))
     (stage now, print_done does c s screen itself.2 itself.3 room, refl)
 
--- A narrow character moves the cursor right by one column.
+-- Printing a narrow character moves the cursor right by one column.
 pub column_printed : (c : ℕ) (screen : ScreenValue) → columns_of c ≡ Some 1 →
     screen.page.column < screen.page.width → (display_after (Print c) screen).page.column ≡ screen.page.column + 1
 column_printed c screen one room = ap (λ (page : Page). page.column) (printed_put c screen.attrs screen.page one room)

@@ -1,4 +1,4 @@
--- What is read without callbacks or allocations happens in every run.
+-- The effect of bytes that are read without callbacks or allocations is the same in every run.
 use Rattle.std.specs.Prelude.{if◌then◌else◌, is_some}
 use Rattle.std.proofs.Common.{◌≡◌, ◌==◌, ◌⊎◌, ℕ, zero, suc, ◌+◌, ◌<◌, min, inl, inr, Bool, true, false, List, [], ◌∷◌}
 use Rattle.std.proofs.Common.{◌++◌, length, take, Option, Some, None, cond, refl, sym, subst, ap, ◌∙◌, arith}
@@ -53,7 +53,7 @@ same_screen : (alternate : Bool) (x y z : ScreenValue) → y ≡ x → z ≡ x �
 same_screen true x y z p q = p
 same_screen false x y z p q = q
 
--- A step that scrolls no row off changes the screen as the step by itself does, and invokes no callbacks.
+-- A step that scrolls no row off only changes the screen, and invokes no callbacks.
 unsent : {S : Type 0} (does : CallRelation S)
     (held : S) (screen after : ScreenValue) (gone : List RowValue) (b : act.State S)
     → gone ≡ [] → after.scrollback ≡ screen.scrollback
@@ -208,7 +208,7 @@ quiet_unbroken does (event ∷ events) held screen after b e t =
           (subst (λ i. StopsIn (Performs does) (Breaks does) i events b) there more)
     ]
 
--- What stops in a list stops in its first part or in its second part.
+-- If a run over a list of items stops, it stops in the first part of the list or in the second part.
 stops_parted : {P A : Type 0} (R T : P → A → P → Type 0) (xs ys : List A) (p q : P) →
     StopsIn R T p (xs ++ ys) q → StopsIn R T p xs q ⊎ ((m : P) × FoldsTo R p xs m × StopsIn R T m ys q)
 stops_parted R T [] ys p q t = inr (p, refl, t)
@@ -222,7 +222,7 @@ stops_parted R T (x ∷ xs) ys p q t = elim t [
 
 -- ---- bytes
 
--- A byte read without callbacks or allocations: the terminal after it, and that it needs no memory.
+-- A byte is read without callbacks or allocations, and `u` is the terminal after it.
 record ReadQuietly (t : Terminal) (b : ℕ) (u : Terminal) : Type 0 where
   calm : grows (turn_of t.scan.kind (class_of b)) ≡ false
   scan : u.scan ≡ (step_in t.scan.kind t.scan.collected b).state
@@ -304,7 +304,7 @@ ran_quietly {S} does p q bytes s t ran stands e =
       ap (λ (b : act.State S). b.callbacks) same.0,
     )
 
--- Reading without callbacks or allocations, for a parser given by its fields.
+-- Reading without callbacks or allocations has the same effect on a parser that is given by its fields.
 pub quietly_here : {S : Type 0} (does : CallRelation S)
     (p old q : Parsing S) (bytes : List ℕ) (s : State) (t : Terminal) →
     p ≡ old → Ran does p bytes q → StandsFor old.scanner s → read (terminal s old.screen) bytes ≡ Some t →

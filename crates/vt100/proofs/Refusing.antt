@@ -1,4 +1,4 @@
--- The byte whose allocation fails, and that no byte before it has an event.
+-- The byte whose allocation fails: no byte before it has an event.
 use Rattle.std.proofs.Common.{◌≡◌, ℕ, List, [], ◌∷◌, ◌++◌, ◌+◌, ◌-◌, ◌<◌, ◌≤◌, length, take, drop}
 use Rattle.std.proofs.Common.{slice_index_or, refl, sym, subst, ap, ◌∙◌, inl, inr, arith}
 use Rattle.std.proofs.Math.Seq.{take-add}
@@ -15,7 +15,7 @@ use Rattle.vt_screen.specs.Run.{CallRelation, Performs, Breaks, StopsIn}
 use Rattle.vt_screen.specs.Run as screen
 use Rattle.vt100.specs.Parser.{IsRefused, Parsing, Ran, StoppedAt, stage}
 
--- The first byte is collected into a command, and the allocation for that fails.
+-- If the first byte is collected into a command and its allocation fails, parsing stops at that byte.
 pub stopped_at_text : {S : Type 0} (does : CallRelation S) (p q : Parsing S) (bytes : List ℕ)
     → 0 < length bytes → stage q ≡ stage p
     → turn_of p.scanner.kind (class_of (slice_index_or bytes 0 0)) ≡ Collect OscString → StoppedAt does p bytes 0 q
@@ -25,7 +25,7 @@ stopped_at_text does p q bytes some same turn = record {
   refused = λ s stands. inl (same, rw (sym stands.kind) turn);
 }
 
--- An event of the first byte stops because an allocation fails.
+-- If an allocation fails in an event of the first byte, parsing stops at that byte.
 pub stopped_at_first : {S : Type 0} (does : CallRelation S) (p q : Parsing S) (after : Held) (bytes : List ℕ)
     (answer : Events) → 0 < length bytes → Feeds p.scanner (slice_index_or bytes 0 0) after answer
     → StopsIn (Performs does) (Breaks does) (stage p) (events_in after answer) (stage q) → StoppedAt does p bytes 0 q
@@ -36,7 +36,7 @@ stopped_at_first does p q after bytes answer some feeds stops = record {
       StopsIn (Performs does) (Breaks does) (stage p) events (stage q)) (feeds s stands).means stops);
 }
 
--- The events of bytes are those of the last one, if those before it have none.
+-- If no byte before the last one has an event, the events of the bytes are those of the last one.
 last_events : (s : State) (bytes : List ℕ) (k : ℕ) → k < length bytes → (run s (take k bytes)).events ≡ []
     → (run s (take (k + 1) bytes)).events
     ≡ (step_in (run s (take k bytes)).state.kind (run s (take k bytes)).state.collected (slice_index_or bytes k 0)).events
@@ -48,7 +48,7 @@ last_events s bytes k inside none =
     ∙ ap (λ (events : List Event). events ++ (run there (b ∷ [])).events) none
     ∙ append-nil (step_in there.kind there.collected b).events
 
--- The event of the last byte stops because an allocation fails.
+-- If only the last byte has events and an allocation fails in one of them, parsing stops at that byte.
 pub stopped_at_last : {S : Type 0} (does : CallRelation S) (p q : Parsing S) (after : Held) (bytes : List ℕ) (n : ℕ)
     (events : List Event) → 0 < n → n ≤ length bytes → FeedsAll p.scanner (take n bytes) after events
     → HasNoEvent p.scanner (take (n - 1) bytes)
@@ -66,7 +66,7 @@ stopped_at_last does p q after bytes n events some inside fed none stops =
           ∙ last_events s bytes k within (none s stands)) stops);
     }
 
--- No byte was read before the run stopped.
+-- A run over no bytes before the byte whose allocation fails doesn't change where parsing stops.
 pub stopped_at_after : {S : Type 0} (does : CallRelation S) (p q r : Parsing S) (bytes : List ℕ) (count : ℕ)
     → Ran does p (take 0 bytes) q → StoppedAt does q bytes count r → StoppedAt does p bytes count r
 stopped_at_after {S = S} does p q r bytes count nothing at = record {
@@ -78,7 +78,7 @@ stopped_at_after {S = S} does p q r bytes count nothing at = record {
       (sym (nothing s stands).1) (at.refused s (nothing s stands).0);
 }
 
--- Bytes without an event were read before the run stopped.
+-- If k bytes without events come first, parsing stops k bytes later.
 pub stopped_at_then : {S : Type 0} (does : CallRelation S) (p q r : Parsing S) (bytes : List ℕ) (k n : ℕ)
     → FeedsAll p.scanner (take k bytes) q.scanner [] → stage q ≡ stage p
     → StoppedAt does q (drop k bytes) n r → StoppedAt does p bytes (k + n) r

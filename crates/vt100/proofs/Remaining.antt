@@ -1,4 +1,4 @@
--- Groups, parts and prints: the steps left after one more of them, and what the number of parts decides.
+-- The steps that remain after one more group, part or print, and the cases of the number of parts.
 use Rattle.std.proofs.Common.{◌≡◌, ◌≢◌, ℕ, ◌+◌, ◌<◌, Bool, List, [], ◌∷◌, ◌++◌, Bor, length}
 use Rattle.std.proofs.Common.{map, drop, get_or, refl, sym, subst, ap, ◌∙◌, arith}
 use Rattle.std.proofs.lemmas.List.{append-nil, drop_more, length-map}
@@ -40,7 +40,7 @@ modes_next on report groups i group h is =
     ∙ ap (λ (g : List ℕ). mode_steps on report (g ∷ drop (i + 1) groups)) (sym is)
     ∙ modes_parted on report group (drop (i + 1) groups)
 
--- The steps left after one more group of modes, or a stop within it.
+-- The steps that remain after one more group of modes is set, or after an allocation fails within it.
 pub modes_left : {S : Type 0} (does : CallRelation S) (s t u : S) (d e f : ScreenValue) (all : List Step) (on : Bool)
     (report : CallValue) (groups : List (List ℕ)) (i : ℕ) (group : List ℕ) →
     i < length groups → group ≡ get_or groups i [] →
@@ -62,7 +62,7 @@ modes_stop {S} does s t u d e f all on report groups i group h is left stop =
     (mode_steps on report (drop (i + 1) groups))
     (subst (λ (steps : List Step). Left does s d all t e steps) (modes_next on report groups i group h is) left) stop
 
--- The steps left after one more group of SGR settings.
+-- The steps that remain after one more group of SGR parameters is applied.
 pub settings_left : {S : Type 0} (does : CallRelation S)
     (s t u : S) (d e f : ScreenValue) (all : List Step) (whole : List (List ℕ)) (wanted : Wanted)
     (groups : List (List ℕ)) (i : ℕ) (read : GroupRead) →
@@ -105,7 +105,7 @@ more_parts parts h k =
     length-map parts (λ part. part.now) in
     other_parts (map (λ (part : Bor (List ℕ)). part.now) parts) (λ e. h (sym same ∙ e)) (λ e. k (sym same ∙ e))
 
--- Commands of two, of three, and of more parts or groups.
+-- The lemmas on commands with two, three and more parts or groups.
 pub ruleset parts_counted = (two_parts, three_parts, more_parts)
 
 pub ruleset groups_met = (one_group, other_group)

@@ -1,4 +1,4 @@
--- Runs that follow one another.
+-- Runs in sequence.
 use Rattle.std.proofs.Common.{◌≡◌, ℕ, List, [], ◌∷◌, ◌++◌, ◌+◌, ◌-◌, ◌<◌, ◌≤◌, length, take, drop}
 use Rattle.std.proofs.Common.{slice_index_or, Some, None, refl, sym, subst, ap, ◌∙◌, inl, inr, arith}
 use Rattle.std.proofs.Math.Seq.{get_or-append-add, take-add, take-append-add}
@@ -87,7 +87,7 @@ ran_joined does p q [] same = ran_nothing does p q same
 ran_joined does p q (piece ∷ pieces) runs =
     ran_then does p runs.0 q piece (pieces_joined pieces) runs.1 (ran_joined does runs.0 q pieces runs.2)
 
--- An event that stopped, among the events of one byte of many.
+-- If an allocation fails in an event of one byte of many, parsing stops within the events of all of them.
 pub stopped_within : {S : Type 0} (does : CallRelation S)
     (p m q : Parsing S) (after : Held) (bytes : List ℕ) (k : ℕ) (answer : Events)
     → k < length bytes → Ran does p (take k bytes) m → Feeds m.scanner (slice_index_or bytes k 0) after answer
@@ -108,11 +108,11 @@ stopped_within does p m q after bytes k answer inside ran feeds stops = λ s sta
     subst (λ (bs : List ℕ). StopsIn (Performs does) (Breaks does) (stage p) (run s bs).events (stage q)) split
     (rw (run-append s (take k bytes) (x ∷ rest)) all)
 
--- The events of a byte that ends one character.
+-- The result of a byte whose only event is one character.
 abbrev pub one_character : ℕ → Events
 one_character code = record { first = Some (Character code); second = None }
 
--- A byte that is read as its own character.
+-- A byte that is read as its own character has the event of that character.
 pub text_answer : (held : Held) (b code : ℕ) → Feeds held b held (one_character b) →
     code ≡ b → Feeds held b held (one_character code)
 text_answer held b code feeds same = subst (λ (k : ℕ). Feeds held b held (one_character k)) (sym same) feeds
@@ -198,7 +198,7 @@ pub stopped_in : {S : Type 0} (does : CallRelation S) (p q : Parsing S) (bytes :
 stopped_in does p q bytes count stopped at =
     record { inside = tt; ran = tt; stopped = λ r. stopped; where_stopped = at }
 
--- A call that begins after a run over no bytes.
+-- A call after a run over no bytes has the effect of the call alone.
 pub read_behind : {S : Type 0} (does : CallRelation S) (p q r : Parsing S) (bytes : List ℕ) (result : Result ℕ ℕ) →
     Ran does p (take 0 bytes) q → ReadsOrStops does q bytes r result → ReadsOrStops does p bytes r result
 read_behind does p q r bytes (Ok count) nothing reads =
@@ -209,7 +209,7 @@ read_behind does p q r bytes (Err count) nothing reads =
 
 -- ---- which callbacks are invoked, and when
 
--- Bytes without an event, followed by bytes of which only the last has events.
+-- If only the last byte of a text has events, this is also true if bytes without events come before the text.
 pub led_by_last : {S : Type 0} (old new : S) (before led : Held) (bytes : List ℕ) (k n : ℕ)
     → FeedsAll before (take k bytes) led [] → CallsByLast old led (drop k bytes) n new
     → CallsByLast old before bytes (k + n) new
@@ -234,7 +234,7 @@ pub map_some : (P Q : ℕ → Type 0) (result : Result ℕ ℕ) → ((k : ℕ) �
 map_some P Q (Ok k) f h = f k h
 map_some P Q (Err error) f h = tt
 
--- Callbacks invoked by the last byte only, after a run over no bytes.
+-- If only the last byte of a call has events, this stays so after a run over no bytes.
 pub later_by_last : {S : Type 0} (does : CallRelation S) (p q : Parsing S) (new : S) (bytes : List ℕ) (n k : ℕ)
     → n ≡ 0 → Ran does p (take n bytes) q → CallsByLast p.callbacks p.scanner bytes n q.callbacks
     → CallsByLast q.callbacks q.scanner bytes k new → CallsByLast p.callbacks p.scanner bytes k new

@@ -1,4 +1,4 @@
--- Runs whose callbacks leave the screen alone keep its size.
+-- A run whose callbacks leave the screen unchanged keeps its size.
 use Rattle.std.proofs.Common.{◌≡◌, inl, inr, ℕ, ◌==◌, Bool, true, false, List, []}
 use Rattle.std.proofs.Common.{◌∷◌, length, take, refl, sym, ap, subst, ◌∙◌, arith}
 use Rattle.std.proofs.Math.Logic.{∥∥₁_elim}
@@ -76,7 +76,7 @@ same_number v q e = grind (arith, nat_tests)
 own_number : (v : ℕ) → (v == v) ≡ true
 own_number v = grind (arith, nat_tests)
 
--- Two numbers that are equal for every inhabitant are equal if there is one.
+-- If two numbers are equal for every inhabitant of a type, and the type has one, they are equal.
 same_for_some : {A : Type 0} (m n : ℕ) → ∥ A ∥₁ → (A → m ≡ n) → m ≡ n
 same_for_some {A} m n some h = by_test (m == n) refl where
   differ : (m == n) ≡ false → A → ⊥
@@ -106,6 +106,6 @@ some_stopped_size does p q bytes leaves is stands stopped =
     same_size_for_some q.screen.page p.screen.page stands
     (λ (s : (scan : State) × StandsFor p.scanner scan). stopped_size does leaves p q bytes s.0 is s.1 stopped)
 
--- Callbacks that do nothing leave the screen alone.
+-- Callbacks that do nothing leave the screen unchanged.
 pub quiet_leaves : LeavesScreen quietly
 quiet_leaves call old new before after t = t.1

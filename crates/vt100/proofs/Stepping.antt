@@ -1,4 +1,4 @@
--- One step, and two calls of callbacks.
+-- Taking one step, and invoking two callbacks.
 use Rattle.std.proofs.Common.{◌≡◌, ℕ, suc, ◌+◌, ◌-◌, ◌<◌, Bool, true, false, List, []}
 use Rattle.std.proofs.Common.{◌∷◌, ◌++◌, replicate, refl, subst, ap, inl, inr, arith}
 use Rattle.std.proofs.lemmas.Bool.Decides.{nat_tests}
@@ -137,7 +137,7 @@ left_stop : {S : Type 0} (does : CallRelation S)
     Left does s d all t e (x ∷ rest) → Refuses (state t e) x (state u f) → Stops does s d all u f
 left_stop does s t u d e f all x rest (r, q) h = q (state u f) (inl h)
 
--- The steps left after a list of them.
+-- The steps that remain after a list of steps is taken.
 pub left_through : {S : Type 0} (does : CallRelation S) (s t u : S) (d e f : ScreenValue) (all one rest : List Step) →
     Left does s d all t e (one ++ rest) → Does does t e one u f → Left does s d all u f rest
 left_through does s t u d e f all one rest (r, q) h = (
@@ -150,7 +150,7 @@ pub left_within : {S : Type 0} (does : CallRelation S) (s t u : S) (d e f : Scre
 left_within does s t u d e f all one rest (r, q) h =
     q (state u f) (stops_first (Takes does) Refuses one rest (state t e) (state u f) h)
 
--- The steps left after one more print.
+-- The prints that remain after one more print is done.
 pub prints_left : {S : Type 0} (does : CallRelation S) (s t u : S) (d e f : ScreenValue) (all : List Step) (c n k : ℕ) →
     k < n → Left does s d all t e (replicate (n - k) (Print c)) → Takes does (state t e) (Print c) (state u f) →
     Left does s d all u f (replicate (n - (k + 1)) (Print c))

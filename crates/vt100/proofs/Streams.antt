@@ -1,4 +1,4 @@
--- Calls of a parser in sequence: what they report, what they keep, and the one text of both.
+-- Calls to a parser in sequence: the rows that they report, the rows that they keep, and the text of all of these.
 use Rattle.std.proofs.Common.{◌≡◌, ◌≢◌, ℕ, Bool, true, false, List, [], ◌∷◌, ◌++◌}
 use Rattle.std.proofs.Common.{map, refl, sym, ap, ap₂, subst, ◌∙◌, append_assoc}
 use Rattle.std.proofs.lemmas.List.{append-nil}
@@ -36,7 +36,7 @@ pub ran_called : {S : Type 0} (does : CallRelation S) → LeavesScreen does
 ran_called does leaves p q bytes scan stands ran =
     called_events does leaves (run scan bytes).events (stage p) (stage q) (ran scan stands).1
 
--- A list of calls of a parser has been made.
+-- The given calls to a parser were made.
 pub record HasCalled {S : Type 0} (does : CallRelation S)
     (scan : State) (screen : ScreenValue) (calls : List ParserCall) (p q : Parsing S) : Type 0 where
   pub shown : q.screen ≡ screen_by scan screen calls
@@ -77,7 +77,8 @@ none_parted scan a b none =
     all_parted (run scan a).events (run (run scan a).state b).events
     (subst (λ (o : Outcome). AllByRecursion (λ event. event ≢ ris) o.events) (run-append scan a b) none)
 
--- Reading bytes from a screen, compared with reading them from one that differs only in its scrollback.
+-- Reading bytes from the screen `s` has the same effect, except on scrollback, as from a screen `r` that differs only
+-- in its scrollback.
 record Follows (told : List CallValue) (scan : State) (s r after : ScreenValue) (bytes : List ℕ) : Type 0 where
   streams : Streamed told (sent_off_in scan r bytes) s after
   same : SameBare after (screen_in scan r bytes)
@@ -120,7 +121,7 @@ calls_stream (Process bytes ∷ calls) scan s r e none k =
       same = rest.same ∙ ap without_scrollback (sym (screen_in_then scan r bytes more));
     }
 
--- Runs of two parsers whose screens differ only in their scrollback.
+-- Two parsers whose screens differ only in their scrollback scroll the same rows off.
 pub ran_apart : {S : Type 0} (does : CallRelation S) → LeavesScreen does
     → (p q r s : Parsing S) (bytes : List ℕ) (scan : State) → StandsFor p.scanner scan → StandsFor r.scanner scan
     → without_scrollback p.screen ≡ without_scrollback r.screen → Ran does p bytes q → Ran does r bytes s
@@ -181,7 +182,7 @@ one_text does leaves rows cols capacity p q calls fresh none makes main =
 
 -- ---- recorders
 
--- The text and capture state of a recorder after these calls.
+-- The recorder has appended the rows that the given calls report, unless it is incomplete.
 record HasRecorded {S : Type 0} (text_of : S → List ℕ) (state_of : S → Written)
     (is_whole : S → Bool) (calls : List CallValue) (old new : S) : Type 0 where
   whole : is_whole old ≡ true

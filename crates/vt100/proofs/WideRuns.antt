@@ -1,4 +1,4 @@
--- A run of wide characters that fits on the cursor's row is read as the run of their events.
+-- Printing wide characters that fit on the cursor's row has the effect of reading their bytes one by one.
 use Rattle.std.proofs.Common.{◌≡◌, ◌≢◌, ℕ, ◌+◌, ◌*◌, ◌<◌, ◌≤◌, ◌==◌, ◌&&◌, ◌||◌, nat_le, false, None, Some, map}
 use Rattle.std.proofs.Common.{List, [], ◌∷◌, length, refl, inl, inr, sym, subst, arith}
 use Rattle.std.specs.List.{FoldsTo}

@@ -10,8 +10,8 @@ use Rattle.vt100.specs.Parser.{CallsByLast, IsHarmless, Parsing, Ran, Stopped, S
 use Rattle.vt100.specs.Pieces.{Processes, processing}
 use Rattle.vt_screen.specs.Run.{CallRelation}
 
--- The effect of `process`. It reads all bytes, or stops at the first byte or step whose allocation fails; the parser
--- then reads nothing more.
+-- The effect of `process`. The parser reads all bytes, or stops before the first byte or step for which an allocation
+-- fails; a parser that stopped reads nothing more.
 pub record ParserProcesses {S : Type 0} (does : CallRelation S)
     (old : Parsing S) (bytes : List ℕ) (answer : Result (Unit {0}) Error) (new : Parsing S) : Type 0 where
   pub ran : IfOk answer (λ _. Ran does old bytes new)
@@ -23,9 +23,9 @@ pub record ParserProcesses {S : Type 0} (does : CallRelation S)
   pub harmless : old.is_failed ≡ false → IsHarmless does old bytes → answer ≡ Ok tt
   pub quiet : Processes old (processing bytes answer) new
 
--- The effect of `process_unit`. On success, the first `count` bytes are read, and if a callback was invoked, only the
--- last of them has events. If an allocation fails, it is the one for the byte at index `count`; the bytes before it
--- have no events, and the parser reads nothing more.
+-- The effect of `process_unit`. On success, the first `count` bytes are read; if a callback was invoked, only the last
+-- of these bytes issues events. If an allocation fails, the byte at index `count` required it; the bytes before that
+-- byte issue no events, and the parser reads nothing more.
 pub record ParserReadsUnit {S : Type 0} (does : CallRelation S) (old : Parsing S) (bytes : List ℕ) (count : ℕ)
     (answer : Result (Unit {0}) Error) (new : Parsing S) : Type 0 where
   pub some : IfOk answer (λ _. 0 < count)
@@ -38,8 +38,8 @@ pub record ParserReadsUnit {S : Type 0} (does : CallRelation S) (old : Parsing S
   pub no_number : IfErr answer (λ error. error ≢ NoNumber)
   pub for_good : new.is_failed ≡ true ↔ IsErr answer
 
--- The effect of `io::Write::write` on a parser. It reads all bytes, or returns an error of kind `OutOfMemory` or
--- `Other`.
+-- The effect of `io::Write::write` on a parser. The parser reads all bytes, or the call returns an error of kind
+-- `OutOfMemory` or `Other`.
 pub record ParserWrites (old : Parsing (Unit {0})) (bytes : List ℕ) (answer : Result ℕ io.Error)
     (new : Parsing (Unit {0})) : Type 0 where
   pub whole : IfOk answer (λ count. count ≡ length bytes)

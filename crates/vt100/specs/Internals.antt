@@ -17,7 +17,7 @@ use Rattle.vt100.specs.declared.sequence.Sequence.{Sequence}
 abbrev pub Does : {S : Type 0} → CallRelation S → S → ScreenValue → List Step → S → ScreenValue → Type 0
 Does does old before steps new after = FoldsTo (Takes does) (state old before) steps (state new after)
 
--- A prefix of `steps` is taken, and the allocation of the next step fails.
+-- The steps in a prefix of `steps` are performed, and the next step fails to allocate memory.
 abbrev pub Stops : {S : Type 0} → CallRelation S → S → ScreenValue → List Step → S → ScreenValue → Type 0
 Stops does old before steps new after = StopsIn (Takes does) Refuses (state old before) steps (state new after)
 

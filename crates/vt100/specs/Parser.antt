@@ -1,4 +1,4 @@
--- The effect of `process`: it parses all of its bytes, or stops at a byte whose allocation fails.
+-- The effect of `process`: it parses all bytes passed to it, or stops at a byte whose allocation fails.
 use Rattle.std.specs.Prelude.{◌≡◌, ◌⊎◌, ℕ, ◌<◌, ◌-◌, Bool, false, List, [], ◌∷◌, ◌++◌, length, take, slice_index_or}
 use Rattle.std.specs.List.{FoldsTo}
 use Rattle.vt_scan.specs.Automaton.{State, step_in}
@@ -12,7 +12,8 @@ use Rattle.vt_screen.specs.Screen.{ScreenValue, fresh_screen}
 use Rattle.vt_screen.specs.Run as screen
 use Rattle.vt_screen.specs.Run.{CallRelation, Performs, Breaks, StopsIn}
 
--- The value of a parser: the state held by its scanner, its screen, its callbacks, and whether it ran out of memory.
+-- The value of a parser: the state held by its scanner, its screen, its callbacks, and whether the parser ran out of
+-- memory.
 pub record Parsing (S : Type 0) : Type 0 where
   pub scanner : Held
   pub screen : ScreenValue
@@ -24,7 +25,7 @@ abbrev pub parsing : {S : Type 0} → Held → ScreenValue → S → Parsing S
 parsing scanner screen callbacks =
     record { scanner = scanner; screen = screen; callbacks = callbacks; is_failed = false }
 
--- The parser has not run out of memory and has a blank screen of the given size and capacity, and the given
+-- The parser has not run out of memory and has a blank screen of the given size and scrollback capacity, and the given
 -- callbacks.
 abbrev pub HasFreshScreen : {S : Type 0} → (rows cols capacity : ℕ) → S → Parsing S → Type 0
 HasFreshScreen rows cols capacity callbacks parser =
@@ -34,21 +35,22 @@ HasFreshScreen rows cols capacity callbacks parser =
 abbrev pub stage : {S : Type 0} → Parsing S → screen.State S
 stage parser = screen.state parser.callbacks parser.screen
 
--- Parsing `bytes` takes the parser from `old` to `new`. From every state that the scanner of `old` stands for, it
--- reaches the state after the bytes, and the callbacks and the screen take the steps of all events along the way, in
--- order.
+-- Parsing `bytes` takes the parser from `old` to `new`. For every state that the scanner of `old` stands for, the
+-- scanner of `new` stands for the state after the bytes, and the callbacks and the screen take the steps of all events
+-- in order.
 abbrev pub Ran : {S : Type 0} → CallRelation S → Parsing S → List ℕ → Parsing S → Type 0
 Ran does old bytes new =
     (state : State) → StandsFor old.scanner state
     → StandsFor new.scanner (scan.run state bytes).state
     × FoldsTo (Performs does) (stage old) (scan.run state bytes).events (stage new)
 
--- The byte at index `k` is appended to the text of an operating system command, which may allocate.
+-- The byte at index `k` is appended to the text of an operating system command, which may require an allocation.
 abbrev pub Collects : State → List ℕ → ℕ → Type 0
 Collects state bytes k =
     turn_of (scan.run state (take k bytes)).state.kind (class_of (slice_index_or bytes k 0)) ≡ Collect OscString
 
--- Parsing stopped before a byte whose allocation failed. All bytes before it were parsed, and nothing else changed.
+-- Parsing stopped before a byte because an allocation for that byte failed. All earlier bytes were parsed, and nothing
+-- else changed.
 pub record StoppedBefore {S : Type 0} (does : CallRelation S)
     (old : Parsing S) (bytes : List ℕ) (new : Parsing S) : Type 0 where
   pub count : ℕ
@@ -56,14 +58,14 @@ pub record StoppedBefore {S : Type 0} (does : CallRelation S)
   pub ran : Ran does old (take count bytes) new
   pub refused : (state : State) → StandsFor old.scanner state → Collects state bytes count
 
--- Parsing stopped before a step whose allocation failed. All earlier steps were taken, and nothing else changed. The
--- state of the scanner is unspecified, because the parser reads nothing more.
+-- Parsing stopped before a step because an allocation for that step failed. All earlier steps were taken, and nothing
+-- else changed. The state of the scanner is unspecified, because the parser reads nothing more.
 abbrev pub StoppedWithin : {S : Type 0} → CallRelation S → Parsing S → List ℕ → Parsing S → Type 0
 StoppedWithin does old bytes new =
     (state : State) → StandsFor old.scanner state →
     StopsIn (Performs does) (Breaks does) (stage old) (scan.run state bytes).events (stage new)
 
--- Parsing the first `count` bytes invokes no callbacks, or only the last of these bytes has events.
+-- Parsing the first `count` bytes invokes no callbacks, or only the last of these bytes issues events.
 abbrev pub CallsByLast : {S : Type 0} → S → Held → List ℕ → ℕ → S → Type 0
 CallsByLast old held bytes count new =
     (new ≡ old) ⊎ ((0 < count) × HasNoEvent held (take (count - 1) bytes))
@@ -76,14 +78,15 @@ quietly call old before new after = (new ≡ old) × (after ≡ before)
 abbrev pub Stopped : {S : Type 0} → CallRelation S → Parsing S → List ℕ → Parsing S → Type 0
 Stopped does old bytes new = StoppedBefore does old bytes new ⊎ StoppedWithin does old bytes new
 
--- The allocation for `byte` fails in the scanner state `state`: either the byte is appended to the text of a command,
--- or a step of one of its events allocates.
+-- An allocation for `byte` fails in the scanner state `state`: either the one that appends the byte to a command's
+-- text, or one made by a step of one of the byte's events.
 abbrev pub IsRefused : {S : Type 0} → CallRelation S → screen.State S → State → ℕ → screen.State S → Type 0
 IsRefused does old state byte new =
     ((new ≡ old) × (turn_of state.kind (class_of byte) ≡ Collect OscString))
     ⊎ StopsIn (Performs does) (Breaks does) old (step_in state.kind state.collected byte).events new
 
--- Parsing stopped at the byte at index `count` because its allocation failed. The bytes before it have no events.
+-- Parsing stopped at the byte at index `count` because an allocation for that byte failed. The bytes before it issue no
+-- events.
 pub record StoppedAt {S : Type 0} (does : CallRelation S)
     (old : Parsing S) (bytes : List ℕ) (count : ℕ) (new : Parsing S) : Type 0 where
   pub inside : count < length bytes

@@ -25,15 +25,16 @@ processing bytes answer = record { bytes = bytes; answer = answer }
 abbrev pub IsFine : Processing → Type 0
 IsFine call = call.answer ≡ Ok tt
 
--- The parser `new` has not failed, has the scanner state and the screen of `after`, and has the callbacks of `old`.
+-- The parser `new` has not failed, has the scanner state and the screen of the terminal `after`, and has the callbacks
+-- of `old`.
 pub record HasRead {S : Type 0} (old : Parsing S) (after : Terminal) (new : Parsing S) : Type 0 where
   pub is_failed : new.is_failed ≡ false
   pub scanner : StandsFor new.scanner after.scan
   pub screen : new.screen ≡ after.screen
   pub callbacks : new.callbacks ≡ old.callbacks
 
--- The effect of a call to `process` whose bytes invoke no callbacks and allocate nothing: it returns `Ok`, and all
--- bytes are read.
+-- The effect of a call to `process` whose bytes invoke no callbacks and allocate nothing: the call returns `Ok`, and
+-- all bytes are read.
 abbrev pub Processes : {S : Type 0} → Parsing S → Processing → Parsing S → Type 0
 Processes old call new =
     (state : State) → (after : Terminal) → old.is_failed ≡ false
@@ -51,23 +52,23 @@ pub record IsPlainParser {S : Type 0} (parser : Parsing S) : Type 0 where
   pub scanner : StandsFor parser.scanner start
   pub screen : IsPlain parser.screen
 
--- The parser `new` is plain and displays what the screen `last` displays. The rest of its screen and its callbacks
--- are the same as in `old`.
+-- The parser `new` is plain and displays what the screen `last` displays. Its scrollback, inactive page, scroll region,
+-- modes and callbacks are the same as in `old`.
 pub record ShowsLast {S : Type 0} (old : Parsing S) (last : ScreenValue) (new : Parsing S) : Type 0 where
   pub plain : IsPlainParser new
   pub shows : shown new.screen ≡ shown last
   pub rest : KeepsRest old.screen new.screen
   pub callbacks : new.callbacks ≡ old.callbacks
 
--- The parser is in ground state, and its screen displays no scrollback. Its scroll region and origin mode are
--- arbitrary.
+-- The parser is in ground state, and its screen displays no scrollback. The screen may have any scroll region and
+-- origin mode.
 pub record IsUnscrolledParser {S : Type 0} (parser : Parsing S) : Type 0 where
   pub sound : IsScreen parser.screen
   pub scanner : StandsFor parser.scanner start
   pub offset : (above_page parser.screen).offset ≡ 0
 
--- The parser `new` is plain, and its inactive page, input modes, cursor style and size are the same as in `old`. The
--- only callback invoked was `on_scroll`, for rows that scrolled off the top.
+-- The parser `new` is plain, and its inactive page, input modes, cursor style and size are the same as in `old`. No
+-- callback was invoked except `on_scroll`, for rows that scrolled off the top.
 pub record IsPlainAgain {S : Type 0} (does : CallRelation S) (old new : Parsing S) : Type 0 where
   pub plain : IsPlainParser new
   pub aside : KeepsAside old.screen new.screen

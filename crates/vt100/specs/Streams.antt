@@ -18,7 +18,7 @@ pub data ParserCall : Type 0 where
   Process : (bytes : List ℕ) → ParserCall
   SetScrollback : (rows : ℕ) → ParserCall
 
--- The effect of a call to a parser that returns `Ok`.
+-- The effect of a successful call to a parser.
 abbrev pub MakesCall : {S : Type 0} → CallRelation S → Parsing S → ParserCall → Parsing S → Type 0
 MakesCall does old (Process bytes) new = Ran does old bytes new
 MakesCall does old (SetScrollback rows) new = new ≡ record old { screen = scrolled_back rows old.screen }
@@ -29,7 +29,7 @@ bytes_of_calls [] = []
 bytes_of_calls (Process bytes ∷ calls) = bytes ++ bytes_of_calls calls
 bytes_of_calls (SetScrollback rows ∷ calls) = bytes_of_calls calls
 
--- The callbacks invoked by a list of calls to a parser, in order, if callbacks leave the screen unchanged.
+-- The calls to callbacks that a list of calls to a parser makes, in order, if callbacks leave the screen unchanged.
 abbrev pub calls_by : State → ScreenValue → List ParserCall → List CallValue
 calls_by scan screen [] = []
 calls_by scan screen (Process bytes ∷ calls) =
@@ -41,7 +41,7 @@ screen_by scan screen [] = screen
 screen_by scan screen (Process bytes ∷ calls) = screen_by (run scan bytes).state (screen_in scan screen bytes) calls
 screen_by scan screen (SetScrollback rows ∷ calls) = screen_by scan (scrolled_back rows screen) calls
 
--- The parser is fresh and has the given size and scrollback capacity.
+-- The parser has read nothing yet, and has a blank screen of the given size and scrollback capacity.
 pub record IsFreshParser {S : Type 0} (rows cols capacity : ℕ) (parser : Parsing S) : Type 0 where
   pub has_rows : 0 < rows
   pub few_rows : rows < 2 ^ 16
@@ -50,15 +50,15 @@ pub record IsFreshParser {S : Type 0} (rows cols capacity : ℕ) (parser : Parsi
   pub ground : StandsFor parser.scanner start
   pub shown : parser.screen ≡ fresh_screen rows cols capacity
 
--- The text of everything that `bytes` write to a main page of `rows` rows and `cols` columns: the rows that scroll
--- off its top, followed by the rows of the page.
+-- The text of everything that `bytes` write to a main page of `rows` rows and `cols` columns: the rows that scroll off
+-- the top of the page, followed by the rows that remain on it.
 abbrev pub whole_text : (rows cols : ℕ) → List ℕ → List ℕ
 whole_text rows cols bytes =
     let fresh = fresh_screen rows cols 0 in
     basic_texts unwritten (sent_off_in start fresh bytes ++ (screen_in start fresh bytes).page.rows)
 
--- The callbacks append each reported row of the main page to their text, using a single capture state. Their text is
--- complete unless their sink rejected a part of it.
+-- The callbacks append each reported row of the main page to a text, using a single capture state. The text is complete
+-- unless its sink rejected a part of it.
 pub record IsRecorder {S : Type 0} (does : CallRelation S)
     (text_of : S → List ℕ) (state_of : S → Written) (is_whole : S → Bool) : Type 0 where
   pub leaves : LeavesScreen does

@@ -26,17 +26,18 @@ use vt_screen::Callbacks;
 
 /// States that input may be split anywhere. One call to `process` on all the
 /// bytes and several calls on consecutive chunks allow the same runs, with the
-/// same callbacks in the same order.
+/// same callbacks in the same order. The clauses are:
 ///
-/// - `two`, `list`: anything that calls on the chunks do, one call on the whole
-///   input may also do.
-/// - `parted`, `parted_list`: anything that one call on the whole input does,
-///   calls on the chunks may also do, with the same final state. For two
-///   chunks, `parted` also states that the parser has not failed between them.
+/// - `two`, `list`: everything that the calls on the chunks can do, one call on
+///   the whole input can also do.
+/// - `parted`, `parted_list`: everything that one call on the whole input can
+///   do, the calls on the chunks can also do, with the same final state. For
+///   two chunks, `parted` also states that the parser has not failed between
+///   them.
 ///
-/// The last two assume that the parser's scanner represents at least one state
-/// of the automaton. By the clause `stands` of `Parser::screen`, every parser's
-/// scanner does.
+/// The clauses `parted` and `parted_list` assume that the parser's scanner
+/// represents at least one state of the automaton. By the clause `stands` of
+/// `Parser::screen`, every parser's scanner meets this premise.
 pub fn pieces<CB: Callbacks>()
     ensures two { (p q r : Parsing CB) (a b : List ℕ) →
         Ran CB.does p a q → Ran CB.does q b r → Ran CB.does p (a ++ b) r }
@@ -51,10 +52,10 @@ pub fn pieces<CB: Callbacks>()
 {}
 
 /// States that processing bytes never changes the size of the screen, provided
-/// that the callbacks leave the screen alone.
+/// that the callbacks leave the screen alone. The clauses are:
 ///
-/// - `ran`: this holds for runs that reach the end of the input.
-/// - `stopped`: this holds for runs that stop because memory runs out.
+/// - `ran`: a run that reaches the end of the input keeps the size.
+/// - `stopped`: a run that stops because memory runs out keeps the size.
 /// - `nobody`: callbacks that do nothing leave the screen alone.
 ///
 /// By the clauses of `Screen::size` and `Parser::screen`, the premises about
@@ -105,13 +106,14 @@ pub fn resized_parsers<CB: Callbacks>()
 {}
 
 /// States that input whose parsing invokes no callbacks and allocates nothing
-/// has the same effect in every run, whatever the callbacks are.
+/// has the same effect in every run, whatever the callbacks are. The clauses
+/// are:
 ///
 /// - `ran`: if the parser has not failed after the run, it is in the state that
 ///   reading the bytes produces.
 /// - `made`: calls to `process` on chunks of the bytes produce the same state.
-/// - `harmless`: such a run never runs out of memory, so `process` returns
-///   `Ok`.
+/// - `harmless`: a run on this input never runs out of memory, so `process`
+///   returns `Ok`.
 pub fn quiet_runs<CB: Callbacks>()
     ensures ran { (p q : Parsing CB) (bytes : List ℕ) (state : State) (after : Terminal)
         → StandsFor p.scanner state → read (terminal state p.screen) bytes ≡ Some after
@@ -127,20 +129,21 @@ pub fn quiet_runs<CB: Callbacks>()
 
 /// States that input whose parsing invokes no callbacks and allocates nothing
 /// may be split into any chunks, including empty ones. Each call to `process`
-/// returns `Ok`. The final state of the parser is the one that reading all the
-/// bytes at once produces, with its callbacks unchanged.
+/// returns `Ok`. The parser ends in the state that reading all the bytes at
+/// once produces, and its callbacks are unchanged.
 ///
-/// The clause `quiet` of `Parser::process` states this for a single call.
+/// The clause `quiet` of `Parser::process` states the same guarantee for a
+/// single call.
 pub fn quiet_pieces<CB: Callbacks>()
     ensures { (p q : Parsing CB) → (calls : List Processing) → (state : State) → (after : Terminal) →
         p.is_failed ≡ false → StandsFor p.scanner state → read (terminal state p.screen) (bytes_in calls) ≡ Some after →
         FoldsTo Processes p calls q → AllByRecursion IsFine calls × HasRead p after q }
 {}
 
-/// States that a full redraw followed by any chain of differences, each from
-/// the previous screen, makes a plain terminal display the last screen. The
-/// bytes may be split into any chunks. The screens must be steady and have the
-/// terminal's size.
+/// States that a full redraw followed by any chain of diffs, each from the
+/// previous screen to the next, makes a plain terminal display the last screen.
+/// The bytes may be split into any chunks. The screens must be steady and have
+/// the terminal's size.
 ///
 /// Each call to `process` returns `Ok`. Callbacks, scrollback, the other page
 /// and the modes are unchanged.
@@ -152,14 +155,15 @@ pub fn chain<CB: Callbacks>()
 {}
 
 /// States that a plain terminal is plain again after it has read a redraw of
-/// any screen or a difference to any screen, even if that screen is not steady.
+/// any screen or a diff from one screen to another, even if the screen to be
+/// displayed is not steady. The clauses are:
 ///
-/// - `kept`: this holds for output that keeps plain terminals plain. By their
-///   clauses `again`, `contents_formatted`, `contents_diff`,
-///   `contents_diff_scrolling` and `cursor_state_formatted` return such output.
-/// - `made`: this holds for output that makes any terminal plain, provided that
-///   the terminal displays no scrollback. By its clause `again`,
-///   `contents_formatted_reset` returns such output.
+/// - `kept` applies to output that keeps plain terminals plain, which
+///   `contents_formatted`, `contents_diff`, `contents_diff_scrolling` and
+///   `cursor_state_formatted` return (see their clauses `again`).
+/// - `made` applies to output that makes any terminal without displayed
+///   scrollback plain, which `contents_formatted_reset` returns (see its clause
+///   `again`).
 ///
 /// The output may be split into any chunks. Whatever the callbacks are, only
 /// `on_scroll` is invoked, for rows that scroll off the top. The other page,
@@ -176,32 +180,34 @@ pub fn again<CB: Callbacks>()
         IsUnscrolledParser p → FoldsTo (Ran CB.does) p chunks q → q.is_failed ≡ false → IsPlainAgain CB.does p q }
 {}
 
-/// States that a recording has the same text whatever the scrollback capacity
-/// is. The text is a capture of the rows for which `on_scroll` was called with
-/// `false`, followed by a capture of `BasicFormattedCaptureRange::Full` that
-/// continues from the same capture state.
+/// States that the text of a recording does not depend on the scrollback
+/// capacity. The text is a capture of the rows for which `on_scroll` was called
+/// with `false`, followed by a capture of `BasicFormattedCaptureRange::Full`
+/// that continues from the same capture state.
 ///
-/// This holds for a fresh parser and any sequence of calls to `process` and
-/// `Screen::set_scrollback` that ends on the main page.
+/// The theorem applies to a fresh parser and any sequence of calls to `process`
+/// and `Screen::set_scrollback` that ends on the main page. The clauses are:
 ///
 /// - `called`: callbacks that leave the screen alone receive exactly the calls
 ///   that the model predicts, each once and in order.
 /// - `text`: the text consists of all rows that the bytes scroll off the top of
 ///   the main page, followed by the page itself.
-/// - `one`: the text is therefore the same for every capacity, however the
-///   bytes are split and however far the screen is scrolled back in between.
+/// - `one`: because of `text`, the recorded text is the same for every
+///   capacity, however the bytes are split and however far the screen is
+///   scrolled back in between.
 /// - `recorded`: callbacks that store the captured text and its capture state
 ///   hold this text once a full capture is appended, provided that their sink
 ///   accepted everything.
-/// - `kept`: for one call to `process` on any parser, the rows reported with
-///   `false`, followed by the scrollback after the call, match the scrollback
-///   before the call followed by the rows that scrolled off the top of the main
-///   page. This assumes that no wrapped row of scrollback was narrower than the
-///   screen.
+/// - `kept`: for one call to `process` on any parser, two lists of rows match.
+///   The first list consists of the rows reported with `false`, followed by the
+///   scrollback after the call. The second list consists of the scrollback
+///   before the call, followed by the rows that scrolled off the top of the
+///   main page. The clause assumes that no wrapped row of scrollback was
+///   narrower than the screen.
 /// - `apart`: the rows that scroll off, and everything on the screen after the
 ///   call except its scrollback, depend on neither the capacity nor the
 ///   contents of scrollback. Two parsers whose screens differ only in their
-///   scrollback agree on both.
+///   scrollback agree on all of these.
 ///
 /// The premises are that each call returned `Ok`, that the bytes contain no
 /// RIS, and that the callbacks leave the screen alone.

@@ -139,7 +139,7 @@ impl<CB: Callbacks> Parser<CB> {
     /// # Errors
     ///
     /// Returns `Error::OutOfMemory` if an allocation fails. The steps before
-    /// the failing one remain in effect; the failing step changes nothing and
+    /// the failing step remain in effect; the failing step changes nothing and
     /// invokes no callbacks. From then on, the parser reads nothing and returns
     /// `Error::Failed`, but its screen can still be read.
     ///
@@ -213,7 +213,7 @@ impl<CB: Callbacks> Parser<CB> {
 
     /// Returns the number of bytes that the parser holds of an unfinished
     /// operating system command: the bytes read after `\x1b]`, not counting
-    /// control functions. It is 0 if no such command is in progress.
+    /// control functions. Returns 0 if no such command is in progress.
     ///
     /// No other unfinished input takes memory: strings such as DCS are
     /// discarded as they are read, and only a fixed amount of any other

@@ -19,7 +19,7 @@ use vt_screen::{Callbacks, ModeStep, Screen};
 /// # Errors
 ///
 /// Returns `Error::OutOfMemory` if the alternate page cannot be allocated. The
-/// modes handled before that one stay set or reset.
+/// modes handled before the failing mode stay set or reset.
 pub fn perform<CB: Callbacks>(
     screen: &mut Screen,
     callbacks: &mut CB,

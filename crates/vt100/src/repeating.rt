@@ -111,8 +111,8 @@ fn repeat_in_row(screen: &mut Screen, byte: u8, count: u16)
     printing::print_text(screen, &text[..usize::from(count)]);
 }
 
-/// Prints `character` `count` times, one at a time. [`repeat`] uses this for
-/// characters other than printable ASCII.
+/// Prints `character` `count` times, one at a time. [`repeat`] uses this
+/// function for characters other than printable ASCII.
 ///
 /// # Errors
 ///

@@ -26,8 +26,8 @@ impl<'a> Sequence<'a> {
     /// Reports to the callbacks that the sequence, or a part of it, is
     /// unhandled.
     ///
-    /// It is never inlined, because it builds a table of the groups, which no
-    /// other code path needs.
+    /// This function is never inlined, because it builds a table of the groups,
+    /// which no other code path needs.
     #[inline(never)]
     pub fn report<CB: Callbacks>(self, screen: &mut Screen, callbacks: &mut CB)
         ensures { CB.does (report_of self.entry) callbacks.old screen.old callbacks.new screen.new }

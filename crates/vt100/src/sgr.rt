@@ -60,8 +60,8 @@ fn set_by_groups<CB: Callbacks>(screen: &mut Screen, callbacks: &mut CB, paramet
     }
 }
 
-/// Applies one setting of an SGR sequence, or reports the sequence if the
-/// setting is unknown.
+/// Applies the effect of one group of an SGR sequence, or reports the sequence
+/// if the group is unknown.
 #[inline(always)]
 #[tactic(auto, using(crate::proofs::Stepping::called, crate::proofs::Stepping::stepping))]
 fn apply<CB: Callbacks>(

@@ -19,8 +19,8 @@ impl Write for Parser<()> {
     /// error of kind `Other` on every later call.
     ///
     /// Input whose parsing invokes no callbacks and allocates nothing never
-    /// causes an error. For `process`, its clause `quiet` says this; for
-    /// `write`, it follows from the clause `harmless` of
+    /// causes an error. The clause `quiet` of `process` states this guarantee;
+    /// for `write`, the guarantee follows from the clause `harmless` of
     /// [`quiet_runs`](crate::laws::quiet_runs).
     fn write(&mut self, buf: &[u8]) -> io::Result<usize>
         ensures bound { WritesAtMost result buf.now }

@@ -1,4 +1,4 @@
--- The results of a parser and a mirror as statuses, and bytes that are read up to an event.
+-- The results of a parser and of a mirror as statuses, and reading bytes up to an event.
 use Rattle.std.proofs.Common.{◌≡◌, ◌≢◌, ◌↔◌, ◌+◌, ◌<◌, inl, inr, ℕ, List, length, take, drop, refl, sym, subst, ◌∙◌, arith, Bool, true, false, not, ◌||◌, ◌==◌, ◌&&◌}
 use Rattle.std.proofs.Common.{◌++◌, ◌-◌, ap, nat_lt, slice_index_or}
 use Rattle.std.proofs.Math.Seq.{take-add, take-length}
@@ -112,13 +112,13 @@ has_room : (is_full : Bool) → (not is_full || is_full) ≡ true
 has_room true = refl
 has_room false = refl
 
--- A log has no event since its own mark.
+-- Since its own mark, a log has recorded no event at which reading stops.
 pub quiet_now : (log : Logged) → is_quiet (mark_of log) log ≡ true
 quiet_now log = λ i.
     are_bare_rows (nothing_more (length log.records) i) (nothing_more (length log.rows) i)
     && (nat_lt (nothing_more log.room i) batch && (has_room (log.room == 0) i && as_whole log.is_whole i))
 
--- The first bytes have been read, and left no event.
+-- The first `count` bytes have been read, and none of them recorded an event at which reading stops.
 pub record HasReadQuietly (mark : Mark) (old : Parsing Logged) (bytes : List ℕ) (count : ℕ)
     (now : Parsing Logged) : Type 0 where
   pub ran : Ran Logs old (take count bytes) now
@@ -153,7 +153,7 @@ quiet_more mark old now new bytes at count status read unit well quiet =
       nothing = λ e. absurd (false≢true (sym good ∙ e));
     }
 
--- Bytes without an event after a run: the effect of all of them, and the state of the scanner.
+-- If bytes without events follow a run, the effect and the scanner's state are those of a run over all of these bytes.
 quiet_part : (mark : Mark) (old now : Parsing Logged) (bytes : List ℕ) (at more : ℕ)
     → HasReadQuietly mark old bytes at now → HasNoEvent now.scanner (take more (drop at bytes))
     → (s : State) → StandsFor old.scanner s
@@ -177,7 +177,7 @@ quiet_part mark old now bytes at more read none s stands =
       ap (λ (step : Step). step.state) whole_run,
     )
 
--- Bytes without an event, between a run before them and one byte after them.
+-- If only the last byte of a unit has events, the bytes before it record no event at which reading stops.
 quiet_between : (mark : Mark) (old now new : Parsing Logged) (bytes : List ℕ) (at more : ℕ)
     → HasReadQuietly mark old bytes at now → HasNoEvent now.scanner (take more (drop at bytes))
     → Ran Logs now (take (more + 1) (drop at bytes)) new → (s : State) → StandsFor old.scanner s
@@ -204,7 +204,7 @@ quiet_between mark old now new bytes at more read none ran s stands =
           (ran middle reached.0).1;
     }
 
--- A unit that isn't read ends before the last byte.
+-- A unit of bytes that isn't read ends before the last byte.
 unread_inside : (is_failed : Bool) (old now new : Parsing Logged) (bytes : List ℕ) (at count status : ℕ)
     → now.is_failed ≡ is_failed → at < length bytes → ReadsUnit now (drop at bytes) count status new
     → (status ≡ ok → ⊥) → at + count < length bytes
@@ -235,7 +235,8 @@ event_left mark old now new bytes at count status read unit well event = elim (u
       }))
 ]
 
--- Bytes without an event, between a run before them and a byte after them whose allocation fails.
+-- If the allocation for a byte after bytes without events fails, the bytes before it record no event at which reading
+-- stops.
 quiet_before : (mark : Mark) (old now new : Parsing Logged) (bytes : List ℕ) (at count : ℕ)
     → HasReadQuietly mark old bytes at now → StoppedAt Logs now (drop at bytes) count new
     → (s : State) → StandsFor old.scanner s → IsQuietBefore mark old bytes (at + count) new s

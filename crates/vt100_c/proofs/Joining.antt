@@ -1,4 +1,4 @@
--- Texts are joined, with their ends.
+-- Concatenating texts and storing the position at which each of them ends.
 use Rattle.std.proofs.Common.{◌≡◌, ℕ, suc, ◌+◌, ◌<◌, List, [], ◌∷◌, ◌++◌, length, set, refl, sym, ap, subst, ◌∙◌, arith}
 use Rattle.std.proofs.lemmas.List.{append-nil, append_assoc, length-append, length_push, take_more_set}
 use Rattle.std.proofs.lemmas.List.Folds.{concat-append}
@@ -12,7 +12,7 @@ concat-push : (texts : List (List ℕ)) (text : List ℕ) → concat (texts ++ t
 concat-push texts text =
     concat-append texts (text ∷ []) ∙ ap (λ (more : List ℕ). concat texts ++ more) (append-nil text)
 
--- The ends of a sequence of texts with one more text.
+-- Appending a text to a list of texts appends its end position to theirs.
 ends-push : (at : ℕ) (texts : List (List ℕ)) (text : List ℕ) →
     ends_from at (texts ++ text ∷ []) ≡ ends_from at texts ++ (at + length (concat texts) + length text) ∷ []
 ends-push at [] text =
@@ -26,11 +26,11 @@ ends-push at (first ∷ texts) text =
     (ends-push (at + length first) texts text
     ∙ ap (λ (end : ℕ). ends_from (at + length first) texts ++ end ∷ []) e)
 
--- No text has been joined.
+-- Before any text is joined, the joined text and the list of ends are empty.
 pub joined_none : (all : List (List ℕ)) (ends : List ℕ) → IsJoined all all 0 [] ends
 joined_none all ends = record { done = []; parts = refl; count_is = refl; text = refl; ends_are = refl }
 
--- One more text is joined.
+-- After one more text is joined, its end position is stored.
 pub joined_more : (all left : List (List ℕ)) (text : List ℕ) (count : ℕ) (joined ends : List ℕ) →
     count < length ends → IsJoined all (text ∷ left) count joined ends →
     IsJoined all left (count + 1) (joined ++ text) (set ends count (length (joined ++ text)))
@@ -49,7 +49,7 @@ joined_more all left text count joined ends inside j =
           ∙ (ap (λ (end : ℕ). ends_from 0 j.done ++ end ∷ []) e ∙ sym (ends-push 0 j.done text)));
     }
 
--- There is a place for the end of a text that is left.
+-- If a text remains to be joined, there is an index left for its end position.
 pub joined_inside : (all left : List (List ℕ)) (text : List ℕ) (count : ℕ) (joined ends : List ℕ) →
     IsJoined all (text ∷ left) count joined ends → count < length all
 joined_inside all left text count joined ends j =
@@ -68,7 +68,7 @@ module _ {S A : Type 0} (left : S → List (List ℕ)) where
   given old new item text gives is =
       subst (λ (r : Result (String A) Error). GivesText left old (Some r) new) is gives
 
-  -- There is a place for the end of the item's text.
+  -- There is an index for the end position of the item's text.
   pub joined_place : (old new : S) (item : Result (String A) Error) (text : String A) →
       GivesText left old (Some item) new → item ≡ Ok text →
       (all : List (List ℕ)) (count : ℕ) (joined ends : List ℕ) →
@@ -78,7 +78,7 @@ module _ {S A : Type 0} (left : S → List (List ℕ)) where
       joined_inside all (left new) g.0 count joined ends
       (subst (λ (some : List (List ℕ)). IsJoined all some count joined ends) g.1 j)
 
-  -- The item's text is joined to those before.
+  -- The item's text is joined to the texts before it.
   pub joined_next : (old new : S) (item : Result (String A) Error) (text : String A) →
       GivesText left old (Some item) new → item ≡ Ok text →
       (all : List (List ℕ)) (count : ℕ) (joined joined' ends ends' : List ℕ) →

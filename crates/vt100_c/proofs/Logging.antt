@@ -9,18 +9,18 @@ use Rattle.vt_screen.specs.Calls.{OnScroll}
 use Rattle.vt_screen.specs.Meanings.{call_of}
 use Rattle.vt_screen.specs.declared.callbacks.Call.{Call}
 
--- A call that reports no row adds no row.
+-- A call that reports no row adds no row to the log.
 pub no_row : (call : Call) (rows : List RowValue) → rows_with (call_of call) rows ≡ rows
 no_row call rows = search rules
 
--- A call that reports no row has one record, bare or not.
+-- A call that reports no row has the same record whether or not rows are recorded without text.
 pub no_text : (bare : Bool) (call : Call) → record_of bare (call_of call) ≡ record_of false (call_of call)
 no_text bare call = search rules
 
 pub no_cells : (call : Call) → cells_size (call_of call) ≡ 0
 no_cells call = search rules
 
--- A log with the record of a call that reports no row.
+-- Appending the record of a call that reports no row gives the log that the model describes.
 pub one_more : (call : Call) (old : Logged) (records : List ℕ) (room : ℕ)
     → records ≡ old.records ++ record_of false (call_of call)
     → room ≡ old.room - (length records - length old.records)
@@ -33,7 +33,7 @@ one_more call old records room is left =
     omega (arith, left, ap length all, length-append old.records made, no_cells call) in
     λ i. record old { records = all i; rows = sym (no_row call old.rows) i; room = size i }
 
--- A log with the report of a row.
+-- Appending the report of a row gives the log that the model describes.
 pub one_row : (row : RowValue) (alternate : Bool) (old : Logged) (records : List ℕ) (rows : List RowValue) (room : ℕ)
     → records ≡ old.records ++ record_of (is_bare old) (OnScroll row alternate)
     → rows ≡ old.rows ++ trimmed_row row ∷ []
@@ -46,7 +46,7 @@ one_row row alternate old records rows room is kept left =
     left ∙ ap (λ (n : ℕ). old.room - n - cells) (omega (arith, ap length is, length-append old.records made)) in
     λ i. record old { records = is i; rows = kept i; room = size i }
 
--- Five texts joined one after the other.
+-- Five texts that are appended one after the other are appended as one.
 pub put_five : (old a b c d e : List ℕ) →
     ((((old ++ a) ++ b) ++ c) ++ d) ++ e ≡ old ++ (a ++ (b ++ (c ++ (d ++ e))))
 put_five old a b c d e =
@@ -54,7 +54,7 @@ put_five old a b c d e =
     ∙ (append_assoc ((old ++ a) ++ b) c (d ++ e)
     ∙ (append_assoc (old ++ a) b (c ++ (d ++ e)) ∙ append_assoc old a (b ++ (c ++ (d ++ e)))))
 
--- Valid rows, and one more if its allocation succeeded.
+-- Rows stay valid when a valid row is appended, or when its allocation fails.
 pub sound_with : (rows : List RowValue) (row : RowValue) (new : List RowValue) (ok : Bool)
     → All (λ (r : RowValue). IsRow (length r.cells) r) rows → IsRow (length row.cells) row
     → new ≡ (if ok then rows ++ row ∷ [] else rows) → All (λ (r : RowValue). IsRow (length r.cells) r) new

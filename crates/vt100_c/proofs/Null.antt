@@ -23,7 +23,7 @@ use Rattle.vt100_c.proofs.AsBox.{E}
 abbrev pub X : Type 0
 X = Object.the_row.Denot
 
--- The result of comparing the pointer p with null, if the handle holds o.
+-- The result of comparing a handle's pointer with null, given what the handle holds.
 abbrev pub AnswersHeld : Ptr → Option X → Type 0
 AnswersHeld p o = (y : Bool) × (op2_val ptr_eq (ptr_val p) vnull ≡ vbool y) × Testable p × (not y ≡ is_some o)
 
@@ -45,7 +45,7 @@ module _ {M : Type 1} {𝓤 : Ura M} (𝓛 : Logic 𝓤) where
       let is : AnswersHeld (block_ptr b o) (Some x) = (false, refl, low, refl) in
       use0 𝓛 (raw (fact 𝓤 (AnswersHeld p (Some x)))) (fact_i 𝓤 (AnswersHeld p (Some x)) (emp 𝓤) (subst (λ (q : Ptr). AnswersHeld q (Some x)) (sym e) is)) $ keep ! (0 ∷ []) $ done !))
 
-  -- The result of comparing with null, alongside what it follows from.
+  -- The result of comparing a handle's pointer with null follows from what the handle holds, which is kept.
   pub answers_held : (p : Ptr) (o : Option X) → ent 𝓤 (sem 𝓛 (held_at p o)) (sep 𝓤 (fact 𝓤 (AnswersHeld p o)) (sem 𝓛 (held_at p o)))
   answers_held p o =
       fact_use 𝓤 (AnswersHeld p o) (held_answered p o) (λ t. qed 𝓛 (‵ (held_at p o) ∷ []) ∵ use0 𝓛 (raw (fact 𝓤 (AnswersHeld p o))) (fact_i 𝓤 (AnswersHeld p o) (emp 𝓤) t) $ done !)

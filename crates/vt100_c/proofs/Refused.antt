@@ -1,4 +1,4 @@
--- An allocation can only fail if there is text to make.
+-- An allocation can fail only if the text that needs it is not empty.
 use Rattle.std.proofs.Common.{◌<◌, ℕ, List, length}
 use Rattle.std.specs.Prelude.{Err, IsErr, IsOk, Ok, OnErr, Result}
 

@@ -22,14 +22,14 @@ kept_at (first ∷ rows) (suc index) row e =
     let inside : index < length rows = at.inside in
     record { inside = omega arith; is = at.is }
 
--- A kept row is valid.
+-- Each row that the log keeps is valid.
 pub kept_sound : (rows : List RowValue) (index : ℕ) (row : RowValue) →
     All (λ (r : RowValue). IsRow (length r.cells) r) rows → slice_get rows index ≡ Some row → IsRow (length row.cells) row
 kept_sound rows index row all e =
     let at = kept_at rows index row e in
     subst (λ (r : RowValue). IsRow (length r.cells) r) at.is (all index row at.inside)
 
--- One of the first rows is valid.
+-- Each of the first rows that the log keeps is valid.
 pub first_sound : (rows : List RowValue) (count index : ℕ) (row : RowValue) →
     All (λ (r : RowValue). IsRow (length r.cells) r) rows → slice_get (take count rows) index ≡ Some row
     → IsRow (length row.cells) row

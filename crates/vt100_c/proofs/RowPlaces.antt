@@ -1,4 +1,4 @@
--- Where the pieces and rows of a capture begin and end, computed from their texts.
+-- The positions at which the pieces and rows of a capture begin and end, computed from their texts.
 use Rattle.std.proofs.Common.{◌≡◌, ◌≢◌, ◌⊎◌, ℕ, suc, ◌+◌, ◌-◌, ◌<◌, ◌≤◌, ◌==◌, Bool, true, false, not, min}
 use Rattle.std.proofs.Common.{List, [], ◌∷◌, length, take, drop, get_or}
 use Rattle.std.proofs.Common.{refl, sym, ap, subst, ◌∙◌, arith, inl, inr, if◌then◌else◌}
@@ -70,7 +70,7 @@ row_inside width text (row ∷ rows) bytes left are e =
     subst (λ (b : List ℕ). length b ≤ length text) (first_text rows row bytes left e)
     (start_inside row.0 row.1 text (begins_at width 0 text row rows are) (is_row width 0 text row rows are).slice)
 
--- The first character of text that begins with a line feed.
+-- The first character of a text that begins with a line feed is LF.
 head_lf : (bytes : List ℕ) → get_or (chars (10 ∷ bytes)) 0 0 ≡ 10
 unfolding chars
 head_lf [] = refl
@@ -91,7 +91,7 @@ no_lf (b ∷ bytes) first rest e n h =
     n (sym (ap (λ (cs : List ℕ). get_or cs 0 0) e)
     ∙ (ap (λ (x : ℕ). get_or (chars (x ∷ bytes)) 0 0) h ∙ head_lf bytes))
 
--- The first byte of a slice is the byte at its place.
+-- The first byte of a slice is the byte of the text at the slice's index.
 byte_at : (at : ℕ) (bytes text : List ℕ) → 0 < length bytes → take (length bytes) (drop at text) ≡ bytes →
     get_or text at 0 ≡ get_or bytes 0 0
 byte_at at bytes text some e =
@@ -110,7 +110,7 @@ false_from : (x : Bool) → (x ≡ true → ⊥) → x ≡ false
 false_from true n = absurd (n refl)
 false_from false n = refl
 
--- The next row begins after the line feed at the end of a row, or at that end.
+-- The next row begins after the line feed at the end of a row, or directly at that end if there is no line feed.
 next_place : (width : ℕ) (text : List ℕ) (row next : Piece) (rows : List Piece) →
     IsBehindEnd text row next ⊎ IsBehindFull width row next →
     AreRowsFrom width text next.0 (next ∷ rows) → next.0 ≡ behind_line_end text (piece_end row)
@@ -142,12 +142,12 @@ left_texts : (row : Piece) (rows : List Piece) (bytes : List ℕ) (left : List (
 unfolding rest_of
 left_texts row rows bytes left e = ap rest_of e
 
--- There is at least one row.
+-- Every capture has at least one row.
 pub some_row : (width : ℕ) (text : List ℕ) (rows : List Piece) → AreRowsOf width text rows → texts_of rows ≢ []
 some_row width text [] are e = are
 some_row width text (row ∷ rows) are e = let l : suc (length (texts_of rows)) ≡ 0 = ap length e in omega arith
 
--- The last row of a capture.
+-- The position at which the last row of a capture ends.
 pub last_row : (width at : ℕ) (text : List ℕ) (rows : List Piece) (bytes : List ℕ) (left : List (List ℕ)) →
     AreRowsOf width text rows → texts_of rows ≡ bytes ∷ left → left ≡ [] →
     IsFirstRow at rows (at + length bytes) no_place
@@ -158,7 +158,7 @@ last_row width at text (row ∷ next ∷ rows) bytes left are e none =
     let l : suc (length (texts_of rows)) ≡ 0 = ap length (left_texts row (next ∷ rows) bytes left e ∙ none) in
     absurd (omega arith)
 
--- A row of a capture that has a next row.
+-- The positions at which a row of a capture ends and the next row begins.
 pub row_before : (width at : ℕ) (text : List ℕ) (rows : List Piece) (bytes : List ℕ) (left : List (List ℕ)) →
     AreRowsOf width text rows → texts_of rows ≡ bytes ∷ left → left ≢ [] →
     IsFirstRow at rows (at + length bytes) (at + behind_line_end text (length bytes))
@@ -181,7 +181,7 @@ pub next_inside : (width : ℕ) (text : List ℕ) (all left : List (List ℕ)) (
     length row ≤ length text
 next_inside width text all left row some e = row_inside width text some.0 row left some.1 (sym some.2 ∙ e)
 
--- Where the row that the iterator returned ends, and where the next one begins.
+-- The positions at which the row that the iterator returned ends and the next one begins.
 pub next_rows : (width at : ℕ) (text : List ℕ) (all left more : List (List ℕ)) (row next : List ℕ) (place : ℕ) →
     ((rows : List Piece) × AreRowsOf width text rows × (all ≡ texts_of rows)) → all ≡ row ∷ left → left ≡ next ∷ more →
     place ≡ behind_line_end text (length row) →

@@ -1,4 +1,4 @@
--- What is known of output that may move rows first, stated for the text that was made.
+-- The properties of output that may move rows first, stated for the text that was written.
 use Rattle.std.specs.Prelude.{◌≡◌, ◌≤◌, ℕ, length, IfOk, Result, Ok, Err, String, string_bytes}
 use Rattle.std.specs.Global.{Global}
 use Rattle.std.proofs.Common.{subst}

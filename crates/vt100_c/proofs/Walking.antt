@@ -1,4 +1,4 @@
--- A capture that is read call by call is read in full.
+-- Reading a capture call by call reads all of it.
 use Rattle.std.proofs.Common.{◌≡◌, ◌≢◌, ◌⊎◌, ◌↔◌, inl, inr, ℕ, ◌+◌, ◌-◌, ◌<◌, ◌≤◌, List, [], ◌∷◌, map}
 use Rattle.std.proofs.Common.{length, take, drop, get_or, refl, sym, ap, ap₂, subst, ◌∙◌, arith}
 use Rattle.std.proofs.lemmas.List.{drop-drop, get_or-drop, length-drop, length-take}
@@ -12,7 +12,7 @@ use Rattle.std.specs.Prelude.{chars}
 use Rattle.vt100_c.specs.Captures.{IsFirstPiece, IsFirstRow, IsPlace, no_place}
 use Rattle.vt100_c.specs.Walking.{ArePlacesOfPieces, ArePlacesOfRows, FindAllPlain, FindAllRows, FindsRow, place_from}
 
--- A slice, with its place counted from byte n of the text on.
+-- The slice, with its index counted from byte n of the text.
 abbrev back : ℕ → Piece → Piece
 back n piece = (piece.0 - n, piece.1)
 
@@ -74,7 +74,7 @@ in_some_back capture n low k (piece ∷ pieces) le apart =
       here le rest (inl h) = inl (omega (arith, le, h.0), omega (arith, le, h.1))
       here le rest (inr h) = inr (rest h)
 
--- No stretch contains the byte before the place, so the stretches after it are those of the rest.
+-- If the byte before index n is in no SGR sequence, the SGR sequences after it are those of the remaining text.
 stretch_back : (capture : List ℕ) (n k : ℕ) → 0 < n → ¬ (IsInStretch capture (n - 1)) →
     IsInStretch (drop n capture) k ↔ IsInStretch capture (n + k)
 stretch_back capture n k some free = (there, here) where
@@ -125,7 +125,7 @@ ends_inside capture piece is =
     let left = length-drop piece.0 capture in
     omega (arith, some, cut, same, left)
 
--- The pieces of a capture after the first one are those of the rest of it.
+-- The pieces of a capture after its first piece are the pieces of the remaining capture.
 rest_pieces : (capture : List ℕ) (piece : Piece) (pieces : List Piece) → ArePiecesOf capture (piece ∷ pieces) →
     ArePiecesOf (drop (piece_end piece) capture) (map (back (piece_end piece)) pieces)
 rest_pieces capture piece pieces are =
@@ -213,7 +213,7 @@ later_place : (width : ℕ) (capture : List ℕ) (row next : Piece) →
 later_place width capture row next (inl end) = omega (arith, end.place)
 later_place width capture row next (inr full) = omega (arith, full.place)
 
--- The rows of a capture from a row on are those of the rest of it.
+-- The rows of a capture from a row on are the rows of the remaining capture.
 rest_rows : (width : ℕ) (capture : List ℕ) (n at : ℕ) (rows : List Piece) → n ≤ at → AreRowsFrom width capture at rows →
     AreRowsFrom width (drop n capture) (at - n) (map (back n) rows)
 rest_rows width capture n at [] le are = absurd are
@@ -248,7 +248,7 @@ row_places_back width capture at n from (row ∷ next ∷ rows) le are =
     (row_places_back width capture at n next.0 (next ∷ rows)
     (omega (arith, le, are.0, later_place width capture row next are.2)) are.3)
 
--- The call at a row finds it, since a capture has only one list of rows.
+-- A call at the beginning of a row finds that row, because a capture has only one list of rows.
 module _ (text : List ℕ) (width at : ℕ) (rows : List Piece) (are : AreRowsOf width (drop at text) rows) where
   same_row : IsPlace text at → (end next : ℕ) → FindsRow text width at end next → IsFirstRow at rows end next
   same_row place end next finds =

@@ -4,17 +4,17 @@ use Rattle.vt100_c.specs.Status.{ok, out_of_memory, no_object, in_use}
 use Rattle.vt100_c.specs.declared.object.Object.{Object}
 use Rattle.vt100_c.specs.declared.object.Source.{Source}
 
--- `Yes` if the test is true, otherwise `No`.
+-- The first of two statements if the test is true, and the second one otherwise.
 abbrev pub Either : Bool → Type 0 → Type 0 → Type 0
 Either true Yes No = Yes
 Either false Yes No = No
 
--- Whether a screen can have this many rows and columns.
+-- Whether a screen can have the given numbers of rows and columns.
 abbrev pub is_size : (rows cols : ℕ) → Bool
 is_size rows cols = not (rows == 0) && not (cols == 0)
 
--- The effect of a call on the value that a handle holds; the stored text is unchanged. For an empty handle, the
--- status is `no_object` and the handle stays empty.
+-- The effect of a call on the value that a handle holds; the text stored in the handle is unchanged. For an empty
+-- handle, the status is `no_object` and the handle stays empty.
 abbrev pub OnSource : (Source → ℕ → Source → Type 0) → Option Object → ℕ → Option Object → Type 0
 OnSource Does None status new = (status ≡ no_object) × (new ≡ None)
 OnSource Does (Some old) status (Some new) = Does old.source status new.source × (new.text ≡ old.text)

@@ -3,26 +3,26 @@ use Rattle.std.specs.Prelude.{◌≡◌, ◌+◌, ◌-◌, ◌^◌, ◌==◌, �
 use Rattle.std.specs.Str.{IsCharBoundary}
 use Rattle.vt_rows.specs.Pieces.{Piece, piece_end}
 
--- The bytes are UTF-8, and `at` is a character boundary or the end of the text.
+-- The bytes are UTF-8, and the index is a character boundary, which may be the end of the text.
 abbrev pub IsPlace : List ℕ → ℕ → Type 0
 IsPlace text at = IsUtf8 text × IsCharBoundary text at
 
--- The index after the line feed at `end`, or `end` if there is none.
+-- The index after the line feed at `end`, or `end` if there is no line feed at that index.
 abbrev pub behind_line_end : List ℕ → ℕ → ℕ
 behind_line_end text end = if get_or text end 0 == 10 then end + 1 else end
 
--- The first of the pieces found from byte `at` begins at `start` and ends at `end`; both are `stop` if there is
--- none.
+-- The first of the pieces found from byte `at` begins at `start` and ends at `end`. If there is no piece, `start` and
+-- `end` are `stop`.
 abbrev pub IsFirstPiece : (stop at : ℕ) → List Piece → (start end : ℕ) → Type 0
 IsFirstPiece stop at [] start end = (start ≡ stop) × (end ≡ stop)
 IsFirstPiece stop at (piece ∷ pieces) start end = (start ≡ at + piece.0) × (end ≡ at + piece_end piece)
 
--- The number that is returned instead of a position after the last row.
+-- The number that is stored instead of the next row's position if there is no next row.
 abbrev pub no_place : ℕ
 no_place = 2 ^ 64 - 1
 
 -- The first of the rows found from byte `at` ends at `end`, and the row after it begins at `next`. If there is no
--- row after it, `next` is `no_place`.
+-- second row, `next` is `no_place`.
 abbrev pub IsFirstRow : (at : ℕ) → List Piece → (end next : ℕ) → Type 0
 IsFirstRow at [] end next = ⊥
 IsFirstRow at (row ∷ []) end next = (end ≡ at + piece_end row) × (next ≡ no_place)

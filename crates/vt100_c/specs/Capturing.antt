@@ -12,7 +12,7 @@ use Rattle.vt100_c.specs.declared.object.Object.{Object}
 use Rattle.vt100_c.specs.declared.object.Source.{Source}
 use Rattle.vt100_c.specs.declared.object.Source.TheVariants.{Parser, Screen, Mirror, Capture}
 
--- The capture state, if the value is a capture.
+-- The state of the capture that a value contains, if any.
 abbrev pub state_in : Source → Option Written
 state_in (Parser parser) = None
 state_in (Screen screen) = None
@@ -21,13 +21,14 @@ state_in (Capture written) = Some written
 
 -- ---- a value with a capture
 
--- The status of a call on a value and a capture. The status `due` applies if both exist.
+-- The status of a call on a value and a capture: if both exist, the status that `due` determines from the value;
+-- otherwise `wrong_kind`.
 abbrev pub due_behind : {A : Type 0} → (A → ℕ) → Option A → Option Written → ℕ
 due_behind due None state = wrong_kind
 due_behind due (Some value) None = wrong_kind
 due_behind due (Some value) (Some state) = due value
 
--- There are a value and a capture state, and `Holds` holds for them.
+-- The value and the capture state exist, and `Holds` holds for both.
 abbrev pub OnCapture : {A : Type 0} → Option A → Option Written → (A → Written → Type 0) → Type 0
 OnCapture None state Holds = ⊥
 OnCapture (Some value) None Holds = ⊥
@@ -40,7 +41,7 @@ due_at_capture of due None capture = no_object
 due_at_capture of due (Some object) None = no_object
 due_at_capture of due (Some object) (Some capture) = due_behind due (of object.source) (state_in capture.source)
 
--- The status of a call on a handle and on a capture that was moved out of its own handle.
+-- The status of a call on a handle and a capture, where the capture was moved out of the handle that held it.
 abbrev pub due_beside_capture : {A : Type 0} → (Source → Option A) → (A → ℕ) → Option Object → Object → ℕ
 due_beside_capture of due None capture = bad_argument
 due_beside_capture of due (Some object) capture = due_behind due (of object.source) (state_in capture.source)
@@ -65,15 +66,16 @@ any_screen_is_due screen = ok
 abbrev pub HaveText : ScreenValue → Written → Type 0
 HaveText screen state = 0 < length (basic_texts state (all_rows screen))
 
--- The status of a call with the index of a reported row: `ok` if the log has a row with this index.
+-- The status of a call with the index of a reported row: `ok` if the log has a row with that index, otherwise
+-- `bad_argument`.
 abbrev pub has_reported : ℕ → Logged → ℕ
 has_reported index log = if nat_lt index (length log.rows) then ok else bad_argument
 
--- The row exists, and `Holds` holds for it.
+-- The row exists, and `Holds` holds for this row.
 abbrev pub OnRow : Option RowValue → (RowValue → Type 0) → Type 0
 OnRow None Holds = ⊥
 OnRow (Some row) Holds = Holds row
 
--- The log has a row with this index, and `Holds` holds for the row and the capture state.
+-- The log has a row with the given index, and `Holds` holds for the row and the capture state.
 abbrev pub OnReported : ℕ → (RowValue → Written → Type 0) → Logged → Written → Type 0
 OnReported index Holds log state = OnRow (slice_get log.rows index) (λ row. Holds row state)

@@ -26,38 +26,39 @@ abbrev pub due_on : (ScreenValue → ℕ) → Option ScreenValue → ℕ
 due_on due None = wrong_kind
 due_on due (Some screen) = due screen
 
--- The status of a call on a handle. If the handle has a screen, `due` determines the status from that screen.
+-- The status of a call on a handle: `no_object` if the handle is empty, `wrong_kind` if its object has no screen, and
+-- otherwise the status that `due` determines from the screen.
 abbrev pub due_at : (ScreenValue → ℕ) → Option Object → ℕ
 due_at due None = no_object
 due_at due (Some object) = due_on due (screen_in object.source)
 
--- The status `ok`, for every screen.
+-- The status `ok`, whatever the screen is.
 abbrev pub any_screen : ScreenValue → ℕ
 any_screen screen = ok
 
--- The status of a call with the index of a displayed row: `ok` if there is such a row.
+-- The status of a call with the index of a displayed row: `ok` if there is such a row, otherwise `bad_argument`.
 abbrev pub has_row : ℕ → ScreenValue → ℕ
 has_row row screen = if nat_lt row (length screen.page.rows) then ok else bad_argument
 
 -- The status of a call that stores the cells of a displayed row: `ok` if there is such a row and `room` is enough for
--- all of its cells.
+-- all of its cells, otherwise `bad_argument`.
 abbrev pub has_row_and_room : (row room : ℕ) → ScreenValue → ℕ
 has_row_and_room row room screen = if nat_le screen.page.width room then has_row row screen else bad_argument
 
--- The status of a call with the position of a displayed cell: `ok` if there is such a cell. A scrollback row may have
--- more columns than the screen.
+-- The status of a call with the position of a displayed cell: `ok` if there is such a cell, otherwise `bad_argument`. A
+-- scrollback row may have more columns than the screen.
 abbrev pub has_cell : (row col : ℕ) → ScreenValue → ℕ
 has_cell row col screen =
     if nat_lt row (length screen.page.rows) && nat_lt col (length (visible_row screen row).cells) then ok
     else bad_argument
 
--- The status of a call with a range of positions: `ok` if the range starts within the screen's columns or doesn't
--- extend past its first row.
+-- The status of a call with a range of positions: `bad_argument` if the range extends past its first row and starts
+-- beyond the screen's width, otherwise `ok`.
 abbrev pub has_start : (start_row start_col end_row : ℕ) → ScreenValue → ℕ
 has_start start_row start_col end_row screen =
     if nat_lt start_row end_row && nat_lt screen.page.width start_col then bad_argument else ok
 
--- There is a screen, and `Holds` holds for it.
+-- The screen exists, and `Holds` holds for this screen.
 abbrev pub OnScreen : Option ScreenValue → (ScreenValue → Type 0) → Type 0
 OnScreen None Holds = ⊥
 OnScreen (Some screen) Holds = Holds screen
@@ -78,23 +79,24 @@ due_at_both due None prev = no_object
 due_at_both due (Some object) None = no_object
 due_at_both due (Some object) (Some prev) = due_on_both due (screen_in object.source) (screen_in prev.source)
 
--- The status of a call on a screen and on the handle of a second screen.
+-- The status of a call on a screen and the handle of a second screen: the status that `due` determines if both screens
+-- exist, `bad_argument` if the handle is empty, and otherwise `wrong_kind`.
 abbrev pub due_beside : (ScreenValue → ScreenValue → ℕ) → Option ScreenValue → Option Object → ℕ
 due_beside due screen None = bad_argument
 due_beside due screen (Some prev) = due_on_both due screen (screen_in prev.source)
 
--- The status `ok`, for every pair of screens.
+-- The status `ok`, whatever the two screens are.
 abbrev pub any_screens : ScreenValue → ScreenValue → ℕ
 any_screens screen prev = ok
 
 abbrev pub same_size : Page → Page → Bool
 same_size page other = (length page.rows == length other.rows) && (page.width == other.width)
 
--- The status of a call on two screens: `ok` if they have the same size.
+-- The status of a call on two screens: `ok` if they have the same size, otherwise `other_size`.
 abbrev pub of_one_size : ScreenValue → ScreenValue → ℕ
 of_one_size screen prev = if same_size screen.page prev.page then ok else other_size
 
--- There are two screens, and `Holds` holds for them.
+-- Both screens exist, and `Holds` holds for both.
 abbrev pub OnBoth : Option ScreenValue → Option ScreenValue → (ScreenValue → ScreenValue → Type 0) → Type 0
 OnBoth None prev Holds = ⊥
 OnBoth (Some screen) None Holds = ⊥
@@ -111,13 +113,13 @@ HoldBoth (Some object) (Some prev) Holds = OnBoth (screen_in object.source) (scr
 abbrev pub IsAnswer : (due status : ℕ) → Type 0
 IsAnswer due status = (status ≡ due) ⊎ ((due ≡ ok) × (status ≡ out_of_memory))
 
--- The status that a result stands for: `ok`, or its error.
+-- The status that a result stands for: `ok` for a value, and the error itself for an error.
 abbrev pub status_in : {A : Type 0} → Result A ℕ → ℕ
 status_in (Ok value) = ok
 status_in (Err status) = status
 
--- The result has the status `due` or reports a failed allocation. Its error is never `ok`, and after an error,
--- `Stays` holds.
+-- The result has the status `due` or reports a failed allocation. An error is never `ok`, and if the result is an
+-- error, `Stays` holds.
 pub record AnswersOrStays {A : Type 0} (due : ℕ) (result : Result A ℕ) (Stays : Type 0) : Type 0 where
   pub answer : IsAnswer due (status_in result)
   pub refused : IfErr result (λ status. ¬ (status ≡ ok))

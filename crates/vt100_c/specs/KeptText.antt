@@ -4,8 +4,8 @@ use Rattle.vt100_c.specs.Due.{text_at}
 use Rattle.vt100_c.specs.Status.{ok}
 use Rattle.vt100_c.specs.declared.object.Object.{Object}
 
--- The generated text is stored in the handle, and its length is stored in the caller's variable. If the call fails,
--- both are unchanged.
+-- The generated text is stored in the handle, and its length is stored in the caller's variable. If the call fails, the
+-- handle and the variable are unchanged.
 pub record KeepsText (old : Option Object) (status : ℕ) (new : Option Object) (before after : ℕ) : Type 0 where
   pub len : status ≡ ok → after ≡ length (text_at new)
   pub refused : ¬ (status ≡ ok) → new ≡ old

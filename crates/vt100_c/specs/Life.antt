@@ -30,26 +30,27 @@ Makes rows cols Is (Some old) status new = (status ≡ in_use) × (new ≡ Some 
 Makes rows cols Is None status new =
     Either (is_size rows cols) (Fills Is status new) ((status ≡ bad_argument) × (new ≡ None))
 
--- The saved copy of a value: its screen, or a copy of a capture. A mirror cannot be saved.
+-- The copy that saving a value creates: the screen of a parser or saved screen, or a copy of a capture. A mirror cannot
+-- be saved.
 abbrev pub saved_from : Source → Option Source
 saved_from (Parser parser) = Some (Screen parser.screen)
 saved_from (Screen screen) = Some (Screen screen)
 saved_from (Mirror mirror) = None
 saved_from (Capture written) = Some (Capture written)
 
--- The saved copy is stored in an empty handle; if there is no copy, the status is `wrong_kind`.
+-- The copy of an object is stored in an empty handle; if the object cannot be copied, the status is `wrong_kind`.
 abbrev pub SavesAs : Option Source → ℕ → Option Object → Type 0
 SavesAs None status new = (status ≡ wrong_kind) × (new ≡ None)
 SavesAs (Some copy) status new = Fills (λ source. source ≡ copy) status new
 
--- A copy of what the first handle holds is stored in the second handle. If the second handle already holds an object,
--- it is unchanged.
+-- If the second handle is empty, a copy of what the first handle holds is stored in it; otherwise the second handle is
+-- unchanged.
 abbrev pub Saves : Option Object → (old : Option Object) → ℕ → (new : Option Object) → Type 0
 Saves None old status new = (status ≡ no_object) × (new ≡ old)
 Saves (Some object) (Some old) status new = (status ≡ in_use) × (new ≡ Some old)
 Saves (Some object) None status new = SavesAs (saved_from object.source) status new
 
--- The status if no copy is made: `wrong_kind` if there is nothing to save, otherwise `out_of_memory`.
+-- The status of a call that makes no copy: `wrong_kind` if there is nothing to save, otherwise `out_of_memory`.
 abbrev pub refusal_of : Option Source → ℕ
 refusal_of None = wrong_kind
 refusal_of (Some copy) = out_of_memory
@@ -61,42 +62,43 @@ IsShownCopy screen (Screen copy) = (shown copy ≡ shown screen) × SameSize cop
 IsShownCopy screen (Mirror mirror) = ⊥
 IsShownCopy screen (Capture written) = ⊥
 
--- A copy of what the screen displays is stored in an empty handle.
+-- A copy of what the screen displays is stored in an empty handle; if there is no screen, the status is `wrong_kind`.
 abbrev pub SavesShownAs : Option ScreenValue → ℕ → Option Object → Type 0
 SavesShownAs None status new = (status ≡ wrong_kind) × (new ≡ None)
 SavesShownAs (Some screen) status new = Fills (IsShownCopy screen) status new
 
--- A copy of what the first handle's screen displays is stored in the second handle. If the second handle already
--- holds an object, it is unchanged.
+-- A copy of what the first handle's screen displays is stored in the second handle. A second handle that already holds
+-- an object is unchanged.
 abbrev pub SavesShown : Option Object → (old : Option Object) → ℕ → (new : Option Object) → Type 0
 SavesShown None old status new = (status ≡ no_object) × (new ≡ old)
 SavesShown (Some object) (Some old) status new = (status ≡ in_use) × (new ≡ Some old)
 SavesShown (Some object) None status new = SavesShownAs (screen_in object.source) status new
 
--- The status if no copy of a displayed screen is made: `wrong_kind` if there is no screen, otherwise `out_of_memory`.
+-- The status of a call that makes no copy of a displayed screen: `wrong_kind` if there is no screen, otherwise
+-- `out_of_memory`.
 abbrev pub refusal_on : Option ScreenValue → ℕ
 refusal_on None = wrong_kind
 refusal_on (Some screen) = out_of_memory
 
--- The value with its screen, if it has one, replaced by the screen `other`, if there is one.
+-- The value after the screen `other`, if any, replaces the value's screen, if any.
 abbrev pub with_other : Option ScreenValue → Source → Source
 with_other other (Parser parser) = Parser (record parser { screen = unwrap_or other parser.screen })
 with_other other (Screen screen) = Screen (unwrap_or other screen)
 with_other other (Mirror mirror) = Mirror mirror
 with_other other (Capture written) = Capture written
 
--- The status of swapping two screens: `ok` if both values have one.
+-- The status of swapping two screens: `ok` if both screens exist, otherwise `wrong_kind`.
 abbrev pub swap_status : Option ScreenValue → Option ScreenValue → ℕ
 swap_status (Some own) (Some other) = ok
 swap_status (Some own) None = wrong_kind
 swap_status None other = wrong_kind
 
--- The object with its screen, if it has one, replaced by the screen `other`, if there is one. Its text is unchanged.
+-- The object after the screen `other`, if any, replaces the object's screen, if any. The object's text is unchanged.
 abbrev pub held_with_other : Option ScreenValue → Object → Object
 held_with_other other object = record object { source = with_other other object.source }
 
--- The screens of two handles are swapped; the text stored in each handle is unchanged. If either handle is empty or
--- has no screen, both are unchanged.
+-- The screens of two handles are swapped; the text stored in each handle is unchanged. If either handle is empty or has
+-- no screen, both handles are unchanged.
 abbrev pub Swaps : (old old' : Option Object) → ℕ → (new new' : Option Object) → Type 0
 Swaps None old' status new new' = (status ≡ no_object) × (new ≡ None) × (new' ≡ old')
 Swaps (Some old) None status new new' = (status ≡ no_object) × (new ≡ Some old) × (new' ≡ None)

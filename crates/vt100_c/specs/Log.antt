@@ -16,7 +16,7 @@ abbrev pub log_at : Option Object → Option Logged
 log_at None = None
 log_at (Some object) = log_in object.source
 
--- The status of a call on a log: `ok` if there is one.
+-- The status of a call on the log of a value: `ok` if the value has a log, otherwise `wrong_kind`.
 abbrev pub due_to : Option Logged → ℕ
 due_to None = wrong_kind
 due_to (Some log) = ok
@@ -35,7 +35,7 @@ abbrev pub whole_of : Option Logged → ℕ
 whole_of None = 0
 whole_of (Some log) = bit_of log.is_whole
 
--- The value with its log cleared, if it has one.
+-- The value after its log, if any, is cleared.
 abbrev pub with_emptied : Source → Source
 with_emptied (Parser parser) = Parser (record parser { callbacks = emptied parser.callbacks })
 with_emptied (Screen screen) = Screen screen
@@ -45,7 +45,7 @@ with_emptied (Capture written) = Capture written
 abbrev pub Empties : Source → ℕ → Source → Type 0
 Empties old status new = (status ≡ due_to (log_in old)) × (new ≡ with_emptied old)
 
--- The value with its log cleared and given a new limit, if it has one.
+-- The value after its log, if any, is cleared and gets a new limit in bytes.
 abbrev pub with_limit : (bytes : ℕ) → Source → Source
 with_limit bytes (Parser parser) =
     Parser (record parser { callbacks = nothing_logged parser.callbacks.wanted bytes })

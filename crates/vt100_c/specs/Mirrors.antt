@@ -10,19 +10,20 @@ use Rattle.vt100_c.specs.Status.{ok, bad_argument, status_of}
 
 -- ---- joining and leaving
 
--- On success, the number is stored. On error, the variable for it is unchanged.
+-- A successful call stores the number that it returns in the caller's variable. After an error, the variable is
+-- unchanged.
 abbrev pub GivesNumber : Result ℕ Error → (status before after : ℕ) → Type 0
 GivesNumber (Ok number) status before after = (status ≡ ok) × (after ≡ number)
 GivesNumber (Err error) status before after = (status ≡ status_of error) × (after ≡ before)
 
--- A viewer joins the mirror, and its number is stored.
+-- A viewer joins the mirror, and the viewer's number is stored in the caller's variable.
 pub record Joins (status before after : ℕ) (old new : MirrorValue) : Type 0 where
   pub answer : Result ℕ Error
   pub parser : new.parser ≡ old.parser
   pub call : JoinsMirror old.viewers answer new.viewers
   pub gives : GivesNumber answer status before after
 
--- A viewer leaves the mirror; if there is no viewer with this number, the status is `bad_argument`.
+-- A viewer leaves the mirror; if there is no viewer with the given number, the status is `bad_argument`.
 pub record LeavesIt (viewer status : ℕ) (old new : MirrorValue) : Type 0 where
   pub answer : Bool
   pub parser : new.parser ≡ old.parser
@@ -31,7 +32,8 @@ pub record LeavesIt (viewer status : ℕ) (old new : MirrorValue) : Type 0 where
 
 -- ---- updates
 
--- The numbers that an update stores: the size of the screen for a full redraw, and the length of the text.
+-- The numbers that a request for an update stores: the screen's size, if the update is a full redraw, and the length
+-- of the update's text.
 pub record UpdateNumbers : Type 0 where
   pub rows : ℕ
   pub cols : ℕ
@@ -40,14 +42,15 @@ pub record UpdateNumbers : Type 0 where
 abbrev pub numbers : (rows cols len : ℕ) → UpdateNumbers
 numbers rows cols len = record { rows = rows; cols = cols; len = len }
 
--- The numbers stored after an update. A difference stores the size 0 by 0, and without an update they are unchanged.
+-- The numbers stored after a request for an update: for a difference, the size is 0 by 0; without an update, the
+-- numbers are unchanged.
 abbrev pub numbers_after : Result (Option Update) Error → UpdateNumbers → UpdateNumbers
 numbers_after (Ok (Some (Full rows cols text))) before = numbers rows cols (string_len text)
 numbers_after (Ok (Some (Diff text))) before = numbers 0 0 (string_len text)
 numbers_after (Ok None) before = before
 numbers_after (Err error) before = before
 
--- The stored text after an update; unchanged if there is no update.
+-- The stored text after a request for an update; unchanged if there is no update.
 abbrev pub text_after : Result (Option Update) Error → List ℕ → List ℕ
 text_after (Ok (Some (Full rows cols text))) before = string_bytes text
 text_after (Ok (Some (Diff text))) before = string_bytes text
@@ -59,7 +62,7 @@ status_after (Ok (Some update)) = ok
 status_after (Ok None) = bad_argument
 status_after (Err error) = status_of error
 
--- The effect of requesting an update: its text and its numbers are stored.
+-- The effect of requesting an update: the text of the update and its numbers are stored.
 pub record Updates (kind : Kind) (viewer status : ℕ) (text text' : List ℕ) (before after : UpdateNumbers)
     (old new : MirrorValue) : Type 0 where
   pub answer : Result (Option Update) Error

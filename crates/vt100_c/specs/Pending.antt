@@ -9,29 +9,29 @@ use Rattle.vt100_c.specs.declared.object.Object.{Object}
 use Rattle.vt100_c.specs.declared.object.Source.{Source}
 use Rattle.vt100_c.specs.declared.object.Source.TheVariants.{Parser, Screen, Mirror, Capture}
 
--- The parser, if the value is one.
+-- The parser that a value contains, if any.
 abbrev pub parser_in : Source → Option (Parsing Logged)
 parser_in (Parser parser) = Some parser
 parser_in (Screen screen) = None
 parser_in (Mirror mirror) = None
 parser_in (Capture written) = None
 
--- The status of a call that requires a parser: `ok` if there is one.
+-- The status of a call that requires a parser: `ok` if there is a parser, otherwise `wrong_kind`.
 abbrev pub due_to : Option (Parsing Logged) → ℕ
 due_to None = wrong_kind
 due_to (Some parser) = ok
 
--- The status of a call that requires a parser, for a handle that holds this object or is empty.
+-- The status of a call that requires a parser in the given handle, which may be empty.
 abbrev pub due_to_parser : Option Object → ℕ
 due_to_parser None = no_object
 due_to_parser (Some object) = due_to (parser_in object.source)
 
--- There is a parser, and `Holds` holds for it.
+-- The parser exists, and `Holds` holds for this parser.
 abbrev pub OnParser : Option (Parsing Logged) → (Parsing Logged → Type 0) → Type 0
 OnParser None Holds = ⊥
 OnParser (Some parser) Holds = Holds parser
 
--- The handle holds a parser, and `Holds` holds for it.
+-- The handle holds a parser, and `Holds` holds for this parser.
 abbrev pub HoldsParser : Option Object → (Parsing Logged → Type 0) → Type 0
 HoldsParser None Holds = ⊥
 HoldsParser (Some object) Holds = OnParser (parser_in object.source) Holds

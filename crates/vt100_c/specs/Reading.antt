@@ -19,8 +19,8 @@ use Rattle.vt100_c.specs.declared.object.Source.TheVariants.{Parser, Screen, Mir
 use Rattle.vt_cells.specs.declared.error.Error.{Error}
 use Rattle.std.specs.declared.result.Result.{Result}
 
--- A parser reads bytes as `Parser::process` does: it reads all of them, or stops at a byte whose allocation fails,
--- after which the parser has failed. A parser that had failed before reads nothing.
+-- A parser reads bytes as `Parser::process` does: it reads all of them, or stops at a byte for which an allocation
+-- fails, after which the parser has failed. A parser that had failed before reads nothing.
 pub record ReadsParser (old : Parsing Logged) (bytes : List ℕ) (status : ℕ) (new : Parsing Logged) : Type 0 where
   pub ran : status ≡ ok → Ran Logs old bytes new
   pub stopped : status ≡ out_of_memory → Stopped Logs old bytes new
@@ -37,7 +37,7 @@ pub record ReadsMirror (old : MirrorValue) (bytes : List ℕ) (status : ℕ) (ne
   pub call : MirrorProcesses old bytes answer new
   pub status_is : status ≡ answered answer
 
--- Bytes are read by a parser or a mirror; for other values, the status is `wrong_kind`.
+-- The parser or mirror that a value contains reads bytes; for any other kind of value, the status is `wrong_kind`.
 abbrev pub Reads : List ℕ → Source → ℕ → Source → Type 0
 Reads bytes (Parser old) status (Parser new) = ReadsParser old bytes status new
 Reads bytes (Mirror old) status (Mirror new) = ReadsMirror old bytes status new
@@ -51,7 +51,7 @@ Reads bytes old status new = ⊥
 abbrev pub batch : ℕ
 batch = 65536
 
--- Whether `bytes` bytes of records are exactly the records of `rows` rows without text.
+-- Whether records that take `bytes` bytes in total are exactly the records of `rows` rows without text.
 abbrev pub are_bare_rows : (bytes rows : ℕ) → Bool
 are_bare_rows bytes rows = (bytes / 17 == rows) && (bytes % 17 == 0)
 
@@ -63,12 +63,12 @@ is_quiet mark log =
     && (nat_lt (mark.room - log.room) batch
     && ((not (log.room == 0) || mark.room == 0) && (log.is_whole || not mark.is_whole)))
 
--- The mark of a log's current state.
+-- The mark of a log's current state, with which a later state of the log can be compared.
 abbrev pub mark_of : Logged → Mark
 mark_of log = record { len = length log.records; rows = length log.rows; room = log.room; is_whole = log.is_whole }
 
--- All bytes are read, and none of them records an event at which reading stops. For a parser that had failed before,
--- this holds only if there are no bytes.
+-- All bytes are read, and none of them records an event at which reading stops. If the parser had failed before, the
+-- list of bytes is empty.
 pub record ReadsAll (mark : Mark) (old : Parsing Logged) (bytes : List ℕ) (used status : ℕ) (new : Parsing Logged) :
     Type 0 where
   pub status_is : status ≡ ok
@@ -78,8 +78,8 @@ pub record ReadsAll (mark : Mark) (old : Parsing Logged) (bytes : List ℕ) (use
   pub still : new.is_failed ≡ old.is_failed
   pub nothing : old.is_failed ≡ true → (used ≡ 0) × (new ≡ old)
 
--- Parsing the bytes `before` from the scanner state `start` reaches a point at which reading continues, and parsing
--- the bytes `after` from there leads to `new`.
+-- Parsing the bytes `before` from the scanner state `start` reaches a point at which reading continues, and parsing the
+-- bytes `after` from that point leads to `new`.
 pub record IsQuietBetween (mark : Mark) (old : Parsing Logged) (before after : List ℕ) (new : Parsing Logged)
     (start : State) : Type 0 where
   pub between : screen.State Logged
@@ -87,8 +87,8 @@ pub record IsQuietBetween (mark : Mark) (old : Parsing Logged) (before after : L
   pub quiet : is_quiet mark between.callbacks ≡ true
   pub then : FoldsTo (Performs Logs) between (scan.run (scan.run start before).state after).events (stage new)
 
--- A prefix of the bytes records no event at which reading stops. The next byte records or loses such an event and is
--- the last one that is read.
+-- A prefix of the bytes records no event at which reading stops. The byte after this prefix records or loses such an
+-- event and is the last byte that is read.
 pub record ReadsEvent (mark : Mark) (old : Parsing Logged) (bytes : List ℕ) (used status : ℕ) (new : Parsing Logged) :
     Type 0 where
   pub count : ℕ
@@ -102,7 +102,7 @@ pub record ReadsEvent (mark : Mark) (old : Parsing Logged) (bytes : List ℕ) (u
   pub sound : old.is_failed ≡ false
   pub goes_on : new.is_failed ≡ false
 
--- Parsing the first `used` bytes from the scanner state `start` reaches a point at which reading continues, and the
+-- Parsing the first `used` bytes from the scanner state `start` reaches a point at which reading continues, and an
 -- allocation for the next byte fails.
 pub record IsQuietBefore (mark : Mark) (old : Parsing Logged) (bytes : List ℕ) (used : ℕ) (new : Parsing Logged)
     (start : State) : Type 0 where
@@ -111,8 +111,8 @@ pub record IsQuietBefore (mark : Mark) (old : Parsing Logged) (bytes : List ℕ)
   pub quiet : is_quiet mark between.callbacks ≡ true
   pub refused : IsRefused Logs between (scan.run start (take used bytes)).state (slice_index_or bytes used 0) (stage new)
 
--- The first `used` bytes record no event at which reading stops, and the next byte is not read because its allocation
--- fails or the parser had failed before.
+-- The first `used` bytes record no event at which reading stops, and the next byte is not read, because an allocation
+-- for that byte fails or because the parser had failed before.
 pub record StopsUnread (mark : Mark) (old : Parsing Logged) (bytes : List ℕ) (used status : ℕ) (new : Parsing Logged) :
     Type 0 where
   pub inside : used < length bytes
@@ -123,8 +123,8 @@ pub record StopsUnread (mark : Mark) (old : Parsing Logged) (bytes : List ℕ) (
 
 -- ---- reading unit by unit
 
--- On success, `count` bytes are read, and if an event was recorded, only the last of them has events. Otherwise, the
--- byte after them is not read, and they have no events.
+-- On success, the first `count` bytes are read, and if an event was recorded, only the last of these bytes issues
+-- events. On failure, the byte at index `count` is not read, and the bytes before it issue no events.
 pub record ReadsUnit (old : Parsing Logged) (bytes : List ℕ) (count status : ℕ) (new : Parsing Logged) : Type 0 where
   pub some : status ≡ ok → 0 < count
   pub inside : count ≤ length bytes
@@ -135,17 +135,18 @@ pub record ReadsUnit (old : Parsing Logged) (bytes : List ℕ) (count status : �
   pub failed_before : ¬ (status ≡ ok) → old.is_failed ≡ true → (status ≡ failed) × (count ≡ 0) × (new ≡ old)
   pub fails : ¬ (status ≡ ok) → new.is_failed ≡ true
 
--- Bytes are read until the log has recorded, since `mark`, an event at which reading stops.
+-- Bytes are read until the input ends, an allocation fails, or the log has recorded, since `mark`, an event at which
+-- reading stops.
 abbrev pub ReadsFrom : Mark → List ℕ → (used : ℕ) → Parsing Logged → ℕ → Parsing Logged → Type 0
 ReadsFrom mark bytes used old status new =
     ReadsAll mark old bytes used status new
     ⊎ (ReadsEvent mark old bytes used status new ⊎ StopsUnread mark old bytes used status new)
 
--- Bytes are read until the call has recorded an event at which reading stops.
+-- Bytes are read until the input ends, an allocation fails, or the call has recorded an event at which reading stops.
 abbrev pub ReadsUntil : List ℕ → (used : ℕ) → Parsing Logged → ℕ → Parsing Logged → Type 0
 ReadsUntil bytes used old status new = ReadsFrom (mark_of old.callbacks) bytes used old status new
 
--- A parser reads bytes up to an event; for other values, the status is `wrong_kind`.
+-- The parser that a value contains reads bytes up to an event; for any other kind of value, the status is `wrong_kind`.
 abbrev pub ReadsUntilEvent : List ℕ → (used : ℕ) → Source → ℕ → Source → Type 0
 ReadsUntilEvent bytes used (Parser old) status (Parser new) = ReadsUntil bytes used old status new
 ReadsUntilEvent bytes used (Screen old) status new = Refuses wrong_kind (Screen old) status new × (used ≡ 0)

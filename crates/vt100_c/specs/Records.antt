@@ -28,7 +28,7 @@ kind_of (UnhandledCsi first second groups byte) = 10
 kind_of (UnhandledOsc parts) = 11
 kind_of (OnScroll row alternate) = 12
 
--- The number that encodes an optional byte: 256 if there is none.
+-- The number that encodes an optional byte: the byte itself, or 256 if there is no byte.
 abbrev pub number_of : Option ℕ → ℕ
 number_of None = 256
 number_of (Some byte) = byte
@@ -67,11 +67,11 @@ second_of (UnhandledCsi first second groups byte) = number_of second
 second_of (UnhandledOsc parts) = 0
 second_of (OnScroll row alternate) = bit_of row.wrapped
 
--- The bytes, preceded by their length.
+-- The encoding of a list of bytes: the length of the list, followed by the bytes.
 abbrev pub part_of : List ℕ → List ℕ
 part_of bytes = to_le_bytes w64 (length bytes) ++ bytes
 
--- The numbers, preceded by their count.
+-- The encoding of a list of numbers: the length of the list, followed by two bytes for each number.
 abbrev pub group_of : List ℕ → List ℕ
 group_of numbers = to_le_bytes w64 (length numbers) ++ flat_map (to_le_bytes w16) numbers
 
@@ -104,8 +104,8 @@ record_of bare call = record_with (kind_of call) (first_of call) (second_of call
 
 -- ---- the log
 
--- A log: the requested kinds of calls, its limit in bytes, how many of these bytes are left, the records, the rows
--- they report, and whether no record is missing.
+-- A log: the requested kinds of calls, the limit of the log in bytes, how many of these bytes are left, the records,
+-- the rows that the records report, and whether no record is missing.
 pub record Logged : Type 0 where
   pub wanted : ℕ
   pub limit : ℕ
@@ -114,22 +114,23 @@ pub record Logged : Type 0 where
   pub rows : List RowValue
   pub is_whole : Bool
 
--- Whether the bit for `kind` is set in `wanted`.
+-- Whether a bit set of requested kinds contains the given kind of call.
 abbrev pub is_wanted : ℕ → ℕ → Bool
 is_wanted wanted kind = wanted / 2 ^ kind % 2 == 1
 
--- The number of the bit in `wanted` that requests rows without text.
+-- The number of the bit that requests rows without text, in the bit set of requested kinds.
 abbrev pub without_text : ℕ
 without_text = 13
 
 abbrev pub is_bare : Logged → Bool
 is_bare log = is_wanted log.wanted without_text
 
--- Whether a call must be recorded: its kind is requested, and no call was lost before it.
+-- Whether a call must be recorded: its kind is requested, and no earlier call was lost.
 abbrev pub is_due : CallValue → Logged → Bool
 is_due call log = log.is_whole && is_wanted log.wanted (kind_of call)
 
--- The number of bytes that the cells of a call's copied row take, saturating at the maximum of a 64-bit word.
+-- The number of bytes that the log's copy of the row that a call reports takes, saturating at the maximum of a 64-bit
+-- word; 0 if the call reports no row.
 abbrev pub cells_size : CallValue → ℕ
 cells_size AudibleBell = 0
 cells_size VisualBell = 0
@@ -145,7 +146,7 @@ cells_size (UnhandledCsi first second groups byte) = 0
 cells_size (UnhandledOsc parts) = 0
 cells_size (OnScroll row alternate) = min (length (trimmed_row row).cells * 40) (2 ^ 64 - 1)
 
--- The rows, followed by the row that a call reports, if any, with its trailing default blanks removed.
+-- The rows, followed by the row that a call reports, if any, without that row's trailing default blanks.
 abbrev pub rows_with : CallValue → List RowValue → List RowValue
 rows_with AudibleBell rows = rows
 rows_with VisualBell rows = rows
@@ -161,7 +162,7 @@ rows_with (UnhandledCsi first second groups byte) rows = rows
 rows_with (UnhandledOsc parts) rows = rows
 rows_with (OnScroll row alternate) rows = rows ++ trimmed_row row ∷ []
 
--- The log with the record of a call appended.
+-- The log after the record of a call is appended.
 abbrev pub with_record : CallValue → Logged → Logged
 with_record call log =
     record log {
@@ -170,7 +171,7 @@ with_record call log =
       room = log.room - length (record_of (is_bare log) call) - cells_size call;
     }
 
--- The log after losing a record.
+-- The log after a record is lost.
 abbrev pub with_loss : Logged → Logged
 with_loss log = record log { is_whole = false }
 
@@ -186,9 +187,9 @@ emptied log = nothing_logged log.wanted log.limit
 abbrev pub default_limit : ℕ
 default_limit = 1048576
 
--- A call that must be recorded is appended to the log, or it is lost because its allocation failed or the log had
--- reached its limit. After a loss, the log is incomplete and nothing is added until it is cleared. Any other call
--- leaves the log unchanged.
+-- A call that must be recorded is appended to the log, or is lost because an allocation failed or the log had reached
+-- its limit. After a loss, the log is incomplete, and nothing is added until the log is cleared. A call that need not
+-- be recorded leaves the log unchanged.
 pub record LogsIt (call : CallValue) (old new : Logged) : Type 0 where
   pub kept : is_due call old ≡ true → 0 < old.room → (new ≡ with_record call old) ⊎ (new ≡ with_loss old)
   pub full : is_due call old ≡ true → old.room ≡ 0 → new ≡ with_loss old

@@ -15,8 +15,8 @@ abbrev pub ends_from : ℕ → List (List ℕ) → List ℕ
 ends_from at [] = []
 ends_from at (text ∷ texts) = (at + length text) ∷ ends_from (at + length text) texts
 
--- `joined` is the concatenation of the first `count` strings of `all`, `ends` begins with their end positions, and
--- the strings `left` remain.
+-- `joined` is the concatenation of the first `count` strings of `all`, `ends` begins with the end positions of these
+-- strings, and the strings `left` remain.
 pub record IsJoined (all left : List (List ℕ)) (count : ℕ) (joined ends : List ℕ) : Type 0 where
   pub done : List (List ℕ)
   pub parts : all ≡ done ++ left
@@ -24,16 +24,18 @@ pub record IsJoined (all left : List (List ℕ)) (count : ℕ) (joined ends : Li
   pub text : joined ≡ concat done
   pub ends_are : take count ends ≡ ends_from 0 done
 
--- The status of a call that stores the end of each row: `ok` if `room` is enough for all rows of the screen.
+-- The status of a call that stores the end of each row: `ok` if `room` is enough for all rows of the screen, otherwise
+-- `bad_argument`.
 abbrev pub has_places : (room : ℕ) → ScreenValue → ℕ
 has_places room screen = if nat_le (length screen.page.rows) room then ok else bad_argument
 
--- The status of a call with a range of columns: `ok` if `start` is a column of the screen and `room` is enough for
--- the end of each row.
+-- The status of a call with a range of columns: `ok` if `start` is a column of the screen and `room` is enough for the
+-- end of each row, otherwise `bad_argument`.
 abbrev pub has_range : (start room : ℕ) → ScreenValue → ℕ
 has_range start room screen = if nat_lt start screen.page.width then has_places room screen else bad_argument
 
--- The status of a call with a range of columns of two screens, which must have the same size.
+-- The status of a call with a range of columns of two screens: `other_size` if the screens differ in size, and
+-- otherwise the status that `has_range` determines.
 abbrev pub have_range : (start room : ℕ) → ScreenValue → ScreenValue → ℕ
 have_range start room screen prev = if same_size screen.page prev.page then has_range start room screen else other_size
 
@@ -41,18 +43,18 @@ have_range start room screen prev = if same_size screen.page prev.page then has_
 abbrev pub plain_rows : (start width : ℕ) → ScreenValue → List (List ℕ)
 plain_rows start width screen = row_texts start (start + width) (visible_rows screen)
 
--- The first `count` numbers of `ends` are the positions at which the strings `texts` end when they are concatenated.
+-- The first `count` numbers of `ends` are the positions at which the strings `texts` end in their concatenation.
 abbrev pub AreEnds : (count : ℕ) → List ℕ → List (List ℕ) → Type 0
 AreEnds count ends texts = take count ends ≡ ends_from 0 texts
 
--- `joined` is the concatenation of the strings `texts`, and the first `count` numbers of `ends` are their end
--- positions.
+-- `joined` is the concatenation of the strings `texts`, and the first `count` numbers of `ends` are the end positions
+-- of these strings.
 pub record JoinsTexts (count : ℕ) (texts : List (List ℕ)) (joined ends : List ℕ) : Type 0 where
   pub text : joined ≡ concat texts
   pub ends_are : AreEnds count ends texts
 
--- `joined` is the concatenation of the strings `texts`, one for each row of the screen. Their end positions are
--- stored in `after`, whose remaining numbers are those of `before`.
+-- `joined` is the concatenation of the strings `texts`, one for each row of the screen. `after` begins with the end
+-- positions of these strings, and the remaining numbers of `after` are those of `before`.
 pub record GivesRows (screen : ScreenValue) (texts : List (List ℕ)) (joined before after : List ℕ) : Type 0 where
   pub rows : JoinsTexts (length screen.page.rows) texts joined after
   pub rest : drop (length screen.page.rows) after ≡ drop (length screen.page.rows) before
@@ -62,7 +64,7 @@ pub record FitRows (start room : ℕ) (screen : ScreenValue) : Type 0 where
   pub column : start < screen.page.width
   pub places : length screen.page.rows ≤ room
 
--- There is a screen, the other handle has one too, and `Holds` holds for both.
+-- The given screen exists, the given handle has a screen too, and `Holds` holds for both screens.
 abbrev pub HoldBeside : Option ScreenValue → Option Object → (ScreenValue → ScreenValue → Type 0) → Type 0
 HoldBeside screen None Holds = ⊥
 HoldBeside screen (Some prev) Holds = OnBoth screen (screen_in prev.source) Holds
@@ -70,15 +72,15 @@ HoldBeside screen (Some prev) Holds = OnBoth screen (screen_in prev.source) Hold
 -- ---- the effects of calls on handles
 
 -- A string is generated for each row of the handle's screen, and the end positions of the strings are stored. The
--- screen is unchanged. If the call fails, the stored numbers are unchanged too.
+-- screen is unchanged. If the call fails, the stored end positions are unchanged too.
 pub record MakesRows (texts : ScreenValue → List (List ℕ)) (old : Option Object) (status : ℕ) (new : Option Object)
     (before after : List ℕ) : Type 0 where
   pub source : source_at new ≡ source_at old
   pub made : status ≡ ok → HoldsScreen old (λ screen. GivesRows screen (texts screen) (text_at new) before after)
   pub refused : ¬ (status ≡ ok) → after ≡ before
 
--- For each row, the output that turns the row of the other handle's screen into that of this handle's screen is
--- generated, and the end positions of these outputs are stored.
+-- For each row, the output that turns the row of the screen of `prev` into the row of the screen of `old` is generated,
+-- and the end positions of these outputs are stored.
 pub record ChangesRows (start width : ℕ) (old prev : Option Object) (status : ℕ) (new : Option Object)
     (before after : List ℕ) : Type 0 where
   pub source : source_at new ≡ source_at old

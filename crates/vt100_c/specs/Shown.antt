@@ -1,4 +1,4 @@
--- The display as C reads it: colours, cells and states.
+-- The display as C reads it: colors, cells and states.
 use Rattle.std.specs.Prelude.{◌≡◌, ◌⊎◌, ◌+◌, ◌<◌, ℕ, Bool, List, [], ◌∷◌, length, slice_index_or, if◌then◌else◌}
 use Rattle.vt_cells.specs.Attrs.{Attrs, is_bold, is_dim}
 use Rattle.vt_cells.specs.Cell.{CellValue, attrs_of, default_blank, is_right_half, is_wide, text_of}
@@ -32,16 +32,17 @@ bit value is = if is then value else 0
 abbrev pub IsBitFor : Type 0 → ℕ → Type 0
 IsBitFor Holds out = ((out ≡ 1) × Holds) ⊎ ((out ≡ 0) × ¬ Holds)
 
--- The flags of a style, starting at the lowest bit: bold, dim, italic, underlined, inverse.
+-- The flags of a style, starting at the lowest bit: bold, dim, italic, underline, inverse.
 abbrev pub style_flags : Attrs → ℕ
 style_flags attrs =
     bit 1 (is_bold attrs) + bit 2 (is_dim attrs) + bit 4 attrs.italic + bit 8 attrs.underline + bit 16 attrs.inverse
 
--- The flags of a cell: the flags of its style, and whether it is wide or a continuation cell.
+-- The flags of a cell: the flags of its style, a flag for the first cell of a wide glyph, and a flag for a continuation
+-- cell.
 abbrev pub cell_flags : CellValue → ℕ
 cell_flags cell = style_flags (attrs_of cell) + bit 32 (is_wide cell) + bit 64 (is_right_half cell)
 
--- A cell as C reads it; the bytes after its text are 0.
+-- A cell as C reads it. Unused bytes of the cell's text array are 0.
 abbrev pub cell_for_c : CellValue → VtCell
 cell_for_c cell = record {
   text = padded (text_of cell);
@@ -51,11 +52,11 @@ cell_for_c cell = record {
   bgcolor = color_for_c (attrs_of cell).bgcolor;
 }
 
--- The displayed cell at a row and column; a default blank if there is no such cell.
+-- The displayed cell at a row and column, or a default blank if there is no such cell.
 abbrev pub shown_cell : (row col : ℕ) → ScreenValue → CellValue
 shown_cell row col screen = at (visible_row screen row).cells col
 
--- The cell at an index of a list; a default blank past its end.
+-- The cell at an index of a list of cells for C, or a default blank if the index is past the end.
 abbrev pub cell_in : List VtCell → ℕ → VtCell
 cell_in cells k = slice_index_or cells k (cell_for_c default_blank)
 

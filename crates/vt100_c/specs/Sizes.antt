@@ -17,15 +17,15 @@ use Rattle.vt100_c.specs.Status.{bad_argument, ok, wrong_kind, answered}
 use Rattle.vt100_c.specs.declared.object.Source.{Source}
 use Rattle.vt100_c.specs.declared.object.Source.TheVariants.{Parser, Screen, Mirror, Capture}
 
--- The condition that holds after a call: `Done` if it succeeded (status 0), `Refused` if an allocation failed (status
--- 1).
+-- The condition that holds after a call: `Done` if the call succeeded (status 0), `Refused` if an allocation failed
+-- (status 1).
 abbrev pub Outcome : (status : ℕ) → (Done Refused : Type 0) → Type 0
 Outcome zero Done Refused = Done
 Outcome (suc zero) Done Refused = Refused
 Outcome (suc (suc status)) Done Refused = ⊥
 
--- The parser's screen is resized, and the rows that scroll off are recorded in its log. The rest of the parser is
--- unchanged.
+-- The parser's screen is resized, and the rows that the resize drops are reported to the parser's log. All other parts
+-- of the parser are unchanged.
 pub record HasResized (rows cols : ℕ) (old new : Parsing Logged) : Type 0 where
   pub screen : new ≡ record old { screen = resized rows cols old.screen; callbacks = new.callbacks }
   pub called : FoldsTo (CalledOnAnyScreen Logs) old.callbacks (calls_resized rows cols old.screen) new.callbacks
@@ -59,8 +59,8 @@ SetsSize rows cols old status new =
 
 -- ---- resizing and scrolling without events
 
--- The effect of a call on the screen of a parser, which is otherwise unchanged, or on a saved screen. For other
--- values, the status is `wrong_kind`.
+-- The effect of a call on a saved screen, or on the screen of a parser that is otherwise unchanged. For any other kind
+-- of value, the status is `wrong_kind`.
 abbrev pub OnScreen : (ScreenValue → ℕ → ScreenValue → Type 0) → Source → ℕ → Source → Type 0
 OnScreen Does (Parser old) status (Parser new) =
     Does old.screen status new.screen × (new ≡ record old { screen = new.screen })
@@ -73,7 +73,7 @@ abbrev pub SetsScreenSize : (rows cols : ℕ) → Source → ℕ → Source → 
 SetsScreenSize rows cols old status new =
     Either (is_size rows cols) (OnScreen (ResizesScreen rows cols) old status new) (Refuses bad_argument old status new)
 
--- The displayed rows are unchanged because an allocation failed. This can happen only if a row that would be
+-- The displayed rows are unchanged because an allocation failed. Such a failure is possible only if a row that would be
 -- displayed must be extended.
 pub record HasNotScrolledBack (rows : ℕ) (old new : ScreenValue) : Type 0 where
   pub same : new ≡ old
@@ -83,6 +83,6 @@ pub record HasNotScrolledBack (rows : ℕ) (old new : ScreenValue) : Type 0 wher
 abbrev pub ScrollsBack : (rows : ℕ) → ScreenValue → ℕ → ScreenValue → Type 0
 ScrollsBack rows old status new = Outcome status (new ≡ scrolled_back rows old) (HasNotScrolledBack rows old new)
 
--- Scrollback is erased, without allocating.
+-- The scrollback of the screen is erased, and the status is `ok`.
 abbrev pub Clears : ScreenValue → ℕ → ScreenValue → Type 0
 Clears old status new = (status ≡ ok) × (new ≡ screen_after EraseScrollback old)

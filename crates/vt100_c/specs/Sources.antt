@@ -6,14 +6,14 @@ use Rattle.vt100_c.specs.declared.object.Source.TheVariants.{Parser, Screen, Mir
 use Rattle.vt_mirror.specs.Mirror.{MirrorValue}
 use Rattle.vt_screen.specs.Screen.{ScreenValue}
 
--- The screen of a value, if it is a parser or a saved screen.
+-- The screen of a parser or saved screen; other values have none.
 abbrev pub screen_in : Source → Option ScreenValue
 screen_in (Parser parser) = Some parser.screen
 screen_in (Screen screen) = Some screen
 screen_in (Mirror mirror) = None
 screen_in (Capture written) = None
 
--- The mirror, if the value is one.
+-- The mirror that a value contains, if any.
 abbrev pub mirror_in : Source → Option MirrorValue
 mirror_in (Parser parser) = None
 mirror_in (Screen screen) = None

@@ -36,7 +36,7 @@ status_of OutOfMemory = 1
 status_of Failed = 2
 status_of NoNumber = 8
 
--- The status that a result without a value stands for.
+-- The status that C receives for a result without a value: `ok` for success, and otherwise the status of the error.
 abbrev pub answered : Result (Unit {0}) Error → ℕ
 answered (Ok done) = 0
 answered (Err error) = status_of error

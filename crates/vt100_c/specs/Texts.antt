@@ -58,7 +58,7 @@ due_for_both _ screen prev = of_one_size screen prev
 
 -- ---- texts whose allocation may fail
 
--- If the requested text is that between two positions, it is not empty.
+-- If the text between two positions is requested, that text is not empty.
 abbrev pub HasText : Text → ScreenValue → Type 0
 HasText (text.Between start_row start_col end_row end_col) screen =
     0 < length (between_of start_row start_col end_row end_col screen)
@@ -83,8 +83,8 @@ pub record MakesText (name : Text) (old : Option Object) (status : ℕ) (new : O
   pub some : status ≡ out_of_memory → HoldsScreen old (HasText name)
   pub made : status ≡ ok → HoldsScreen old (λ screen. text_at new ≡ text_of name screen)
 
--- The difference that `name` selects is generated, from the screen of the handle `prev` to that of the handle `old`.
--- The screen of `old` is unchanged.
+-- The difference that `name` selects is generated; it leads from the screen of the handle `prev` to the screen of the
+-- handle `old`. The screen of `old` is unchanged.
 pub record MakesDifference (name : Difference) (old prev : Option Object) (status : ℕ) (new : Option Object) :
     Type 0 where
   pub source : source_at new ≡ source_at old

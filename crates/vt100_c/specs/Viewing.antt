@@ -27,7 +27,7 @@ IsNewMirror rows cols capacity (Parser parser) = ⊥
 IsNewMirror rows cols capacity (Screen screen) = ⊥
 IsNewMirror rows cols capacity (Capture written) = ⊥
 
--- A viewer joins a mirror; for other values, the status is `wrong_kind`.
+-- A viewer joins the mirror that a value contains; if the value contains no mirror, the status is `wrong_kind`.
 abbrev pub JoinsSource : (before after : ℕ) → Source → ℕ → Source → Type 0
 JoinsSource before after (Mirror old) status (Mirror new) = Joins status before after old new
 JoinsSource before after (Mirror old) status (Parser new) = ⊥
@@ -37,7 +37,7 @@ JoinsSource before after (Parser old) status new = Refuses wrong_kind (Parser ol
 JoinsSource before after (Screen old) status new = Refuses wrong_kind (Screen old) status new
 JoinsSource before after (Capture old) status new = Refuses wrong_kind (Capture old) status new
 
--- A viewer leaves a mirror; for other values, the status is `wrong_kind`.
+-- A viewer leaves the mirror that a value contains; if the value is not a mirror, the status is `wrong_kind`.
 abbrev pub LeavesSource : (viewer : ℕ) → Source → ℕ → Source → Type 0
 LeavesSource viewer (Mirror old) status (Mirror new) = LeavesIt viewer status old new
 LeavesSource viewer (Mirror old) status (Parser new) = ⊥
@@ -47,7 +47,8 @@ LeavesSource viewer (Parser old) status new = Refuses wrong_kind (Parser old) st
 LeavesSource viewer (Screen old) status new = Refuses wrong_kind (Screen old) status new
 LeavesSource viewer (Capture old) status new = Refuses wrong_kind (Capture old) status new
 
--- A viewer of a mirror gets an update, and the stored text is replaced; for other values, the status is `wrong_kind`.
+-- A viewer of the mirror that a value contains gets an update, and the stored text is replaced; if the value is not a
+-- mirror, the status is `wrong_kind`.
 abbrev pub UpdatesSource : Kind → (viewer : ℕ) → (before after : UpdateNumbers) → (text text' : List ℕ) →
     Source → ℕ → Source → Type 0
 UpdatesSource kind viewer before after text text' (Mirror old) status (Mirror new) =
@@ -68,7 +69,7 @@ UpdatesObject kind viewer before after old status new =
 
 -- ---- Whether a viewer is up to date
 
--- The status of a call that requires a mirror: `ok` if there is one.
+-- The status of a call that requires a mirror: `ok` if there is a mirror, otherwise `wrong_kind`.
 abbrev pub due_to : Option MirrorValue → ℕ
 due_to None = wrong_kind
 due_to (Some mirror) = ok
@@ -77,7 +78,7 @@ abbrev pub due_to_mirror : Option Object → ℕ
 due_to_mirror None = no_object
 due_to_mirror (Some object) = due_to (mirror_in object.source)
 
--- There is a mirror, and `Holds` holds for it.
+-- The mirror exists, and `Holds` holds for this mirror.
 abbrev pub OnMirror : Option MirrorValue → (MirrorValue → Type 0) → Type 0
 OnMirror None Holds = ⊥
 OnMirror (Some mirror) Holds = Holds mirror
@@ -86,8 +87,8 @@ abbrev pub HoldsMirror : Option Object → (MirrorValue → Type 0) → Type 0
 HoldsMirror None Holds = ⊥
 HoldsMirror (Some object) Holds = OnMirror (mirror_in object.source) Holds
 
--- The number is 1 if the viewer is up to date, and otherwise 0. If it is 1, the screen recorded for the viewer is the
--- mirror's screen.
+-- The number is 1 if the viewer is up to date, and otherwise 0. If the number is 1, the screen recorded for the viewer
+-- is the mirror's screen.
 pub record TellsCurrent (viewer out : ℕ) (mirror : MirrorValue) : Type 0 where
   pub exact : out ≡ bit 1 (is_current mirror viewer)
   pub noted : out ≡ 1 → note_of mirror.viewers viewer ≡ Some mirror.parser.screen

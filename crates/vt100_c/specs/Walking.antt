@@ -4,7 +4,7 @@ use Rattle.vt_rows.specs.CaptureRows.{AreRowsOf}
 use Rattle.vt_rows.specs.Pieces.{ArePiecesOf, Piece, piece_end}
 use Rattle.vt100_c.specs.Captures.{IsFirstPiece, IsFirstRow, IsPlace, no_place}
 
--- The start and end, in the whole text, of a slice whose index is relative to byte `at`.
+-- The start and end, in the whole text, of a slice whose index counts from byte `at`.
 abbrev pub place_from : ℕ → Piece → ℕ × ℕ
 place_from at piece = (at + piece.0, at + piece_end piece)
 
@@ -14,8 +14,8 @@ abbrev pub FindsPlain : List ℕ → (at start end : ℕ) → Type 0
 FindsPlain text at start end =
     (pieces : List Piece) × ArePiecesOf (drop at text) pieces × IsFirstPiece (length text) at pieces start end
 
--- A sequence of calls to `vt100_next_plain` that return OK and find pieces at these positions. The first call starts
--- at byte `at`, each later one at the end of the previous piece, and a final call finds none.
+-- A sequence of calls to `vt100_next_plain` that return OK and find pieces at the given positions. The first call
+-- starts at byte `at`, each later call starts at the end of the previous piece, and a final call finds no piece.
 abbrev pub FindAllPlain : List ℕ → ℕ → List (ℕ × ℕ) → Type 0
 FindAllPlain text at [] = FindsPlain text at (length text) (length text)
 FindAllPlain text at (place ∷ places) =
@@ -27,8 +27,9 @@ abbrev pub FindsRow : List ℕ → (width at end next : ℕ) → Type 0
 FindsRow text width at end next =
     (rows : List Piece) × AreRowsOf width (drop at text) rows × IsFirstRow at rows end next
 
--- A sequence of calls to `vt100_next_row` that return OK and find rows at these positions. The first call starts at
--- byte `at`, each later one at the position that the previous call returned, and the last one finds no further row.
+-- A sequence of calls to `vt100_next_row` that return OK and find rows at the given positions. The first call starts at
+-- byte `at`, each later call starts at the position that the previous call returned, and the last call finds no further
+-- row.
 abbrev pub FindAllRows : List ℕ → (width at : ℕ) → List (ℕ × ℕ) → Type 0
 FindAllRows text width at [] = ⊥
 FindAllRows text width at (place ∷ []) = (place.0 ≡ at) × IsPlace text at × FindsRow text width at place.1 no_place

@@ -15,7 +15,8 @@ const NO_PLACE: usize = usize::MAX;
 
 /// Finds the first chunk of text outside SGR sequences in a capture, searching
 /// from byte `at` on. Stores the indices of its start and end in `start` and
-/// `end`. If there is no such chunk, stores the length of the capture in both.
+/// `end`. If there is no such chunk, stores the length of the capture in both
+/// `start` and `end`.
 ///
 /// # Errors
 ///
@@ -85,8 +86,8 @@ fn text_from(text: &[u8], at: usize) -> Option<&str>
 }
 
 /// Returns the start and the end of the first chunk of `text` outside SGR
-/// sequences, as indices into the capture, of which `text` is the part from
-/// byte `at` on. If there is no such chunk, both are `stop`.
+/// sequences, as indices into the capture. `text` is the part of the capture
+/// from byte `at` on. If there is no such chunk, both indices are `stop`.
 fn next_plain(text: &str, at: usize, stop: usize) -> (usize, usize)
     requires { at + length text.now ≤ stop }
     ensures { (pieces : List Piece) × ArePiecesOf text.now pieces
@@ -100,8 +101,8 @@ fn next_plain(text: &str, at: usize, stop: usize) -> (usize, usize)
 }
 
 /// Returns the end of the first row of `text` and the start of the next row, as
-/// indices into the capture, of which `text` is the part from byte `at` on. If
-/// there is no next row, the second number is [`NO_PLACE`].
+/// indices into the capture. `text` is the part of the capture from byte `at`
+/// on. If there is no next row, the second index is [`NO_PLACE`].
 fn next_row(text: &str, width: u16, at: usize) -> (usize, usize)
     requires { at + length text.now < 18446744073709551615 }
     ensures { (rows : List Piece) × AreRowsOf width text.now rows × IsFirstRow at rows result.0 result.1 }

@@ -82,8 +82,8 @@ pub extern "C" fn vt100_capture_screen(
 /// Appends all rows of the screen in `handle` to the capture `object`, which
 /// was taken out of its own handle.
 ///
-/// If `handle` is now empty, it is the handle of the capture itself. The same
-/// handle was then passed twice, and `BAD_ARGUMENT` is returned.
+/// An empty `handle` is the one from which `object` was taken: the caller
+/// passed the same handle twice. In that case, returns `BAD_ARGUMENT`.
 fn screen_beside(alloc: Global, object: &mut Object, handle: &mut Handle, len: &mut usize) -> u8
     ensures answer { IsAnswer (due_beside_capture screen_in any_screen_is_due handle.old.held object.old) result }
     ensures some { result ≡ out_of_memory → HoldAtCapture screen_in handle.old.held (Some object.old) HaveText }
@@ -119,7 +119,7 @@ fn write_screen(alloc: Global, object: &mut Object, from: &Source, len: &mut usi
     keep(&mut object.text, made, len)
 }
 
-/// Returns the text that appending all rows of a screen adds to `capture`, or
+/// Returns the text to append to `capture` for all rows of a screen, or
 /// `WRONG_KIND` if `capture` is not a capture.
 fn screen_text(alloc: Global, screen: &Screen, capture: &mut Source) -> Result<String, u8>
     ensures text { IfOk result (λ text. OnCapture (Some screen.now) (state_in capture.old)
@@ -138,8 +138,8 @@ fn screen_text(alloc: Global, screen: &Screen, capture: &mut Source) -> Result<S
     }
 }
 
-/// Returns the text that appending all rows of a screen adds to a capture with
-/// state `state`, and updates the state.
+/// Returns the text to append to a capture in state `state` for all rows of a
+/// screen, and updates the state.
 ///
 /// # Errors
 ///
@@ -169,9 +169,9 @@ fn rows_text(
     Ok(text)
 }
 
-/// Appends to a capture one of the rows that a parser's events have reported.
-/// `index` is the index of the row among them. Stores the new text in the
-/// handle `capture` and its length in `len`.
+/// Appends to a capture the row at `index` among the rows that a parser's
+/// events have reported. Stores the new text in the handle `capture` and its
+/// length in `len`.
 ///
 /// # Errors
 ///
@@ -241,9 +241,9 @@ fn write_row(alloc: Global, object: &mut Object, from: &Source, index: usize, le
     keep(&mut object.text, made, len)
 }
 
-/// Returns the text that appending reported row `index` adds to `capture`.
-/// Returns `WRONG_KIND` if `capture` is not a capture, and `BAD_ARGUMENT` if
-/// there is no such row.
+/// Returns the text to append to `capture` for the reported row with index
+/// `index`. Returns `WRONG_KIND` if `capture` is not a capture, and
+/// `BAD_ARGUMENT` if there is no such row.
 fn reported_text(
     alloc: Global,
     log: &Events,
@@ -265,9 +265,9 @@ fn reported_text(
     }
 }
 
-/// Returns the text that appending reported row `index` adds to a capture with
-/// state `state`, and updates the state. Returns `BAD_ARGUMENT` if there is no
-/// such row.
+/// Returns the text to append to a capture in state `state` for the reported
+/// row with index `index`, and updates the state. Returns `BAD_ARGUMENT` if
+/// there is no such row.
 fn event_text(
     alloc: Global,
     log: &Events,
@@ -286,8 +286,8 @@ fn event_text(
     }
 }
 
-/// Returns the text that appending a row adds to a capture with state `state`,
-/// and updates the state.
+/// Returns the text to append to a capture in state `state` for a row, and
+/// updates the state.
 ///
 /// # Errors
 ///

@@ -1,14 +1,14 @@
 //! Cells and the state of a screen, laid out for C.
 
-/// A colour. Kind 0 is the terminal's default colour, kind 1 is the palette
-/// colour whose index is `red`, and kind 2 is the colour with the components
+/// A color. Kind 0 is the terminal's default color, kind 1 is the palette
+/// color whose index is `red`, and kind 2 is the color with the components
 /// `red`, `green` and `blue`.
 #[repr(C)]
 #[derive(Clone, Copy)]
 pub struct VtColor {
-    /// The kind of the colour, from 0 to 2.
+    /// The kind of the color, from 0 to 2.
     pub kind: u8,
-    /// The palette index or the red component; 0 for the default colour.
+    /// The palette index or the red component; 0 for the default color.
     pub red: u8,
     /// The green component; 0 unless the kind is 2.
     pub green: u8,
@@ -27,9 +27,9 @@ pub struct VtCell {
     /// The flags of the cell: bold, dim, italic, underline and inverse in bits
     /// 0 to 4, wide in bit 5, and continuation cell in bit 6.
     pub flags: u8,
-    /// The foreground colour.
+    /// The foreground color.
     pub fgcolor: VtColor,
-    /// The background colour.
+    /// The background color.
     pub bgcolor: VtColor,
 }
 
@@ -67,9 +67,9 @@ pub struct VtState {
     pub flags: u8,
     /// Reserved; always 0.
     pub reserved: [u8; 3],
-    /// The foreground colour of newly printed text.
+    /// The foreground color of newly printed text.
     pub fgcolor: VtColor,
-    /// The background colour of newly printed text.
+    /// The background color of newly printed text.
     pub bgcolor: VtColor,
     /// The number of rows by which the display is scrolled back.
     pub scrollback: usize,

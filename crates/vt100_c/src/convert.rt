@@ -1,4 +1,4 @@
-//! Conversion of colours, cells and screen states for C.
+//! Conversion of colors, cells and screen states for C.
 
 ghost use Rattle.std.specs.Prelude.{◌≡◌, length};
 ghost use Rattle.vt_cells.specs.Cell.{text_of};
@@ -9,7 +9,7 @@ ghost use Rattle.vt100_c.specs.Shown.{mouse_encoding_number, mouse_mode_number, 
 use crate::cells::{VtCell, VtColor, VtState};
 use vt100::{Cell, Color, CursorStyle, MouseProtocolEncoding, MouseProtocolMode, Screen};
 
-/// Converts a colour to its C representation.
+/// Converts a color to its C representation.
 fn color_for_c(color: Color) -> VtColor
     ensures { result ≡ color_for_c color }
 {

@@ -20,10 +20,11 @@ use std::alloc::Global;
 ///
 /// # Errors
 ///
-/// Returns `NO_OBJECT` if a handle is empty, `WRONG_KIND` if one holds neither
-/// a parser nor a saved screen, `OTHER_SIZE` if the two screens differ in size,
-/// `BAD_ARGUMENT` if the same handle is passed twice, or `OUT_OF_MEMORY` if the
-/// output cannot be allocated. On error, nothing is changed.
+/// Returns `NO_OBJECT` if a handle is empty, `WRONG_KIND` if a handle holds
+/// neither a parser nor a saved screen, `OTHER_SIZE` if the two screens differ
+/// in size, `BAD_ARGUMENT` if the same handle is passed twice, or
+/// `OUT_OF_MEMORY` if the output cannot be allocated. On error, nothing is
+/// changed.
 #[unsafe(no_mangle)]
 pub extern "C" fn vt100_contents_diff(
     alloc: Global,
@@ -45,10 +46,11 @@ pub extern "C" fn vt100_contents_diff(
 ///
 /// # Errors
 ///
-/// Returns `NO_OBJECT` if a handle is empty, `WRONG_KIND` if one holds neither
-/// a parser nor a saved screen, `OTHER_SIZE` if the two screens differ in size,
-/// `BAD_ARGUMENT` if the same handle is passed twice, or `OUT_OF_MEMORY` if the
-/// output cannot be allocated. On error, nothing is changed.
+/// Returns `NO_OBJECT` if a handle is empty, `WRONG_KIND` if a handle holds
+/// neither a parser nor a saved screen, `OTHER_SIZE` if the two screens differ
+/// in size, `BAD_ARGUMENT` if the same handle is passed twice, or
+/// `OUT_OF_MEMORY` if the output cannot be allocated. On error, nothing is
+/// changed.
 #[unsafe(no_mangle)]
 pub extern "C" fn vt100_contents_diff_scrolling(
     alloc: Global,
@@ -69,10 +71,11 @@ pub extern "C" fn vt100_contents_diff_scrolling(
 ///
 /// # Errors
 ///
-/// Returns `NO_OBJECT` if a handle is empty, `WRONG_KIND` if one holds neither
-/// a parser nor a saved screen, `OTHER_SIZE` if the two screens differ in size,
-/// `BAD_ARGUMENT` if the same handle is passed twice, or `OUT_OF_MEMORY` if the
-/// output cannot be allocated. On error, nothing is changed.
+/// Returns `NO_OBJECT` if a handle is empty, `WRONG_KIND` if a handle holds
+/// neither a parser nor a saved screen, `OTHER_SIZE` if the two screens differ
+/// in size, `BAD_ARGUMENT` if the same handle is passed twice, or
+/// `OUT_OF_MEMORY` if the output cannot be allocated. On error, nothing is
+/// changed.
 #[unsafe(no_mangle)]
 pub extern "C" fn vt100_state_diff(
     alloc: Global,
@@ -93,10 +96,10 @@ pub extern "C" fn vt100_state_diff(
 ///
 /// # Errors
 ///
-/// Returns `NO_OBJECT` if a handle is empty, `WRONG_KIND` if one holds neither
-/// a parser nor a saved screen, `BAD_ARGUMENT` if the same handle is passed
-/// twice, or `OUT_OF_MEMORY` if the output cannot be allocated. On error,
-/// nothing is changed.
+/// Returns `NO_OBJECT` if a handle is empty, `WRONG_KIND` if a handle holds
+/// neither a parser nor a saved screen, `BAD_ARGUMENT` if the same handle is
+/// passed twice, or `OUT_OF_MEMORY` if the output cannot be allocated. On
+/// error, nothing is changed.
 #[unsafe(no_mangle)]
 pub extern "C" fn vt100_input_mode_diff(
     alloc: Global,
@@ -136,8 +139,8 @@ fn make(
 /// Generates a diff of the given kind from the screen in `prev` to the screen
 /// of `object`, which was taken out of its own handle.
 ///
-/// If `prev` is now empty, it is the handle of the object itself. The same
-/// handle was then passed twice, and `BAD_ARGUMENT` is returned.
+/// An empty `prev` is the one from which `object` was taken: the caller passed
+/// the same handle twice. In that case, returns `BAD_ARGUMENT`.
 fn make_beside(
     alloc: Global,
     object: &mut Object,

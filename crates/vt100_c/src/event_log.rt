@@ -66,7 +66,7 @@ pub extern "C" fn vt100_copy_events(alloc: Global, handle: &mut Handle, out: &mu
 }
 
 /// Clears a parser's log: its records, the rows that they report, and the flag
-/// that records have been lost.
+/// that says whether records have been lost.
 ///
 /// # Errors
 ///
@@ -167,8 +167,8 @@ fn clear(source: &mut Source) -> u8
     }
 }
 
-/// Clears the log of a source and sets its limit in bytes. Returns `WRONG_KIND`
-/// if the source has no log.
+/// Clears the log of a source and sets the log's size limit to `bytes` bytes.
+/// Returns `WRONG_KIND` if the source has no log.
 fn set_limit(source: &mut Source, bytes: usize) -> u8
     ensures { Limits bytes source.old result source.new }
 {
@@ -183,7 +183,7 @@ fn set_limit(source: &mut Source, bytes: usize) -> u8
     }
 }
 
-/// Clears the log of a parser and sets its limit in bytes.
+/// Clears the log of a parser and sets the log's size limit to `bytes` bytes.
 fn set_log_limit(parser: &mut Parser<Events>, bytes: usize)
     ensures { parser.new ≡ record parser.old { callbacks = nothing_logged parser.old.callbacks.wanted bytes } }
 {

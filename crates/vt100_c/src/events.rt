@@ -13,11 +13,11 @@ use vt_rows::Row;
 use vt100::capture::RowContents;
 use vt100::{Call, Callbacks, Screen};
 
-/// The limit of a new log in bytes, after which records are lost: 1 MiB.
+/// The size limit of a new log, in bytes, after which records are lost: 1 MiB.
 pub(crate) const DEFAULT_LIMIT: usize = 1_048_576;
 
-/// A log of callbacks. It has a record of each wanted call since it was last
-/// cleared, in order, and a copy of each row that these calls report.
+/// A log of callbacks, which has a record of each wanted call since the log was
+/// last cleared, in order, and a copy of each row that these calls report.
 ///
 /// If an allocation for a record fails, or the log has reached its limit, the
 /// record is lost. After that, nothing is added until the log is cleared, so
@@ -62,8 +62,8 @@ impl Model for Events {
 }
 
 impl Events {
-    /// Creates an empty log with a limit in bytes. Bit `k` of `wanted` says
-    /// whether calls of kind `k` are recorded.
+    /// Creates an empty log with a size limit of `limit` bytes. Bit `k` of
+    /// `wanted` says whether calls of kind `k` are recorded.
     pub(crate) fn new(alloc: Global, wanted: u16, limit: usize) -> Events
         ensures { result ≡ nothing_logged wanted limit }
     {
@@ -128,8 +128,9 @@ impl Events {
         if self.is_whole { 1 } else { 0 }
     }
 
-    /// Clears the records, and the flag that records have been lost. If the log
-    /// has reached its limit, also frees the memory of its rows.
+    /// Clears the records, and the flag that says whether records have been
+    /// lost. If the log has reached its limit, also frees the memory of its
+    /// rows.
     pub(crate) fn clear(&mut self)
         ensures { self.new ≡ emptied self.old }
     {
@@ -142,7 +143,7 @@ impl Events {
         self.is_whole = true;
     }
 
-    /// Clears the log and sets its limit in bytes.
+    /// Clears the log and sets its size limit to `limit` bytes.
     pub(crate) fn set_limit(&mut self, limit: usize)
         ensures { self.new ≡ nothing_logged self.old.wanted limit }
     {

@@ -55,7 +55,7 @@ pub extern "C" fn vt100_parser_new(
 ///
 /// # Errors
 ///
-/// Returns `NO_OBJECT` if `handle` is empty, `IN_USE` if `out` is not,
+/// Returns `NO_OBJECT` if `handle` is empty, `IN_USE` if `out` is not empty,
 /// `WRONG_KIND` if `handle` holds a mirror, or `OUT_OF_MEMORY` if the copy
 /// cannot be allocated. On error, nothing is changed.
 #[unsafe(no_mangle)]
@@ -84,7 +84,7 @@ pub extern "C" fn vt100_save(alloc: Global, handle: &mut Handle, out: &mut Handl
 ///
 /// # Errors
 ///
-/// Returns `NO_OBJECT` if `handle` is empty, `IN_USE` if `out` is not,
+/// Returns `NO_OBJECT` if `handle` is empty, `IN_USE` if `out` is not empty,
 /// `WRONG_KIND` if `handle` holds neither a parser nor a saved screen, or
 /// `OUT_OF_MEMORY` if an allocation fails. On error, nothing is changed.
 #[unsafe(no_mangle)]
@@ -112,9 +112,9 @@ pub extern "C" fn vt100_shown_copy(alloc: Global, handle: &mut Handle, out: &mut
 ///
 /// # Errors
 ///
-/// Returns `NO_OBJECT` if a handle is empty, `WRONG_KIND` if one holds neither
-/// a parser nor a saved screen, or `BAD_ARGUMENT` if the same handle is passed
-/// twice. On error, nothing is changed.
+/// Returns `NO_OBJECT` if a handle is empty, `WRONG_KIND` if a handle holds
+/// neither a parser nor a saved screen, or `BAD_ARGUMENT` if the same handle is
+/// passed twice. On error, nothing is changed.
 #[unsafe(no_mangle)]
 pub extern "C" fn vt100_swap(alloc: Global, handle: &mut Handle, other: &mut Handle) -> u8
     ensures { Swaps handle.old.held other.old.held result handle.new.held other.new.held }
@@ -176,8 +176,7 @@ pub(crate) fn size_of(rows: u16, cols: u16) -> Option<(NonZeroU16, NonZeroU16)>
     Some((some_rows, some_cols))
 }
 
-/// Puts an object with the value `source` and an empty text into an empty
-/// handle.
+/// Puts an object with the value `source` and empty text into an empty handle.
 pub(crate) fn hold(alloc: Global, source: Source, out: &mut Handle) -> u8
     requires { out.old.held ≡ None }
     ensures { Fills (λ held. held ≡ source) result out.new.held }
@@ -250,7 +249,8 @@ fn saved(screen: &Screen) -> Result<Source, u8>
     }
 }
 
-/// Swaps the screens of two sources. Returns `WRONG_KIND` if either has none.
+/// Swaps the screens of two sources. Returns `WRONG_KIND` if either source has
+/// no screen.
 fn swap(first: &mut Source, second: &mut Source) -> u8
     ensures status { result ≡ swap_status (screen_in first.old) (screen_in second.old) }
     ensures first { first.new ≡ with_other (screen_in second.old) first.old }
@@ -265,7 +265,7 @@ fn swap(first: &mut Source, second: &mut Source) -> u8
 }
 
 /// Swaps `screen` with the screen of a source. Returns `WRONG_KIND` if the
-/// source has none.
+/// source has no screen.
 fn swap_with(screen: &mut Screen, source: &mut Source) -> u8
     ensures status { result ≡ swap_status (Some screen.old) (screen_in source.old) }
     ensures screen { screen.new ≡ unwrap_or (screen_in source.old) screen.old }

@@ -29,8 +29,8 @@ pub enum Text {
     /// The escape sequences that redraw the screen.
     Formatted,
 
-    /// The escape sequences that redraw the screen on a terminal with any
-    /// scroll region and origin mode.
+    /// The escape sequences that redraw the screen on a terminal, whatever its
+    /// scroll region and origin mode are.
     FormattedReset,
 
     /// The displayed rows, with SGR sequences as the only escape sequences.

@@ -75,8 +75,8 @@ pub extern "C" fn vt100_join(alloc: Global, handle: &mut Handle, viewer: &mut u6
 /// # Errors
 ///
 /// Returns `NO_OBJECT` if the handle is empty, `WRONG_KIND` if it holds no
-/// mirror, or `BAD_ARGUMENT` if there is no viewer with this number. On error,
-/// nothing is changed.
+/// mirror, or `BAD_ARGUMENT` if there is no viewer whose number is `viewer`. On
+/// error, nothing is changed.
 #[unsafe(no_mangle)]
 pub extern "C" fn vt100_leave(alloc: Global, handle: &mut Handle, viewer: u64) -> u8
     ensures { OnSource (LeavesSource viewer) handle.old.held result handle.new.held }
@@ -92,12 +92,12 @@ pub extern "C" fn vt100_leave(alloc: Global, handle: &mut Handle, viewer: u64) -
 
 /// Generates the next update for a viewer. Stores its text in the handle and
 /// its length in `len`. For a full update, stores the size of the screen in
-/// `rows` and `cols`. For a diff, stores 0 in both.
+/// `rows` and `cols`. For a diff, stores 0 in both `rows` and `cols`.
 ///
 /// # Errors
 ///
 /// Returns `NO_OBJECT` if the handle is empty, `WRONG_KIND` if it holds no
-/// mirror, `BAD_ARGUMENT` if there is no viewer with this number, or
+/// mirror, `BAD_ARGUMENT` if there is no viewer whose number is `viewer`, or
 /// `OUT_OF_MEMORY` if an allocation fails. On error, nothing is changed.
 #[unsafe(no_mangle)]
 pub extern "C" fn vt100_update(
@@ -149,8 +149,8 @@ pub extern "C" fn vt100_update_scrolling(
     status
 }
 
-/// Stores 1 in `out` if a viewer's last update is known to be up to date,
-/// otherwise 0 ([`Mirror::is_current`]).
+/// Stores 1 in `out` if a viewer is known to be up to date, otherwise 0
+/// ([`Mirror::is_current`]).
 ///
 /// # Errors
 ///
@@ -260,8 +260,8 @@ fn mirror_of(source: &Source) -> Option<&Mirror>
     }
 }
 
-/// Stores 1 in `out` if a viewer's last update is known to be up to date,
-/// otherwise 0. Returns `WRONG_KIND` if the source is not a mirror.
+/// Stores 1 in `out` if a viewer is known to be up to date, otherwise 0.
+/// Returns `WRONG_KIND` if the source is not a mirror.
 fn write_current(source: &Source, viewer: u64, out: &mut u8) -> u8
     ensures status { result ≡ due_to (mirror_in source.now) }
     ensures current { result ≡ ok → OnMirror (mirror_in source.now) (TellsCurrent viewer out.new) }

@@ -24,7 +24,7 @@ const BATCH: usize = 65_536;
 /// Returns `NO_OBJECT` if the handle is empty, `WRONG_KIND` if it holds neither
 /// a parser nor a mirror, or `OUT_OF_MEMORY` if an allocation fails. Once an
 /// allocation has failed, all later calls return `FAILED`. The steps before the
-/// one that failed remain applied.
+/// failing step remain applied.
 #[unsafe(no_mangle)]
 pub extern "C" fn vt100_process(alloc: Global, handle: &mut Handle, bytes: &[u8]) -> u8
     ensures { OnSource (Reads bytes.now) handle.old.held result handle.new.held }
@@ -180,9 +180,9 @@ fn mark_of(log: &Events) -> Mark
     }
 }
 
-/// Returns whether parsing continues. It does if only rows without text were
-/// recorded since `mark`, these rows take less than [`BATCH`] bytes, and the
-/// log has neither reached its limit nor lost a record since then.
+/// Returns whether parsing continues: only rows without text were recorded
+/// since `mark`, these rows take less than [`BATCH`] bytes, and the log has
+/// neither reached its limit nor lost a record since then.
 #[inline(always)]
 fn is_quiet(mark: Mark, log: &Events) -> bool
     ensures { result ≡ is_quiet mark log.now }

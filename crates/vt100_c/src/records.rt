@@ -111,7 +111,7 @@ pub(crate) fn write_call(
     }
 }
 
-/// Appends the record of a row, with its plain text unless `is_bare`.
+/// Appends the record of a row, with its plain text unless `is_bare` is true.
 ///
 /// # Errors
 ///

@@ -25,11 +25,11 @@ use vt100::Screen;
 ///
 /// # Errors
 ///
-/// Returns `NO_OBJECT` if a handle is empty, `WRONG_KIND` if one holds neither
-/// a parser nor a saved screen, `OTHER_SIZE` if the two screens differ in size,
-/// `BAD_ARGUMENT` if the same handle is passed twice, `start` is not a column
-/// of the screen or `ends` is too short, or `OUT_OF_MEMORY` if the output
-/// cannot be allocated. On error, nothing is changed.
+/// Returns `NO_OBJECT` if a handle is empty, `WRONG_KIND` if a handle holds
+/// neither a parser nor a saved screen, `OTHER_SIZE` if the two screens differ
+/// in size, `BAD_ARGUMENT` if the same handle is passed twice, `start` is not a
+/// column of the screen or `ends` is too short, or `OUT_OF_MEMORY` if the
+/// output cannot be allocated. On error, nothing is changed.
 #[unsafe(no_mangle)]
 pub extern "C" fn vt100_rows_diff(
     alloc: Global,
@@ -58,8 +58,8 @@ pub extern "C" fn vt100_rows_diff(
 /// of `source`, which was taken out of its own handle. `range` is the first
 /// column and the number of columns.
 ///
-/// If `prev` is now empty, it is the handle of `source` itself. The same handle
-/// was then passed twice, and `BAD_ARGUMENT` is returned.
+/// An empty `prev` is the one from which `source` was taken: the caller passed
+/// the same handle twice. In that case, returns `BAD_ARGUMENT`.
 fn beside(
     alloc: Global,
     source: &Source,
@@ -84,7 +84,7 @@ fn beside(
 
 /// Returns the output that turns the rows of `prev` into the rows of `source`,
 /// in the columns of `range` (the first column and the number of columns).
-/// Returns `WRONG_KIND` if either has no screen.
+/// Returns `WRONG_KIND` if either source has no screen.
 fn changed_in(
     alloc: Global,
     source: &Source,

@@ -43,7 +43,7 @@ pub(crate) fn status_of(error: Error) -> u8
     }
 }
 
-/// Returns the status code of a result that has no value.
+/// Returns `OK` if a call succeeded, otherwise the status code of its error.
 pub(crate) fn answered(answer: Result<(), Error>) -> u8
     ensures { result ≡ answered answer }
 {

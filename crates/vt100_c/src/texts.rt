@@ -82,7 +82,7 @@ pub extern "C" fn vt100_contents_formatted(
 }
 
 /// Generates the escape sequences that redraw the screen on a terminal of the
-/// same size with any scroll region and origin mode
+/// same size, whatever its scroll region and origin mode are
 /// ([`vt100::Screen::contents_formatted_reset`]). Stores them in the handle and
 /// their length in `len`.
 ///

@@ -23,8 +23,8 @@ pub(crate) fn join(mirror: &mut Mirror, viewer: &mut u64) -> u8
     }
 }
 
-/// Removes the viewer with the given number. Returns `BAD_ARGUMENT` if there is
-/// none.
+/// Removes the viewer whose number is `viewer`. Returns `BAD_ARGUMENT` if there
+/// is no such viewer.
 pub(crate) fn leave(mirror: &mut Mirror, viewer: u64) -> u8
     ensures { LeavesIt viewer result mirror.old mirror.new }
 {
@@ -35,7 +35,7 @@ pub(crate) fn leave(mirror: &mut Mirror, viewer: u64) -> u8
     }
 }
 
-/// Returns 1 if a viewer's last update is known to be up to date, otherwise 0.
+/// Returns 1 if a viewer is known to be up to date, otherwise 0.
 pub(crate) fn current_bit(mirror: &Mirror, viewer: u64) -> u8
     ensures { TellsCurrent viewer result mirror.now }
 {
@@ -44,7 +44,8 @@ pub(crate) fn current_bit(mirror: &Mirror, viewer: u64) -> u8
 
 /// Stores the text of an update in `text` and its length in `len`. For a full
 /// update, stores the size of the screen in `rows` and `cols`. For a diff,
-/// stores 0 in both.
+/// stores 0 in both `rows` and `cols`. Returns `BAD_ARGUMENT` if `answer` is
+/// `None`, and the status code of the error if `answer` is an error.
 pub(crate) fn hand_over(
     answer: Result<Option<Update>, Error>,
     text: &mut String,

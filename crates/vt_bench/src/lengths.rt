@@ -1,4 +1,4 @@
-//! The lengths of consecutive differences.
+//! The lengths of consecutive diffs.
 
 ghost use Rattle.std.specs.Prelude.{◌<◌};
 
@@ -7,17 +7,17 @@ use std::alloc::Global;
 use std::num::NonZeroU16;
 use vt100::{Parser, Screen};
 
-/// The total lengths in bytes of the differences between the same screens.
+/// The total length in bytes of each kind of diff between the same screens.
 #[derive(Clone, Copy)]
 pub struct Lengths {
-    /// The total length of `contents_diff`.
+    /// The total length in bytes of the output of `contents_diff`.
     pub plain: usize,
 
-    /// The total length of `contents_diff_scrolling`.
+    /// The total length in bytes of the output of `contents_diff_scrolling`.
     pub scrolling: usize,
 }
 
-/// A terminal that parses a file, and how often its screen is examined.
+/// The settings with which a file is parsed: the terminal, and how often its screen is compared.
 #[derive(Clone, Copy)]
 pub struct Reading {
     /// The number of rows.
@@ -29,13 +29,13 @@ pub struct Reading {
     /// The scrollback capacity in rows.
     pub capacity: usize,
 
-    /// The number of bytes between two differences.
+    /// The number of bytes that are parsed between two diffs.
     pub every: usize,
 }
 
 impl Reading {
-    /// Returns the total lengths of the differences after every `every` bytes and at the end, each
-    /// from the screen of the one before, the first from a new screen.
+    /// Returns the total lengths of the diffs taken after every `every` bytes and at the end. Each
+    /// diff starts from the screen at the previous diff; the first diff starts from a new screen.
     pub fn lengths(self, alloc: Global, bytes: &[u8]) -> Result<Lengths> {
         ensure!(self.every > 0, "no bytes between differences");
         let mut parser = Parser::new(alloc, self.rows, self.cols, self.capacity)?;
@@ -60,7 +60,7 @@ fn sum(parser: &mut Parser, every: usize, bytes: &[u8]) -> Result<Lengths>
 }
 
 impl Lengths {
-    /// Returns the totals with the differences from `prev` to `screen` added.
+    /// Returns the totals after the lengths of the diffs from `prev` to `screen` have been added.
     fn with(self, screen: &Screen, prev: &Screen) -> Result<Lengths> {
         ensure!(screen.is_sized_as(prev), "another size");
         Ok(Lengths {

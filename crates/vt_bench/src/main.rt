@@ -2,16 +2,18 @@
 //! instructions can be counted.
 //!
 //! With WHAT `process`, one parser parses FILE TIMES times, in chunks of 4096 bytes. With any other
-//! WHAT, it parses the first half of FILE, keeps a copy of the screen, parses the rest, and then
-//! makes the call on the screen TIMES times. Prints the call, the number of calls, and the number
-//! of bytes parsed or written by them; for a copy, the number of rows.
+//! WHAT, the parser parses the first half of FILE, keeps a copy of the screen, parses the rest, and
+//! then makes the call on the screen TIMES times. Prints the name of the call, the number of calls,
+//! and the number of bytes that they parsed or wrote. For `clone`, prints the number of rows copied
+//! instead, and for `steady` the number of calls that returned `true`.
 //!
 //! `vt_bench lengths ROWS COLS CAPACITY EVERY FILE` prints the total lengths in bytes of
-//! `contents_diff` and of `contents_diff_scrolling`: one difference after every EVERY bytes of FILE
-//! and one at its end, each from the screen of the one before, the first from a new screen.
+//! `contents_diff` and of `contents_diff_scrolling`. One diff is taken after every EVERY bytes of
+//! FILE and one at its end. Each diff starts from the screen at the previous diff; the first diff
+//! starts from a new screen.
 //!
-//! `vt_bench texts ROWS COLS CAPACITY EVERY FILE` prints these differences, redraws of the same
-//! screens, and what these display: see `bench/tmux`.
+//! `vt_bench texts ROWS COLS CAPACITY EVERY FILE` prints the same diffs, redraws of the same
+//! screens, and what these screens display: see `bench/tmux`.
 #![tactic(auto)]
 
 mod lengths;
@@ -72,7 +74,8 @@ fn run<R: AllocGlobal + Env + Files + Print>(rt: &R) -> Result<()> {
     Ok(())
 }
 
-/// Prints the output of screens while a file is parsed, or the lengths of their differences.
+/// Parses a file in chunks. If `what` is `texts`, prints the output of the screen after each chunk;
+/// otherwise prints the total lengths of the diffs between the screens after consecutive chunks.
 fn show_on_the_way<R: AllocGlobal + Files + Print>(
     rt: &R,
     what: &str,
@@ -88,7 +91,7 @@ fn show_on_the_way<R: AllocGlobal + Files + Print>(
     Ok(())
 }
 
-/// Makes the calls of a task, and returns the count that they add up to.
+/// Makes the calls of a task, and returns the total of the counts that they return.
 fn measured(alloc: Global, task: Task, bytes: &[u8]) -> Result<usize> {
     let mut parser = Parser::new(alloc, task.rows, task.cols, task.capacity)?;
     if let Work::Process = task.work {
@@ -116,8 +119,8 @@ fn process(parser: &mut Parser, bytes: &[u8]) -> Result<()> {
     Ok(())
 }
 
-/// Parses both parts and then makes the calls, with a copy of the screen after the first part as
-/// the earlier screen.
+/// Parses `first` and `rest`, and then makes the calls of the task. Diffs start from the screen
+/// after `first`.
 fn call_often(parser: &mut Parser, task: Task, first: &[u8], rest: &[u8]) -> Result<usize> {
     process(parser, first)?;
     let prev = parser.screen().clone()?;

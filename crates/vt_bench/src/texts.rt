@@ -1,16 +1,16 @@
-//! The output of screens for another terminal, and what that terminal must display.
+//! The output of a screen for a second terminal, and what that terminal must display.
 
 use crate::lengths::Reading;
 use anyhow::{Result, ensure};
 use std::alloc::{AllocError, Global};
 use vt100::{Cell, Color, Parser, Screen};
 
-/// Prints four texts after every `every` bytes and at the end: `contents_formatted`,
-/// `contents_diff` and `contents_diff_scrolling` from the screen before, the first from a new
-/// screen, and the display of the screen.
+/// Prints a group of four texts after every `every` bytes and at the end of the input:
+/// `contents_formatted`, `contents_diff` and `contents_diff_scrolling` from the screen of the
+/// previous group (for the first group, a new screen), and the display of the screen.
 ///
-/// Each group begins with a line that has the cursor's row and column, counted from 0, whether the
-/// cursor is hidden, and the length of each text in bytes. It ends with a line end.
+/// Each group begins with a line that contains the cursor's row and column, counted from 0, whether
+/// the cursor is hidden, and the length of each text in bytes. Each group ends with a newline.
 pub fn show_texts<R: AllocGlobal + Print>(rt: &R, reading: Reading, bytes: &[u8]) -> Result<()> {
     ensure!(reading.every > 0, "no bytes between texts");
     let alloc = rt.alloc();
@@ -38,7 +38,7 @@ fn show<R: AllocGlobal + Print>(rt: &R, screen: &Screen, prev: &Screen) -> Resul
     Ok(())
 }
 
-/// Returns the display of a screen: for each row its glyphs, NUL for a blank, and a line end.
+/// Returns the display of a screen: for each row its glyphs, NUL for a blank, and a newline.
 /// Attributes precede the first cell of a row and each change, as `ESC [ FOREGROUND BACKGROUND
 /// MARKS m`.
 fn shown(alloc: Global, screen: &Screen) -> Result<String, AllocError> {
@@ -57,7 +57,8 @@ fn shown(alloc: Global, screen: &Screen) -> Result<String, AllocError> {
     Ok(text)
 }
 
-/// Appends a cell, unless it is a continuation cell.
+/// Appends a cell, preceded by its attributes if they differ from those of `before`. Appends
+/// nothing for a continuation cell.
 fn write_cell(text: &mut String, cell: &Cell, before: Option<&Cell>) -> Result<(), AllocError> {
     if cell.is_wide_continuation() {
         return Ok(());
@@ -76,8 +77,8 @@ fn write_cell(text: &mut String, cell: &Cell, before: Option<&Cell>) -> Result<(
     }
 }
 
-/// Returns the colours of a cell, and a sum: 1 for bold, 2 for dim, 4 for italics, 8 for underlined
-/// and 16 for inverse.
+/// Returns the colors of a cell, and the sum of its attributes: 1 for bold, 2 for dim, 4 for
+/// italics, 8 for underlined and 16 for inverse.
 fn looks(cell: &Cell) -> (Color, Color, u32) {
     let marks = u32::from(cell.bold())
         + 2 * u32::from(cell.dim())
@@ -87,7 +88,8 @@ fn looks(cell: &Cell) -> (Color, Color, u32) {
     (cell.fgcolor(), cell.bgcolor(), marks)
 }
 
-/// Appends a colour and a space: `-`, its index, or its red, green and blue components.
+/// Appends a color and a space. The color is written as `-`, as its index, or as its red, green and
+/// blue components.
 fn write_color(text: &mut String, color: Color) -> Result<(), AllocError> {
     match color {
         Color::Default => text.push_str("- "),

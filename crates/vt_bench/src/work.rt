@@ -1,8 +1,8 @@
-//! The calls that are measured.
+//! The calls that `vt_bench` can measure.
 
 use vt100::{Error, Screen};
 
-/// A call that is measured.
+/// A call that `vt_bench` can measure.
 #[derive(Clone, Copy)]
 pub enum Work {
     /// Parses bytes.
@@ -11,13 +11,13 @@ pub enum Work {
     /// Writes the redraw of the screen.
     Formatted,
 
-    /// Writes the difference from the earlier screen.
+    /// Writes the diff from the earlier screen to the screen.
     Diff,
 
-    /// Writes the difference from the earlier screen, which may move rows first.
+    /// Writes the scrolling diff, which may move rows first, from the earlier screen to the screen.
     Scrolling,
 
-    /// Writes the difference from the screen itself.
+    /// Writes the diff from the screen to itself.
     Same,
 
     /// Writes the text of the screen.
@@ -34,7 +34,7 @@ pub enum Work {
 }
 
 impl Work {
-    /// Returns the call of this name.
+    /// Returns the call named `name`, or `None` if there is no such call.
     pub fn named(name: &str) -> Option<Work> {
         match name {
             "process" => Some(Work::Process),
@@ -50,8 +50,8 @@ impl Work {
         }
     }
 
-    /// Makes the call once, and returns the length of its output in bytes; for a copy, the number
-    /// of rows, and for a steady screen 1.
+    /// Makes the call once, and returns the length of its output in bytes. For `Clone`, returns the
+    /// number of rows copied; for `Steady`, 1 if the screen is steady, otherwise 0.
     pub fn call(self, screen: &Screen, prev: &Screen) -> Result<usize, Error> {
         match self {
             Work::Process => Ok(0),

@@ -5,7 +5,7 @@ use Rattle.vt_cells.specs.declared.error.Error.{Error}
 use Rattle.vt100.specs.Parser.{Parsing}
 use Rattle.vt_callers.specs.Failing.{IsFailure}
 
--- If the terminal had not failed before the second call, that call fails because an allocation does.
+-- If the terminal had not failed before the second of two calls, that call can fail only because an allocation does.
 pub fails_second : {S : Type 0} (before between : Parsing S) (error : Error)
     → between.is_failed ≡ false → IsFailure between error → IsFailure before error
 fails_second before between error fine (inl refused) = inl refused

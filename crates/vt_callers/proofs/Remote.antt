@@ -1,4 +1,4 @@
--- A text is sent to a remote terminal.
+-- Sending a text to a remote terminal.
 use Rattle.std.proofs.Common.{ℕ, List, sym, ap, subst, ◌∙◌}
 use Rattle.std.specs.Prelude.{Result}
 use Rattle.vt_cells.specs.declared.error.Error.{Error}

@@ -1,4 +1,4 @@
--- A new parser, and runs one after the other.
+-- New parsers, and runs in sequence.
 use Rattle.std.proofs.Common.{◌≡◌, ℕ, ◌<◌, ◌^◌, List, [], ◌∷◌, ◌++◌, refl, subst}
 use Rattle.std.proofs.lemmas.List.{length-replicate}
 use Rattle.std.specs.List.{FoldsTo}

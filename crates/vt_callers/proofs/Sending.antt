@@ -1,4 +1,4 @@
--- Texts that are sent in several calls.
+-- Sending texts in several calls.
 use Rattle.std.proofs.Common.{◌≡◌, ℕ, zero, suc, ◌+◌, ◌-◌, ◌<◌, false, List, [], ◌∷◌, ◌++◌, length, take, drop, get_or}
 use Rattle.std.proofs.Common.{Ok, Some, inl, inr, refl, sym, ap, subst, ◌∙◌, append_assoc, arith}
 use Rattle.std.proofs.lemmas.Bool.{false≢true}
@@ -85,7 +85,7 @@ cut_all {S} text rest answer p q r c processes fine =
     subst (λ (bytes : List ℕ). HasTaken bytes p r) c.whole
     (taken_then c.front rest p q r c.takes (taken_one rest answer q r processes fine))
 
--- What was taken in chunks has the effect of one chunk.
+-- A text that was received in chunks has the effect of the whole text received at once.
 pub as_one : {S : Type 0}
     → ((p q : Parsing S) (calls : List Processing) (state : State) (after : Terminal) → p.is_failed ≡ false
     → StandsFor p.scanner state → read (terminal state p.screen) (bytes_in calls) ≡ Some after
@@ -134,7 +134,7 @@ followed_more {S} first nexts prev next p q r f size s = record {
       (taken_then (chain_text first nexts) (change prev) p q r f.takes s.takes);
 }
 
--- What holds for each item of a list holds for the one at an index.
+-- A statement about each item of a list holds for the item at an index.
 pub at_place : {X : Type 0} (P : X → Type 0) (xs : List X) (k : ℕ) (d : X) →
     k < length xs → AllByRecursion P xs → P (get_or xs k d)
 at_place P [] k d inside all = absurd (none inside) where
@@ -150,7 +150,7 @@ next_fits first nexts k next inside is size =
     subst (λ (screen : ScreenValue). SameSize screen.page first.page) (sym is)
     (at_place (λ screen. SameSize screen.page first.page) nexts k next inside size)
 
--- The screen at the next index was sent.
+-- After the screen at the next index is sent, the terminal has received all screens up to that index.
 pub followed_next : {S : Type 0} (first : ScreenValue) (nexts : List ScreenValue) (k : ℕ) (prev next : ScreenValue)
     (p q r : Parsing S) → k < length nexts → next ≡ get_or nexts k next
     → AllByRecursion (λ screen. SameSize screen.page first.page) nexts

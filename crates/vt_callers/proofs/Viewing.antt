@@ -1,4 +1,4 @@
--- A viewer that joins late, by the theorem on all viewers.
+-- A viewer that joins late displays the screen of its last update, by the theorem on all viewers.
 use Rattle.std.proofs.Common.{◌≡◌, ℕ, Global, List, [], ◌∷◌, Some, None, refl, sym, ap, subst, ◌∙◌}
 use Rattle.std.proofs.lemmas.List.{append-nil}
 use Rattle.std.specs.Prelude.{Result, Ok, String, string_bytes}
@@ -18,7 +18,7 @@ use Rattle.vt_mirror.specs.declared.update.Update.{Update}
 use Rattle.vt_mirror.specs.declared.update.Update.TheVariants.{Full}
 use Rattle.vt_callers.specs.Remote.{ShowsScreen}
 
--- A text that is parsed in one call.
+-- A text that is parsed by one call is read through calls to `process` that concatenate to it.
 pub read_at_once : {S : Type 0} (text : List ℕ) (answer : Result (Unit {0}) Error) (old new : Parsing S) →
     IsScreen new.screen → pieces.Processes old (processing text answer) new → ReadsText text old new
 read_at_once text answer old new sound processes = record {

@@ -10,7 +10,7 @@ use Rattle.vt_screen.specs.Shown.{shown}
 use Rattle.vt100.specs.Parser.{Parsing}
 use Rattle.vt100.specs.Pieces.{IsPlainParser, Processes, Processing, bytes_in}
 
--- The parser is plain and displays what the screen displays.
+-- The parser is plain and displays the same content as the screen.
 pub record ShowsScreen {S : Type 0} (screen : ScreenValue) (remote : Parsing S) : Type 0 where
   pub plain : IsPlainParser remote
   pub shows : shown remote.screen ≡ shown screen
@@ -30,12 +30,12 @@ pub record IsCut {S : Type 0} (text rest : List ℕ) (old new : Parsing S) : Typ
   pub whole : front ++ rest ≡ text
   pub takes : HasTaken front old new
 
--- The screen is valid and can therefore be sent.
+-- The screen and its colors are valid, so the screen can be sent to a terminal.
 pub record IsWhole (screen : ScreenValue) : Type 0 where
   pub sound : IsScreen screen
   pub colored : IsColored screen
 
--- The terminal received the diff from `prev` to `screen`.
+-- The terminal received the difference from `prev` to `screen`.
 pub record SendsNext {S : Type 0} (screen prev : ScreenValue) (old new : Parsing S) : Type 0 where
   pub whole : IsWhole screen
   pub takes : HasTaken (bytes_of_all (difference (shown screen) (shown prev))) old new

@@ -4,7 +4,7 @@ use Rattle.vt_cells.specs.Cell.{text_of}
 use Rattle.vt_rows.specs.Cells.{at}
 use Rattle.vt_screen.specs.Screen.{ScreenValue, visible_row}
 
--- There is a displayed cell at this row and column, and its text is `text`.
+-- A cell is displayed at the given row and column, and its text is `text`.
 pub record HasText (screen : ScreenValue) (row column : ℕ) (text : List ℕ) : Type 0 where
   pub inside : row < length screen.page.rows
   pub within : column < length (visible_row screen row).cells

@@ -19,7 +19,7 @@ use vt100::{Callbacks, Error, Parser, Screen, laws};
 /// A terminal is plain if it is in ground state, with the full scroll region, origin mode off and
 /// no scrollback displayed. A display is steady if every visible glyph reproduces itself when
 /// printed. If the remote terminal is plain and the display of the screen is steady, the terminal
-/// then has the same display as the screen.
+/// has the same display as the screen after the call.
 ///
 /// # Errors
 ///
@@ -41,8 +41,8 @@ pub fn send_redraw<CB: Callbacks>(screen: &Screen, remote: &mut Parser<CB>) -> R
 /// Sends to a remote terminal the diff from `prev`, a screen of the same size, to `screen`.
 ///
 /// If the remote terminal is plain and displays what `prev` displays, and the display of `screen`
-/// is steady (see [`send_redraw`] for both terms), the terminal then has the same display as
-/// `screen`.
+/// is steady (see [`send_redraw`] for both terms), the terminal has the same display as `screen`
+/// after the call.
 ///
 /// # Errors
 ///
@@ -69,8 +69,8 @@ pub fn send_difference<CB: Callbacks>(
 /// `second`. The terminal and both screens must have the same size.
 ///
 /// If the remote terminal is plain and the displays of both screens are steady (see [`send_redraw`]
-/// for both terms), the terminal then has the same display as `second`, whatever it displayed
-/// before.
+/// for both terms), the terminal has the same display as `second` after the call, whatever it
+/// displayed before.
 ///
 /// # Errors
 ///
@@ -165,7 +165,7 @@ fn send_cut<CB: Callbacks>(
 /// later screen, the diff from the previous screen.
 ///
 /// If the remote terminal was plain and the display of each screen is steady (see [`send_redraw`]
-/// for both terms), the terminal then has the same display as the last screen.
+/// for both terms), the terminal has the same display as the last screen after the call.
 ///
 /// # Errors
 ///

@@ -25,7 +25,7 @@ pub fn same_state(state: &BasicFormattedCaptureState) -> BasicFormattedCaptureSt
     state.clone().unwrap()
 }
 
-/// Returns a copy of a colour.
+/// Returns a copy of a color.
 pub fn same_color(color: &Color) -> Color
     ensures { result ≡ color.now }
 {
@@ -60,7 +60,7 @@ pub fn first_state() -> BasicFormattedCaptureState
     BasicFormattedCaptureState::default()
 }
 
-/// Returns the terminal's default colour.
+/// Returns the terminal's default color.
 pub fn own_color() -> Color
     ensures { result ≡ Color.Default }
 {

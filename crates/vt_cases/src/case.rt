@@ -1,4 +1,4 @@
-//! One case of a file.
+//! A recorded case, read from a file.
 
 use crate::text::bytes_of;
 use anyhow::Result;
@@ -13,24 +13,28 @@ pub struct Case<'a> {
     pub cols: NonZeroU16,
     pub bytes: Vec<u8>,
 
-    /// The number of bytes before the screen that differences start from.
+    /// The number of bytes that produce the screen from which diffs start.
     pub before: usize,
 
-    /// Whether every glyph reproduces itself when printed on a blank row.
+    /// Whether the final screen is steady: each of its glyphs reproduces itself
+    /// when printed on a blank row.
     pub is_steady: bool,
 
-    /// The lines about cursor, wrapped flags and cells, each with its line end.
+    /// The lines that describe the cursor, the wrapped flags and the cells,
+    /// each with its newline.
     pub picture: String,
 
-    /// The lines about modes and calls, each with its line end.
+    /// The lines that describe the modes and the callbacks invoked, each with
+    /// its newline.
     pub others: String,
 
-    /// The lines that give the expected output of the screen.
+    /// The lines that specify the expected output of the screen.
     pub texts: Vec<&'a str>,
 }
 
 impl<'a> Case<'a> {
-    /// Reads the lines of a case after its first one.
+    /// Creates the case with the given name and size, and reads everything else
+    /// from `lines`.
     pub fn read(
         alloc: Global,
         name: &'a str,

@@ -5,12 +5,13 @@ use anyhow::Result;
 use std::alloc::Global;
 use vt100::Screen;
 
-/// Returns whether a new parser displays the screen after it has parsed the screen's redraw, and
-/// also after it has parsed the redraw of `prev` and then the difference: the same cells, wrapped
-/// flags, cursor and redraw, without calls.
+/// Returns whether a new parser displays `screen` after each of two inputs: the redraw of `screen`,
+/// and the redraw of `prev` followed by the diff from `prev` to `screen`. After each input, the
+/// parser must have the same cells, wrapped flags, cursor and redraw as `screen`, and must have
+/// invoked no callbacks.
 ///
-/// A screen that has a narrow glyph with U+FE0F is skipped, since that glyph may differ when it is
-/// printed again.
+/// Returns `true` for a screen that has a narrow glyph with U+FE0F, since that glyph may differ
+/// when it is printed again.
 pub fn is_drawn(alloc: Global, screen: &Screen, prev: &Screen) -> Result<bool> {
     if !is_surely_steady(screen) {
         return Ok(true);
@@ -53,8 +54,8 @@ fn has_same_picture(one: &Screen, other: &Screen) -> bool {
     one.cursor_position() == other.cursor_position()
 }
 
-/// Returns `true` only if every displayed glyph reproduces itself when printed on a blank row. That
-/// holds for glyphs without U+FE0F, and for those that it made wide.
+/// Returns whether no narrow glyph on the screen contains U+FE0F. If so, every displayed glyph
+/// reproduces itself when printed on a blank row.
 fn is_surely_steady(screen: &Screen) -> bool {
     let (rows, cols) = screen.size();
     for row in 0..rows.get() {

@@ -1,12 +1,12 @@
-//! The output of a screen, compared with the lines of a file.
+//! Comparison of a screen's output with the lines of a case file.
 
 use crate::text::bytes_of;
 use anyhow::{Context, Result, bail};
 use std::alloc::Global;
 use vt100::{Error, Screen};
 
-/// Returns whether a screen has the output that a line gives; `prev` is the screen that differences
-/// start from.
+/// Returns whether a screen has the output that a line of a case file gives; `prev` is the screen
+/// from which diffs start.
 pub fn gives(alloc: Global, screen: &Screen, prev: &Screen, line: &str) -> Result<bool> {
     let (word, rest) = line.split_once(' ').unwrap_or((line, ""));
     match word {
@@ -21,13 +21,13 @@ pub fn gives(alloc: Global, screen: &Screen, prev: &Screen, line: &str) -> Resul
     }
 }
 
-/// Returns whether a text equals the bytes that a word encodes.
+/// Returns whether a text equals the bytes that `word` encodes.
 fn is_text(alloc: Global, text: &str, word: &str) -> Result<bool> {
     let expected = bytes_of(alloc, word)?;
     Ok(text.as_bytes() == expected.as_slice())
 }
 
-/// Returns the output of the kind that a word names.
+/// Returns the screen's output of the kind that `word` names.
 fn text_of(screen: &Screen, prev: &Screen, word: &str) -> Result<String> {
     let text = match word {
         "contents" => screen.contents()?,
@@ -43,7 +43,7 @@ fn text_of(screen: &Screen, prev: &Screen, word: &str) -> Result<String> {
     Ok(text)
 }
 
-/// Returns the difference from another screen, which must have the same size.
+/// Returns the diff from `prev` to `screen`. Both screens must have the same size.
 pub fn difference(screen: &Screen, prev: &Screen) -> Result<String> {
     if !screen.is_sized_as(prev) {
         bail!("a difference from a screen of another size");
@@ -51,17 +51,18 @@ pub fn difference(screen: &Screen, prev: &Screen) -> Result<String> {
     Ok(screen.contents_diff(prev)?)
 }
 
-/// The texts of rows, or the error if one cannot be allocated.
+/// The texts of rows, or an error if one of them cannot be allocated.
 type Texts = std::result::Result<Vec<String>, Error>;
 
-/// Returns whether the rows have the texts of `START WIDTH BYTES ..`.
+/// Returns whether the plain texts of the rows are those that `line` gives as `START WIDTH BYTES
+/// ..`.
 fn are_rows(alloc: Global, screen: &Screen, line: &str) -> Result<bool> {
     let (start, width, words) = range_of(line)?;
     let texts: Texts = screen.rows(start, width).try_collect(alloc);
     are_texts(alloc, texts?, words)
 }
 
-/// Returns whether the redraws of the rows are those of `START WIDTH BYTES ..`.
+/// Returns whether the redraws of the rows are those that `line` gives as `START WIDTH BYTES ..`.
 fn are_rows_formatted(alloc: Global, screen: &Screen, line: &str) -> Result<bool> {
     let (start, width, words) = range_of(line)?;
     let (_, cols) = screen.size();
@@ -72,8 +73,8 @@ fn are_rows_formatted(alloc: Global, screen: &Screen, line: &str) -> Result<bool
     are_texts(alloc, texts?, words)
 }
 
-/// Returns whether the differences of the rows from those of `prev`, which must have the same size,
-/// are those of `START WIDTH BYTES ..`.
+/// Returns whether the diffs from the rows of `prev` to the rows of `screen` are those that `line`
+/// gives as `START WIDTH BYTES ..`. Both screens must have the same size.
 fn are_rows_changed(alloc: Global, screen: &Screen, prev: &Screen, line: &str) -> Result<bool> {
     let (start, width, words) = range_of(line)?;
     if !screen.is_sized_as(prev) {
@@ -87,14 +88,15 @@ fn are_rows_changed(alloc: Global, screen: &Screen, prev: &Screen, line: &str) -
     are_texts(alloc, texts?, words)
 }
 
-/// Splits a line into the start and the width of a range of columns, and the rest.
+/// Splits a line into the start and the width of a range of columns, and the remaining words.
 fn range_of(line: &str) -> Result<(u16, u16, &str)> {
     let (start, rest) = line.split_once(' ').context("a range without a width")?;
     let (width, words) = rest.split_once(' ').context("a range without texts")?;
     Ok((start.parse::<u16>()?, width.parse::<u16>()?, words))
 }
 
-/// Returns whether the texts equal those of the words, one for each.
+/// Returns whether each text equals the bytes that the corresponding word encodes, and there are as
+/// many words as texts.
 fn are_texts(alloc: Global, texts: Vec<String>, words: &str) -> Result<bool> {
     let mut words = words.split(' ');
     for text in &texts {
@@ -106,7 +108,7 @@ fn are_texts(alloc: Global, texts: Vec<String>, words: &str) -> Result<bool> {
     Ok(words.next().is_none())
 }
 
-/// Returns whether the range has the text of `ROW COL ROW COL BYTES`.
+/// Returns whether a range of the screen has the text that `line` gives as `ROW COL ROW COL BYTES`.
 fn is_range(alloc: Global, screen: &Screen, line: &str) -> Result<bool> {
     let mut words = line.split(' ');
     let start_row = number(words.next())?;

@@ -1,18 +1,19 @@
-//! The lines of case files about a screen and its calls.
+//! The lines with which case files describe a screen and the callbacks invoked.
 
 use crate::text::{AttrsWord, ColorWord, Hex, digit};
 use std::alloc::{AllocError, Global};
 use vt_notes::Notes;
 use vt100::{Cell, Color, Screen};
 
-/// Returns the lines about cursor, wrapped flags and cells, each with its line end.
+/// Returns the lines that describe the cursor, the wrapped flags and the cells, each with its
+/// newline.
 pub fn picture_lines(alloc: Global, screen: &Screen) -> Result<String, AllocError> {
     let mut lines = String::new(alloc);
     write_picture(&mut lines, screen)?;
     Ok(lines)
 }
 
-/// Returns the lines about modes and calls, each with its line end.
+/// Returns the lines that describe the modes and the callbacks invoked, each with its newline.
 pub fn other_lines(alloc: Global, screen: &Screen, notes: &Notes) -> Result<String, AllocError> {
     let mut lines = String::new(alloc);
     write_modes(&mut lines, screen)?;
@@ -20,7 +21,8 @@ pub fn other_lines(alloc: Global, screen: &Screen, notes: &Notes) -> Result<Stri
     Ok(lines)
 }
 
-/// Returns the lines about sizes and scrollback, each with its line end.
+/// Returns the lines that describe the size, the scrollback and the lengths of the rows, each with
+/// its newline.
 pub fn size_lines(alloc: Global, screen: &Screen) -> Result<String, AllocError> {
     let mut lines = String::new(alloc);
     let (rows, cols) = screen.size();
@@ -92,8 +94,8 @@ fn write_calls(alloc: Global, lines: &mut String, notes: &Notes) -> Result<(), A
     Ok(())
 }
 
-/// Returns the number of cells of a row. A row of scrollback may have more or fewer than the screen
-/// has columns.
+/// Returns the number of cells of a row. A row of scrollback may have more or fewer cells than the
+/// screen has columns.
 fn row_length(screen: &Screen, row: u16) -> u16 {
     for col in 0..u16::MAX {
         if screen.cell(row, col).is_none() {
@@ -135,7 +137,8 @@ fn is_default_blank(cell: &Cell, attrs: AttrsWord) -> bool {
     !shows && !colored && attrs.is_default()
 }
 
-/// Returns `n` for a blank and a narrow glyph, `w` for a wide one, and `r` for a continuation cell.
+/// Returns `n` for a blank and a narrow glyph, `w` for a wide glyph, and `r` for a continuation
+/// cell.
 fn kind_of(cell: &Cell) -> char {
     if cell.is_wide_continuation() {
         'r'

@@ -1,9 +1,10 @@
 //! Replays recorded cases and scripts. However the bytes of a case are split, a new parser must
-//! display and call what the case says, and its output must draw the same again. After each call of
-//! a script, the state must be what the script says.
+//! have the display and invoke the callbacks that the case specifies, and its output must reproduce
+//! the display. After each call in a script, the parser must have the state that the script
+//! specifies.
 //!
-//! Each argument is a file to read. Prints a line for each difference, and a last one with the
-//! counts. The status is 1 if a case differs.
+//! Each command-line argument is a file to read. Prints a line for each difference, and finally a
+//! line with the counts. The exit status is 1 if a case differs.
 #![tactic(auto)]
 
 mod case;
@@ -37,7 +38,7 @@ fn replay_file<R: AllocGlobal + Print>(rt: &R, text: &str, tally: &mut Tally) ->
     Ok(())
 }
 
-/// Replays a case, or a script if the first line also has a capacity.
+/// Replays a case, or a script if the first line (`head`) also gives a scrollback capacity.
 fn replay_block<R: AllocGlobal + Print>(rt: &R, head: &str, lines: &str) -> Result<bool> {
     let words: Vec<&str> = head.split_whitespace().collect(rt.alloc())?;
     match words.as_slice() {

@@ -9,11 +9,12 @@ use std::alloc::Global;
 use vt_notes::Notes;
 use vt100::{Parser, Screen};
 
-/// Replays a case: parses its bytes at once, one by one, and split in two at every place. Then
-/// compares its output, and checks that a new parser which parses that output displays the same:
-/// after all bytes if the case is steady, and after each prefix.
+/// Replays a case: parses its bytes in one call, byte by byte, and in two chunks for every position
+/// of the split. Then compares the output with the case. Finally checks that a new parser that
+/// parses the output has the same display, after each prefix of the bytes and, if the case is
+/// steady, after all bytes.
 ///
-/// Prints a line for the first difference of each kind, and returns whether there is none.
+/// Prints a line for the first difference of each kind. Returns whether nothing differed.
 pub fn replay<R: AllocGlobal + Print>(rt: &R, case: &Case<'_>) -> Result<bool> {
     let is_shown = is_shown_however_cut(rt, case)?;
     let gives = are_texts_given(rt, case)?;
@@ -77,8 +78,8 @@ fn is_drawn_at_every_place<R: AllocGlobal + Print>(rt: &R, case: &Case<'_>) -> R
     Ok(true)
 }
 
-/// Returns the first place at which the bytes, ended there, leave a screen whose output does not
-/// draw it again.
+/// Returns the index of the first byte after which the output of the screen does not reproduce the
+/// screen, or `None` if there is no such byte.
 fn place_not_drawn(alloc: Global, case: &Case<'_>) -> Result<Option<usize>> {
     let mut parser = fed(alloc, case, &[])?;
     for (place, byte) in case.bytes.chunks(1).enumerate() {
@@ -91,7 +92,8 @@ fn place_not_drawn(alloc: Global, case: &Case<'_>) -> Result<Option<usize>> {
     Ok(None)
 }
 
-/// Returns the first place at which the bytes, split there, leave a different state.
+/// Returns the first index at which splitting the bytes leads to a different state, or `None` if
+/// there is no such index.
 fn differing_cut(alloc: Global, case: &Case<'_>) -> Result<Option<usize>> {
     for place in 0..case.bytes.len() {
         let (front, back) = case.bytes.split_at(place);
@@ -102,7 +104,8 @@ fn differing_cut(alloc: Global, case: &Case<'_>) -> Result<Option<usize>> {
     Ok(None)
 }
 
-/// Returns whether a new parser that parses these chunks displays and calls what the case says.
+/// Returns whether a new parser that parses the chunks in `pieces` has the display and invokes the
+/// callbacks that the case specifies.
 fn is_shown(alloc: Global, case: &Case<'_>, pieces: &[&[u8]]) -> Result<bool> {
     let parser = fed(alloc, case, pieces)?;
     let others = other_lines(alloc, parser.screen(), parser.callbacks())?;
@@ -110,13 +113,14 @@ fn is_shown(alloc: Global, case: &Case<'_>, pieces: &[&[u8]]) -> Result<bool> {
     Ok(is_same && is_picture(alloc, parser.screen(), case)?)
 }
 
-/// Returns whether a screen has the cells, wrapped flags and cursor of the case.
+/// Returns whether a screen has the cells, wrapped flags and cursor that the case specifies.
 fn is_picture(alloc: Global, screen: &Screen, case: &Case<'_>) -> Result<bool> {
     let picture = picture_lines(alloc, screen)?;
     Ok(picture.as_str() == case.picture.as_str())
 }
 
-/// Returns the first line whose output differs from that of the screen after all bytes.
+/// Returns the first line of the case whose expected output differs from that of the screen after
+/// all bytes, or `None` if no line does.
 fn differing_text<'a>(alloc: Global, case: &Case<'a>) -> Result<Option<&'a str>> {
     let prev = screen_before(alloc, case)?;
     let parser = fed(alloc, case, &[case.bytes.as_slice()])?;
@@ -128,7 +132,7 @@ fn differing_text<'a>(alloc: Global, case: &Case<'a>) -> Result<Option<&'a str>>
     Ok(None)
 }
 
-/// Returns the screen that differences start from.
+/// Returns the screen from which the diffs of a case start.
 fn screen_before(alloc: Global, case: &Case<'_>) -> Result<Screen> {
     let before = case.bytes.get(..case.before);
     let before = before.context("fewer bytes than come before a difference")?;
@@ -136,16 +140,18 @@ fn screen_before(alloc: Global, case: &Case<'_>) -> Result<Screen> {
     Ok(parser.screen().clone()?)
 }
 
-/// Returns whether a new parser that parses the redraw has the cells, wrapped flags and cursor of
-/// the case, has the same redraw, and makes no calls.
+/// Feeds the redraw of a case's final screen to a new parser. Returns whether the parser has the
+/// cells, wrapped flags and cursor that the case specifies, has the same redraw as the final
+/// screen, and has invoked no callbacks.
 fn is_redrawn(alloc: Global, case: &Case<'_>) -> Result<bool> {
     let parser = fed(alloc, case, &[case.bytes.as_slice()])?;
     let redraw = parser.screen().contents_formatted()?;
     is_drawn_by(alloc, case, &[redraw.as_bytes()], redraw.as_str())
 }
 
-/// Returns whether a new parser that displays the earlier screen and parses the difference has the
-/// cells, wrapped flags and cursor of the case, has the same redraw, and makes no calls.
+/// Replays the diff of a case: a new parser displays the case's earlier screen and then parses the
+/// diff to the final screen. Returns whether the parser has the cells, wrapped flags and cursor
+/// that the case specifies, has the same redraw as the final screen, and has invoked no callbacks.
 fn is_updated(alloc: Global, case: &Case<'_>) -> Result<bool> {
     let prev = screen_before(alloc, case)?;
     let parser = fed(alloc, case, &[case.bytes.as_slice()])?;
@@ -156,8 +162,8 @@ fn is_updated(alloc: Global, case: &Case<'_>) -> Result<bool> {
     is_drawn_by(alloc, case, &texts, redraw.as_str())
 }
 
-/// Returns whether a new parser that parses these texts has the cells, wrapped flags and cursor of
-/// the case, has this redraw, and makes no calls.
+/// Feeds `texts` to a new parser. Returns whether the parser has the cells, wrapped flags and
+/// cursor that the case specifies, has the redraw `redraw`, and has invoked no callbacks.
 fn is_drawn_by(alloc: Global, case: &Case<'_>, texts: &[&[u8]], redraw: &str) -> Result<bool> {
     let parser = fed(alloc, case, texts)?;
     let again = parser.screen().contents_formatted()?;
@@ -165,7 +171,7 @@ fn is_drawn_by(alloc: Global, case: &Case<'_>, texts: &[&[u8]], redraw: &str) ->
     Ok(is_quiet && again.as_str() == redraw && is_picture(alloc, parser.screen(), case)?)
 }
 
-/// Creates a parser of the size of a case, and feeds these chunks to it.
+/// Creates a parser of the size that a case specifies, and feeds the chunks in `pieces` to it.
 fn fed(alloc: Global, case: &Case<'_>, pieces: &[&[u8]]) -> Result<Parser<Notes>> {
     Ok(vt_notes::read(alloc, case.rows, case.cols, pieces)?)
 }

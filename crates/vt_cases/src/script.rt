@@ -9,7 +9,7 @@ use std::num::NonZeroU16;
 use vt_notes::Notes;
 use vt100::{Parser, Screen};
 
-/// A script: calls of a new parser in sequence, and the expected states in between.
+/// A script: a sequence of calls on a new parser, and the expected states in between.
 #[derive(Clone, Copy)]
 pub struct Script<'a> {
     pub name: &'a str,
@@ -17,12 +17,12 @@ pub struct Script<'a> {
     pub cols: NonZeroU16,
     pub capacity: usize,
 
-    /// The lines after the first one.
+    /// The lines of the script after the first line.
     pub lines: &'a str,
 }
 
-/// Replays a script. Prints a line for each output and state that differs, and returns whether
-/// there is none.
+/// Replays a script. Prints a line for each output and each state that differs. Returns whether
+/// nothing differed.
 pub fn replay<R: AllocGlobal + Print>(rt: &R, script: Script<'_>) -> Result<bool> {
     let notes = Notes::new(rt.alloc());
     let mut parser = Parser::new_with_callbacks(
@@ -93,8 +93,8 @@ fn size_of(words: &str) -> Result<(NonZeroU16, NonZeroU16)> {
     Ok((rows.parse::<NonZeroU16>()?, cols.parse::<NonZeroU16>()?))
 }
 
-/// Returns the first word of the first line that the parser does not match, or `state` for a line
-/// about the screen and its calls.
+/// Returns the first word of the first line whose output differs from that of `parser`, or `state`
+/// if the state differs. Returns `None` if nothing differs.
 fn differing_word<'a>(
     alloc: Global,
     parser: &Parser<Notes>,

@@ -7,12 +7,12 @@ use std::fmt;
 pub struct Tally {
     run: u64,
 
-    /// The number of cases that did not do what they say.
+    /// The number of cases whose replay differed from the expected state.
     pub differ: u64,
 }
 
 impl Tally {
-    /// Counts a case that was replayed.
+    /// Counts a replayed case; `same` says whether nothing differed.
     pub fn count(&mut self, same: bool) {
         self.run = self.run.saturating_add(1);
         if !same {

@@ -1,11 +1,11 @@
-//! The words that case files use for bytes, numbers, colours and attributes.
+//! The words that case files use for bytes, numbers, colors and attributes.
 
 use anyhow::Result;
 use std::alloc::Global;
 use std::fmt;
 use vt100::Color;
 
-/// Returns the bytes of a word: hexadecimal, or a dot for none.
+/// Returns the bytes that a word encodes in hexadecimal, or no bytes if the word is a dot.
 pub fn bytes_of(alloc: Global, word: &str) -> Result<Vec<u8>> {
     if word == "." {
         return Ok(Vec::new(alloc));
@@ -29,7 +29,7 @@ impl fmt::Display for Hex<'_> {
     }
 }
 
-/// Displays a colour as a word of a case file.
+/// Displays a color as a word in the notation of case files.
 #[derive(Clone, Copy)]
 pub struct ColorWord(pub Color);
 
@@ -43,7 +43,7 @@ impl fmt::Display for ColorWord {
     }
 }
 
-/// Displays attributes as a letter for each that is set, or as a dash if none is.
+/// Displays attributes as a letter for each that is set, or as a dash if none is set.
 #[derive(Clone, Copy)]
 pub struct AttrsWord {
     pub bold: bool,

@@ -6,7 +6,7 @@ use Rattle.std.proofs.lemmas.Str.{IsUtf8-append}
 use Rattle.vt_cells.specs.BufferInternals.{IsBuffer, gathered}
 use borrow.Rule.Slice.PartMut.{put_mid}
 
--- Setting the only item of a list of one to that of another list gives that list.
+-- If two lists have one item each, setting the item of the first list to that of the second gives the second list.
 pub one_set : (xs ys : List ℕ) → length xs ≡ length ys → length ys ≡ 1 → slice_set xs 0 (slice_index_or ys 0 0) ≡ ys
 one_set (x ∷ []) (y ∷ []) e f = refl
 one_set (x ∷ (z ∷ xs)) (y ∷ []) e f = let none : ⊥ = omega (arith, e) in absurd none
@@ -14,7 +14,7 @@ one_set [] (y ∷ ys) e f = let none : ⊥ = omega (arith, e) in absurd none
 one_set xs [] e f = let none : ⊥ = omega (arith, f) in absurd none
 one_set xs (y ∷ (z ∷ ys)) e f = let none : ⊥ = omega (arith, f) in absurd none
 
--- Setting both items of a list of two to those of another list gives that list.
+-- If two lists have two items each, setting both items of the first list to those of the second gives the second list.
 pub two_set : (xs ys : List ℕ) → length xs ≡ length ys → length ys ≡ 2 →
     slice_set (slice_set xs 0 (slice_index_or ys 0 0)) 1 (slice_index_or ys 1 0) ≡ ys
 two_set (x ∷ (z ∷ [])) (y ∷ (w ∷ [])) e f = refl
@@ -46,7 +46,7 @@ longer old text n buffer e fits utf8 = record {
   utf8 = IsUtf8-append old text buffer.utf8 utf8;
 }
 
--- The invariant of a buffer holds after a string is copied after its bytes.
+-- A buffer stays valid when a string that fits is copied to the end of its bytes.
 pub pushed : (len k : ℕ) (bytes copied text : List ℕ) → IsBuffer len (take len bytes)
     → len ≤ length bytes → length (take len bytes) + length text ≤ 128 → copied ≡ text → IsUtf8 text
     → IsBuffer (len + length text) (take (len + length text) (put_mid len k bytes copied))

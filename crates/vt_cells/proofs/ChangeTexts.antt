@@ -19,7 +19,7 @@ use Rattle.vt_cells.proofs.Same.{two_parts}
 pub digits_of_byte : (n : ℕ) → n < 256 → length (decimal n) ≤ 3
 digits_of_byte n h = length-decimal-le 3 n (omega arith) (omega arith) (omega arith)
 
--- Prepending the digits of a number to a text at the end of the array gives such a text.
+-- Prepending the digits of a number to ASCII text at the end of an array gives ASCII text at the end of the array.
 pub digits_put : (n start next : ℕ) (rest text : List ℕ) → n < 256 → IsEnd start rest →
     next + length (decimal n) ≡ start → text ≡ decimal n ++ rest → IsEnd next text
 digits_put n start next rest text byte is_end sum e =
@@ -127,7 +127,7 @@ without_first [] h = absurd (omega (arith, h))
 without_first (x ∷ []) h = absurd (omega (arith, h))
 without_first (x ∷ y ∷ xs) h = refl
 
--- Moving the start of the text one byte on removes the separator, if that is not the only byte.
+-- Starting the text one byte later removes its first separator, if that is not its last byte.
 pub without_first_is : (start : ℕ) (bytes : List ℕ) → IsEnd start (drop start bytes) →
     start + 1 < 64 → drop (start + 1) bytes ≡ without_separator (drop start bytes)
 without_first_is start bytes is_end room =
@@ -154,5 +154,5 @@ numbers_left [] = refl
 numbers_left (n ∷ ns) =
     tail_left 0x3B 0x6D (decimal n ++ flat_map separated ns) ∙ ap (λ xs. xs ++ 0x6D ∷ []) (sym (joined_is n ns))
 
--- The parameters that a colour adds: none, one, or several.
+-- The lemmas on the parameters that a change of a colour adds: none, one, or several.
 pub ruleset numbers_put = (nothing_put, one_put, some_put)

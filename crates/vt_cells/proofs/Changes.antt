@@ -1,5 +1,4 @@
--- Changes of attributes: `==` in the code agrees with equality in the definitions, and what the parameters of a
--- change are.
+-- Changes of attributes: their parameters, and the agreement of `==` in the code with equality in the definitions.
 use Rattle.std.proofs.Common.{◌≡◌, ℕ, ◌≤◌, ◌<◌, Bool, true, false, List, [], ◌∷◌, ◌++◌, length}
 use Rattle.std.proofs.Common.{nat_lt, decimal, refl, sym, ap, append-nil}
 use Rattle.std.proofs.Common.{flat_map, if◌then◌else◌, rules, arith}
@@ -20,7 +19,7 @@ use Rattle.vt_cells.specs.contracts.attrs.IntensityPartialEq.TheImpl as intensit
 use Rattle.std.specs.contracts.prelude.BoolPartialEq.TheImpl as bool
 use Rattle.vt_cells.specs.contracts.color.ColorPartialEq.TheImpl as color
 
--- `==` on two colours in the code is `same_color`.
+-- `==` on two colours in the code agrees with `same_color`.
 pub same_color_is : (a b : Color) → (color.ghosts).eq a b ≡ same_color a b
 unfolding same_color
 same_color_is Default Default = refl
@@ -58,7 +57,7 @@ underline_part was new = part (same_bool was.underline new.underline) ((if new.u
 abbrev pub inverse_part : Attrs → Attrs → List ℕ
 inverse_part was new = part (same_bool was.inverse new.inverse) ((if new.inverse then 7 else 27) ∷ [])
 
--- A list of parameters as long as that of a colour.
+-- The list of parameters is nonempty and at most as long as that of an RGB colour.
 abbrev IsShort : List ℕ → Type 0
 IsShort ns = (0 < length ns) × (length ns ≤ 5)
 
@@ -171,12 +170,12 @@ change_numbers-none was new none =
     )
     refl
 
--- Joined numbers are the first one, and then each further one after its separator.
+-- Joined numbers are the first number in decimal, followed by each further number after a separator.
 pub joined_is : (x : ℕ) (xs : List ℕ) → joined (x ∷ xs) ≡ decimal x ++ flat_map separated xs
 joined_is x [] = sym (append-nil (decimal x))
 joined_is x (y ∷ xs) = ap (λ rest. decimal x ++ 0x3B ∷ rest) (joined_is y xs)
 
--- The text of a change from attributes to equal ones, by `==` in the code.
+-- The text of a change between two sets of attributes is empty if they are equal by `==` in the code.
 pub change_text-same : (was new : Attrs) → attrs_eq was new ≡ true → change_text was new ≡ []
 unfolding change_text
 change_text-same was new e = rw (sym (attrs_eq-same was new), e) refl

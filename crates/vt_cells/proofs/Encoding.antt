@@ -1,4 +1,4 @@
--- The bytes of a character in UTF-8, and a text to which they are added one by one.
+-- The bytes of a character in UTF-8, and a text to which these bytes are appended one by one.
 use Rattle.std.proofs.Common.{◌≡◌, ℕ, ◌+◌, ◌/◌, ◌%◌, ◌<◌, ◌≤◌, List, [], ◌∷◌, ◌++◌, arith, ap, ◌∙◌, append_assoc}
 use Rattle.std.specs.Char.{encode_utf8}
 use Rattle.std.proofs.lemmas.Bool.Decides.{nat_tests}

@@ -28,7 +28,7 @@ four_cells s t one two first second third fourth = same_lists s t (one ∙ sym t
     at (suc (suc (suc zero))) d lt = fourth d
     at (suc (suc (suc (suc k)))) d lt = absurd (omega (arith, one))
 
--- If the cells before index i are equal, and so are four more, then all before i + 4 are equal.
+-- If the cells of two lists are equal before index i, and so are the next four, then they are equal before i + 4.
 pub four_more : (s t : List CellValue) (i : ℕ) → slice_range s i (i + 4) ≡ slice_range t i (i + 4)
     → ((k : ℕ) (d : CellValue) → k < i → slice_index_or s k d ≡ slice_index_or t k d)
     → (k : ℕ) (d : CellValue) → k < i + 4 → slice_index_or s k d ≡ slice_index_or t k d

@@ -39,7 +39,7 @@ some_columns : (wide : Bool) → Some (glyph_columns wide) ≡ Some 0 → ⊥
 some_columns true e = cc
 some_columns false e = cc
 
--- One character that takes columns is the text of a glyph.
+-- The encoding of a character that takes columns is the text of a glyph.
 pub IsGlyphText-first : (c : ℕ) (wide : Bool) → IsScalar c → c ≢ 0xFFFD →
     columns_of c ≡ Some (glyph_columns wide) → IsGlyphText (encode_utf8 c) wide
 IsGlyphText-first c wide scalar reported columns = record {
@@ -54,7 +54,8 @@ IsGlyphText-first c wide scalar reported columns = record {
   width = λ _. columns;
 }
 
--- A glyph's text with a combining character added is that of a glyph of a width that fits.
+-- Adding a combining character to a glyph's text gives the text of a glyph of the width `wide`, if the first character
+-- has that width or the text contains U+FE0F.
 pub longer : (text : List ℕ) (was wide : Bool) (mark : ℕ) (glyph : IsGlyphText text was)
     → IsMark mark → has_room text ≡ true
     → (list_any is_selector (glyph.marks ++ mark ∷ []) ≡ false → columns_of glyph.first ≡ Some (glyph_columns wide))
@@ -71,7 +72,7 @@ longer text was wide mark glyph is_mark room width = record {
   width = width;
 }
 
--- A glyph's text with a combining character added is that of a glyph of the same width.
+-- Adding a combining character to a glyph's text gives the text of a glyph of the same width.
 pub IsGlyphText-push : (text : List ℕ) (wide : Bool) (mark : ℕ) → IsGlyphText text wide →
     IsMark mark → has_room text ≡ true → IsGlyphText (text ++ encode_utf8 mark) wide
 IsGlyphText-push text wide mark glyph is_mark room =
@@ -121,7 +122,7 @@ list_any-last : (marks : List ℕ) → list_any is_selector (marks ++ 0xFE0F ∷
 list_any-last [] = refl
 list_any-last (m ∷ marks) = let more = list_any-last marks in grind (arith, nat_tests, more)
 
--- A glyph's text with U+FE0F added is that of a glyph of either width.
+-- Adding U+FE0F to a glyph's text gives a text that is valid for a narrow and for a wide glyph.
 pub IsGlyphText-selector : (text : List ℕ) (was wide : Bool) → IsGlyphText text was →
     has_room text ≡ true → IsGlyphText (text ++ encode_utf8 0xFE0F) wide
 IsGlyphText-selector text was wide glyph room =
@@ -151,7 +152,7 @@ all_scalar : (marks : List ℕ) → AllByRecursion IsMark marks → scalars mark
 all_scalar [] all = refl
 all_scalar (m ∷ marks) (mark, all) = rw (mark.0, all_scalar marks all) refl
 
--- A glyph's text is the UTF-8 of its first character and its combining characters.
+-- A glyph's text is the UTF-8 encoding of its first character and its combining characters.
 pub IsGlyphText-spelled : (text : List ℕ) (wide : Bool) (glyph : IsGlyphText text wide) →
     text ≡ encode_utf8_all (glyph.first ∷ glyph.marks)
 IsGlyphText-spelled text wide glyph = Joins-spelled (encode_utf8 glyph.first) glyph.marks text glyph.spelled

@@ -21,7 +21,7 @@ is_two : Kind → Bool
 is_two kinds.Wide = true
 is_two _ = false
 
--- Outside the blocks, or of two columns.
+-- A character is outside the blocks or takes two columns, given whether it is in the blocks and how wide it is.
 is_fit : Bool → Kind → Bool
 is_fit inside found = not inside || is_two found
 

@@ -1,4 +1,4 @@
--- The fields of a cell.
+-- Facts about the fields of a cell.
 use Rattle.std.proofs.Common.{◌≡◌, ◌≢◌, ℕ, ◌+◌, ◌<◌, ◌≤◌, Bool, true, false, List}
 use Rattle.std.proofs.Common.{◌++◌, length, Some, arith, sym, length-append, zero, suc, refl}
 use Rattle.std.proofs.Common.{replicate, slice_index, rules}
@@ -51,7 +51,8 @@ pub IsKept-first : (c len : ℕ) (text : List ℕ) (wide : Bool) (attrs : Attrs)
 IsKept-first c len text wide attrs scalar reported columns size e =
     rw e (IsKept-glyph len (encode_utf8 c) wide attrs (IsGlyphText-first c wide scalar reported columns) size)
 
--- Valid fields with a text, of no continuation cell, have the text of a glyph.
+-- If the fields of a cell are valid and describe neither a blank nor a continuation cell, their text is the text of a
+-- glyph.
 glyph_kept : (len : ℕ) (text : List ℕ) (wide : Bool) (attrs : Attrs) → IsKept len text wide false attrs →
     is_blank (cell_of text wide false attrs) ≡ false → IsGlyphText text wide
 glyph_kept len text wide attrs kept shown =

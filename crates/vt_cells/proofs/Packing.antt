@@ -127,7 +127,7 @@ intensity_most Normal = omega arith
 intensity_most Bold = omega arith
 intensity_most Dim = omega arith
 
--- A packed style has five bits.
+-- A packed style fits in five bits.
 pub style_small : (style : StyleValue) → style_bits style < 32
 style_small style =
     omega (
@@ -159,7 +159,7 @@ word_parts style fgcolor bgcolor s f =
     let parts = parts_of style fgcolor bgcolor s f in
     λ i. attrs_of_bits (parts.0 i) (parts.1.0 i) (parts.1.1 i)
 
--- The attributes of a word made of a packed style and two packed colours.
+-- The attributes that a word stands for are those of the packed style and the two packed colours that it was made of.
 pub attrs_made : (style fgcolor bgcolor : ℕ) (v : StyleValue) (front back : Color)
     → style < 32 → IsColorBits fgcolor
     → style_of style ≡ v → color_of fgcolor ≡ front → color_of bgcolor ≡ back
@@ -181,7 +181,7 @@ attrs_made style fgcolor bgcolor v front back s f is_v is_front is_back =
       inverse = (is_v i).inverse;
     })
 
--- A packed word of attributes has 57 bits.
+-- A packed word of attributes fits in 57 bits.
 pub word_small : (word : ℕ) → IsAttrsWord word → word < 144115188075855872
 word_small word h =
     let high = h.bgcolor.small in omega arith

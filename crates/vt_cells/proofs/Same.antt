@@ -12,7 +12,7 @@ use Rattle.vt_cells.specs.declared.attrs.Intensity.TheVariants.{Normal, Bold, Di
 use Rattle.vt_cells.specs.declared.color.Color.{Color}
 use Rattle.vt_cells.specs.declared.color.Color.TheVariants.{Default, Idx, Rgb}
 
--- The test that `==` on colours computes.
+-- Equality of colours, as `==` computes it.
 abbrev pub color_eq : Color → Color → Bool
 color_eq = (colors.ghosts).eq
 
@@ -159,7 +159,7 @@ third true c x y z n first second last = first refl
 third false true x y z n first second last = second refl
 third false false x y z n first second last = last
 
--- A change from attributes to new ones turns the former into the latter.
+-- The change from one set of attributes to another turns the first one into the second.
 pub changed_attrs-new : (was new : Attrs) → changed_attrs was new was ≡ new
 unfolding changed_attrs
 changed_attrs-new was new =
@@ -180,12 +180,12 @@ changed_attrs-new was new =
           chosen (same_bool was.inverse new.inverse) was.inverse new.inverse (bool_of-same was.inverse new.inverse) i;
     })
 
--- A change from attributes to the same ones changes nothing.
+-- A change between equal attributes leaves all attributes unchanged.
 pub changed_attrs-none : (attrs others : Attrs) → changed_attrs attrs attrs others ≡ others
 unfolding changed_attrs
 changed_attrs-none attrs others = rw (same_attrs-itself attrs) refl
 
--- A change to the default attributes from different ones makes any attributes the default ones.
+-- A change from other attributes to the default ones turns any attributes into the default ones.
 pub changed_attrs-default : (was others : Attrs) → same_attrs was default_attrs ≡ false →
     changed_attrs was default_attrs others ≡ default_attrs
 unfolding changed_attrs

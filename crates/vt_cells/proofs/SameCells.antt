@@ -77,7 +77,7 @@ narrow_or_wide s t true false a b = rw (and-false (bytes_eq s t)) refl
 narrow_or_wide s t false true a b = rw (and-false (bytes_eq s t)) refl
 narrow_or_wide s t false false a b = rw (attrs_eq-same a b) refl
 
--- `same_cell` is the test that `==` computes.
+-- `same_cell` agrees with `==` on cells.
 pub same_cell-eq : (x y : CellValue) → same_cell x y ≡ cell_eq x y
 unfolding same_cell
 same_cell-eq (blank a) (blank b) = sym (attrs_eq-same a b)
@@ -144,25 +144,26 @@ take_front [] z n le = refl
 take_front (x ∷ s) z zero le = absurd (omega arith)
 take_front (x ∷ s) z (suc n) le = ap (λ t. x ∷ t) (take_front s z n (omega arith))
 
--- Texts of the same length, of at most eight bytes, are equal if their first eight bytes in the array are.
+-- Two texts of the same length, at most eight bytes, are equal if the first eight bytes of their arrays are equal.
 pub short_texts : (s t : List ℕ) → length s ≡ length t → length s ≤ 8 → front s ≡ front t → s ≡ t
 unfolding front
 short_texts s t same short fronts =
     sym (take_front s _ 8 short) ∙ (λ i. take (same i) (fronts i)) ∙ take_front t _ 8 (omega (arith, same))
 
--- The first eight bytes of a cell's array are the front of its text.
+-- The first eight bytes of a stored cell's array are the front of the cell's text.
 pub front_stored : (head : HeadValue) (contents : List ℕ) (cell : CellValue) → IsStored head contents
     → cell_of_parts head contents ≡ cell → take 8 contents ≡ front (text_of cell)
 unfolding front
 front_stored head contents cell h is =
     (λ i. take 8 (sym (stored_contents head contents h) i)) ∙ ap (λ v. take 8 (padded (text_of v))) is
 
--- The stored head is the head of the cell.
+-- The stored head is the head of the cell that it represents.
 pub head_stored : (head : HeadValue) (contents : List ℕ) (cell : CellValue) → IsStored head contents
     → cell_of_parts head contents ≡ cell → head_of_cell cell ≡ head
 head_stored head contents cell h is = sym (ap head_of_cell is) ∙ stored_head head contents h
 
--- Cells with short texts are equal if their heads and the fronts of their texts are.
+-- A cell with fewer than eight bytes of text equals any cell with the same head and the same first eight bytes of the
+-- text array.
 pub cells_begin : (x y : CellValue) → IsCell x → IsCell y → length (text_of x) < 8
     → head_of_cell x ≡ head_of_cell y → front (text_of x) ≡ front (text_of y) → x ≡ y
 cells_begin x y is_x is_y short heads fronts =

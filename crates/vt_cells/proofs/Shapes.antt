@@ -55,7 +55,7 @@ flag_bits : (flag : Bool) (n : ℕ) → (if flag then n else 0) ≤ n
 flag_bits true n = omega arith
 flag_bits false n = omega arith
 
--- A packed shape has seven bits.
+-- A packed shape fits in seven bits.
 pub shape_small : (m : ℕ) → shape_bits (shape_of m) ≡ m → m < 128
 shape_small m p =
     let wide = flag_bits (m / 32 % 2 == 1) 32 in
@@ -66,7 +66,7 @@ head_parts : (low high : ℕ) → low < 128
     → ((low + 128 * high) % 128 ≡ low) × ((low + 128 * high) / 128 ≡ high)
 head_parts low high small = (omega arith, omega arith)
 
--- The head of a word made of a packed shape and packed attributes.
+-- The head that a word stands for has the packed shape and the packed attributes that the word was made of.
 pub head_made : (low high : ℕ) (shape : ShapeValue) (attrs : Attrs) → low < 128 → shape_of low ≡ shape
     → attrs_of_word high ≡ attrs → head_of (low + 128 * high) ≡ record { attrs = attrs; shape = shape }
 head_made low high shape attrs small is_shape is_attrs =

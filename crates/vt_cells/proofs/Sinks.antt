@@ -7,12 +7,12 @@ use Rattle.std.specs.declared.result.Result.TheVariants.{Ok, Err}
 use Rattle.vt_cells.specs.BufferInternals.{gathered}
 use Rattle.vt_cells.specs.Sinks.{IsStopped}
 
--- What holds unconditionally holds after an error.
+-- A statement that holds in any case holds after an error.
 pub on_err : {T E P : Type 0} (r : Result T E) → P → OnErr r P
 on_err (Ok x) p = tt
 on_err (Err e) p = p
 
--- If a write of the first part of a text fails, the write of the text stopped.
+-- If writing the first part of a text failed, writing the whole text stopped there.
 pub stopped_first : (refuses : List ℕ → List ℕ → List ℕ → Type 0) (before offered rest after : List ℕ)
     → 0 < length offered → refuses before offered after → IsStopped refuses before (offered ++ rest) after
 stopped_first refuses before offered rest after some refused = record {
@@ -30,7 +30,7 @@ head_same x y xs ys e = cc
 tail_same : (x y : ℕ) (xs ys : List ℕ) → x ∷ xs ≡ y ∷ ys → xs ≡ ys
 tail_same x y xs ys e = cc
 
--- The part of a text that was written between two states of a sink, and the part still to be written.
+-- A text written to a sink consists of the bytes that the sink has gained and of those still to be written.
 between : (old mid more whole : List ℕ) → mid ++ more ≡ old ++ whole → length old ≤ length mid
     → (old ++ drop (length old) mid ≡ mid) × (drop (length old) mid ++ more ≡ whole)
 between [] mid more whole e le = (refl, e)
@@ -40,7 +40,7 @@ between (x ∷ old) (y ∷ mid) more whole e le =
     let part = between old mid more whole (tail_same y x (mid ++ more) (old ++ whole) e) (omega (arith, le)) in
     (ap (λ (xs : List ℕ). x ∷ xs) part.0 ∙ ap (λ (z : ℕ). z ∷ mid) (sym first), part.1)
 
--- If a write of part of a text stopped, the write of the text stopped.
+-- If writing a part of a text stopped, writing the whole text stopped there.
 pub stopped_in : (refuses : List ℕ → List ℕ → List ℕ → Type 0) (old mid text rest whole after : List ℕ)
     → mid ++ (text ++ rest) ≡ old ++ whole → length old ≤ length mid
     → IsStopped refuses mid text after → IsStopped refuses old whole after
@@ -64,14 +64,14 @@ stopped_in refuses old mid text rest whole after e le stopped =
           stopped.refused;
     }
 
--- If a write of buffered bytes and the first of two texts stopped, the write with both texts stopped.
+-- If writing buffered bytes and the first of two texts stopped, writing both texts stopped there.
 pub stopped_before : (refuses : List ℕ → List ℕ → List ℕ → Type 0) (before buffer text rest after : List ℕ)
     → IsStopped refuses before (buffer ++ text) after → IsStopped refuses before (buffer ++ (text ++ rest)) after
 stopped_before refuses before buffer text rest after stopped =
     stopped_in refuses before before (buffer ++ text) rest (buffer ++ (text ++ rest)) after
     (ap (λ (xs : List ℕ). before ++ xs) (append_assoc buffer text rest)) (omega arith) stopped
 
--- If a write of the second of two texts stopped after the first was gathered, the write of both stopped.
+-- If writing the second of two texts stopped after the first one was gathered, writing both texts stopped there.
 pub stopped_behind : (refuses : List ℕ → List ℕ → List ℕ → Type 0) (old mid was buffer text more after : List ℕ)
     → gathered mid buffer ≡ gathered old was ++ text → length old ≤ length mid
     → IsStopped refuses mid (buffer ++ more) after → IsStopped refuses old (was ++ (text ++ more)) after
@@ -85,7 +85,7 @@ stopped_behind refuses old mid was buffer text more after e le stopped =
     ∙ ap (λ (xs : List ℕ). old ++ xs) (append_assoc was text more))
     le stopped
 
--- If a write of one of many texts stopped after those before it were gathered, the write of all stopped.
+-- If writing one of many texts stopped after all texts before it were gathered, writing all of them stopped there.
 pub stopped_among : (refuses : List ℕ → List ℕ → List ℕ → Type 0) (old mid buffer text rest whole after : List ℕ)
     → gathered mid buffer ++ (text ++ rest) ≡ old ++ whole → length old ≤ length mid
     → IsStopped refuses mid (buffer ++ text) after → IsStopped refuses old whole after
@@ -96,7 +96,7 @@ stopped_among refuses old mid buffer text rest whole after e le stopped =
     ∙ sym (append_assoc mid buffer (text ++ rest)) ∙ e)
     le stopped
 
--- A text is not empty if a part of it is not.
+-- A text is not empty if its next part, including the buffered bytes, is not empty.
 pub some_among : (old mid buffer text rest whole : List ℕ)
     → gathered mid buffer ++ (text ++ rest) ≡ old ++ whole → length old ≤ length mid
     → 0 < length buffer + length text → 0 < length whole
@@ -109,7 +109,7 @@ some_among old mid buffer text rest whole e le some =
     let same : length ((mid ++ buffer) ++ (text ++ rest)) ≡ length (old ++ whole) = ap (λ (xs : List ℕ). length xs) e in
     omega arith
 
--- If a write stopped after a text that the sink took, the write of both stopped.
+-- If writing a text stopped after the sink accepted an earlier text, writing both texts stopped there.
 pub stopped_after : (refuses : List ℕ → List ℕ → List ℕ → Type 0) (old mid first text after : List ℕ)
     → mid ≡ old ++ first → IsStopped refuses mid text after → IsStopped refuses old (first ++ text) after
 stopped_after refuses old mid first text after e stopped =

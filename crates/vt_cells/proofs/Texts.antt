@@ -1,4 +1,4 @@
--- The bytes of operations: those of lists concatenate, and are ASCII except for printed text.
+-- The bytes of lists of operations: they concatenate, and are ASCII except for printed text.
 use Rattle.std.proofs.Common.{◌≡◌, ℕ, zero, suc, ◌+◌, ◌<◌, ◌^◌, Bool, true, false, List, [], ◌∷◌}
 use Rattle.std.proofs.Common.{◌++◌, decimal, if◌then◌else◌, true≢false, IsAscii, arith}
 use Rattle.std.specs.List.{AllByRecursion}

@@ -37,14 +37,14 @@ or_none_left a b e = same_from_bits a 0 (λ i. low _ _ (none_at a b i e) ∙ sym
 pub or_none_right : (a b : ℕ) → bit_or a b ≡ 0 → b ≡ 0
 or_none_right a b e = same_from_bits b 0 (λ i. high _ _ (none_at a b i e) ∙ sym (bit_at-zero i))
 
--- Two heads without a differing bit are equal.
+-- Two head words are equal as heads if no bit differs in them and their texts have fewer than eight bytes.
 pub heads_even : (m n : ℕ) → bit_or (bit_xor m n) (m % 32 / 8 * 8) ≡ 0 → head_of m ≡ head_of n
 heads_even m n e = ap head_of (xor_none m n (or_none_left _ _ e))
 
 pub short_even : (m n : ℕ) → bit_or (bit_xor m n) (m % 32 / 8 * 8) ≡ 0 → m % 128 % 32 < 8
 short_even m n e = let none = or_none_right (bit_xor m n) _ e in omega (arith, none)
 
--- The first eight bytes of a list, one by one.
+-- The first eight bytes of a list, one by one, are its prefix of eight bytes.
 pub first_eight : (s : List ℕ) → 8 ≤ length s
     → (slice_index_or s 0 0 ∷ slice_index_or s 1 0 ∷ slice_index_or s 2 0 ∷ slice_index_or s 3 0
     ∷ slice_index_or s 4 0 ∷ slice_index_or s 5 0 ∷ slice_index_or s 6 0 ∷ slice_index_or s 7 0 ∷ [])
@@ -59,7 +59,7 @@ first_eight (s0 ∷ s1 ∷ s2 ∷ s3 ∷ s4 ∷ []) long = absurd (omega arith)
 first_eight (s0 ∷ s1 ∷ s2 ∷ s3 ∷ s4 ∷ s5 ∷ []) long = absurd (omega arith)
 first_eight (s0 ∷ s1 ∷ s2 ∷ s3 ∷ s4 ∷ s5 ∷ s6 ∷ []) long = absurd (omega arith)
 
--- Texts of the same length, of at most eight bytes, are equal if their first words are.
+-- Two texts of the same length, at most eight bytes, are equal if their first words are equal.
 pub same_words : (s t : List ℕ) (m n : ℕ)
     → to_le_bytes w64 m ≡ front s → to_le_bytes w64 n ≡ front t → m ≡ n
     → length s ≡ length t → length s ≤ 8 → true ≡ bytes_eq s t
@@ -75,7 +75,7 @@ other_words s t m n small less own other differ =
     differ (sym (from_le_bytes-to_le_bytes_8 m small) ∙ ap (from_le_bytes w64) fronts
     ∙ from_le_bytes-to_le_bytes_8 n less)))
 
--- Two cells without a differing bit are equal.
+-- Two cells are equal if no bit of their heads and first words differs and their texts are short.
 pub cells_even : (head others : HeadValue) (contents bytes : List ℕ) (x y : CellValue) (d m n : ℕ)
     → IsStored head contents → cell_of_parts head contents ≡ x
     → IsStored others bytes → cell_of_parts others bytes ≡ y

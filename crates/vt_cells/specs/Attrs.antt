@@ -14,7 +14,7 @@ pub record Attrs : Type 0 where
   pub underline : Bool
   pub inverse : Bool
 
--- The attributes of a new screen: default colours and no style.
+-- The attributes of a new screen: default colors and no style.
 abbrev pub default_attrs : Attrs
 default_attrs = record {
   fgcolor = color.Default;
@@ -32,15 +32,15 @@ same_intensity Bold Bold = true
 same_intensity Dim Dim = true
 same_intensity _ _ = false
 
--- The attributes are bold.
+-- The intensity of the attributes is bold.
 abbrev pub is_bold : Attrs → Bool
 is_bold attrs = same_intensity attrs.intensity Bold
 
--- The attributes are dim.
+-- The intensity of the attributes is dim.
 abbrev pub is_dim : Attrs → Bool
 is_dim attrs = same_intensity attrs.intensity Dim
 
--- The two colours are equal.
+-- The two colors are equal.
 unfoldable pub same_color : Color → Color → Bool
 same_color color.Default color.Default = true
 same_color (color.Idx i) (color.Idx j) = i == j
@@ -58,9 +58,9 @@ same_attrs a b =
     same_color a.fgcolor b.fgcolor && (same_color a.bgcolor b.bgcolor && (same_intensity a.intensity b.intensity
     && (same_bool a.italic b.italic && (same_bool a.underline b.underline && same_bool a.inverse b.inverse))))
 
--- The attributes of a terminal that had `attrs`, after the SGR change from `was` to `new`. They are unchanged if
--- `was` and `new` are equal, and become the defaults if `new` is the default. Otherwise, each component that differs
--- between `was` and `new` is taken from `new`.
+-- The attributes of a terminal that had `attrs`, after it reads the SGR sequence that changes `was` to `new`. If `was`
+-- and `new` are equal, nothing changes; if `new` is the default, all attributes become the defaults. Otherwise, each
+-- component that differs between `was` and `new` is taken from `new`.
 unfoldable pub changed_attrs : Attrs → Attrs → Attrs → Attrs
 changed_attrs was new attrs =
     if same_attrs was new then attrs

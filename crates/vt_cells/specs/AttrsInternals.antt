@@ -8,36 +8,37 @@ use Rattle.vt_cells.specs.declared.attrs.Intensity.TheVariants.{Normal, Bold, Di
 use Rattle.vt_cells.specs.declared.color.Color.{Color}
 use Rattle.vt_cells.specs.declared.color.Color.TheVariants.{Default, Idx, Rgb}
 
--- The colour of the given kind (0 for default, 1 for palette, 2 or more for RGB) and components.
+-- The color of the given kind (0 for default, 1 for palette, 2 or more for RGB), with as many of the given components
+-- as its kind needs.
 abbrev pub unpacked : (kind first second third : ℕ) → Color
 unpacked zero first second third = Default
 unpacked (suc zero) first second third = Idx first
 unpacked (suc (suc kind)) first second third = Rgb first second third
 
--- A colour packed into a number: its kind in the two low bits, and up to three components of eight bits each above
--- them.
+-- A color packed into a number: its kind in the low two bits, and up to three components of eight bits each above the
+-- kind.
 abbrev pub color_bits : Color → ℕ
 color_bits Default = 0
 color_bits (Idx i) = 1 + 4 * i
 color_bits (Rgb r g b) = 2 + 4 * (r + 256 * (g + 256 * b))
 
--- The colour that a packed number stands for.
+-- The color that a packed number stands for.
 abbrev pub color_of : ℕ → Color
 color_of bits = unpacked (bits % 4) (bits / 4 % 256) (bits / 4 / 256 % 256) (bits / 4 / 256 / 256 % 256)
 
--- The number is a valid packed colour, which fits in 26 bits.
+-- The number is a valid packed color, which fits in 26 bits.
 pub record IsColorBits (bits : ℕ) : Type 0 where
   pub small : bits < 67108864
   pub back : color_bits (color_of bits) ≡ bits
 
--- A style: all attributes except the colours.
+-- A style: all attributes except the colors.
 pub record StyleValue : Type 0 where
   pub intensity : Intensity
   pub italic : Bool
   pub underline : Bool
   pub inverse : Bool
 
--- The style part of attributes, without their colours.
+-- The style of a set of attributes: all attributes except the colors.
 abbrev pub style_of_attrs : Attrs → StyleValue
 style_of_attrs attrs =
     record { intensity = attrs.intensity; italic = attrs.italic; underline = attrs.underline; inverse = attrs.inverse }
@@ -60,7 +61,8 @@ intensity_bits Normal = 0
 intensity_bits Bold = 1
 intensity_bits Dim = 2
 
--- The style that the five low bits of a number stand for: two bits for the intensity and one for each flag.
+-- The style that the low five bits of a number stand for: two bits for the intensity, and one bit each for italic,
+-- underline and inverse.
 abbrev pub style_of : ℕ → StyleValue
 style_of bits = record {
   intensity = intensity_of (bits % 4);
@@ -69,13 +71,13 @@ style_of bits = record {
   inverse = bits / 16 % 2 == 1;
 }
 
--- A style packed into five bits.
+-- The five bits into which a style is packed.
 abbrev pub style_bits : StyleValue → ℕ
 style_bits style =
     intensity_bits style.intensity + (if style.italic then 4 else 0)
     + (if style.underline then 8 else 0) + (if style.inverse then 16 else 0)
 
--- The attributes given by a packed style and two packed colours.
+-- The attributes with the given packed style, packed foreground color and packed background color.
 abbrev pub attrs_of_bits : (style fgcolor bgcolor : ℕ) → Attrs
 attrs_of_bits style fgcolor bgcolor = record {
   fgcolor = color_of fgcolor;
@@ -86,15 +88,16 @@ attrs_of_bits style fgcolor bgcolor = record {
   inverse = (style_of style).inverse;
 }
 
--- The attributes that a packed word stands for: five bits of style and 26 bits for each colour.
+-- The attributes that a packed word stands for: five bits of style, then 26 bits each for the foreground and the
+-- background color.
 abbrev pub attrs_of_word : ℕ → Attrs
 attrs_of_word word = attrs_of_bits (word % 32) (word / 32 % 67108864) (word / 32 / 67108864)
 
--- The word that combines a packed style and two packed colours.
+-- The word that combines a packed style, a packed foreground color and a packed background color.
 abbrev pub word_of : (style fgcolor bgcolor : ℕ) → ℕ
 word_of style fgcolor bgcolor = style + 32 * (fgcolor + 67108864 * bgcolor)
 
--- Attributes packed into one word.
+-- The word into which a set of attributes is packed.
 abbrev pub attrs_word : Attrs → ℕ
 attrs_word attrs = word_of (style_bits (style_of_attrs attrs)) (color_bits attrs.fgcolor) (color_bits attrs.bgcolor)
 

@@ -7,6 +7,6 @@ pub record IsBuffer (len : ℕ) (text : List ℕ) : Type 0 where
   pub measured : length text ≡ len
   pub utf8 : IsUtf8 text
 
--- The text that was written, followed by the text that is still in the buffer.
+-- The text that was already written to the sink, followed by the text that is still in the buffer.
 unfoldable pub gathered : List ℕ → List ℕ → List ℕ
 gathered text buffer = text ++ buffer

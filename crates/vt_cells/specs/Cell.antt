@@ -3,7 +3,7 @@ use Rattle.std.specs.Prelude.{ℕ, ◌==◌, Bool, true, false, List, [], ◌∷
 use Rattle.vt_cells.specs.Attrs.{default_attrs, same_bool, same_attrs, Attrs}
 use Rattle.vt_cells.specs.Glyph.{IsGlyphText, marked_text}
 
--- A cell: a blank with attributes; a glyph with its UTF-8 text, wide (two columns) or narrow, and attributes; or the
+-- A cell: a blank with attributes; a narrow or wide (two-column) glyph with UTF-8 text and attributes; or the
 -- continuation cell of a wide glyph.
 pub data CellValue : Type 0 where
   blank : Attrs → CellValue
@@ -14,8 +14,8 @@ pub data CellValue : Type 0 where
 abbrev pub default_blank : CellValue
 default_blank = blank default_attrs
 
--- The cell with the given text, width, continuation flag and attributes. A cell with empty text is a blank, unless
--- it is a continuation cell.
+-- The cell with the given text, wide flag, continuation flag and attributes: a continuation cell if the continuation
+-- flag is set, otherwise a blank if the text is empty, and otherwise a glyph.
 abbrev pub cell_of : List ℕ → Bool → Bool → Attrs → CellValue
 cell_of text wide right attrs =
     if right then right_half else if length text == 0 then blank attrs else glyph text wide attrs
@@ -45,12 +45,12 @@ abbrev pub is_default_blank : CellValue → Bool
 is_default_blank (blank attrs) = same_attrs attrs default_attrs
 is_default_blank _ = false
 
--- The text of a cell, empty unless it is a glyph.
+-- The text of a cell, which is empty unless the cell is a glyph.
 abbrev pub text_of : CellValue → List ℕ
 text_of (glyph text wide attrs) = text
 text_of _ = []
 
--- The attributes of a cell; a continuation cell has the default ones.
+-- The attributes of a cell; a continuation cell has default attributes.
 abbrev pub attrs_of : CellValue → Attrs
 attrs_of (blank attrs) = attrs
 attrs_of (glyph text wide attrs) = attrs
@@ -63,26 +63,26 @@ same_cell (glyph s v a) (glyph t w b) = bytes_eq s t && (same_bool v w && same_a
 same_cell right_half right_half = true
 same_cell _ _ = false
 
--- The cell after a combining character is added to it, if there is room. A blank first becomes the glyph of a space
--- with the same attributes; a continuation cell is unchanged.
+-- The cell after a combining character is added to its text, if the text is short enough. A blank first becomes the
+-- glyph of a space with the same attributes; a continuation cell is unchanged.
 abbrev pub marked : ℕ → CellValue → CellValue
 marked mark (blank attrs) = glyph (marked_text (0x20 ∷ []) mark) false attrs
 marked mark (glyph text wide attrs) = glyph (marked_text text mark) wide attrs
 marked mark right_half = right_half
 
--- The cell with its glyph made wide or narrow; a cell without a glyph is unchanged.
+-- The cell after its glyph becomes wide or narrow; a cell without a glyph is unchanged.
 abbrev pub widened : Bool → CellValue → CellValue
 widened wide (glyph text was attrs) = glyph text wide attrs
 widened wide (blank attrs) = blank attrs
 widened wide right_half = right_half
 
--- The cell with its attributes replaced; a continuation cell is unchanged.
+-- The cell with the given attributes instead of its own; a continuation cell is unchanged.
 abbrev pub redrawn : Attrs → CellValue → CellValue
 redrawn attrs (blank was) = blank attrs
 redrawn attrs (glyph text wide was) = glyph text wide attrs
 redrawn attrs right_half = right_half
 
--- The invariant of every cell: the text of a glyph is well formed and fits its width.
+-- The invariant of every cell: the text of a glyph is a valid glyph text for the glyph's width.
 abbrev pub IsCell : CellValue → Type 0
 IsCell (glyph text wide attrs) = IsGlyphText text wide
 IsCell _ = Unit {0}

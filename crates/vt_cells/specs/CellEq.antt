@@ -1,4 +1,5 @@
--- The test that `==` computes for cells, in the form for which the standard library has laws. It equals `same_cell`.
+-- Equality of cells as `==` computes it, in a form that the laws of the standard library apply to. It equals
+-- `same_cell`.
 use Rattle.std.specs.Prelude.{ℕ, Bool, nat_eq, bytes_eq, if◌then◌else◌}
 use mathlib.Core.Bool.{beq}
 use Rattle.std.specs.Ordering.{on, eq_of_both}
@@ -12,14 +13,14 @@ use Rattle.vt_cells.specs.contracts.color.ColorPartialEq.TheImpl as colors
 use Rattle.vt_cells.specs.contracts.color.ColorEq.TheImpl.Laws.{laws-law as color_laws}
 use Rattle.vt_cells.specs.Attrs.{Attrs}
 
--- The test that `==` computes for attributes.
+-- Equality of attributes, as `==` computes it.
 abbrev pub attrs_eq : Attrs → Attrs → Bool
 attrs_eq =
     eq_of_both (on (λ a. a.fgcolor) (colors.ghosts).eq) (eq_of_both (on (λ a. a.bgcolor) (colors.ghosts).eq)
     (eq_of_both (on (λ a. a.intensity) (intensity.ghosts).eq) (eq_of_both (on (λ a. a.italic) beq)
     (eq_of_both (on (λ a. a.underline) beq) (on (λ a. a.inverse) beq)))))
 
--- The test that `==` computes for attributes is an equivalence relation.
+-- Equality of attributes, as `==` computes it, is an equivalence relation.
 pub attrs_eq_equiv : IsEquivalence attrs_eq
 attrs_eq_equiv =
     and_equiv (on_equiv (λ a. a.fgcolor) color_laws) (and_equiv (on_equiv (λ a. a.bgcolor) color_laws)
@@ -32,11 +33,11 @@ kind_of (blank attrs) = 0
 kind_of (glyph text wide attrs) = if wide then 2 else 1
 kind_of right_half = 3
 
--- The test that `==` computes for cells.
+-- Equality of cells, as `==` computes it.
 abbrev pub cell_eq : CellValue → CellValue → Bool
 cell_eq = eq_of_both (on kind_of nat_eq) (eq_of_both (on text_of bytes_eq) (on attrs_of attrs_eq))
 
--- The test that `==` computes for cells is an equivalence relation.
+-- Equality of cells, as `==` computes it, is an equivalence relation.
 pub cell_eq_equiv : IsEquivalence cell_eq
 cell_eq_equiv =
     and_equiv (on_equiv kind_of nat_eq_equiv)

@@ -1,4 +1,4 @@
--- The representation of a cell's value in its fields; for its model, private contracts and proofs only.
+-- How the fields of a cell represent its value; for the cell's model, private contracts and proofs only.
 use Rattle.std.specs.Prelude.{◌≡◌, ℕ, ◌+◌, ◌-◌, ◌*◌, ◌/◌, ◌%◌, ◌==◌, ◌&&◌, ◌<◌, ◌≤◌, Bool, true}
 use Rattle.std.specs.Prelude.{◌++◌, replicate, slice_index, take}
 use Rattle.std.specs.Prelude.{false, List, [], ◌∷◌, length, if◌then◌else◌, IsUtf8}
@@ -11,18 +11,17 @@ use Rattle.vt_cells.specs.Cell.{CellValue, blank, glyph, right_half, cell_of, is
 use Rattle.vt_cells.specs.Cell.{is_wide, text_of, attrs_of, IsCell}
 use Rattle.vt_cells.specs.Glyph.{mark_limit}
 
--- The size of a cell's text array in bytes: room for `mark_limit` bytes and one more character of four bytes.
+-- The size of a cell's text array in bytes: room for `mark_limit` bytes and one more character of up to four bytes.
 abbrev pub text_room : ℕ
 text_room = mark_limit + 4
 
--- The shape of a cell: the length of its text in bytes, whether it is a wide glyph, and whether it is a continuation
--- cell.
+-- The shape of a cell: the length of its text in bytes, and whether the cell is a wide glyph or a continuation cell.
 pub record ShapeValue : Type 0 where
   pub len : ℕ
   pub wide : Bool
   pub right_half : Bool
 
--- The two shapes are equal.
+-- The two cell shapes are equal.
 unfoldable pub same_shape : ShapeValue → ShapeValue → Bool
 same_shape a b = (a.len == b.len) && (same_bool a.wide b.wide && same_bool a.right_half b.right_half)
 
@@ -30,15 +29,16 @@ same_shape a b = (a.len == b.len) && (same_bool a.wide b.wide && same_bool a.rig
 abbrev pub blank_shape : ShapeValue
 blank_shape = record { len = 0; wide = false; right_half = false }
 
--- The shape of a cell.
+-- The shape of a cell: the length of its text in bytes, and whether the cell is a wide glyph or a continuation cell.
 abbrev pub shape_of_cell : CellValue → ShapeValue
 shape_of_cell cell = record { len = length (text_of cell); wide = is_wide cell; right_half = is_right_half cell }
 
--- The shape that a byte stands for: five bits for the length and one bit for each flag.
+-- The shape of a cell that a byte stands for: five bits for the text's length, and one bit each for a wide glyph and
+-- for a continuation cell.
 abbrev pub shape_of : ℕ → ShapeValue
 shape_of bits = record { len = bits % 32; wide = bits / 32 % 2 == 1; right_half = bits / 64 == 1 }
 
--- A shape packed into one byte.
+-- The byte into which the shape of a cell is packed.
 abbrev pub shape_bits : ShapeValue → ℕ
 shape_bits shape = shape.len + (if shape.wide then 32 else 0) + (if shape.right_half then 64 else 0)
 
@@ -46,28 +46,29 @@ shape_bits shape = shape.len + (if shape.wide then 32 else 0) + (if shape.right_
 abbrev pub half_shape : ShapeValue
 half_shape = record { len = 0; wide = false; right_half = true }
 
--- The head of a cell: everything except the bytes of its text.
+-- The head of a cell: its attributes and its shape, which is everything except the bytes of its text.
 pub record HeadValue : Type 0 where
   pub attrs : Attrs
   pub shape : ShapeValue
 
--- The two heads are equal.
+-- The heads of two cells are equal.
 unfoldable pub same_head : HeadValue → HeadValue → Bool
 same_head a b = same_shape a.shape b.shape && same_attrs a.attrs b.attrs
 
--- The head of a cell.
+-- The head of a cell: its attributes and its shape, which is everything except the bytes of its text.
 abbrev pub head_of_cell : CellValue → HeadValue
 head_of_cell cell = record { attrs = attrs_of cell; shape = shape_of_cell cell }
 
--- The head that a word stands for: the shape in the low seven bits, and the packed attributes above it.
+-- The head of a cell that a word stands for: the low seven bits hold the shape, and the bits above them the packed
+-- attributes.
 abbrev pub head_of : ℕ → HeadValue
 head_of word = record { attrs = attrs_of_word (word / 128); shape = shape_of (word % 128) }
 
--- A head packed into one word.
+-- The word into which the head of a cell (its attributes and shape) is packed.
 abbrev pub head_word : HeadValue → ℕ
 head_word head = shape_bits head.shape + 128 * attrs_word head.attrs
 
--- The word is a valid packed form of a cell's head, which has everything but the cell's text.
+-- The word is a valid packed form of a cell's head (its attributes and shape).
 pub record IsHead (word : ℕ) : Type 0 where
   pub shape : shape_bits (shape_of (word % 128)) ≡ word % 128
   pub attrs : IsAttrsWord (word / 128)
@@ -76,7 +77,8 @@ pub record IsHead (word : ℕ) : Type 0 where
 pub head_back : (word : ℕ) → IsHead word → head_word (head_of word) ≡ word
 head_back word h = (λ i. h.shape i + 128 * word_back (word / 128) h.attrs i) ∙ omega arith
 
--- The invariant that relates a cell's fields: its text and its length, its flags and its attributes.
+-- The fields of a cell are valid and consistent: the length and bytes of its text, the flags for a wide glyph and for a
+-- continuation cell, and the attributes.
 pub record IsKept (len : ℕ) (text : List ℕ) (wide right : Bool) (attrs : Attrs) : Type 0 where
   pub bounded : len ≤ text_room
   pub measured : length text ≡ len
@@ -87,13 +89,13 @@ pub record IsKept (len : ℕ) (text : List ℕ) (wide right : Bool) (attrs : Att
   pub wide_text : wide ≡ true → 0 < len
   pub sound : IsCell (cell_of text wide right attrs)
 
--- The invariant of a stored cell: valid fields, and zeros in the array after the text.
+-- The invariant of a stored cell: its fields are valid, and the bytes after the text in its text array are zero.
 pub record IsStored (head : HeadValue) (contents : List ℕ) : Type 0 where
   pub kept : IsKept head.shape.len (take head.shape.len contents) head.shape.wide head.shape.right_half head.attrs
   pub room : length contents ≡ text_room
   pub zeros : (k : ℕ) → head.shape.len ≤ k → slice_index contents k ≡ 0
 
--- The cell represented by a head and a text array.
+-- The cell represented by a head (attributes and shape) and a text array.
 abbrev pub cell_of_parts : HeadValue → List ℕ → CellValue
 cell_of_parts head contents =
     cell_of (take head.shape.len contents) head.shape.wide head.shape.right_half head.attrs
@@ -106,7 +108,7 @@ padded text = text ++ replicate (text_room - length text) 0
 unfoldable pub front : List ℕ → List ℕ
 front text = take 8 (padded text)
 
--- An array whose bytes after the first `len` are zero equals those `len` bytes, padded.
+-- If all bytes of an array after the first `len` are zero, padding those `len` bytes gives the array.
 pub padded_back : (len : ℕ) (contents : List ℕ) → length contents ≡ text_room → len ≤ text_room
     → ((k : ℕ) → len ≤ k → slice_index contents k ≡ 0) → padded (take len contents) ≡ contents
 padded_back len contents room bounded zeros =
@@ -117,7 +119,7 @@ pub cell_of-text : (text : List ℕ) (wide : Bool) (attrs : Attrs) →
     1 ≤ length text → cell_of text wide false attrs ≡ glyph text wide attrs
 cell_of-text text wide attrs low = grind (arith, nat_tests)
 
--- A cell built from valid fields has the head that the fields describe.
+-- A cell built from valid fields has the head (attributes and shape) that these fields describe.
 pub cell_head : (len : ℕ) (text : List ℕ) (wide right : Bool) (attrs : Attrs) → IsKept len text wide right attrs
     → head_of_cell (cell_of text wide right attrs)
     ≡ record { attrs = attrs; shape = record { len = len; wide = wide; right_half = right } }
@@ -132,7 +134,7 @@ cell_head len (b ∷ text) wide false attrs kept =
     rw (cell_of-text (b ∷ text) wide attrs (omega arith))
     (λ i. record { attrs = attrs; shape = record { len = kept.measured i; wide = wide; right_half = false } })
 
--- A cell built from valid fields has the text of the fields.
+-- A cell built from valid fields has the text that these fields contain.
 pub cell_text : (len : ℕ) (text : List ℕ) (wide right : Bool) (attrs : Attrs) → IsKept len text wide right attrs
     → text_of (cell_of text wide right attrs) ≡ text
 cell_text len [] wide true attrs kept = refl
@@ -152,7 +154,7 @@ stored_contents head contents h =
     (λ i. padded (cell_text _ _ _ _ _ h.kept i))
     ∙ padded_back head.shape.len contents h.room h.kept.bounded h.zeros
 
--- The cell, or the glyph of a space if the cell is a blank.
+-- The cell itself, or the glyph of a space with the same attributes if the cell is a blank.
 abbrev pub spaced : CellValue → CellValue
 spaced (blank attrs) = glyph (0x20 ∷ []) false attrs
 spaced (glyph text wide attrs) = glyph text wide attrs

@@ -4,7 +4,7 @@ use Rattle.std.specs.Prelude.{if◌then◌else◌, IsAscii}
 use Rattle.vt_cells.specs.Attrs.{Attrs, same_bool, same_intensity}
 use Rattle.vt_cells.specs.Op.{intensity_number, part}
 
--- The text is ASCII and fills an array of 64 bytes from index `start` to its end.
+-- The text is ASCII and fills a 64-byte array from index `start` to the end of the array.
 pub record IsEnd (start : ℕ) (text : List ℕ) : Type 0 where
   pub measured : start + length text ≡ 64
   pub ascii : IsAscii text
@@ -17,13 +17,13 @@ separated n = 0x3B ∷ decimal n
 abbrev pub separated_all : List ℕ → List ℕ
 separated_all ns = flat_map separated ns
 
--- The text without its first byte, unless that is its only byte.
+-- The text without its first byte; a text of at most one byte is unchanged.
 abbrev pub without_separator : List ℕ → List ℕ
 without_separator [] = []
 without_separator (x ∷ []) = x ∷ []
 without_separator (x ∷ y ∷ rest) = y ∷ rest
 
--- The SGR parameters for a change of style, that is, of all attributes except the colours.
+-- The SGR parameters for the difference in style (all attributes except the colors) between two sets of attributes.
 abbrev pub style_part : Attrs → Attrs → List ℕ
 style_part was new =
     part (same_intensity was.intensity new.intensity) (intensity_number new.intensity ∷ [])

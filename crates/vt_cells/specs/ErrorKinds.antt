@@ -4,8 +4,8 @@ use Rattle.std.specs.declared.io.ErrorKind.TheVariants as kind
 use Rattle.vt_cells.specs.declared.error.Error.{Error}
 use Rattle.vt_cells.specs.declared.error.Error.TheVariants.{OutOfMemory, Failed, NoNumber}
 
--- The kind that an error is converted to: `OutOfMemory` becomes the kind of the same name, and any other error
--- becomes `Other`.
+-- The `io::ErrorKind` that an error is converted to: `OutOfMemory` becomes the kind of the same name, and any other
+-- error becomes `Other`.
 abbrev pub kind_of : Error → ErrorKind
 kind_of OutOfMemory = kind.OutOfMemory
 kind_of Failed = kind.Other

@@ -5,9 +5,9 @@ use Rattle.std.specs.List.{list_any, AllByRecursion}
 use Rattle.std.specs.Char.{encode_utf8, IsScalar}
 use Rattle.unicode_width.specs.Width.{char_width, str_width}
 
--- The number of columns of the character `c`, given the width that `unicode_width` returns for it. The width is
--- limited to 2. A character without a width takes one column if it is U+0100 or above; otherwise it is a control
--- character (UAX #11).
+-- The number of columns of the character `c`, given the width that `unicode_width` returns for it: that width, but at
+-- most 2. A character without a width takes one column if it is U+0100 or above; otherwise it is a control character,
+-- and the result is `None` (UAX #11).
 abbrev pub columns_or : ℕ → Option ℕ → Option ℕ
 columns_or c (Some width) = Some (min width 2)
 columns_or c None = if nat_lt c 0x100 then None else Some 1
@@ -32,20 +32,21 @@ mark_limit = 26
 abbrev pub has_room : List ℕ → Bool
 has_room text = nat_lt (length text) mark_limit
 
--- The text with a combining character appended, if there is room.
+-- The text with a combining character appended, if the text is short enough.
 abbrev pub marked_text : List ℕ → ℕ → List ℕ
 marked_text text mark = if has_room text then text ++ encode_utf8 mark else text
 
--- The character is a combining character: it takes no column of its own.
+-- The character is a combining character, that is, it takes no column of its own.
 abbrev pub IsMark : ℕ → Type 0
 IsMark c = IsScalar c × (columns_of c ≡ Some 0)
 
--- The text `whole` is `text` followed by combining characters, each of which was appended while there was room.
+-- The last text consists of the first one followed by the given combining characters, each appended while the text
+-- before it was short enough.
 abbrev pub Joins : List ℕ → List ℕ → List ℕ → Type 0
 Joins text [] whole = text ≡ whole
 Joins text (mark ∷ marks) whole = (has_room text ≡ true) × Joins (text ++ encode_utf8 mark) marks whole
 
--- The number of columns of a wide or narrow glyph.
+-- The number of columns of a glyph: 2 if it is wide, otherwise 1.
 abbrev pub glyph_columns : Bool → ℕ
 glyph_columns wide = if wide then 2 else 1
 

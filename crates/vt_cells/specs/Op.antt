@@ -24,7 +24,7 @@ pub data Op : Type 0 where
   EraseBelow : Op
   -- Erases from the cursor to the end of its row.
   EraseRest : Op
-  -- Erases this many columns, starting at the cursor.
+  -- Erases `count` columns, starting at the cursor.
   EraseChars : (count : ℕ) → Op
   SaveCursor : Op
   RestoreCursor : Op
@@ -54,16 +54,16 @@ joined [] = []
 joined (n ∷ []) = decimal n
 joined (n ∷ m ∷ ns) = decimal n ++ 0x3B ∷ joined (m ∷ ns)
 
--- The SGR parameters of a foreground colour: one number for the first 16 palette colours, and xterm's long form for
--- other colours.
+-- The SGR parameters of a foreground color: one number for the default color and the first 16 palette colors, and
+-- xterm's long form for all other colors.
 unfoldable pub foreground_numbers : Color → List ℕ
 foreground_numbers Default = 39 ∷ []
 foreground_numbers (Idx i) =
     if nat_lt i 8 then (30 + i) ∷ [] else if nat_lt i 16 then (82 + i) ∷ [] else 38 ∷ 5 ∷ i ∷ []
 foreground_numbers (Rgb r g b) = 38 ∷ 2 ∷ r ∷ g ∷ b ∷ []
 
--- The SGR parameters of a background colour: one number for the first 16 palette colours, and xterm's long form for
--- other colours.
+-- The SGR parameters of a background color: one number for the default color and the first 16 palette colors, and
+-- xterm's long form for all other colors.
 unfoldable pub background_numbers : Color → List ℕ
 background_numbers Default = 49 ∷ []
 background_numbers (Idx i) =
@@ -76,12 +76,12 @@ intensity_number Normal = 22
 intensity_number Bold = 1
 intensity_number Dim = 2
 
--- The SGR parameters for one component of the attributes; none if it is unchanged.
+-- The SGR parameters for one component of the attributes; none if the component is unchanged.
 abbrev pub part : Bool → List ℕ → List ℕ
 part same numbers = if same then [] else numbers
 
--- The SGR parameters of all components that differ, in this order: foreground, background, intensity, italics,
--- underline, inverse.
+-- The SGR parameters for the components in which two sets of attributes differ, in this order: foreground, background,
+-- intensity, italic, underline, inverse.
 unfoldable pub change_numbers : Attrs → Attrs → List ℕ
 change_numbers was new =
     part (same_color was.fgcolor new.fgcolor) (foreground_numbers new.fgcolor)
@@ -91,15 +91,15 @@ change_numbers was new =
     ++ (part (same_bool was.underline new.underline) ((if new.underline then 4 else 24) ∷ [])
     ++ part (same_bool was.inverse new.inverse) ((if new.inverse then 7 else 27) ∷ [])))))
 
--- The SGR sequence that changes one set of attributes to another. It is empty if they are equal, and has no
--- parameters if the new attributes are the default.
+-- The SGR sequence that changes one set of attributes to another. The sequence is empty if the two sets are equal, and
+-- has no parameters if the new attributes are the defaults.
 unfoldable pub change_text : Attrs → Attrs → List ℕ
 change_text was new =
     if same_attrs was new then []
     else if same_attrs new default_attrs then csi [] 0x6D
     else csi (joined (change_numbers was new)) 0x6D
 
--- The bytes of an operation.
+-- The bytes that a redraw writes for an operation.
 abbrev pub bytes_of : Op → List ℕ
 bytes_of (Hide true) = csi (0x3F ∷ 0x32 ∷ 0x35 ∷ []) 0x6C
 bytes_of (Hide false) = csi (0x3F ∷ 0x32 ∷ 0x35 ∷ []) 0x68
@@ -117,7 +117,7 @@ bytes_of RestoreCursor = 0x1B ∷ 0x38 ∷ []
 bytes_of (ChangeAttrs was new) = change_text was new
 bytes_of (Print text) = text
 
--- The bytes of a list of operations.
+-- The bytes that a redraw writes for a list of operations.
 abbrev pub bytes_of_all : List Op → List ℕ
 bytes_of_all ops = flat_map bytes_of ops
 
@@ -130,17 +130,18 @@ moving from_row from_col to_row to_col =
     else if (to_row == from_row) && (to_col == from_col) then []
     else MoveTo to_row to_col ∷ []
 
--- The colour's palette index or components fit in bytes.
+-- The palette index of the color, or each of its RGB components, fits in a byte.
 abbrev pub FitsColor : Color → Type 0
 FitsColor Default = Unit {0}
 FitsColor (Idx i) = i < 256
 FitsColor (Rgb r g b) = (r < 256) × ((g < 256) × (b < 256))
 
--- The palette index or components of each colour fit in bytes.
+-- The palette indices and RGB components of the foreground and background colors fit in a byte each.
 abbrev pub FitsAttrs : Attrs → Type 0
 FitsAttrs attrs = FitsColor attrs.fgcolor × FitsColor attrs.bgcolor
 
--- The operation's numbers fit in their types: rows, columns and counts in 16 bits, and colour components in bytes.
+-- The numbers in the operation are in range: rows, columns and counts fit in 16 bits, and palette indices and RGB
+-- components in bytes.
 abbrev pub FitsOp : Op → Type 0
 FitsOp (MoveTo row col) = (row < 2 ^ 16) × (col < 2 ^ 16)
 FitsOp (MoveRight count) = count < 2 ^ 16

@@ -1,4 +1,4 @@
-//! Text attributes of a cell: colours, intensity, italics, underline and inverse.
+//! Text attributes of a cell: colors, intensity, italics, underline and inverse.
 
 ghost use Rattle.std.specs.Prelude.{◌≡◌, ◌<◌, if◌then◌else◌};
 ghost use Rattle.vt_cells.specs.Attrs.{default_attrs, is_bold, is_dim, same_attrs, same_color};
@@ -33,11 +33,11 @@ pub enum Intensity {
     Dim,
 }
 
-/// The text attributes of a cell: foreground and background colour, intensity, italics, underline
+/// The text attributes of a cell: foreground and background color, intensity, italics, underline
 /// and inverse video (ECMA-48, SGR).
 ///
-/// All six are packed into one word: five bits of style and 26 bits for each colour. Two values are
-/// equal if and only if their words are.
+/// All six attributes are packed into one word: five bits of style and 26 bits for each color. Two
+/// values are equal if and only if their words are equal.
 #[derive(Clone, Copy, Debug)]
 pub struct Attrs {
     word: u64,
@@ -71,7 +71,7 @@ impl Model for Attrs {
 }
 
 impl Attrs {
-    /// Returns the attributes of a new screen: default colours, normal intensity and no other
+    /// Returns the attributes of a new screen: default colors, normal intensity and no other
     /// style.
     #[inline]
     pub fn new() -> Self
@@ -148,7 +148,7 @@ impl Attrs {
         Attrs { word }
     }
 
-    /// Returns the foreground colour in packed form.
+    /// Returns the foreground color in packed form.
     #[inline]
     fn front(&self) -> PackedColor
         ensures { result ≡ self.now.fgcolor }
@@ -156,7 +156,7 @@ impl Attrs {
         PackedColor::of_bits((self.word / 32 % 0x400_0000) as u32)
     }
 
-    /// Returns the background colour in packed form.
+    /// Returns the background color in packed form.
     #[inline]
     fn back(&self) -> PackedColor
         ensures { result ≡ self.now.bgcolor }
@@ -173,7 +173,7 @@ impl Attrs {
         self.word == other.word
     }
 
-    /// Returns whether the foreground colour equals that of `other`.
+    /// Returns whether the foreground color equals that of `other`.
     #[inline]
     pub fn has_fgcolor_of(&self, other: &Attrs) -> bool
         ensures { result ≡ same_color self.now.fgcolor other.now.fgcolor }
@@ -181,7 +181,7 @@ impl Attrs {
         self.front().is_same(&other.front())
     }
 
-    /// Returns whether the background colour equals that of `other`.
+    /// Returns whether the background color equals that of `other`.
     #[inline]
     pub fn has_bgcolor_of(&self, other: &Attrs) -> bool
         ensures { result ≡ same_color self.now.bgcolor other.now.bgcolor }
@@ -189,7 +189,7 @@ impl Attrs {
         self.back().is_same(&other.back())
     }
 
-    /// Returns whether all attributes except the colours equal those of `other`.
+    /// Returns whether all attributes except the colors equal those of `other`.
     #[inline]
     #[tactic(auto, using(crate::proofs::Packing::bits_same))]
     pub fn has_style_of(&self, other: &Attrs) -> bool
@@ -198,7 +198,7 @@ impl Attrs {
         self.word % 32 == other.word % 32
     }
 
-    /// Returns the foreground colour.
+    /// Returns the foreground color.
     #[inline]
     pub fn fgcolor(&self) -> Color
         ensures { result ≡ self.now.fgcolor }
@@ -206,7 +206,7 @@ impl Attrs {
         self.front().color()
     }
 
-    /// Returns the background colour.
+    /// Returns the background color.
     #[inline]
     pub fn bgcolor(&self) -> Color
         ensures { result ≡ self.now.bgcolor }
@@ -258,7 +258,7 @@ impl Attrs {
         self.word / UNDERLINE % 2 == 1
     }
 
-    /// Returns whether the foreground and background colours are swapped (inverse video).
+    /// Returns whether the foreground and background colors are swapped (inverse video).
     #[inline]
     pub fn inverse(&self) -> bool
         ensures { result ≡ self.now.inverse }
@@ -266,7 +266,7 @@ impl Attrs {
         self.word / INVERSE % 2 == 1
     }
 
-    /// Sets the foreground colour.
+    /// Sets the foreground color.
     pub fn set_fgcolor(&mut self, fgcolor: Color)
         ensures { self.new ≡ record self.old { fgcolor = fgcolor } }
     {
@@ -276,7 +276,7 @@ impl Attrs {
         });
     }
 
-    /// Sets the background colour.
+    /// Sets the background color.
     pub fn set_bgcolor(&mut self, bgcolor: Color)
         ensures { self.new ≡ record self.old { bgcolor = bgcolor } }
     {
@@ -364,7 +364,7 @@ impl Default for Attrs {
     }
 }
 
-/// Returns the low five bits of a packed [`Attrs`] word, which hold everything except the colours.
+/// Returns the low five bits of a packed [`Attrs`] word, which hold everything except the colors.
 #[inline]
 #[tactic(auto, using(crate::proofs::Packing::style_back, crate::proofs::Packing::style_small))]
 fn style_bits(intensity: Intensity, italic: bool, underline: bool, inverse: bool) -> u64

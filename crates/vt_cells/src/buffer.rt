@@ -44,8 +44,8 @@ impl Buffer {
         }
     }
 
-    /// Appends `text` to the buffer. If it does not fit, writes the buffered bytes and then `text`
-    /// to `sink` instead.
+    /// Appends `text` to the buffer. If `text` does not fit, writes the buffered bytes and then
+    /// `text` to `sink` instead.
     ///
     /// # Errors
     ///

@@ -162,7 +162,7 @@ impl Cell {
         ])
     }
 
-    /// Returns the foreground colour.
+    /// Returns the foreground color.
     #[inline]
     pub fn fgcolor(&self) -> Color
         ensures { result ≡ (attrs_of self.now).fgcolor }
@@ -170,7 +170,7 @@ impl Cell {
         self.head.attrs().fgcolor()
     }
 
-    /// Returns the background colour.
+    /// Returns the background color.
     #[inline]
     pub fn bgcolor(&self) -> Color
         ensures { result ≡ (attrs_of self.now).bgcolor }
@@ -210,7 +210,7 @@ impl Cell {
         self.head.attrs().underline()
     }
 
-    /// Returns whether the cell's foreground and background colours are swapped (inverse video).
+    /// Returns whether the cell's foreground and background colors are swapped (inverse video).
     #[inline]
     pub fn inverse(&self) -> bool
         ensures { result ≡ (attrs_of self.now).inverse }

@@ -1,15 +1,15 @@
-//! Colours of cells.
+//! Colors of cells.
 
-/// A foreground or background colour of a cell.
+/// A foreground or background color of a cell.
 #[derive(Clone, Copy, PartialEq, Eq, Debug, Default)]
 pub enum Color {
-    /// The terminal's default colour.
+    /// The terminal's default color.
     #[default]
     Default,
 
-    /// A colour of the 256-colour palette, given by its index.
+    /// A color of the 256-color palette, given by its index.
     Idx(u8),
 
-    /// A colour given by its red, green and blue components.
+    /// A color given by its red, green and blue components.
     Rgb(u8, u8, u8),
 }

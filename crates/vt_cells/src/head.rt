@@ -9,7 +9,7 @@ use crate::shape::Shape;
 use std::marker::Model;
 
 /// The shape and the attributes of a cell, packed into one word: the shape in the low seven bits,
-/// the attributes above them. Two heads are equal if and only if their words are.
+/// the attributes above them. Two heads are equal if and only if their words are equal.
 #[derive(Clone, Copy, Debug)]
 pub struct Head {
     word: u64,

@@ -1,4 +1,4 @@
-//! The values that a terminal screen is made of (colours, attributes, cells, positions and modes),
+//! The values that a terminal screen is made of (colors, attributes, cells, positions and modes),
 //! and the short escape sequences that describe changes to them.
 #![tactic(auto)]
 

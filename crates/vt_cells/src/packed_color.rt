@@ -1,4 +1,4 @@
-//! A colour packed into 26 bits.
+//! A color packed into 26 bits.
 
 ghost use Rattle.std.specs.Prelude.{◌≡◌};
 ghost use Rattle.vt_cells.specs.Attrs.{same_color};
@@ -8,9 +8,9 @@ ghost use Rattle.vt_cells.specs.declared.color.Color.TheVariants as color;
 use crate::color::Color;
 use std::marker::Model;
 
-/// A colour packed into 26 bits: its kind in the low two bits, and above them three components of
-/// eight bits. Components that the kind does not use are 0. Two colours are equal if and only if
-/// their bits are.
+/// A color packed into 26 bits: its kind in the low two bits, and above them three components of
+/// eight bits. Components that the kind does not use are 0. Two colors are equal if and only if
+/// their bits are equal.
 #[derive(Clone, Copy, Debug)]
 pub struct PackedColor {
     bits: u32,
@@ -32,7 +32,7 @@ impl Model for PackedColor {
 }
 
 impl PackedColor {
-    /// Packs a colour.
+    /// Packs a color.
     #[inline]
     pub fn of(color: Color) -> Self
         ensures { result ≡ color }
@@ -44,7 +44,7 @@ impl PackedColor {
         }
     }
 
-    /// Packs a palette colour, given by its index.
+    /// Packs a palette color, given by its index.
     #[inline]
     fn index(i: u8) -> Self
         ensures { result ≡ color.Idx i }
@@ -54,7 +54,7 @@ impl PackedColor {
         }
     }
 
-    /// Packs a colour given by its red, green and blue components.
+    /// Packs a color given by its red, green and blue components.
     #[inline]
     fn rgb(r: u8, g: u8, b: u8) -> Self
         ensures { result ≡ color.Rgb r g b }
@@ -64,7 +64,7 @@ impl PackedColor {
         }
     }
 
-    /// Returns the unpacked colour.
+    /// Returns the unpacked color.
     #[inline]
     pub fn color(&self) -> Color
         ensures { result ≡ self.now }
@@ -90,7 +90,7 @@ impl PackedColor {
         self.bits
     }
 
-    /// Creates a packed colour from its bits.
+    /// Creates a packed color from its bits.
     #[inline]
     pub fn of_bits(bits: u32) -> Self
         requires { IsColorBits bits }
@@ -99,7 +99,7 @@ impl PackedColor {
         PackedColor { bits }
     }
 
-    /// Returns whether the two colours are equal.
+    /// Returns whether the two colors are equal.
     #[inline]
     #[tactic(auto, using(crate::proofs::Packing::packed_same))]
     pub fn is_same(&self, other: &PackedColor) -> bool

@@ -8,8 +8,8 @@ use unicode_width::UnicodeWidthChar;
 /// Returns the number of columns that a character takes, 0 to 2, or `None` for a control character
 /// (UAX #11).
 ///
-/// A character for which `unicode_width` returns more than two columns takes two. A character for
-/// which it returns `None` takes one column if it is U+0100 or above.
+/// A character for which `unicode_width` returns more than two columns takes two. If
+/// `unicode_width` returns `None` for a character from U+0100 up, the character takes one column.
 #[inline]
 pub fn columns(c: char) -> Option<u8>
     ensures { result ≡ columns_of c }

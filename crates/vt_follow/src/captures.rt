@@ -6,14 +6,15 @@ use std::num::NonZeroU16;
 use vt_notes::Recorder;
 use vt100::Parser;
 
-/// The scrollback capacities with which the stream is captured.
+/// The scrollback capacities with which the recorded stream is captured.
 const CAPACITIES: [usize; 4] = [0, 1, 7, 1000];
 
-/// Input that ends any incomplete sequence of the stream, and activates the main page.
+/// Input that ends an incomplete sequence of the recorded stream, and activates the main page.
 const END: &[u8] = b"\x18\x1b[?1049l";
 
-/// Returns whether the capture of the rows that scroll off the main page, followed by scrollback
-/// and the page, is the same for each scrollback capacity. The stream must not contain RIS.
+/// Returns whether the capture of a stream is the same for each scrollback capacity. The capture
+/// consists of the rows that scroll off the main page, followed by scrollback and the page. The
+/// stream must not contain RIS.
 pub fn are_one(alloc: Global, size: (NonZeroU16, NonZeroU16), bytes: &[u8]) -> Result<bool> {
     let mut first = None;
     for capacity in CAPACITIES {

@@ -1,4 +1,5 @@
-//! A terminal that is kept equal to another one by escape sequences alone.
+//! A follower: a terminal that is kept equal to another terminal, its leader, by escape sequences
+//! alone.
 
 use crate::pace::{Pace, may_scroll};
 use crate::picture::{Part, differing, have_same_cells, have_same_flags};
@@ -12,15 +13,16 @@ use vt100::{Parser, Screen};
 /// The scrollback capacity of the follower in rows.
 const KEPT: usize = 100;
 
-/// Input that fills the follower's main page with wrapped rows, and its scrollback.
+/// Input that fills the follower's scrollback, and its main page with wrapped rows.
 const MAIN: &[u8] =
     b"\x1b[7mthe main page \xe4\xb8\xad\x1b[100b\r\n\x1b[32m$ \x1b[3S\x1b[m# \x1b[90b";
 
 /// Input that enters the alternate page, and prints there with other attributes.
 const ALTERNATE: &[u8] = b"\x1b[?1049h\x1b[1;4;33;44malternate \xe4\xb8\xad\x1b[200b\x1b[?25l";
 
-/// Feeds these bytes to one terminal, and makes another one follow it at this pace. The follower
-/// stays on its alternate page; at the end, its main page and scrollback must be unchanged.
+/// Feeds `bytes` to one terminal, the leader, and keeps a second terminal, the follower, equal to
+/// it with updates at the intervals of `pace`. The follower stays on its alternate page; at the
+/// end, its main page and scrollback must be unchanged.
 pub fn follow(
     alloc: Global,
     (rows, cols): (NonZeroU16, NonZeroU16),
@@ -41,8 +43,8 @@ pub fn follow(
     Ok(tally)
 }
 
-/// Redraws the leader on the follower, and then parses the bytes and updates the follower until
-/// both differ.
+/// Draws the leader's screen on the follower, and then feeds the bytes to the leader and updates
+/// the follower. Stops at the first difference between the two terminals.
 fn follow_each(
     leader: &mut Parser,
     follower: &mut Parser<Notes>,
@@ -76,8 +78,8 @@ fn redraw(leader: &Screen, follower: &mut Parser<Notes>) -> Result<()> {
     Ok(follower.process(text.as_bytes())?)
 }
 
-/// Feeds a chunk to the leader and the difference to the follower, and returns the length of the
-/// difference in bytes. The difference moves rows first if `scrolls`.
+/// Feeds a chunk to the leader and the resulting diff to the follower. Returns the length of the
+/// diff in bytes. If `scrolls` is true, the diff may move rows first.
 fn update(
     leader: &mut Parser,
     follower: &mut Parser<Notes>,
@@ -101,8 +103,8 @@ fn difference(screen: &Screen, prev: &Screen, scrolls: bool) -> Result<String> {
     Ok(screen.contents_diff(prev)?)
 }
 
-/// Returns whether a screen with its main page active has the same cells, wrapped flags and
-/// scrollback as before.
+/// Returns whether two screens, whose main pages are active, have the same cells, wrapped flags and
+/// scrollback.
 fn has_kept(screen: &mut Screen, before: &mut Screen) -> Result<bool> {
     let rows = screen.size().0.get();
     let kept = screen.scrollback_len();

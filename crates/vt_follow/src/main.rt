@@ -1,9 +1,10 @@
-//! `vt_follow ROWS COLS SEED FILE`: keeps a terminal equal to one that parses a recorded stream, by
-//! one redraw and then differences, and compares both after each update. Also captures the stream
-//! with various scrollback capacities, and lets viewers of a mirror follow it.
+//! `vt_follow ROWS COLS SEED FILE`: keeps a terminal equal to a second terminal that parses a
+//! recorded stream, by one redraw followed by diffs, and compares the two terminals after each
+//! update. Also captures the stream with various scrollback capacities, and lets viewers of a
+//! mirror follow the stream.
 //!
-//! Prints two lines with the counts, and after each the first difference, if there is one. The
-//! status is 1 if something differs.
+//! Prints two lines with the counts, each followed by the first difference if there is one. The
+//! exit status is 1 if something differs.
 #![tactic(auto)]
 
 mod captures;

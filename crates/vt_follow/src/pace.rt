@@ -1,4 +1,4 @@
-//! Random choices: the number of bytes between two updates, and the actions of viewers.
+//! Random choices of the number of bytes between two updates and of the actions of viewers.
 
 ghost use Rattle.std.specs.Prelude.{◌<◌};
 
@@ -12,7 +12,7 @@ pub struct Pace {
 }
 
 impl Pace {
-    /// Creates a generator with this seed.
+    /// Creates a generator with the given seed.
     pub fn new(seed: u32) -> Self {
         Pace { state: seed }
     }
@@ -35,8 +35,9 @@ impl Pace {
     }
 }
 
-/// Returns whether the difference after `count` earlier ones may move rows first. Two differences
-/// that only draw alternate with two that may move rows, so that each kind follows each.
+/// Returns whether the next diff, after `count` earlier diffs, may move rows first. Two diffs that
+/// never move rows alternate with two diffs that may do so; each kind is therefore tested after
+/// itself and after the other kind.
 pub fn may_scroll(count: usize) -> bool {
     count % 4 >= 2
 }

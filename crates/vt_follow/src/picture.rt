@@ -3,7 +3,7 @@
 use std::fmt;
 use vt100::{Color, Screen};
 
-/// A part in which a terminal that follows another one may differ.
+/// A part of the state in which a follower may differ from its leader.
 #[derive(Clone, Copy)]
 pub enum Part {
     /// A displayed cell or its attributes.
@@ -21,7 +21,7 @@ pub enum Part {
     /// The callbacks that were invoked.
     Calls,
 
-    /// The page that is not active, or scrollback.
+    /// The inactive page, or scrollback.
     Rest,
 
     /// Captures of the whole stream with different scrollback capacities.

@@ -3,24 +3,25 @@
 use crate::picture::Part;
 use std::fmt;
 
-/// The counts of a run, and the first difference.
+/// The counts of a run, and the first difference, if any.
 #[derive(Clone, Copy, Default)]
 pub struct Tally {
-    /// The number of differences that were parsed.
+    /// The number of diffs that were parsed.
     pub updates: usize,
 
     /// The number of bytes that the leader parsed.
     pub read: usize,
 
-    /// The total length of the differences in bytes.
+    /// The total length of the diffs in bytes.
     pub written: usize,
 
-    /// The first part that differs, if any.
+    /// The first part of the state that differs, if any.
     pub differs: Option<Part>,
 }
 
 impl Tally {
-    /// Counts an update.
+    /// Counts an update, with the number of bytes that the leader read and the
+    /// length of the diff.
     pub fn count(&mut self, read: usize, written: usize) {
         self.updates = self.updates.saturating_add(1);
         self.read = self.read.saturating_add(read);

@@ -12,20 +12,20 @@ use vt100::{Parser, Screen};
 /// The maximum number of viewers.
 const SEATS: u32 = 20;
 
-/// The number of seats that are visited after each chunk of input.
+/// The number of viewers that join, leave or are updated after each chunk of input.
 const VISITS: u32 = 4;
 
-/// The average number of visits for each viewer that leaves.
+/// The average number of visits after which a viewer leaves.
 const LEAVING: u32 = 8;
 
-/// The average number of chunks for each resize of the mirror.
+/// The average number of chunks of input between two resizes of the mirror.
 const RESIZED: u32 = 16;
 
 /// The maximum number of rows after a resize.
 const MOST_ROWS: u32 = 40;
 
-/// The minimum number of columns after a resize. With one column, a glyph may stay narrow that
-/// U+FE0F makes wide elsewhere; it would not be steady with more columns.
+/// The minimum number of columns after a resize. With one column, a glyph that U+FE0F makes wide on
+/// wider screens stays narrow, and would be unsteady after a resize to more columns.
 const LEAST_COLS: u32 = 2;
 
 /// The maximum number of columns after a resize.
@@ -37,7 +37,7 @@ const SIZE: (u16, u16) = (3, 7);
 /// The scrollback capacity of a viewer's terminal in rows.
 const KEPT: usize = 5;
 
-/// The input of a viewer's terminal before it becomes a viewer's.
+/// Input that a terminal parses before it becomes the terminal of a viewer.
 const BEFORE: &[u8] = b"\x1b[7mbefore \xe4\xb8\xad\x1b[30b\x1b[32;1m\x1b[?25l";
 
 /// A viewer: its number, and its terminal.
@@ -47,7 +47,8 @@ struct Viewer {
     terminal: Parser,
 }
 
-/// A mirror, a terminal that parses and is resized like it, and the viewers.
+/// A mirror, a leader (a terminal that parses the same input and is resized in the same way), and
+/// the viewers.
 #[derive(Drop)]
 struct Hall {
     mirror: Mirror,
@@ -55,8 +56,8 @@ struct Hall {
     viewers: Vec<Viewer>,
 }
 
-/// Feeds these bytes to a mirror in chunks, visits its viewers in between, and updates all of them
-/// at the end.
+/// Feeds `bytes` to a mirror in chunks, makes viewers join, leave and update in between, and
+/// updates all viewers at the end.
 pub fn follow(
     alloc: Global,
     (rows, cols): (NonZeroU16, NonZeroU16),
@@ -98,7 +99,7 @@ fn size_of(rows: u16, cols: u16) -> Result<(NonZeroU16, NonZeroU16)> {
     Ok((rows, cols))
 }
 
-/// Creates a terminal that is plain and does not display what the mirror does.
+/// Creates a plain terminal whose display differs from that of the mirror.
 fn terminal(alloc: Global) -> Result<Parser> {
     let (rows, cols) = size_of(SIZE.0, SIZE.1)?;
     let mut terminal = Parser::new(alloc, rows, cols, KEPT)?;
@@ -141,7 +142,7 @@ impl Hall {
         Ok(())
     }
 
-    /// Removes the viewer at a seat, and checks that the mirror no longer knows it.
+    /// Removes the viewer at index `seat`, and checks that the mirror no longer has this viewer.
     fn leave(&mut self, seat: usize, visits: &mut Visits) {
         if seat >= self.viewers.len() {
             return;
@@ -154,7 +155,7 @@ impl Hall {
         }
     }
 
-    /// Updates the viewer at a seat, and checks that it displays what the leader displays.
+    /// Updates the viewer at index `seat`, and checks that it displays what the leader displays.
     fn update(&mut self, seat: usize, visits: &mut Visits) -> Result<()> {
         let Some(viewer) = self.viewers.get_mut(seat) else {
             return Ok(());

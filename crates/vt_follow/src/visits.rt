@@ -1,9 +1,10 @@
-//! Counts of what viewers did.
+//! Counts of viewers that joined, left and were updated.
 
 use std::fmt;
 use vt_mirror::Update;
 
-/// Counts of viewers that joined, left and were updated, and whether one differed.
+/// Counts of viewers that joined, left and were updated, and whether the display of a viewer
+/// differed.
 #[derive(Clone, Copy, Default)]
 pub struct Visits {
     /// The number of viewers that joined.
@@ -15,11 +16,11 @@ pub struct Visits {
     /// The number of full updates that were parsed.
     pub full: usize,
 
-    /// The number of differences that were parsed.
+    /// The number of diffs that were parsed.
     pub differences: usize,
 
-    /// Whether a viewer displayed something else, or was still known to the mirror after it had
-    /// left.
+    /// Whether a viewer's display differed from the mirror's, or the mirror still had a viewer that
+    /// had left.
     pub differs: bool,
 }
 

@@ -1,4 +1,4 @@
--- Erasing from the start of a row or a page, or a whole one, leaves a valid page.
+-- Erasing a row or a page, from its start or as a whole, leaves a valid page.
 use Rattle.std.proofs.Common.{◌≡◌, ℕ, ◌+◌, ◌-◌, ◌<◌, min, List, ◌++◌, length}
 use Rattle.std.proofs.Common.{drop, replicate, get_or, refl, ap, ◌∙◌, arith}
 use Rattle.std.proofs.lemmas.List.{length-append, length-drop, length-replicate}
@@ -34,7 +34,7 @@ length-blanked_above attrs page p =
       length-drop page.row page.rows,
     )
 
--- The last row is not above the cursor's, and is unchanged.
+-- Blanking the rows above the cursor leaves the last row unchanged.
 above_last : (rows : List RowValue) (r : ℕ) (blank d : RowValue) → r < length rows →
     get_or (replicate r blank ++ drop r rows) (length rows - 1) d ≡ get_or rows (length rows - 1) d
 above_last rows r blank d h =

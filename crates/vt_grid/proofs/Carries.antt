@@ -1,5 +1,5 @@
--- A glyph that U+FE0F makes wide at a pending wrap: it is removed and put on the next row, or put back if memory for
--- a row that scrolls off cannot be allocated.
+-- A glyph that U+FE0F makes wide while a wrap is pending: it is removed and put on the next row, or put back if memory
+-- for a row that scrolls off cannot be allocated.
 use Rattle.std.proofs.Common.{◌≡◌, ℕ, ◌+◌, ◌-◌, ◌<◌, ◌==◌, ◌&&◌, nat_lt, not, Bool, true, false}
 use Rattle.std.proofs.Common.{List, length, set, refl, inl, inr, sym, ap, ◌∙◌, arith}
 use Rattle.std.specs.Prelude.{if◌then◌else◌}
@@ -98,7 +98,7 @@ restored_at k j attrs cells p r w = elim (cases_lt j k) [
   ]
 ]
 
--- Putting the cell back restores the row.
+-- Putting a removed narrow cell back restores the cells of the row.
 put_back_cells : (k : ℕ) (attrs : Attrs) (cells : List CellValue) → IsPaired cells →
     is_right_half (at cells k) ≡ false → is_wide (at cells k) ≡ false →
     k < length cells → set (erased k 1 attrs cells) k (at cells k) ≡ cells
@@ -135,7 +135,7 @@ pub sized_with_row : (rows cols r : ℕ) (row : RowValue) (page : Page) →
 sized_with_row rows cols r row page p s =
     sized rows cols page (with_row r row page) s (length-set page.rows r row) refl p
 
--- Putting the cell back restores the page.
+-- Putting a removed narrow cell back restores the page.
 pub put_back_is : (k : ℕ) (attrs : Attrs) (page : Page) → IsMarkPlace (cursor_row page).cells page.column k →
     is_wide (at (cursor_row page).cells k) ≡ false → IsPage page →
     with_row page.row (record {

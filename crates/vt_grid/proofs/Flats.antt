@@ -54,7 +54,7 @@ cells_at-put_same w n p cells new e h l =
     let inside = place_inside p n w h in
     between-put_mid (p * w) w cells new (p * w + w) (omega (arith, inside, e)) (omega (arith, l))
 
--- The vector of cells after those of place p were borrowed and became `new`.
+-- If the cells of place p are borrowed and become `new`, the vector of cells has `new` at that place.
 pub written : (w n p a k : ℕ) (v now : Vec CellValue Global) (xs new : List CellValue) →
     now ≡ with_items v (put_mid a k xs new) → xs ≡ v.items →
     length v.items ≡ n * w → p < n → a ≡ p * w → k ≡ w → length new ≡ w →
@@ -78,7 +78,7 @@ pub row_found : (w r : ℕ) (cells : List CellValue) (lines : List Line) (d : Ro
 unfolding rows_in
 row_found w r cells lines d h = get_or-map (row_in w cells) lines r no_line d h
 
--- The rows of a page whose table was replaced, if each entry stands for the given row.
+-- If each entry of a table stands for the row at its index in a list, the rows of the table are that list.
 pub rows_in_by : (w : ℕ) (cells : List CellValue) (lines : List Line) (rows : List RowValue) (d : RowValue) →
     length rows ≡ length lines →
     ((k : ℕ) → k < length lines → row_in w cells (line_at lines k) ≡ get_or rows k d) → rows_in w cells lines ≡ rows
@@ -87,7 +87,7 @@ rows_in_by w cells lines rows d e f =
     ext_get_or d (rows_in w cells lines) rows (l ∙ sym e)
     (λ k h. let i : k < length lines = omega (arith, l) in row_found w k cells lines d i ∙ f k i)
 
--- The rows after row r got new cells and a new flag, if the cells of every other place are unchanged.
+-- Giving row r new cells and a new flag replaces only that row, if the cells of every other place are unchanged.
 pub rows_in-replaced : (w r : ℕ) (cells now new : List CellValue) (flag : Bool) (lines : List Line) →
     IsTable w cells lines → r < length lines → cells_at w now (line_at lines r).place ≡ new →
     ((q : ℕ) → q < length lines → q ≢ (line_at lines r).place → cells_at w now q ≡ cells_at w cells q) →
@@ -132,7 +132,7 @@ rows_in-edited w r cells new flag lines t h l =
     (cells_at-put_same w (length lines) p cells new t.filled (t.inside r h) l)
     (λ q i other. cells_at-put_other w (length lines) p q cells new t.filled (t.inside r h) i other l)
 
--- The rows after row r got a new flag.
+-- Setting the wrapped flag in the table entry of row r sets the flag of that row only.
 pub rows_in-flagged : (w r : ℕ) (cells : List CellValue) (flag : Bool) (lines : List Line) → r < length lines →
     rows_in w cells (set lines r (record (line_at lines r) { wrapped = flag }))
     ≡ set (rows_in w cells lines) r
@@ -202,7 +202,7 @@ line_in_order n r h =
 pub in_order_more : (n : ℕ) → in_order (n + 1) ≡ in_order n ++ record { place = n; wrapped = false } ∷ []
 in_order_more n = map-range_with_len_more (λ place. record { place = place; wrapped = false }) 0 n n (omega arith)
 
--- A table of blank rows in their order is valid.
+-- The table in which row k is at place k is valid for a page of blank rows.
 pub IsTable-in_order : (w n : ℕ) (attrs : Attrs) → IsTable w (blanks attrs (n * w)) (in_order n)
 IsTable-in_order w n attrs =
     let l = length-in_order n in record {
@@ -266,7 +266,7 @@ columns_counted flat r t h =
     ap (λ (row : RowValue). length row.cells) (row_found w r cells lines (blank_row default_attrs w) i)
     ∙ length-cells_at w (length lines) (line_at lines r).place cells t.filled (t.inside r i)
 
--- The page after the cells of row r were borrowed and became `new`, with a new flag.
+-- If the cells of row r are borrowed and become `new`, and its flag is set, the page is the one with that row replaced.
 pub row_changed : (r a b : ℕ) (flat edited : Flat) (xs new : List CellValue) (flag : Bool) →
     IsFlat flat → r < length flat.lines.items →
     edited.cells ≡ with_items flat.cells (put_mid a (b - a) xs new) → xs ≡ flat.cells.items →
@@ -284,7 +284,7 @@ row_changed r a b flat edited xs new flag t inside e was i j m size w f =
     (λ z. rows_in (w z) (cells z) (f z)) ∙ rows_in-edited flat.width r flat.cells.items new flag lines t inside l in
     λ z. record { rows = rows z; width = w z }
 
--- The page after the cells of row r were replaced by a print or an erase.
+-- If the cells of row r are replaced by a print or an erase, the page is the one with those cells in that row.
 pub row_printed : (r a b : ℕ) (flat edited : Flat) (xs new : List CellValue) (was_flag flag : Bool) →
     IsFlat flat → r < length flat.lines.items →
     edited.cells ≡ with_items flat.cells (put_mid a (b - a) xs new) → xs ≡ flat.cells.items →
@@ -298,7 +298,7 @@ row_printed r a b flat edited xs new was_flag flag t inside e was i j m size w f
     ∙ ap (λ (x : Bool). with_page_row r (record { cells = new; wrapped = x }) (page_rows_of flat))
     (k ∙ ap (λ (x : Bool). x && not (ends_blank new)) g)
 
--- The page after row r was made blank.
+-- If the cells of row r become blanks and its flag is cleared, the page is the one with a blank row r.
 pub row_blanked : (r : ℕ) (attrs : Attrs) (flat edited : Flat) → IsFlat flat → r < length (rows_of flat) →
     cells_at flat.width edited.cells.items (line_at flat.lines.items r).place ≡ blanks attrs flat.width →
     ((q : ℕ) → q < length flat.lines.items → q ≢ (line_at flat.lines.items r).place →
@@ -315,7 +315,7 @@ row_blanked r attrs flat edited t h own others w f =
     (blanks attrs flat.width) false flat.lines.items t inside own others in
     λ z. record { rows = rows z; width = w z }
 
--- The page after row r got a new flag.
+-- Setting the wrapped flag in the table entry of row r gives the page with that flag set.
 pub row_flagged : (r : ℕ) (flag : Bool) (flat edited : Flat) →
     r < length flat.lines.items → edited.cells ≡ flat.cells → edited.width ≡ flat.width →
     edited.lines.items ≡ set flat.lines.items r (record (line_at flat.lines.items r) { wrapped = flag }) →
@@ -362,7 +362,7 @@ fresh_flat rows width flat c l w = (
       (λ z. (sym w z, (sym c z, sym l z))) (IsTable-in_order width rows default_attrs),
 )
 
--- The page after all rows were made blank.
+-- If all cells become blanks and all flags are cleared, all rows of the page are blank.
 pub all_blanked : (attrs : Attrs) (flat edited : Flat) → IsFlat flat →
     edited.cells.items ≡ blanks attrs (length flat.cells.items) → edited.width ≡ flat.width →
     length edited.lines.items ≡ length flat.lines.items →

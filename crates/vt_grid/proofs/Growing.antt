@@ -38,7 +38,7 @@ narrow_counted w first h k count one total rows row i j r o t =
     let same = ap (narrow_rows w) more in
     omega (arith, same, o, t)
 
--- Rows appended to others add at most as many narrow rows as they have in the window.
+-- Appending rows adds at most as many narrow rows to a window as there are appended rows in the window.
 pub narrow_below : (w s h : ℕ) (xs ys : List RowValue) →
     narrow_rows w (window_from s h (xs ++ ys))
     ≤ narrow_rows w (window_from s h xs) + (min (s + h) (length xs + length ys) - length xs)
@@ -50,7 +50,7 @@ narrow_below w zero (suc h) (x ∷ xs) ys = omega (arith, narrow_below w zero h 
 
 -- ---- The displayed rows after rows were appended
 
--- If no row of scrollback is displayed, no displayed row is narrow.
+-- If no row of scrollback is displayed, no narrow row is displayed after rows are appended.
 pub none_in_view : (w h : ℕ) (gone : List RowValue) (above : Scrollback) →
     above.offset ≡ 0 → narrow_rows w (in_view h (kept_after gone above)) ≤ 0
 unfolding kept_after
@@ -173,7 +173,7 @@ grown_set w first k rows now row f i e r =
     ∙ (sym (append_assoc (grown_until w first k rows) (grown_row w (get_or rows k row) ∷ []) (drop (k + 1) rows))
     ∙ ap (λ (xs : List RowValue). xs ++ drop (k + 1) rows) (sym (grown_more w first k rows row f i)))))
 
--- All displayed rows were extended.
+-- After the displayed rows are extended one by one, they are those of `grown_from`.
 pub grown_whole : (w first h k : ℕ) (rows now : List RowValue) → k ≡ min (length rows) (first + h) →
     first ≤ length rows → now ≡ grown_until w first k rows ++ drop k rows → now ≡ grown_from first h w rows
 grown_whole w first h k rows now e f g =

@@ -110,7 +110,7 @@ glyph_text wide (blank attrs) b r h = cc
 glyph_text wide (glyph text was attrs) b r h = h
 glyph_text wide right_half b r h = cc
 
--- A cell that may be wide may be wide with different attributes.
+-- If a cell can validly be made wide, it can be made wide with different attributes.
 pub lifted_cell : (attrs : Attrs) (x : CellValue) → IsCell (widened true x) → IsCell (widened true (redrawn attrs x))
 lifted_cell attrs (blank was) h = tt
 lifted_cell attrs (glyph text wide was) h = h

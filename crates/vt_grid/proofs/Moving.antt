@@ -11,7 +11,8 @@ use Rattle.std.proofs.lemmas.List.Elements.{All-get_or}
 use Rattle.vt_rows.specs.Cells.{IsPaired}
 use Rattle.vt_rows.specs.Row.{RowValue, IsRow, resized_row}
 
--- The blank rows from k to before n have taken over: row j took that at index `source j`.
+-- The rows in `from` were moved into the blank rows from k up to but excluding n: row j now has the content of row
+-- `source j`.
 abbrev pub MovedInto : (ℕ → ℕ) → (k n : ℕ) → (from blanks fresh : List RowValue) → Type 0
 MovedInto source k n from blanks fresh =
     (j : ℕ) (d : RowValue) →
@@ -19,7 +20,7 @@ MovedInto source k n from blanks fresh =
     ≡ (if nat_le k j && nat_lt j n
     then resized_row (length (get_or blanks j d).cells) (get_or from (source j) d) else get_or blanks j d)
 
--- If k is not below n, no row has taken over.
+-- If n is not above k, no row has been moved.
 pub moved_none : (source : ℕ → ℕ) (k n : ℕ) (from blanks : List RowValue) →
     n ≤ k → MovedInto source k n from blanks blanks
 moved_none source k n from blanks h j d =
@@ -28,7 +29,7 @@ moved_none source k n from blanks h j d =
     then resized_row (length (get_or blanks j d).cells) (get_or from (source j) d) else get_or blanks j d)
     t)
 
--- A row before those that took over is still blank.
+-- A blank row before those that rows were moved into is still blank.
 pub still_blank : (source : ℕ → ℕ) (k n : ℕ) (from blanks fresh : List RowValue) (d : RowValue) →
     MovedInto source (k + 1) n from blanks fresh → get_or fresh k d ≡ get_or blanks k d
 still_blank source k n from blanks fresh d m =
@@ -66,7 +67,7 @@ moved_more source k n from blanks fresh row old new h i l s r e m j d = elim (ca
       t)
 ]
 
--- All rows for which the test holds have taken over.
+-- After all rows are moved, exactly the blank rows for which the test holds have received a row.
 pub moved_all : (source : ℕ → ℕ) (k n : ℕ) (from blanks fresh : List RowValue) (test : ℕ → Bool) →
     ((j : ℕ) → j < length blanks → (nat_le k j && nat_lt j n) ≡ test j) → MovedInto source k n from blanks fresh →
     (j : ℕ) (d : RowValue) → j < length blanks →

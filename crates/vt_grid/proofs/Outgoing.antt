@@ -1,4 +1,4 @@
--- The rows that scroll off a page, by what is printed.
+-- The rows that scroll off a page, depending on the printed character.
 use Rattle.std.proofs.Common.{◌≡◌, ℕ, ◌&&◌, ◌==◌, nat_lt, Bool, true, false, List, [], take, refl}
 use Rattle.std.specs.Prelude.{if◌then◌else◌, Some, None}
 use Rattle.vt_cells.specs.Glyph.{columns_of}

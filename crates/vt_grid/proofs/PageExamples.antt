@@ -31,7 +31,7 @@ heart = glyph (9 ∷ encode_utf8 0xFE0F) true default_attrs
 abbrev row : List CellValue → Bool → RowValue
 row cells wrapped = record { cells = cells; wrapped = wrapped }
 
--- The page `page` with these rows, cursor position and width.
+-- The page `page` with the given rows, cursor position and width.
 abbrev shown : List RowValue → ℕ → ℕ → ℕ → Page → Page
 shown rows r c width page = record page { rows = rows; row = r; column = c; width = width }
 
@@ -43,13 +43,13 @@ full_row : letter 4 (letter 3 (letter 2 (letter 1 (blank_page 2 4))))
 unfolding room_made wrapped_page line_feed put_cells moved_rows
 full_row = refl
 
--- One letter more wraps, and the row above is then wrapped.
+-- One more letter after a full row wraps, and the full row is then wrapped.
 wraps : letter 3 (letter 2 (letter 1 (blank_page 2 2)))
     ≡ shown (row (n 1 ∷ n 2 ∷ []) true ∷ row (n 3 ∷ default_blank ∷ []) false ∷ []) 1 1 2 (blank_page 2 2)
 unfolding room_made wrapped_page line_feed put_cells moved_rows
 wraps = refl
 
--- At the bottom the rows move up, and the row that was left moves with its flag.
+-- A wrap at the bottom moves the rows up, and the row that the cursor left moves with its flag.
 wraps_at_bottom : letter 5 (letter 4 (letter 3 (letter 2 (letter 1 (blank_page 2 2)))))
     ≡ shown (row (n 3 ∷ n 4 ∷ []) true ∷ row (n 5 ∷ default_blank ∷ []) false ∷ []) 1 1 2 (blank_page 2 2)
 unfolding room_made wrapped_page line_feed put_cells moved_rows
@@ -61,7 +61,7 @@ wide_wraps : wide_letter 2 (letter 1 (blank_page 2 2))
 unfolding room_made wrapped_page line_feed put_cells moved_rows
 wide_wraps = refl
 
--- On a page of one row, the row that was left is gone, and no flag is set.
+-- On a page of one row, a wrap removes the row that the cursor left, and no flag is set.
 wraps_single : letter 3 (letter 2 (letter 1 (blank_page 1 2)))
     ≡ shown (row (n 3 ∷ default_blank ∷ []) false ∷ []) 0 1 2 (blank_page 1 2)
 unfolding room_made wrapped_page line_feed put_cells moved_rows
@@ -84,7 +84,7 @@ over_left : letter 4 (moved_to 0 0 (letter 3 (letter 2 (wide_letter 1 (blank_pag
 unfolding room_made wrapped_page line_feed put_cells moved_rows
 over_left = refl
 
--- A character of two columns has no place on a page of one.
+-- A character of two columns is not printed on a page of one column.
 too_wide : printed_by (Some 2) 0x4E2D default_attrs (blank_page 2 1) ≡ blank_page 2 1
 too_wide = refl
 
@@ -101,13 +101,14 @@ heart_carried : carried 0xFE0F default_attrs (letter 9 (moved_to 1 1 (letter 1 (
 unfolding room_made wrapped_page line_feed put_cells moved_rows carried
 heart_carried = refl
 
--- A wide character made narrow leaves a space, and the cursor stays.
+-- A wide character that is made narrow leaves a space in its second column, and the cursor doesn't move.
 narrowed : made_narrow 0 default_attrs (wide_letter 9 (blank_page 1 3))
     ≡ shown (row (n 9 ∷ n 0x20 ∷ default_blank ∷ []) false ∷ []) 0 2 3 (blank_page 1 3)
 unfolding room_made wrapped_page line_feed put_cells moved_rows
 narrowed = refl
 
--- With a pending wrap nothing is erased in the row, and the cursor moves right only to the last column.
+-- If a wrap is pending, erasing to the end of the row erases nothing, and the cursor moves right only to the last
+-- column.
 pending : erased_rest default_attrs (letter 2 (letter 1 (blank_page 1 2))) ≡ letter 2 (letter 1 (blank_page 1 2))
 unfolding room_made wrapped_page line_feed put_cells moved_rows erased_rest
 pending = refl
@@ -117,7 +118,8 @@ pending_right : moved_right 1 (letter 2 (letter 1 (blank_page 1 2)))
 unfolding room_made wrapped_page line_feed put_cells moved_rows
 pending_right = refl
 
--- The rows below are erased, and with a pending wrap the flag of the cursor's row stays.
+-- ED 0 erases the rows below the cursor, and the cursor's row from the cursor on; if a wrap is pending, that row stays
+-- as it is.
 erases_below : erased_below default_attrs (moved_to 0 1 (letter 3 (letter 2 (letter 1 (blank_page 2 2)))))
     ≡ shown (row (n 1 ∷ default_blank ∷ []) false ∷ row (default_blank ∷ default_blank ∷ []) false ∷ [])
     0 1 2 (blank_page 2 2)

@@ -182,7 +182,7 @@ All-moved_rows width source rows h =
     let i : r < length rows = omega (arith, length-moved_rows width source rows) in
     subst (IsRow width) (sym (row_or-moved_rows width source rows r i)) (IsRow-row_or width rows (source r) h))
 
--- The last row stays if it is below the region, and is blank if it moves past the region's end.
+-- When rows scroll up, the last row of the page either stays, because it is below the region, or becomes blank.
 up_last : (height top bottom n : ℕ) → bottom < height →
     (up_source height top bottom n (height - 1) ≡ height - 1) ⊎ (up_source height top bottom n (height - 1) ≡ height)
 up_last height top bottom n h = elim (cases_eq (up_source height top bottom n (height - 1)) (height - 1)) [
@@ -305,7 +305,7 @@ page_blank height width h hh w ww =
           rw l (ap (λ (row : RowValue). row.wrapped) (get_or-replicate height (height - 1) blank blank (omega arith)));
     }
 
--- The cells of the cursor's row on a page, for what is erased in it.
+-- The lemmas on the cells of the cursor's row, for erasures in that row.
 pub ruleset cursor_cells = (cursor_paired, cursor_columns)
 
 pub ruleset erasing = (page_erased_chars, page_erased_rest, cursor_cells)

@@ -79,7 +79,7 @@ not_true : (b : Bool) → not b ≡ true → b ≡ false
 not_true true h = sym h
 not_true false h = refl
 
--- The row above the cursor's after scrolling up by one is the row that was left.
+-- After the region scrolls up by one row, the row above the cursor is the one that the cursor left.
 pub moved_row : (page : Page) → IsPage page → at_bottom page ≡ true →
     (page.row == page.top) ≡ false → row_at (scrolled_up 1 page) (page.row - 1) ≡ cursor_row page
 moved_row page p e ne =
@@ -123,7 +123,7 @@ wrapped_rows : (page : Page) → IsPage page → (b : Bool) → at_bottom page �
 wrapped_rows page p true e = wrapped_bottom page p e (page.row == page.top) refl
 wrapped_rows page p false e = wrapped_below page p (nat_lt (page.row + 1) (length page.rows)) refl
 
--- The page of a wrap is valid before the cursor moves to the first column.
+-- After a wrap, the page is valid even before the cursor moves to the first column.
 pub page_left : (page : Page) → IsPage page →
     IsPage (flagged_left (left_row page) (goes_down page && not (ends_blank (cursor_row page).cells)) (line_feed page))
 unfolding line_feed

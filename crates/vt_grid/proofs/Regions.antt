@@ -1,4 +1,4 @@
--- Cursor movement that regards the scroll region, and the region itself, leave a valid page.
+-- Cursor movement that respects the scroll region, and setting the region, leave a valid page.
 use Rattle.std.proofs.Common.{◌≡◌, ℕ, ◌+◌, ◌-◌, ◌*◌, ◌/◌, ◌<◌, ◌≤◌, ◌⊎◌, nat_lt, min}
 use Rattle.std.proofs.Common.{max, Bool, true, false, length, refl, inl, inr, arith}
 use Rattle.std.specs.Prelude.{if◌then◌else◌}

@@ -17,7 +17,7 @@ w c = glyph (c ∷ []) true default_attrs
 abbrev row : List CellValue → Bool → RowValue
 row cells wrapped = record { cells = cells; wrapped = wrapped }
 
--- A letter in a row of four columns.
+-- A row of four columns that begins with a letter.
 abbrev four : ℕ → RowValue
 four c = row (n c ∷ default_blank ∷ default_blank ∷ default_blank ∷ []) false
 
@@ -31,7 +31,7 @@ abbrev above : List RowValue → (capacity theoretical offset : ℕ) → Scrollb
 above rows capacity theoretical offset =
     record { rows = rows; capacity = capacity; theoretical = theoretical; offset = offset }
 
--- A page with a region, the cursor and the saved cursor.
+-- A page with the given cursor, saved cursor and scroll region.
 abbrev page : List RowValue → (row column saved_row saved_column top bottom width : ℕ) → Page
 page rows row column saved_row saved_column top bottom width = record {
   rows = rows;
@@ -46,7 +46,7 @@ page rows row column saved_row saved_column top bottom width = record {
   width = width;
 }
 
--- Two of the rows that scrolled off come back, the older of which was not kept; a last row is blank.
+-- Two rows come back, of which the older one was not kept and is blank; the last row of the new page is blank too.
 more_rows : page_resized 5 4 (above (one 2 ∷ []) 1 2 0) (page (four 3 ∷ four 4 ∷ []) 1 1 0 2 0 1 4)
     ≡ page (none ∷ four 2 ∷ four 3 ∷ four 4 ∷ none ∷ []) 3 1 2 2 0 4 4
 unfolding page_resized window resized moved
@@ -57,7 +57,7 @@ both_came_back : scrollback_resized 5 (page (four 3 ∷ four 4 ∷ []) 1 1 0 2 0
 unfolding scrollback_resized
 both_came_back = refl
 
--- There is room for one of three rows that scrolled off: the newest comes back.
+-- If there is room for only one of three rows that scrolled off, the newest comes back.
 one_came_back : page_resized 3 1 (above (one 1 ∷ one 2 ∷ []) 2 3 0) (page (one 3 ∷ one 4 ∷ []) 0 0 1 0 0 1 1)
     ≡ page (one 2 ∷ one 3 ∷ one 4 ∷ []) 1 0 2 0 0 2 1
 unfolding page_resized window resized moved
@@ -68,7 +68,7 @@ two_are_left : scrollback_resized 3 (page (one 3 ∷ one 4 ∷ []) 0 0 1 0 0 1 1
 unfolding scrollback_resized
 two_are_left = refl
 
--- No row is below the cursor: the first one scrolls off, and the region is the whole page.
+-- If no row is below the cursor, the first row scrolls off; the scroll region becomes the whole page.
 first_leaves : page_resized 2 4 (no_scrollback 0) (page (four 1 ∷ four 2 ∷ four 3 ∷ []) 2 1 1 0 1 2 4)
     ≡ page (four 2 ∷ four 3 ∷ []) 1 1 0 0 0 1 4
 unfolding page_resized window resized moved
@@ -83,7 +83,7 @@ first_counts : scrollback_resized 2 (page (four 1 ∷ four 2 ∷ four 3 ∷ []) 
 unfolding scrollback_resized kept_after grown_in_view same_attrs same_color
 first_counts = refl
 
--- Rows below the cursor go first, and none scrolls off; a saved cursor among them ends in the last row.
+-- Rows below the cursor are dropped first, and none scrolls off; a saved cursor in a dropped row moves to the last row.
 last_goes : page_resized 2 4 (no_scrollback 0) (page (four 1 ∷ four 2 ∷ four 3 ∷ []) 0 0 2 3 0 2 4)
     ≡ page (four 1 ∷ four 2 ∷ []) 0 0 1 3 0 1 4
 unfolding page_resized window resized moved
@@ -92,13 +92,13 @@ last_goes = refl
 none_is_reported : resize_reports 2 (page (four 1 ∷ four 2 ∷ four 3 ∷ []) 0 0 2 3 0 2 4) (no_scrollback 0) ≡ []
 none_is_reported = refl
 
--- One row is below the cursor, and one more scrolls off; a saved cursor in it stays in the first row.
+-- One row below the cursor is dropped, and one more scrolls off; a saved cursor in that row stays in the first row.
 both_ends : page_resized 1 4 (no_scrollback 1) (page (four 1 ∷ four 2 ∷ four 3 ∷ []) 1 0 0 0 0 2 4)
     ≡ page (four 2 ∷ []) 0 0 0 0 0 0 4
 unfolding page_resized window resized moved
 both_ends = refl
 
--- A wide glyph that is cut leaves a blank, and no row stays wrapped; the cursors stay on the page.
+-- A wide glyph that is cut leaves a blank, no row stays wrapped, and the cursors stay on the page.
 cut : page_resized 2 3 (no_scrollback 0)
     (page (row (n 1 ∷ n 2 ∷ w 3 ∷ right_half ∷ []) true ∷ four 4 ∷ []) 0 4 1 3 0 1 4)
     ≡ page (row (n 1 ∷ n 2 ∷ default_blank ∷ []) false ∷ row (n 4 ∷ default_blank ∷ default_blank ∷ []) false ∷ [])

@@ -1,4 +1,4 @@
--- Resizing a page: what the new rows take over, and that the result is a valid page.
+-- Resizing a page: the contents of the new rows, and the validity of the new page.
 use Rattle.std.proofs.Common.{◌≡◌, ℕ, ◌+◌, ◌-◌, ◌<◌, ◌≤◌, ◌^◌, nat_le, nat_lt, min, Bool, true}
 use Rattle.std.proofs.Common.{false, List, [], ◌∷◌, ◌++◌, length, take, drop, map, get_or}
 use Rattle.std.proofs.Common.{replicate, refl, inl, inr, sym, ap, subst, ◌∙◌, arith}
@@ -72,7 +72,7 @@ pub passes : {X : Type 0} (b : Bool) (x y : X) → b ≡ false → (if b then x 
 passes true x y e = absurd (grind arith)
 passes false x y e = refl
 
--- A row of the window that was not kept is blank.
+-- A row of the window whose scrollback row was not kept is blank.
 window_lost : (v h down up : ℕ) (above rows : List RowValue) (k : ℕ) → k < h →
     length above + down + k < up → row_or v (window v h down up above rows) k ≡ blank_row default_attrs v
 window_lost v h down up above rows k l i =
@@ -87,7 +87,7 @@ window_there v h down up above rows k l i =
     ∙ passes (nat_lt (length above + down + k) up) (blank_row default_attrs v)
     (row_or v (above ++ rows) (length above + down + k - up)) (grind (arith, nat_tests))
 
--- A row of the window that comes back.
+-- A row of the window that comes back is a scrollback row.
 window_above : (v h down up : ℕ) (above rows : List RowValue) (k : ℕ) → k < h → k < up → down ≡ 0 →
     up ≤ length above + k → row_or v (window v h down up above rows) k ≡ row_or v above (length above + k - up)
 window_above v h down up above rows k l i z j =
@@ -95,7 +95,7 @@ window_above v h down up above rows k l i z j =
     ∙ (ap (λ (n : ℕ). row_or v (above ++ rows) n) (omega arith)
     ∙ get_or_append_left above rows (blank_row default_attrs v) (length above + k - up) (omega arith))
 
--- A row of the window that is a row of the page.
+-- A row of the window after those that come back is a row of the page.
 window_own : (v h down up : ℕ) (above rows : List RowValue) (k : ℕ) → k < h → up ≤ k →
     row_or v (window v h down up above rows) k ≡ row_or v rows (down + (k - up))
 window_own v h down up above rows k l i =
@@ -173,7 +173,7 @@ whole n given items e l =
     ap (λ (rest : List RowValue). take n (given ++ rest)) none
     ∙ (ap (take n) (append-nil given) ∙ take_all n given (omega arith))
 
--- The last of the new rows is not wrapped.
+-- Marking the last of the filled rows as not wrapped gives the resized rows of the window.
 pub settled : (v w width h down up last : ℕ) (above rows fresh filled : List RowValue) →
     fresh ≡ replicate h (blank_row default_attrs w) → width ≡ w →
     0 < h → last ≡ length filled - 1 → length filled ≡ length fresh →
@@ -195,7 +195,7 @@ settled v w width h down up last above rows fresh filled e wide pos end same eit
     ) in
     λ z. unflagged (wide z) (place z) (all z)
 
--- A new page filled from scrollback and then from the old page.
+-- A new page that is filled first from scrollback and then from the old page has the rows that `refilled` describes.
 pub refilled_by : (down up : ℕ) (above rows fresh half filled : List RowValue) → length half ≡ length fresh →
     ((k : ℕ) (d : RowValue) → k < length fresh →
     get_or half k d ≡ given_back up above (get_or fresh k d) k d) →
@@ -236,7 +236,7 @@ all_blank h w rows e =
     (All-replicate (λ row. row ≡ blank_row default_attrs (length row.cells)) h
     (blank_row default_attrs w) (ap (blank_row default_attrs) (sym (length-replicate w default_blank))))
 
--- The rows below those that came back are still blank.
+-- The rows of a new page below those that came back from scrollback are still blank.
 pub still_fresh : (up : ℕ) (above fresh half : List RowValue) → length half ≡ length fresh →
     All (λ row. row ≡ blank_row default_attrs (length row.cells)) fresh →
     ((k : ℕ) (d : RowValue) → k < length fresh →

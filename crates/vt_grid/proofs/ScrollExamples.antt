@@ -26,7 +26,7 @@ abbrev above : List RowValue → (capacity theoretical offset : ℕ) → Scrollb
 above rows capacity theoretical offset =
     record { rows = rows; capacity = capacity; theoretical = theoretical; offset = offset }
 
--- The row from before and the first of two new rows exceed the capacity.
+-- With a capacity of one row, the old row and the first of two new rows are not kept.
 one_is_kept : pushed 5 2 (two 1 ∷ two 2 ∷ []) (above (one 26 ∷ []) 1 1 0) ≡ above (one 2 ∷ []) 1 3 0
 unfolding kept_after grown_in_view same_attrs same_color
 one_is_kept = refl
@@ -35,7 +35,7 @@ older_first : reported (two 1 ∷ two 2 ∷ []) (above (one 26 ∷ []) 1 1 0) �
 unfolding same_attrs same_color
 older_first = refl
 
--- With a capacity of 0 all rows are reported and counted.
+-- With a capacity of 0, all rows are reported and counted.
 none_is_kept : pushed 5 2 (two 1 ∷ two 2 ∷ []) (above [] 0 7 0) ≡ above [] 0 9 0
 unfolding kept_after grown_in_view
 none_is_kept = refl
@@ -48,38 +48,39 @@ all_are_reported = refl
 nothing_left : pushed 5 3 [] (above (one 26 ∷ []) 1 1 1) ≡ above (one 26 ∷ []) 1 1 1
 nothing_left = refl
 
--- Displayed rows stay displayed, and are as long as the page is wide.
+-- A displayed row stays displayed when another row is appended, and both are as wide as the page.
 view_follows : pushed 5 2 (two 1 ∷ []) (above (two 26 ∷ []) 10 1 1) ≡ above (two 26 ∷ two 1 ∷ []) 10 2 2
 unfolding kept_after grown_in_view resized moved same_attrs same_color
 view_follows = refl
 
--- On a page of one row, the new row is below the displayed one, and is kept without its blanks.
+-- On a page of one row, an appended row is below the displayed one, and is kept without its trailing blanks.
 below_the_view : pushed 1 2 (two 1 ∷ []) (above (one 26 ∷ []) 10 1 1) ≡ above (two 26 ∷ one 1 ∷ []) 10 2 2
 unfolding kept_after grown_in_view resized moved same_attrs same_color
 below_the_view = refl
 
--- At the largest offset of a full scrollback the oldest displayed row goes.
+-- If a full scrollback is displayed from its first row, appending a row discards that first row.
 view_at_its_end : pushed 5 2 (two 1 ∷ []) (above (two 26 ∷ two 27 ∷ []) 2 2 2) ≡ above (two 27 ∷ two 1 ∷ []) 2 3 2
 unfolding kept_after grown_in_view resized moved same_attrs same_color
 view_at_its_end = refl
 
--- A wrapped row is as long as the page was wide; extended, it is no longer wrapped.
+-- A wrapped scrollback row that is extended to a wider screen is no longer wrapped.
 goes_on_no_more : with_view 5 3 1 (above (row (n 1 ∷ n 2 ∷ []) true ∷ []) 4 1 0)
     ≡ above (row (n 1 ∷ n 2 ∷ default_blank ∷ []) false ∷ []) 4 1 1
 unfolding with_view grown_in_view resized moved
 goes_on_no_more = refl
 
--- At most all rows are displayed, and none of them is cut.
+-- An offset beyond the number of scrollback rows displays all of them, and truncates none.
 at_most_all : with_view 5 1 9 (above (one 1 ∷ row (w 2 ∷ right_half ∷ []) false ∷ []) 4 2 0)
     ≡ above (one 1 ∷ row (w 2 ∷ right_half ∷ []) false ∷ []) 4 2 2
 unfolding with_view grown_in_view
 at_most_all = refl
 
--- The newest rows of scrollback, as many as the offset, are displayed above the page.
+-- The newest scrollback rows, as many as the offset, are displayed above the rows of the page.
 shown_above : visible (above (one 1 ∷ one 2 ∷ one 3 ∷ []) 4 3 2) (two 7 ∷ two 8 ∷ two 9 ∷ [])
     ≡ one 2 ∷ one 3 ∷ two 7 ∷ []
 shown_above = refl
 
--- If more rows are displayed than the page has, the upper ones are.
+-- If the offset is greater than the height of the page, only the upper of the scrollback rows that it selects are
+-- displayed.
 shown_far_above : visible (above (one 1 ∷ one 2 ∷ one 3 ∷ []) 4 3 3) (two 7 ∷ two 8 ∷ []) ≡ one 1 ∷ one 2 ∷ []
 shown_far_above = refl

@@ -1,4 +1,4 @@
--- Rows are appended, and rows are displayed: all of scrollback.
+-- Appending rows to scrollback, and displaying the rows of scrollback.
 use Rattle.std.proofs.Common.{◌≡◌, ℕ, ◌+◌, ◌-◌, ◌<◌, ◌≤◌, ◌==◌, nat_lt, min, List, [], ◌∷◌, ◌++◌}
 use Rattle.std.proofs.Common.{length, take, drop, map, replicate, refl, sym, ap, subst, ◌∙◌, arith}
 use Rattle.std.specs.Prelude.{All, if◌then◌else◌}
@@ -113,7 +113,7 @@ kept_is gone above rows theoretical offset e t o =
     o ∙ ap (λ (xs : List RowValue). if above.offset == 0 then 0 else min (above.offset + length gone) (length xs)) e in
     λ i. record { rows = e i; capacity = above.capacity; theoretical = t i; offset = p i }
 
--- The state after the steps of the code.
+-- The code's steps for appended rows give the scrollback that `kept_after` defines.
 pub kept_by_steps : (gone : List RowValue) (above : Scrollback)
     (before kept : List RowValue) (theoretical offset len : ℕ) →
     before ≡ above.rows → kept ≡ last_of above.capacity (before ++ map trimmed_row gone) →
@@ -229,7 +229,8 @@ turned_is h w gone above rows theoretical f c o n e t =
     (kept_is gone above rows theoretical above.offset stacks t offset)
     (nothing_grows (length rows - above.offset) h w rows (omega arith))
 
--- The state after a row is appended for which there is room.
+-- If there is room for one more row and no row is displayed, appending a row gives the scrollback that `pushed`
+-- defines.
 pub added_is : (h w : ℕ) (gone : List RowValue) (above : Scrollback) (rows : List RowValue) (theoretical : ℕ) →
     length above.rows < above.capacity → above.offset ≡ 0 → length gone ≡ 1 →
     rows ≡ above.rows ++ map trimmed_row gone → theoretical ≡ min (above.theoretical + length gone) greatest →

@@ -26,8 +26,8 @@ source_past : (len top bottom count n k : ℕ) → n ≡ min count (bottom + 1 -
     up_source len top bottom count k ≡ len
 source_past len top bottom count n k e o i t = grind (arith, nat_tests)
 
--- Rows from top to bottom that are rotated left by m and cleared between `from` and `to` come from where `source`
--- says, which is past the end for a cleared one.
+-- If the rows from top to bottom are rotated left by m, and the rows `from..to` are then cleared, each row comes from
+-- the index that `source` gives, which is past the end for a cleared row.
 turned_is : (w top bottom m from to : ℕ) (source : ℕ → ℕ) (rows turned cleared : List RowValue) →
     top + m ≤ bottom + 1 → bottom < length rows → length cleared ≡ length rows →
     ((k : ℕ) (d : RowValue) → k < length rows → get_or turned k d ≡ get_or rows (turn_source top (bottom + 1) m k) d) →

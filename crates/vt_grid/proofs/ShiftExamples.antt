@@ -34,14 +34,14 @@ two c d = row (n c ∷ n d ∷ [])
 abbrev blank_row : RowValue
 blank_row = row (default_blank ∷ default_blank ∷ [])
 
--- A page with these rows, cursor and region.
+-- A page with the given rows, cursor and scroll region.
 abbrev paged : List RowValue → (r c width top bottom : ℕ) → Page
 paged rows r c width top bottom =
     record (blank_page (length rows) width) { rows = rows; row = r; column = c; top = top; bottom = bottom }
 
 -- ---- Rows
 
--- Above the region, RI scrolls it only from the first row.
+-- If the cursor is above the region, RI scrolls the region only from the first row.
 index_above : reverse_index (paged (one 1 ∷ one 2 ∷ one 3 ∷ []) 0 0 2 1 2) ≡ paged (one 1 ∷ blank_row ∷ one 2 ∷ []) 0 0 2 1 2
 unfolding reverse_index moved_rows
 index_above = refl
@@ -51,7 +51,7 @@ index_between : reverse_index (paged (one 1 ∷ one 2 ∷ one 3 ∷ one 4 ∷ []
 unfolding reverse_index moved_rows
 index_between = refl
 
--- A row moves with its flag, which is cleared at the region's bottom.
+-- IL moves a row down with its wrapped flag, which is cleared at the region's bottom.
 line_inserted : lines_inserted 1 (paged (on (n 1 ∷ n 2 ∷ []) ∷ one 3 ∷ []) 0 0 2 0 1)
     ≡ paged (blank_row ∷ two 1 2 ∷ []) 0 0 2 0 1
 unfolding lines_inserted moved_rows
@@ -68,7 +68,7 @@ line_outside : lines_inserted 1 (paged (one 1 ∷ one 2 ∷ one 3 ∷ []) 0 0 2 
 unfolding lines_inserted moved_rows
 line_outside = refl
 
--- Deleting more rows than there are leaves blank rows, and rows below the region stay.
+-- Deleting more rows than there are leaves blank rows, and rows below the region don't move.
 lines_gone : lines_deleted 9 (paged (one 1 ∷ one 2 ∷ one 3 ∷ one 4 ∷ []) 1 2 2 0 2)
     ≡ paged (one 1 ∷ blank_row ∷ blank_row ∷ one 4 ∷ []) 1 2 2 0 2
 unfolding lines_deleted moved_rows
@@ -96,7 +96,7 @@ inserted_behind : chars_inserted 1 (paged (row (wide ∷ right_half ∷ n 1 ∷ 
 unfolding inserted moved
 inserted_behind = refl
 
--- With a pending wrap no column moves, and the flag is cleared.
+-- If a wrap is pending, ICH moves no column, and clears the wrapped flag.
 pending_inserted : chars_inserted 1 (paged (on (n 1 ∷ n 2 ∷ []) ∷ one 3 ∷ []) 0 2 2 0 1)
     ≡ paged (two 1 2 ∷ one 3 ∷ []) 0 2 2 0 1
 unfolding inserted moved
@@ -110,7 +110,7 @@ stays_in_region : moved_to 3 3 (origin_set true (region_set 1 2 (blank_page 4 4)
 unfolding region_set
 stays_in_region = refl
 
--- One row is no region.
+-- A region of one row sets the whole page as the region.
 no_region : region_set 2 2 (region_set 1 2 (blank_page 4 4)) ≡ blank_page 4 4
 unfolding region_set
 no_region = refl
@@ -142,7 +142,7 @@ tab_last = refl
 
 -- ---- Erasing
 
--- With a pending wrap the whole row is erased, and its flag cleared.
+-- If a wrap is pending, EL 1 erases the whole row and clears its wrapped flag.
 start_pending : erased_start default_attrs (paged (on (n 1 ∷ n 2 ∷ []) ∷ one 3 ∷ []) 0 2 2 0 1)
     ≡ paged (blank_row ∷ one 3 ∷ []) 0 2 2 0 1
 unfolding erased_start put_cells

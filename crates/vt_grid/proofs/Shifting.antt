@@ -35,7 +35,7 @@ All-unflagged width r rows h =
     All-set (IsRow width) rows r (record row { wrapped = false })
     (IsRow-wrapped width row false (λ e. cc) (IsRow-row_or width rows r h)) h
 
--- The last row is the region's bottom, which is not wrapped, or it stays.
+-- After rows move down, the last row is not wrapped: either it is the region's bottom, or it is unchanged.
 down_last : (width top bottom n : ℕ) (rows : List RowValue) →
     bottom < length rows → (row_or width rows (length rows - 1)).wrapped ≡ false →
     (row_or width (rows_down width top bottom n rows) (length rows - 1)).wrapped ≡ false
@@ -104,5 +104,5 @@ page_chars_deleted n page p =
     page_with_row page.row (deleted_row page.column n (cursor_row page)) page p.cursor_row p
     (IsRow-deleted_row page.width page.column n (cursor_row page) (IsRow-cursor_row page p)) (λ e. refl)
 
--- The facts about rows that move down.
+-- The lemmas on rows that move down.
 pub ruleset moving_down = (page_reverse_index, page_lines_inserted, region_order)

@@ -81,7 +81,8 @@ sized_glyph_put rows cols text true attrs page t h s =
 
 -- ---- A wrap
 
--- The page of a grid after a row's flag was set and the cursor moved to the first column.
+-- Setting a row's flag and moving the cursor of a grid to the first column does the same to the page that the grid
+-- stands for.
 pub flagged_page : (left : Option ℕ) (goes_on : Bool) (page_rows : PageRowsValue)
     (pos saved : Pos) (top bottom : ℕ) (origin saved_origin : Bool) →
     page_of (with_page_row_flag left goes_on page_rows) (record { row = pos.row; col = 0 }) saved top bottom origin saved_origin

@@ -30,7 +30,7 @@ before_then c xs ys =
     ∙ (ap (λ (zs : List _). zs ++ take n (drop m (xs ++ ys))) (take-append-le m xs ys (omega arith))
     ∙ ap (λ (zs : List _). before_last c xs ++ before_last c zs) (sym whole)))
 
--- One row was appended, and the rest is to come.
+-- Appending one row and then the others keeps the same last c rows as appending all of them.
 pub row_kept : (c : ℕ) (kept next rest : List RowValue) (row : RowValue) →
     next ≡ last_of c (kept ++ row ∷ []) → last_of c (next ++ rest) ≡ last_of c (kept ++ (row ∷ rest))
 row_kept c kept next rest row e =
@@ -67,7 +67,7 @@ length-stacked gone above =
     length-append above.rows (map trimmed_row gone)
     ∙ ap (λ (n : ℕ). length above.rows + n) (length-map gone trimmed_row)
 
--- The rows are valid, each in its own width.
+-- The rows of scrollback and those appended to them are valid, each in its own width.
 pub All-stacked : (w : ℕ) (gone rows : List RowValue) →
     All (IsRow w) gone → All (λ row. IsRow (length row.cells) row) rows →
     All (λ row. IsRow (length row.cells) row) (rows ++ map trimmed_row gone)
@@ -87,7 +87,7 @@ All-pushed c kept next row e r k =
     subst (All P) (sym e)
     (All-drop P (length (kept ++ row ∷ []) - c) (kept ++ row ∷ []) (All-append P kept (row ∷ []) k one))
 
--- Copies without the default blanks at their ends are valid, each in its own width.
+-- Copies of rows without their trailing default blanks are valid, each in its own width.
 pub All-copied : (w n : ℕ) (rows copies : List RowValue) → All (IsRow w) rows →
     copies ≡ map trimmed_row (take n rows) → All (λ row. IsRow (length row.cells) row) copies
 All-copied w n rows copies all e =
@@ -98,7 +98,7 @@ All-copied w n rows copies all e =
     subst (All (λ row. IsRow (length row.cells) row)) (sym e)
     (All-map (λ row. IsRow (length row.cells) row) trimmed_row gone t)
 
--- One more of the first n rows.
+-- The trimmed rows from k up to n are the trimmed row k, followed by those from k + 1 on.
 pub first_more : (n k : ℕ) (rows : List RowValue) (d : RowValue) → k < n → n ≤ length rows →
     map trimmed_row (drop k (take n rows))
     ≡ trimmed_row (get_or rows k d) ∷ map trimmed_row (drop (k + 1) (take n rows))

@@ -39,7 +39,7 @@ printed_put c attrs page one h =
 
 -- ---- One character, and those after it
 
--- Clearing a wrapped flag for one glyph and for the next equals clearing it for the next.
+-- Clearing a wrapped flag for one glyph and then for the next has the same result as clearing it for the next one only.
 pub flags_twice : (w a b : Bool) → (w ≡ true → a ≡ false) → ((w && not a) && not b) ≡ (w && not b)
 flags_twice true a b h = rw (h refl) refl
 flags_twice false a b h = refl

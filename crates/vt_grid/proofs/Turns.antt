@@ -22,7 +22,7 @@ counted_turned flat turned e = omega (
   rows_counted turned.width turned.cells.items turned.lines.items,
 )
 
--- The cleared rows, in terms of the page before the rotation.
+-- After rows are cleared, each row is a blank row of the page's width or the row after the rotation.
 cleared_by : (from to : ℕ) (flat turned : Flat) (attrs : Attrs) (cleared : PageRowsValue) →
     turned.width ≡ flat.width → length turned.lines.items ≡ length flat.lines.items → attrs ≡ default_attrs →
     ((k : ℕ) (d : RowValue) → k < length (rows_of turned) →

@@ -10,34 +10,35 @@ use Rattle.vt_grid.specs.Moves.{line_feed, feeds_out, cursor_saved, cursor_resto
 use Rattle.vt_grid.specs.Erasing.{erased_below, erased_rest, erased_chars}
 use Rattle.vt_grid.specs.Printing.{printed, pushes}
 
--- The state that the operations of a redraw change.
+-- The state that the operations of a redraw change: the active page, the current and saved attributes, and whether the
+-- cursor is hidden.
 pub record Canvas : Type 0 where
   pub page : Page
   pub attrs : Attrs
   pub saved_attrs : Attrs
   pub hidden : Bool
 
--- The canvas after a character is drawn; `None` if this scrolls a row off the page.
+-- The canvas after a character is drawn; `None` if drawing it scrolls a row off the page.
 abbrev pub drawn_char : ℕ → Canvas → Option Canvas
 drawn_char c canvas =
     if pushes c canvas.page then None else Some (record canvas { page = printed c canvas.attrs canvas.page })
 
--- Applies a step to the result of an earlier one; `None` if either has no result.
+-- The result of a step after an earlier step; `None` if either step has no result.
 abbrev pub and_then : {A B : Type 0} → (A → Option B) → Option A → Option B
 and_then f (Some a) = f a
 and_then f None = None
 
--- The canvas after a text is drawn character by character; `None` if this scrolls a row off the page.
+-- The canvas after a text is drawn character by character; `None` if drawing it scrolls a row off the page.
 abbrev pub drawn_text : List ℕ → Canvas → Option Canvas
 drawn_text [] canvas = Some canvas
 drawn_text (c ∷ cs) canvas = and_then (drawn_text cs) (drawn_char c canvas)
 
--- The canvas after a line feed; `None` if this scrolls a row off the page.
+-- The canvas after a line feed; `None` if the line feed scrolls a row off the page.
 abbrev pub fed : Canvas → Option Canvas
 fed canvas = if feeds_out canvas.page then None else Some (record canvas { page = line_feed canvas.page })
 
--- The canvas after an operation; `None` if it scrolls a row off the page. Saving and restoring the cursor also saves
--- and restores the attributes.
+-- The canvas after an operation; `None` if the operation scrolls a row off the page. Saving and restoring the cursor
+-- also saves and restores the attributes.
 abbrev pub drawn : Op → Canvas → Option Canvas
 drawn (Hide hidden) canvas = Some (record canvas { hidden = hidden })
 drawn ClearAttrs canvas = Some (record canvas { attrs = default_attrs })
@@ -56,7 +57,7 @@ drawn RestoreCursor canvas = Some (record canvas { page = cursor_restored canvas
 drawn (ChangeAttrs was new) canvas = Some (record canvas { attrs = changed_attrs was new canvas.attrs })
 drawn (Print text) canvas = drawn_text (chars text) canvas
 
--- The canvas after a list of operations; `None` if one of them scrolls a row off the page.
+-- The canvas after a list of operations; `None` if one of the operations scrolls a row off the page.
 abbrev pub drawn_all : List Op → Canvas → Option Canvas
 drawn_all [] canvas = Some canvas
 drawn_all (op ∷ ops) canvas = and_then (drawn_all ops) (drawn op canvas)

@@ -8,7 +8,7 @@ use Rattle.vt_rows.specs.Row.{RowValue}
 use Rattle.vt_grid.specs.declared.flat.Line.{Line}
 use Rattle.vt_grid.specs.declared.flat.Flat.{Flat}
 
--- The cells at a place, which holds one row.
+-- The cells of one row, which are stored at the place with the given index.
 abbrev pub cells_at : ℕ → List CellValue → ℕ → List CellValue
 cells_at width cells place = slice_range cells (place * width) (place * width + width)
 
@@ -16,7 +16,7 @@ cells_at width cells place = slice_range cells (place * width) (place * width + 
 abbrev pub row_in : ℕ → List CellValue → Line → RowValue
 row_in width cells line = record { cells = cells_at width cells line.place; wrapped = line.wrapped }
 
--- The rows of the table, from top to bottom.
+-- The rows that a table stands for, from top to bottom.
 unfoldable pub rows_in : ℕ → List CellValue → List Line → List RowValue
 rows_in width cells lines = map (row_in width cells) lines
 
@@ -28,7 +28,7 @@ no_line = record { place = 0; wrapped = false }
 abbrev pub line_at : List Line → ℕ → Line
 line_at lines r = slice_index_or lines r no_line
 
--- There are as many places as rows, and each row has its own place.
+-- The table is valid: the cells are divided into as many places as there are rows, and each row has its own place.
 pub record IsTable (width : ℕ) (cells : List CellValue) (lines : List Line) : Type 0 where
   pub filled : length cells ≡ length lines * width
   pub inside : (r : ℕ) → r < length lines → (line_at lines r).place < length lines

@@ -12,7 +12,7 @@ use Rattle.vt_grid.specs.Printing.{lacks_room, carries, glyph_put, room_made}
 use Rattle.vt_grid.specs.Outgoing.{fed_out, left_by}
 use Rattle.vt_grid.specs.PageRows.{PageRowsValue}
 
--- The page with these rows, cursors, scroll region and origin modes.
+-- The page with the given rows, cursor, saved cursor, scroll region, origin mode and saved origin mode.
 abbrev pub page_of : PageRowsValue → Pos → Pos → ℕ → ℕ → Bool → Bool → Page
 page_of page_rows pos saved_pos top bottom origin saved_origin = record {
   rows = page_rows.rows;
@@ -33,25 +33,25 @@ pub record IsSized (rows cols : ℕ) (page : Page) : Type 0 where
   pub height : rows ≡ length page.rows
   pub width : cols ≡ page.width
 
--- A blank row of the same width as the given one.
+-- A blank row with the given attributes and the same width as the given row.
 abbrev pub cleared_row : Attrs → RowValue → RowValue
 cleared_row attrs row = blank_row attrs (length row.cells)
 
--- A combining character printed at `column` goes to the cell at column `k`. That cell is not a continuation cell, and
--- unless it is wide, it is directly before the cursor.
+-- A combining character that is printed with the cursor at `column` goes to the cell at column `k`. That cell is not a
+-- continuation cell and, unless it is wide, is directly before the cursor.
 pub record IsMarkPlace (cells : List CellValue) (column k : ℕ) : Type 0 where
   pub inside : k < length cells
   pub shown : is_right_half (at cells k) ≡ false
   pub narrow : is_wide (at cells k) ≡ false → k + 1 ≡ column
   pub wide : is_wide (at cells k) ≡ true → k + 1 < length cells
 
--- U+FE0F was added to the glyph at column `k`, whose width may now change.
+-- U+FE0F was added to the glyph at column `k` of the cursor's row. The width of this glyph may have to change.
 pub record IsSelected (page : Page) (k : ℕ) : Type 0 where
   pub place : IsMarkPlace (cursor_row page).cells page.column k
   pub drawn : is_blank (at (cursor_row page).cells k) ≡ false
   pub either : (wide : Bool) → IsCell (widened wide (at (cursor_row page).cells k))
 
--- The rows that scroll off when the cursor wraps for lack of room for this many columns.
+-- The rows that scroll off when the cursor wraps because the given number of columns doesn't fit at the cursor.
 abbrev pub room_out : ℕ → Page → List RowValue
 room_out columns page = if lacks_room columns page then fed_out page else []
 
@@ -68,7 +68,7 @@ wide_printed c attrs page =
 abbrev pub mark_out : ℕ → Attrs → Page → List RowValue
 mark_out mark attrs page = if carries mark page then fed_out (left_by (Some zero) attrs page) else []
 
--- Row `k` of a blank page after the newest `up` scrollback rows were moved into its first rows.
+-- Row `k` of a blank page after the newest `up` scrollback rows were moved into the first rows of the page.
 abbrev pub given_back : (up : ℕ) → (above : List RowValue) →
     (blank : RowValue) → (k : ℕ) → (d : RowValue) → RowValue
 given_back up above blank k d =
@@ -76,7 +76,7 @@ given_back up above blank k d =
     then resized_row (length blank.cells) (slice_index_or above (length above + k - up) d)
     else blank
 
--- Row `k` of a blank page after rows `down..` of another page were moved into it, starting at row `up`.
+-- Row `k` of a blank page after rows `down..` of another page were moved into the blank page, starting at row `up`.
 abbrev pub taken_over : (down up : ℕ) → (rows : List RowValue) →
     (blank : RowValue) → (k : ℕ) → (d : RowValue) → RowValue
 taken_over down up rows blank k d =
@@ -84,7 +84,8 @@ taken_over down up rows blank k d =
     then resized_row (length blank.cells) (slice_index_or rows (down + (k - up)) d)
     else blank
 
--- Row `k` of a blank page after a resize moved rows into it: a scrollback row, a row of the old page, or a blank row.
+-- Row `k` of a blank page after a resize moved rows into the page: a scrollback row, a row of the old page, or a blank
+-- row.
 abbrev pub refilled : (down up : ℕ) → (above rows : List RowValue) →
     (blank : RowValue) → (k : ℕ) → (d : RowValue) → RowValue
 refilled down up above rows blank k d =

@@ -6,22 +6,22 @@ use Rattle.vt_grid.specs.Page.{Page, scrolled_up}
 abbrev pub carriage_return : Page → Page
 carriage_return page = record page { column = 0 }
 
--- The page after the cursor moves left by `n` columns, stopping at the first column (CUB, BS).
+-- The page after the cursor moves left by `n` columns, but not beyond the first column (CUB, BS).
 abbrev pub moved_left : ℕ → Page → Page
 moved_left n page = record page { column = page.column - n }
 
--- The page after the cursor moves right by `n` columns, stopping at the last column; a pending wrap is cancelled
+-- The page after the cursor moves right by `n` columns, but not beyond the last column; a pending wrap is canceled
 -- (CUF).
 abbrev pub moved_right : ℕ → Page → Page
 moved_right n page = record page { column = min (page.column + n) (page.width - 1) }
 
--- The row of the page that a 0-based CUP row addresses, stopping at the last row. In origin mode, the row is
--- relative to the top of the scroll region and stops at the region's bottom.
+-- The page row that a 0-based CUP row addresses, clamped to the last row. In origin mode, the CUP row counts from the
+-- top of the scroll region, and the result is clamped to the region's bottom.
 abbrev pub target_row : ℕ → Page → ℕ
 target_row r page = if page.origin then min (page.top + r) page.bottom else min r (length page.rows - 1)
 
--- The page after the cursor moves to a 0-based row, interpreted by `target_row`, and a 0-based column, stopping at
--- the last column (CUP).
+-- The page after the cursor moves to a 0-based row, interpreted by `target_row`, and a 0-based column, clamped to the
+-- last column (CUP).
 abbrev pub moved_to : ℕ → ℕ → Page → Page
 moved_to r c page = record page { row = target_row r page; column = min c (page.width - 1) }
 
@@ -29,8 +29,8 @@ moved_to r c page = record page { row = target_row r page; column = min c (page.
 abbrev pub at_bottom : Page → Bool
 at_bottom page = page.row == page.bottom
 
--- The page after a line feed. At the bottom of the scroll region, the region scrolls up by one row; elsewhere the
--- cursor moves down, stopping at the last row.
+-- The page after a line feed. At the bottom of the scroll region, the region scrolls up by one row. Elsewhere, the
+-- cursor moves down by one row, unless it is on the last row.
 unfoldable pub line_feed : Page → Page
 line_feed page =
     if at_bottom page then scrolled_up 1 page

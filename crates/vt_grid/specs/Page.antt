@@ -8,7 +8,7 @@ use Rattle.vt_cells.specs.Cell.{CellValue}
 use Rattle.vt_rows.specs.Cells.{at}
 use Rattle.vt_rows.specs.Row.{RowValue, IsRow, blank_row}
 
--- A page of a screen.
+-- A page of a screen: its rows, cursor, saved cursor, scroll region, and origin mode.
 pub record Page : Type 0 where
   pub rows : List RowValue
   -- The cursor. If its column equals the width, a wrap is pending.
@@ -24,15 +24,15 @@ pub record Page : Type 0 where
   pub saved_origin : Bool
   pub width : ℕ
 
--- The row at an index; a blank row past the end.
+-- The row at an index of a list of rows, or a blank row of the given width if the index is past the end.
 abbrev pub row_or : ℕ → List RowValue → ℕ → RowValue
 row_or width rows r = slice_index_or rows r (blank_row default_attrs width)
 
--- The row of a page at an index; a blank row past the end.
+-- The row of a page at an index, or a blank row if the index is past the end.
 abbrev pub row_at : Page → ℕ → RowValue
 row_at page r = row_or page.width page.rows r
 
--- The cell at a position; a default blank outside the page.
+-- The cell of a page at a row and column, or a default blank if the position is outside the page.
 abbrev pub cell_at : Page → ℕ → ℕ → CellValue
 cell_at page r c = at (row_at page r).cells c
 
@@ -40,7 +40,7 @@ cell_at page r c = at (row_at page r).cells c
 abbrev pub cursor_row : Page → RowValue
 cursor_row page = row_at page page.row
 
--- The page with row `r` replaced.
+-- The page after row `r` is replaced with the given row.
 abbrev pub with_row : ℕ → RowValue → Page → Page
 with_row r row page = record page { rows = slice_set page.rows r row }
 
@@ -48,7 +48,8 @@ with_row r row page = record page { rows = slice_set page.rows r row }
 abbrev pub IsWhole : Page → Type 0
 IsWhole page = (page.top ≡ 0) × (page.bottom + 1 ≡ length page.rows)
 
--- The invariant of every page.
+-- The invariant of every page: a valid size, valid rows, a cursor and saved cursor on the page, a valid scroll region,
+-- and a last row that is not wrapped.
 pub record IsPage (page : Page) : Type 0 where
   pub has_columns : 0 < page.width
   pub columns : page.width < 2 ^ 16
@@ -89,16 +90,17 @@ blank_page height width = record {
 
 -- ---- Moves of rows: row `r` was row `source r`, or is blank if that is past the end
 
--- A list of `n` rows, in which row `k` is `f k`.
+-- A list of `n` rows, given by a function from a row's index to the row.
 abbrev pub by_row : ℕ → (ℕ → RowValue) → List RowValue
 by_row n f = map f (range_with_len 0 n)
 
--- The rows after they move: row `r` becomes the former row `source r`.
+-- The rows after they moved: row `r` is the former row `source r`, or a blank row of the given width if that index is
+-- past the end.
 unfoldable pub moved_rows : ℕ → (ℕ → ℕ) → List RowValue → List RowValue
 moved_rows width source rows = by_row (length rows) (λ r. row_or width rows (source r))
 
--- The former index of row `r` after rows `top` to `bottom` move up by `n`. For a blank row that scrolls in, it is
--- `past`, an index past the end.
+-- The index that row `r` had before rows `top` to `bottom` moved up by `n`; for a blank row that scrolled in, the index
+-- `past`, which is past the end.
 abbrev pub up_source : ℕ → ℕ → ℕ → ℕ → ℕ → ℕ
 up_source past top bottom n r =
     if nat_le top r && nat_le r bottom then (if nat_le (r + n) bottom then r + n else past) else r

@@ -11,7 +11,7 @@ pub record PageRowsValue : Type 0 where
   pub rows : List RowValue
   pub width : ℕ
 
--- The page has at least `count` rows, and each of them is as wide as the page.
+-- The page has at least `count` rows, and all its rows are valid and as wide as the page.
 pub record HasRows (count : ℕ) (page_rows : PageRowsValue) : Type 0 where
   pub inside : count ≤ length page_rows.rows
   pub sound : All (IsRow page_rows.width) page_rows.rows
@@ -25,19 +25,19 @@ pub record CanLetRowsGo (count cols : ℕ) (page_rows : PageRowsValue) : Type 0 
 abbrev pub blank_page_rows : ℕ → ℕ → PageRowsValue
 blank_page_rows height width = record { rows = replicate height (blank_row default_attrs width); width = width }
 
--- The row at an index; a blank row past the end.
+-- The row of a page at an index, or a blank row if the index is past the end.
 abbrev pub page_row : PageRowsValue → ℕ → RowValue
 page_row page_rows r = row_or page_rows.width page_rows.rows r
 
--- The rows of a page with row `r` replaced.
+-- The rows of a page after row `r` is replaced with the given row.
 abbrev pub with_page_row : ℕ → RowValue → PageRowsValue → PageRowsValue
 with_page_row r row page_rows = record page_rows { rows = slice_set page_rows.rows r row }
 
--- The rows of a page with the cells of row `r` replaced, as when text is printed or erased.
+-- The rows of a page after the cells of row `r` are replaced, as when text is printed or erased.
 abbrev pub with_row_cells : ℕ → List CellValue → PageRowsValue → PageRowsValue
 with_row_cells r cells page_rows = with_page_row r (with_cells (page_row page_rows r) cells) page_rows
 
--- The rows of a page with the wrapped flag of the given row, if any, set to `goes_on`.
+-- The rows of a page after the wrapped flag of the given row, if any, is set to the given value.
 abbrev pub with_page_row_flag : Option ℕ → Bool → PageRowsValue → PageRowsValue
 with_page_row_flag (Some r) goes_on page_rows =
     with_page_row r (record (page_row page_rows r) { wrapped = goes_on }) page_rows

@@ -11,16 +11,16 @@ use Rattle.vt_rows.specs.Row.{with_cells}
 use Rattle.vt_grid.specs.Page.{Page, row_at, cursor_row, with_row}
 use Rattle.vt_grid.specs.Moves.{line_feed, at_bottom, feeds_out}
 
--- The page with the cells of the cursor's row replaced.
+-- The page after the cells of the cursor's row are replaced with the given cells.
 abbrev pub with_cursor_cells : List CellValue → Page → Page
 with_cursor_cells cells page = with_row page.row (with_cells (cursor_row page) cells) page
 
--- The page with the wrapped flag of row `r` set to `goes_on`.
+-- The page after the wrapped flag of row `r` is set to the given value.
 abbrev pub flagged : ℕ → Bool → Page → Page
 flagged r goes_on page = with_row r (record (row_at page r) { wrapped = goes_on }) page
 
--- The row that the cursor leaves in a wrap, by its index after the wrap: one less if the scroll region scrolls, and
--- none if the region has one row.
+-- The index, after a wrap, of the row that the cursor left: one less than before if the scroll region scrolled, and
+-- `None` if the row was lost because the region has only one row.
 abbrev pub left_row : Page → Option ℕ
 left_row page =
     if at_bottom page then (if page.row == page.top then None else Some (page.row - 1))
@@ -30,23 +30,24 @@ left_row page =
 abbrev pub goes_down : Page → Bool
 goes_down page = if at_bottom page then true else nat_lt (page.row + 1) (length page.rows)
 
--- The page with the wrapped flag of the row that the cursor left in a wrap, if any, set to `goes_on`.
+-- The page after the wrapped flag of the row that the cursor left in a wrap, if any, is set to the given value.
 abbrev pub flagged_left : Option ℕ → Bool → Page → Page
 flagged_left (Some r) goes_on page = flagged r goes_on page
 flagged_left None goes_on page = page
 
--- The page after a wrap, which is a line feed to column 0. The row that the cursor left is marked as wrapped if and
--- only if its last cell was not blank and the cursor is now on the row below it.
+-- The page after a wrap, which is a line feed followed by a move to column 0. The row that the cursor left is marked as
+-- wrapped if and only if its last cell was not blank and the cursor is now on the row below it.
 unfoldable pub wrapped_page : Page → Page
 wrapped_page page =
     record (flagged_left (left_row page) (goes_down page && not (ends_blank (cursor_row page).cells)) (line_feed page))
     { column = 0 }
 
--- There are fewer than this many columns left at the cursor.
+-- Fewer than the given number of columns are left from the cursor to the end of the cursor's row, and the cursor is not
+-- in column 0.
 abbrev pub lacks_room : ℕ → Page → Bool
 lacks_room columns page = nat_lt (page.width - columns) page.column
 
--- The page after a wrap if this many columns don't fit at the cursor; otherwise unchanged.
+-- The page after a wrap if the cursor lacks room for the given number of columns, and the unchanged page otherwise.
 unfoldable pub room_made : ℕ → Page → Page
 room_made columns page = if lacks_room columns page then wrapped_page page else page
 
@@ -76,7 +77,7 @@ carries mark page =
     (is_selector mark && (takes_mark cell && not (is_wide cell)))
     && (is_wide_text (text_of (marked mark cell)) && (nat_lt 1 page.width && (page.column == page.width)))
 
--- Printing a character that takes this many columns makes the cursor wrap.
+-- Printing a character that takes the given number of columns makes the cursor wrap.
 abbrev pub wraps_for : Option ℕ → ℕ → Page → Bool
 wraps_for None c page = false
 wraps_for (Some zero) c page = if page.column == 0 then false else carries c page
@@ -91,17 +92,17 @@ wraps c page = wraps_for (columns_of c) c page
 abbrev pub pushes : ℕ → Page → Bool
 pushes c page = wraps c page && feeds_out page
 
--- The page with the glyph at column `k` of the cursor's row replaced with a blank.
+-- The page after the glyph at column `k` of the cursor's row is replaced with a blank.
 abbrev pub lifted_page : ℕ → Attrs → Page → Page
 lifted_page k attrs page = with_cursor_cells (erased k 1 attrs (cursor_row page).cells) page
 
--- The page with a combining character added to the cell at column `k` of the cursor's row. The width of the cell is
--- unchanged.
+-- The page after a combining character is added to the cell at column `k` of the cursor's row. The width of that cell
+-- is unchanged.
 abbrev pub mark_put : ℕ → ℕ → Page → Page
 mark_put k mark page = with_cursor_cells (marked_at k mark (cursor_row page).cells) page
 
 -- The page after U+FE0F makes the glyph in the last column wide while a wrap is pending. The glyph is removed and
--- written on the next row, together with the combining character.
+-- written on the next row, together with U+FE0F.
 unfoldable pub carried : ℕ → Attrs → Page → Page
 carried mark attrs page =
     let k = mark_column page in
@@ -117,8 +118,8 @@ made_wide k attrs page =
 abbrev pub made_narrow : ℕ → Attrs → Page → Page
 made_narrow k attrs page = with_cursor_cells (narrowed_at k attrs (cursor_row page).cells) page
 
--- The page after the glyph at column `k` takes on the width of its whole text. On a page with one column, it stays
--- narrow.
+-- The page after the glyph at column `k` takes on the width of its whole text. On a page with one column, the glyph
+-- stays narrow.
 unfoldable pub width_followed : ℕ → Attrs → Page → Page
 width_followed k attrs page =
     let cell = at (cursor_row page).cells k in
@@ -126,7 +127,7 @@ width_followed k attrs page =
     if is_wide cell then (if wide then page else made_narrow k attrs page)
     else (if wide then made_wide k attrs page else page)
 
--- The page after a combining character is printed, which adds it to the glyph before the cursor.
+-- The page after a combining character is printed, that is, added to the glyph before the cursor if there is room.
 unfoldable pub mark_printed : ℕ → Attrs → Page → Page
 mark_printed mark attrs page =
     let k = mark_column page in
@@ -135,7 +136,7 @@ mark_printed mark attrs page =
     then (if is_selector mark then width_followed k attrs (mark_put k mark page) else mark_put k mark page)
     else page
 
--- The page after a character that takes this many columns is printed.
+-- The page after a character that takes the given number of columns is printed.
 abbrev pub printed_by : Option ℕ → ℕ → Attrs → Page → Page
 printed_by None c attrs page = page
 printed_by (Some zero) c attrs page = if page.column == 0 then page else mark_printed c attrs page

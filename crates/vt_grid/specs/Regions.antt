@@ -12,13 +12,13 @@ in_region page = nat_le page.top page.row && nat_le page.row page.bottom
 abbrev pub last_row : Page → ℕ
 last_row page = length page.rows - 1
 
--- The page after the cursor moves up by `n` rows (CUU). If it starts inside the scroll region, it stops at the
--- region's top, otherwise at the first row.
+-- The page after the cursor moves up by `n` rows (CUU), but not beyond the top of the scroll region if it starts inside
+-- the region, and not beyond the first row otherwise.
 unfoldable pub moved_up : ℕ → Page → Page
 moved_up n page = record page { row = max (page.row - n) (if in_region page then page.top else 0) }
 
--- The page after the cursor moves down by `n` rows (CUD). If it starts inside the scroll region, it stops at the
--- region's bottom, otherwise at the last row.
+-- The page after the cursor moves down by `n` rows (CUD), but not beyond the bottom of the scroll region if it starts
+-- inside the region, and not beyond the last row otherwise.
 unfoldable pub moved_down : ℕ → Page → Page
 moved_down n page = record page { row = min (page.row + n) (if in_region page then page.bottom else last_row page) }
 
@@ -30,21 +30,22 @@ next_line n page = carriage_return (moved_down n page)
 abbrev pub previous_line : ℕ → Page → Page
 previous_line n page = carriage_return (moved_up n page)
 
--- The page after the cursor moves to a 0-based column, stopping at the last one (CHA, HPA).
+-- The page after the cursor moves to a 0-based column, clamped to the last column (CHA, HPA).
 abbrev pub moved_to_column : ℕ → Page → Page
 moved_to_column c page = record page { column = min c (page.width - 1) }
 
--- The page after the cursor moves to a 0-based row, stopping at the last one (VPA).
+-- The page after the cursor moves to a 0-based row, clamped to the last row (VPA).
 abbrev pub moved_to_row : ℕ → Page → Page
 moved_to_row r page = record page { row = min r (last_row page) }
 
--- The page after the cursor moves to the next column that is a multiple of 8, stopping at the last column; a pending
--- wrap is cancelled (HT).
+-- The page after HT: the cursor moves to the next column that is a multiple of 8, or to the last column if there is no
+-- such column, and a pending wrap is canceled.
 abbrev pub tabbed : Page → Page
 tabbed page = record page { column = min ((page.column / 8 + 1) * 8) (page.width - 1) }
 
--- The page after its scroll region is set to rows `top` to `bottom`, or to the whole page if that is fewer than two
--- rows. The cursor moves to the first column of the region's first row (DECSTBM).
+-- The page after its scroll region is set to rows `top` to `bottom`, with `bottom` clamped to the last row, or to the
+-- whole page if that range has fewer than two rows. The cursor moves to the first column of the region's first row
+-- (DECSTBM).
 unfoldable pub region_set : ℕ → ℕ → Page → Page
 region_set top bottom page =
     if nat_lt top (min bottom (last_row page))

@@ -6,12 +6,12 @@ use Rattle.vt_grid.specs.Page.{Page, by_row, row_or}
 use Rattle.vt_grid.specs.Scrollback.{Scrollback, pushed, reported}
 use Rattle.vt_grid.specs.Shifts.{unflagged}
 
--- The number of rows that scroll off when a page is resized to this height: the excess rows, minus the rows below the
--- cursor, which are dropped first.
+-- The number of rows that scroll off when a page is resized to the given height: the excess rows, minus the rows below
+-- the cursor, which are dropped first.
 abbrev pub leaving : ℕ → Page → ℕ
 leaving height page = (length page.rows - height) - (length page.rows - (page.row + 1))
 
--- The number of rows that come back when a page is resized to this height: as many as there is room for, up to the
+-- The number of rows that come back when a page is resized to the given height: as many as there is room for, up to the
 -- number of rows that scrolled off and haven't come back.
 abbrev pub returning : ℕ → Scrollback → Page → ℕ
 returning height above page = min (height - length page.rows) above.theoretical
@@ -58,7 +58,7 @@ abbrev pub taken_back : ℕ → Scrollback → Scrollback
 taken_back n above =
     record above { rows = take (length above.rows - n) above.rows; theoretical = above.theoretical - n }
 
--- Scrollback after its page is resized to this height.
+-- Scrollback after its page is resized to the given height.
 unfoldable pub scrollback_resized : ℕ → Page → Scrollback → Scrollback
 scrollback_resized height page above =
     taken_back (returning height above page)

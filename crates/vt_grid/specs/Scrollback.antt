@@ -4,20 +4,20 @@ use Rattle.std.specs.Prelude.{◌++◌, length, All, take, drop, map, min, slice
 use Rattle.std.specs.List.{FoldsTo}
 use Rattle.vt_rows.specs.Row.{RowValue, IsRow, resized_row, trimmed_row}
 
--- The value of scrollback: its rows, oldest first; its capacity in rows; the number of rows it would have with
--- unlimited capacity; and the number of rows by which the display is scrolled back.
+-- The value of scrollback: its rows, oldest first; its capacity in rows; the number of rows that scrollback would have
+-- with unlimited capacity; and the number of rows by which the display is scrolled back.
 pub record Scrollback : Type 0 where
   pub rows : List RowValue
   pub capacity : ℕ
   pub theoretical : ℕ
   pub offset : ℕ
 
--- Empty scrollback with this capacity.
+-- Empty scrollback with the given capacity.
 abbrev pub no_scrollback : ℕ → Scrollback
 no_scrollback capacity = record { rows = []; capacity = capacity; theoretical = 0; offset = 0 }
 
--- The invariant of scrollback: no more rows than its capacity, an offset of at most the number of its rows, and valid
--- rows, each of its own width.
+-- The invariant of scrollback: the number of rows is at most the capacity, the offset is at most the number of rows,
+-- and every row is valid for its own width.
 pub record IsScrollback (above : Scrollback) : Type 0 where
   pub kept : length above.rows ≤ above.capacity
   pub in_view : above.offset ≤ length above.rows
@@ -31,15 +31,17 @@ last_of n xs = drop (length xs - n) xs
 abbrev pub before_last : {X : Type 0} → ℕ → List X → List X
 before_last n xs = take (length xs - n) xs
 
--- The scrollback rows, followed by the rows that scrolled off the page with their trailing default blanks removed.
+-- The scrollback rows, followed by the rows that scrolled off the page, each of them without its trailing default
+-- blanks.
 abbrev pub stacked : List RowValue → Scrollback → List RowValue
 stacked gone above = above.rows ++ map trimmed_row gone
 
--- The maximum of the theoretical length, 2^64 - 1.
+-- The maximum theoretical length of scrollback, 2^64 - 1.
 abbrev pub greatest : ℕ
 greatest = 18446744073709551615
 
--- Scrollback after these rows scroll off. The displayed rows don't change as long as they are kept.
+-- Scrollback after the given rows scroll off. If scrollback rows are displayed, the same rows stay displayed as long as
+-- scrollback keeps them.
 unfoldable pub kept_after : List RowValue → Scrollback → Scrollback
 kept_after gone above =
     let rows = last_of above.capacity (stacked gone above) in
@@ -49,17 +51,17 @@ kept_after gone above =
       offset = if above.offset == 0 then 0 else min (above.offset + length gone) (length rows);
     }
 
--- The row, extended to the screen's width if it is narrower.
+-- The row, extended to the screen's width if the row is narrower.
 abbrev pub grown_row : ℕ → RowValue → RowValue
 grown_row width row = if nat_lt (length row.cells) width then resized_row width row else row
 
--- The number of rows narrower than this width.
+-- The number of rows narrower than the given width.
 abbrev pub narrow_rows : ℕ → List RowValue → ℕ
 narrow_rows width [] = 0
 narrow_rows width (row ∷ rows) = (if nat_lt (length row.cells) width then 1 else 0) + narrow_rows width rows
 
--- Scrollback with its displayed rows extended to the screen's width. The displayed rows begin `offset` rows before
--- the end, and there are at most `height` of them.
+-- Scrollback with its displayed rows extended to the screen's width. The displayed rows begin `offset` rows before the
+-- end of scrollback, and there are at most `height` of them.
 unfoldable pub grown_in_view : (height width : ℕ) → Scrollback → Scrollback
 grown_in_view height width above =
     let first = length above.rows - above.offset in
@@ -69,18 +71,18 @@ grown_in_view height width above =
           ++ (map (grown_row width) (take height (drop first above.rows)) ++ drop (first + height) above.rows);
     }
 
--- Scrollback after these rows scroll off a page of this height and width.
+-- Scrollback after the given rows scroll off a page of the given height and width.
 abbrev pub pushed : (height width : ℕ) → List RowValue → Scrollback → Scrollback
 pushed height width [] above = above
 pushed height width (row ∷ gone) above = grown_in_view height width (kept_after (row ∷ gone) above)
 
--- The rows that are reported instead of kept when these rows scroll off, oldest first.
+-- The rows that are reported instead of kept when the given rows scroll off, oldest first.
 abbrev pub reported : List RowValue → Scrollback → List RowValue
 reported [] above = []
 reported (row ∷ gone) above = before_last above.capacity (stacked (row ∷ gone) above)
 
--- A single row scrolls off and reuses the memory of the oldest scrollback row, which is at least as long. Scrollback
--- is at capacity, and none of it is displayed.
+-- A single row scrolls off and reuses the memory of the oldest scrollback row, which has at least as many cells as the
+-- new row without its trailing default blanks. Scrollback is at capacity, and none of it is displayed.
 pub record TurnsOver (gone : List RowValue) (above : Scrollback) : Type 0 where
   pub one : length gone ≡ 1
   pub full : length above.rows ≡ above.capacity
@@ -88,23 +90,25 @@ pub record TurnsOver (gone : List RowValue) (above : Scrollback) : Type 0 where
   pub room : (d : RowValue) → length (trimmed_row (slice_index_or gone 0 d)).cells
       ≤ length (slice_index_or above.rows 0 d).cells
 
--- Moving these rows into scrollback may allocate, because the memory of the oldest row can't be reused.
+-- Moving the given rows into scrollback may allocate: there is at least one row, the capacity is not 0, and the memory
+-- of the oldest scrollback row can't be reused.
 abbrev pub TakesMemory : List RowValue → Scrollback → Type 0
 TakesMemory gone above = (0 < length gone) × ((0 < above.capacity) × (TurnsOver gone above → ⊥))
 
--- The rows `gone` scroll off: `after` is the resulting scrollback, and the rows that are not kept are reported one by
--- one.
+-- The effect of scrolling the given rows off a page: the rows are moved into scrollback, and the rows that are not kept
+-- are reported one by one.
 abbrev pub Sends : {S : Type 0} → (S → RowValue → S → Type 0) →
     (height width : ℕ) → List RowValue → Scrollback → S → Scrollback → S → Type 0
 Sends leaves height width gone above old after new =
     (after ≡ pushed height width gone above) × FoldsTo leaves old (reported gone above) new
 
--- Scrollback with its offset set to `n`, or to the number of its rows if that is less, on a screen of this height and
--- width.
+-- Scrollback after its offset is set to `n`, clamped to the number of its rows. The displayed rows are extended to the
+-- screen's width.
 unfoldable pub with_view : (height width : ℕ) → ℕ → Scrollback → Scrollback
 with_view height width n above = grown_in_view height width (record above { offset = min n (length above.rows) })
 
--- Setting the scrollback offset to `n` allocates memory, because a displayed row must be extended.
+-- On a screen of the given height and width, setting the scrollback offset to `n` allocates memory, because a displayed
+-- row must be extended.
 abbrev pub ViewTakesMemory : (height width : ℕ) → ℕ → Scrollback → Type 0
 ViewTakesMemory height width n above = 0 < narrow_rows width (take height (last_of n above.rows))
 

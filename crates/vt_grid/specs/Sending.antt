@@ -33,7 +33,7 @@ pub record SendsOrFails {S : Type 0} (leaves : S → RowValue → S → Type 0) 
   pub sent : OnOk result (Sends leaves height width gone above old after new)
   pub refused : FailsUnchanged before old after new result
 
--- The page is resized to this height and width. If an allocation for the rows that scroll off fails, nothing is
+-- The page is resized to the given height and width. If an allocation for the rows that scroll off fails, nothing is
 -- changed.
 pub record ResizesPage {S : Type 0} (leaves : S → RowValue → S → Type 0) (height width : ℕ)
     (before : Page) (was : Scrollback) (old : S) (after : Page) (kept : Scrollback) (new : S)

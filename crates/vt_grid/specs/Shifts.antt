@@ -4,18 +4,18 @@ use Rattle.vt_rows.specs.Row.{RowValue, inserted_row, deleted_row}
 use Rattle.vt_grid.specs.Page.{Page, row_or, moved_rows, rows_up, cursor_row, with_row}
 use Rattle.vt_grid.specs.Regions.{in_region}
 
--- The former index of row `r` after rows `top` to `bottom` move down by `n`. For a blank row that scrolls in, it is
--- `past`, an index past the end.
+-- The index that row `r` had before rows `top` to `bottom` moved down by `n`; for a blank row that scrolled in, the
+-- index `past`, which is past the end.
 abbrev pub down_source : ℕ → ℕ → ℕ → ℕ → ℕ → ℕ
 down_source past top bottom n r =
     if nat_le top r && nat_le r bottom then (if nat_le (top + n) r then r - n else past) else r
 
--- The rows with row `r` marked as not wrapped.
+-- The rows after the wrapped flag of row `r` is cleared.
 abbrev pub unflagged : ℕ → ℕ → List RowValue → List RowValue
 unflagged width r rows = slice_set rows r (record (row_or width rows r) { wrapped = false })
 
--- The rows after rows `top` to `bottom` move down by `n`. Row `bottom` is marked as not wrapped, because the row
--- after it has changed.
+-- The rows after rows `top` to `bottom` move down by `n`. Row `bottom` is marked as not wrapped, because a different
+-- row follows it now.
 abbrev pub rows_down : ℕ → ℕ → ℕ → ℕ → List RowValue → List RowValue
 rows_down width top bottom n rows =
     unflagged width bottom (moved_rows width (down_source (length rows) top bottom n) rows)

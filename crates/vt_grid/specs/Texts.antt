@@ -10,7 +10,7 @@ abbrev pub printed_text : List ℕ → Attrs → Page → Page
 printed_text [] attrs page = page
 printed_text (c ∷ text) attrs page = printed_text text attrs (printed c attrs page)
 
--- The page after narrow glyphs are written at the cursor, which then moves past them.
+-- The page after the narrow glyphs of a text are written at the cursor, which then moves past them.
 abbrev pub text_put : List ℕ → Attrs → Page → Page
 text_put text attrs page =
     record (with_cursor_cells (put_text page.column text attrs (cursor_row page).cells) page)

@@ -21,7 +21,8 @@ use vt_cells::{Attrs, Error, Pos};
 /// A page of the screen: rows of cells, a cursor, a saved cursor, a scroll region and origin mode
 /// (VT510 manual: DECSC, DECSTBM, DECOM).
 ///
-/// The cursor's column is at most the number of columns. If the two are equal, a wrap is pending.
+/// The cursor's column is at most the number of columns; if it equals that number, a wrap is
+/// pending.
 #[derive(Debug, Drop)]
 pub struct Grid {
     page_rows: PageRows,

@@ -157,7 +157,7 @@ impl PageRows {
     }
 
     /// Calls `edit` with the cells of a row and returns its result. Clears the row's wrapped flag
-    /// if the last cell is then a blank.
+    /// if the edited row ends with a blank.
     #[inline(always)]
     fn edit_row<R, F: FnOnce(&mut [Cell]) -> R>(&mut self, row: u16, edit: F) -> R
         requires inside { row < length self.old.rows }

@@ -132,7 +132,7 @@ impl Scrollback {
     /// width.
     ///
     /// No memory is allocated if `count` or the capacity is 0, or if the offset is 0 and a single
-    /// row replaces one that is at least as wide.
+    /// row replaces a row that is at least as wide.
     ///
     /// # Errors
     ///
@@ -210,7 +210,7 @@ impl Scrollback {
     }
 
     /// Reports the first `count` rows of a page, which are about to scroll off.
-    /// [`Scrollback::push`] calls this if the capacity is 0.
+    /// [`Scrollback::push`] calls this function if the capacity is 0.
     fn pass<L: Leaving>(&mut self, page: &PageRows, count: usize, leaving: &mut L)
         requires none { self.old.capacity ≡ 0 }
         requires some { 0 < count }
@@ -223,7 +223,7 @@ impl Scrollback {
     }
 
     /// Keeps copies of the first `count` rows of a page, which are about to scroll off.
-    /// [`Scrollback::push`] calls this if the capacity is not 0.
+    /// [`Scrollback::push`] calls this function if the capacity is not 0.
     ///
     /// # Errors
     ///
@@ -275,7 +275,7 @@ impl Scrollback {
     }
 
     /// Sets the offset to `n`, limited to the number of rows kept. Rows that a screen of the given
-    /// size then displays are extended to its width if they are narrower.
+    /// size displays at the new offset are extended to its width if they are narrower.
     ///
     /// No memory is allocated if no row needs to be extended.
     ///

@@ -1,4 +1,4 @@
--- Screens that display the same have the same differences.
+-- Screens that display the same content have the same differences.
 use Rattle.std.proofs.Common.{◌≤◌, ℕ, List, length, ap, subst, sym, ◌∙◌}
 use Rattle.vt_cells.specs.Op.{bytes_of_all}
 use Rattle.vt_grid.specs.Page.{Page, SameSize}
@@ -17,7 +17,7 @@ use Rattle.vt_mirror.proofs.Noted.{size_through}
 size_back : (a b : Page) → SameSize a b → SameSize b a
 size_back a b s = record { width = sym s.width; height = sym s.height }
 
--- The copy has the size of every screen that has the size of the recorded one.
+-- A copy has the size of every screen that has the size of the screen that was copied.
 pub size_alike : (self noted copy : ScreenValue) → ShowsAlike noted copy → SameSize self.page noted.page →
     SameSize self.page copy.page
 size_alike self noted copy a s =

@@ -21,14 +21,14 @@ other_number v q n = by_test (v == q) refl where
   by_test true e = absurd (n (sym (same_number v q e)))
   by_test false e = e
 
--- A key's test, as the map makes it, fails for other keys.
+-- The map's test for a viewer number is false for all other numbers.
 pub at_other : (v q : ℕ) → q ≢ v → is_at (nat_cmp v) q ≡ false
 at_other v q n = unsigned_tied v q ∙ other_number v q n
 
 own_number : (v : ℕ) → (v == v) ≡ true
 own_number v = grind (arith, nat_tests)
 
--- A number is this one or a different one.
+-- A number is equal to the given one, or it is different.
 pub by_number : {P : Type 0} (v q : ℕ) → (q ≡ v → P) → (q ≢ v → P) → P
 by_number {P} v q same other = by_test (v == q) refl where
   by_test : (b : Bool) → (v == q) ≡ b → P
@@ -38,7 +38,7 @@ by_number {P} v q same other = by_test (v == q) refl where
 pub none_some : {A : Type 0} (x : A) → None ≡ Some x → ⊥
 none_some x e = cc
 
--- Viewers are valid after one of them, or the screen recorded for it, has changed.
+-- The viewers stay valid after one of them, or the screen recorded for it, has changed.
 pub put_viewers : (old new : ViewersValue) (v : ℕ) (is : Bool) (note : Option ScreenValue)
     → Puts old v is note new → AreViewers old
     → (is ≡ true → v + 1 ≤ next_number new.last) → next_number old.last ≤ next_number new.last
@@ -63,7 +63,7 @@ no_note old v a nobody = by_note (note_of old v) refl where
   by_note (Some s) e = absurd (false≢true (sym nobody ∙ a.notes v s e))
   by_note None e = e
 
--- A number that was not returned has no viewer.
+-- The next number to be returned has no viewer yet.
 new_number : (old : ViewersValue) (v : ℕ) → AreViewers old → v ≡ next_number old.last → is_viewer old v ≡ false
 new_number old v a e = by_test (is_viewer old v) refl where
   too_many : v + 1 ≤ next_number old.last → ⊥
@@ -90,7 +90,7 @@ joined_viewers old v was is e u a n =
     put_viewers old (record old { last = Some v; numbers = is.keys }) v true None
     (joined old v was is e u a n) a (λ _. omega arith) (omega (arith, n)) (λ _. refl)
 
--- Nothing has changed if an allocation failed.
+-- If the call failed, the statement about a failed call holds.
 pub if_refused : {A E : Type 0} (r : Result A E) (P : Type 0) → is_err r ≡ true → OnErr r P → P
 if_refused (Ok x) P e h = absurd (false≢true e)
 if_refused (Err e) P o h = h

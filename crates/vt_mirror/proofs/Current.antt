@@ -1,4 +1,4 @@
--- Which viewers are current: those that were updated since the screen changed.
+-- The viewers that are current: those that received an update since the screen last changed.
 use Rattle.std.proofs.Common.{◌≡◌, ℕ, ◌<◌, ◌&&◌, ◌||◌, Bool, true, false, List, [], ◌∷◌, inl, inr}
 use Rattle.std.proofs.Common.{Option, Some, None, refl, sym, ap, subst, ◌∙◌, arith}
 use Rattle.std.proofs.Math.Path.{fun_ext}
@@ -78,7 +78,7 @@ current_is viewers notes current viewer a e =
           let noted = noted_current current (noted_at notes viewer) is in
           a.notes viewer noted.0.screen (note_is viewers notes viewer e ∙ ap screen_of noted.1)
 
--- what a mirror sees of it
+-- Whether the code finds a viewer current agrees with the model of the mirror.
 pub seen_current : (viewers : ViewersValue) (notes : List (ℕ × Note)) (current : Option Note) (seen : List ℕ)
     (viewer : ℕ) (found : Option Note)
     → AreViewers viewers → viewers.notes ≡ screens_of notes
@@ -91,7 +91,7 @@ seen_current viewers notes current seen viewer found a e is noted =
 
 -- ---- and what becomes of it
 
--- the screen changed: neither the copy of it nor its redraw is kept
+-- The kept values after the screen changed: neither the copy of the current screen nor its redraw is kept.
 abbrev kept_after : ViewersValue → (diff scrolling : Option DiffFrom) → List ℕ → KeptValue
 kept_after viewers diff scrolling current_viewers = record {
   viewers = viewers;
@@ -114,7 +114,7 @@ own_version note numbered = grind (arith, nat_tests, numbered)
 older : (note copy : Note) → note.version < copy.version → have_one_version note copy ≡ false
 older note copy less = grind (arith, nat_tests, less)
 
--- the copy of the current screen was made
+-- Making a copy of the current screen doesn't change which viewers are current.
 renewed_at : (screen : ScreenValue) (copies : Copies) (version after : ℕ) (renewed : Option Note)
     → IsRenewed screen version copies.current after renewed → AreShared copies version → (viewer : ℕ)
     → is_of_current renewed (noted_at copies.notes viewer) ≡ is_of_current copies.current (noted_at copies.notes viewer)
@@ -136,7 +136,8 @@ pub current_renewed : (numbers : List ℕ) (screen : ScreenValue) (copies : Copi
 current_renewed numbers screen copies version after renewed is s =
     ap (λ (test : ℕ → Bool). filter test numbers) (fun_ext (renewed_at screen copies version after renewed is s))
 
--- a copy of it was noted for a viewer
+-- After a copy of the current screen is recorded for a viewer, this viewer is current, and the other viewers are as
+-- before.
 pub current_put : (old : List ℕ) (before after : ViewersValue) (had has : BTreeMap ℕ Note) (copies : Copies)
     (viewer : ℕ) (screen : ScreenValue) (version later : ℕ) (renewed : Option Note) (put : Note) (new : List ℕ)
     → AreViewers before → before.notes ≡ screens_of had.entries → AreViewers after → after.notes ≡ screens_of has.entries
@@ -161,7 +162,7 @@ current_put old before after had has copies viewer screen version later renewed 
           ∙ seen_current before had.entries copies.current old other (noted_at had.entries other) a e was refl)));
     }
 
--- a viewer left
+-- After a viewer leaves, it is no longer current, and the other viewers are as before.
 pub current_left : (old : List ℕ) (before after : ViewersValue) (had has : BTreeMap ℕ Note) (current : Option Note)
     (viewer : ℕ) (new : List ℕ)
     → AreViewers before → before.notes ≡ screens_of had.entries → AreViewers after → after.notes ≡ screens_of has.entries
@@ -177,7 +178,7 @@ current_left old before after had has current viewer new a e b f u was becomes =
       ∙ seen_current before had.entries current old other (noted_at had.entries other) a e was refl;
 }
 
--- one joined
+-- After a viewer joins, the same viewers are current as before.
 pub current_joined : (old : List ℕ) (before after : ViewersValue) (notes : List (ℕ × Note)) (current : Option Note)
     (new : List ℕ)
     → AreViewers before → before.notes ≡ screens_of notes → AreViewers after → after.notes ≡ screens_of notes

@@ -1,4 +1,4 @@
--- A terminal that reads the output of a run.
+-- A terminal that reads the output of a run displays its last screen.
 use Rattle.std.proofs.Common.{◌≡◌, ℕ, List, [], ◌∷◌, subst}
 use Rattle.std.specs.List.{AllByRecursion, FoldsTo}
 use Rattle.vt_grid.specs.Page.{SameSize}

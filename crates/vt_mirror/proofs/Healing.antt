@@ -1,4 +1,4 @@
--- A viewer heals: it displays the screen of its last update if that was steady, whatever came before.
+-- A viewer recovers: it displays the screen of its last update if that screen was steady, whatever came before.
 use Rattle.std.proofs.Common.{◌≡◌, ℕ, false, List, [], ◌∷◌, Option, Some, None, refl, sym, ap, subst, ◌∙◌}
 use Rattle.std.specs.Prelude.{Result, Ok, Err, IfSome, string_bytes}
 use Rattle.std.specs.List.{FoldsTo}
@@ -31,7 +31,7 @@ use Rattle.vt_mirror.proofs.Watching.{takes_size}
 
 -- ---- a viewer reads
 
--- The viewer is plain again, and displays a steady screen.
+-- The viewer is plain again, and displays the screen `self` if it is steady.
 record Heals {S : Type 0} (self : ScreenValue) (viewer : Parsing S) : Type 0 where
   pub sound : IsScreen viewer.screen
   pub plain : IsPlainParser viewer
@@ -88,7 +88,7 @@ heals_full does self rows cols text p sized q full sound plain takes t =
     })
     t
 
--- An update is read, depending on what is recorded, which the viewer displays if it is steady.
+-- Reading an update makes the viewer recover, if it displays the recorded screen whenever that is steady.
 heals_update : {S : Type 0} (does : CallRelation S) (self : ScreenValue) (noted : Option ScreenValue)
     (update : Update) (p q : Parsing S)
     → ((prev : ScreenValue) → noted ≡ Some prev → IsSteady (shown prev) → shown p.screen ≡ shown prev)

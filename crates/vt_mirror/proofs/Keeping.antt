@@ -42,7 +42,7 @@ note_is viewers notes viewer e =
 
 -- ---- the copies that are kept
 
--- Only copies are kept that were kept before.
+-- Copies stay valid if no copy is added.
 pub fewer_kept : (old new : Copies) (version : ℕ) → ((note : Note) → IsKept new note → IsKept old note) →
     AreShared old version → AreShared new version
 fewer_kept old new version was s = record {
@@ -50,7 +50,7 @@ fewer_kept old new version was s = record {
   agree = λ one other is is_too same. s.agree one other (was one is) (was other is_too) same;
 }
 
--- Copies are kept that were kept before, and one with the next version.
+-- Copies stay valid if at most one copy is added and it has the next version.
 pub one_more_kept : (old new : Copies) (version after : ℕ) (added : Note)
     → added.version ≡ after → after ≡ suc version
     → ((note : Note) → IsKept new note → IsKept old note ⊎ (note ≡ added))
@@ -82,7 +82,7 @@ same_some x y e = cc
 none_some : {A : Type 0} (x : A) → None ≡ Some x → ⊥
 none_some x e = cc
 
--- The note of a viewer after the note of one viewer was stored or removed.
+-- After one viewer's note is stored or removed, every other note is one that was there before.
 pub noted_after : (viewer : ℕ) (had has : BTreeMap ℕ Note) (put : Option Note) (other : ℕ) (note : Note)
     → map.UpdatesBy nat_cmp (nat_cmp viewer) had has put → noted_at has.entries other ≡ Some note
     → (noted_at had.entries other ≡ Some note) ⊎ (put ≡ Some note)
@@ -91,7 +91,7 @@ noted_after viewer had has put other note u e =
     (λ here. inr (sym u.1 ∙ (ap (noted_at has.entries) (sym here) ∙ e)))
     (λ apart. inl (sym (u.2 other (at_other viewer other apart)) ∙ e))
 
--- A copy of the current screen was stored.
+-- Recording a copy of the current screen for a viewer adds no copy to those that are kept.
 pub kept_put : (viewer : ℕ) (screen : ScreenValue) (had has : BTreeMap ℕ Note) (old : Copies) (put note : Note)
     → old.notes ≡ had.entries → map.UpdatesBy nat_cmp (nat_cmp viewer) had has (Some put)
     → IsCurrentNote screen old.current put
@@ -103,7 +103,7 @@ kept_put viewer screen had has old put note e u is (inl noted) =
       by_side (inr here) = inr (inl (is.kept ∙ here))
 kept_put viewer screen had has old put note e u is (inr other) = inr other
 
--- A copy was removed.
+-- Removing a viewer's copy adds no copy to those that are kept.
 pub kept_left : (viewer : ℕ) (had has : BTreeMap ℕ Note) (old : Copies) (note : Note)
     → old.notes ≡ had.entries → map.UpdatesBy nat_cmp (nat_cmp viewer) had has None
     → IsKept (record old { notes = has.entries }) note → IsKept old note
@@ -114,7 +114,7 @@ kept_left viewer had has old note e u (inl noted) =
       by_side (inr never) = absurd (none_some note never)
 kept_left viewer had has old note e u (inr other) = inr other
 
--- The copy of the current screen was made, if there was none.
+-- Copies stay valid when the copy of the current screen is made, if there was none.
 pub shared_renewed : (screen : ScreenValue) (old : Copies) (version after : ℕ) (renewed : Option Note)
     → IsRenewed screen version old.current after renewed
     → AreShared old version → AreShared (record old { current = renewed }) after
@@ -129,7 +129,7 @@ shared_renewed screen old version after renewed (inr new) s =
       old_or_new note (inr (inl is)) = inr (same_some note new.0 (sym is ∙ new.1))
       old_or_new note (inr (inr diff)) = inl (inr (inr diff))
 
--- The screen changed, so its copy and the differences were dropped.
+-- Copies stay valid when the screen changes, and its copy and the stored differences are dropped.
 shared_changed : (old : Copies) (diff scrolling : Option Note) (version : ℕ) → diff ≡ None → scrolling ≡ None →
     AreShared old version →
     AreShared (record { notes = old.notes; current = None; diff = diff; scrolling = scrolling }) version
@@ -142,7 +142,7 @@ shared_changed old diff scrolling version no_diff no_scrolling s =
       was note (inr (inr (inl is))) = absurd (none_some note (sym no_diff ∙ is))
       was note (inr (inr (inr is))) = absurd (none_some note (sym no_scrolling ∙ is))
 
--- a map whose values a closure turned, and which all stay
+-- If a closure changes each value of a map and retains all entries, the result is the map with each value changed.
 module _ {F K X : Type 0} (T : F → K → X → Bool → X → F → Type 0) (turn : X → X) where
   pub map_from_retain : ((f : F) (k : K) (v : X) (b : Bool) (w : X) (g : F) → T f k v b w g → (b ≡ true) × (w ≡ turn v))
       → (f : F) (es kept : List (K × X)) → RetainsPairs T f es kept → kept ≡ list_map (λ (e : K × X). (e.0, turn e.1)) es
@@ -152,7 +152,7 @@ module _ {F K X : Type 0} (T : F → K → X → Bool → X → F → Type 0) (t
       let rest = map_from_retain told s.2 es s.3 s.5 in
       s.6 ∙ (λ j. cond (t.0 j) ((e.0, t.1 j) ∷ rest j) (rest j))
 
--- it changed, and versions start again
+-- After versions are reset, every note has version 0.
 unversioned : (test : ℕ → Bool) (notes : List (ℕ × Note)) (note : Note) →
     lookup test (without_versions notes) ≡ Some note → note.version ≡ 0
 unversioned test [] note is = absurd (none_some note is)
@@ -199,7 +199,7 @@ screens_without : (notes : List (ℕ × Note)) → screens_of (without_versions 
 screens_without [] = refl
 screens_without (e ∷ es) = ap (λ (rest : List (ℕ × ScreenValue)). (e.0, e.1.screen) ∷ rest) (screens_without es)
 
--- whichever versions there are, the screens that are noted stay
+-- Numbering versions again leaves the recorded screens unchanged.
 pub next_screens : (version : ℕ) (notes : List (ℕ × Note)) (after : ℕ) (renewed : List (ℕ × Note)) →
     HaveNext version notes after renewed → screens_of renewed ≡ screens_of notes
 next_screens version notes after renewed (inl same) = ap (λ (es : List (ℕ × Note)). screens_of es) same.1
@@ -211,7 +211,7 @@ pub next_numbered : (version : ℕ) (notes : List (ℕ × Note)) (after : ℕ) (
 next_numbered version notes after renewed (inl same) = omega (arith, same.0, same.2)
 next_numbered version notes after renewed (inr anew) = omega (arith, anew.0)
 
--- the copy of the current screen that was made has a version
+-- A copy of the current screen that was just made has a version.
 pub numbered_renewed : (screen : ScreenValue) (version : ℕ) (current : Option Note) (after : ℕ) (renewed : Option Note) →
     IsRenewed screen version current after renewed → HasVersion current version → HasVersion renewed after
 numbered_renewed screen version current after renewed (inl same) h =
@@ -220,7 +220,7 @@ numbered_renewed screen version current after renewed (inl same) h =
 numbered_renewed screen version current after renewed (inr new) h =
     subst (λ (o : Option Note). HasVersion o after) (sym new.1) (omega (arith, new.2, new.3))
 
--- All recorded screens were dropped.
+-- Copies stay valid when all recorded screens are dropped.
 pub shared_cleared : (old : Copies) (notes : List (ℕ × Note)) (version : ℕ) → notes ≡ [] →
     AreShared old version → AreShared (record old { notes = notes }) version
 shared_cleared old notes version empty s =
@@ -230,7 +230,7 @@ shared_cleared old notes version empty s =
           absurd (none_some note (ap (λ (entries : List (ℕ × Note)). noted_at entries noted.0) (sym empty) ∙ noted.1))
       was note (inr other) = inr other
 
--- No copy is kept.
+-- Copies are valid if none is kept.
 shared_none : (notes : List (ℕ × Note)) → notes ≡ [] →
     AreShared (record { notes = notes; current = None; diff = None; scrolling = None }) 0
 shared_none notes empty = record {
@@ -265,7 +265,7 @@ fresh_kept numbers notes diff scrolling e f no_diff no_scrolling = record {
   numbered = omega arith;
 }
 
--- A difference from the screen recorded for a viewer was stored, or nothing changed.
+-- Copies stay valid if a difference from the screen recorded for a viewer is stored, or nothing changes.
 pub shared_diff : (old : Copies) (version viewer : ℕ) (note : Note) (from : Option Note)
     → noted_at old.notes viewer ≡ Some note → (from ≡ old.diff) ⊎ (from ≡ Some note)
     → AreShared old version → AreShared (record old { diff = from }) version
@@ -341,7 +341,7 @@ note_left_viewers old viewer was is had has e f u w a =
     (note_left old viewer was is had has e f u w)
     a (λ h. absurd (false≢true h)) (omega arith) (λ _. refl)
 
--- No screen is recorded any more.
+-- Viewers stay valid when all recorded screens are dropped.
 pub cleared_viewers : (viewers : ViewersValue) (notes : List (ℕ × Note)) → notes ≡ [] → AreViewers viewers →
     AreViewers (record viewers { notes = screens_of notes })
 cleared_viewers viewers notes empty a = record {
@@ -357,7 +357,7 @@ pub found_note : (viewers : ViewersValue) (notes : List (ℕ × Note)) (viewer :
     viewers.notes ≡ screens_of notes → found ≡ noted_at notes viewer → screen_of found ≡ note_of viewers viewer
 found_note viewers notes viewer found e is = ap screen_of is ∙ sym (note_is viewers notes viewer e)
 
--- A viewer's copy that has the version of a kept copy is a copy of the same screen.
+-- If a viewer's copy has the version of a kept copy, both are copies of the same screen.
 found_same : (viewers : ViewersValue) (copies : Copies) (version viewer : ℕ) (note copy : Note)
     → viewers.notes ≡ screens_of copies.notes → AreShared copies version → Some note ≡ noted_at copies.notes viewer
     → IsKept copies copy → AreOfOneVersion note copy → note_of viewers viewer ≡ Some copy.screen
@@ -365,7 +365,7 @@ found_same viewers copies version viewer note copy e s noted is same =
     sym (found_note viewers copies.notes viewer (Some note) e noted)
     ∙ ap (λ (screen : ScreenValue). Some screen) (s.agree note copy (inl (viewer, sym noted)) is same)
 
--- A viewer's copy that has the version of the current copy is a copy of the current screen.
+-- If a viewer's copy has the version of the current copy, it is a copy of the current screen.
 pub found_current : (viewers : ViewersValue) (copies : Copies) (version : ℕ) (current : Option ScreenValue)
     (viewer : ℕ) (note copy : Note)
     → viewers.notes ≡ screens_of copies.notes → current ≡ screen_of copies.current → AreShared copies version
@@ -377,7 +377,8 @@ found_current viewers copies version current viewer note copy e f s noted is sam
   f ∙ ap screen_of is,
 )
 
--- A viewer's copy that has the version of a stored difference is a copy of the screen that the difference starts from.
+-- If a viewer's copy has the version of a stored difference, it is a copy of the screen that the difference starts
+-- from.
 pub found_diff : (viewers : ViewersValue) (copies : Copies) (version : ℕ) (last : Option KeptDiff)
     (seen : Option DiffFrom) (viewer : ℕ) (note : Note) (diff : KeptDiff) (text : List ℕ)
     → viewers.notes ≡ screens_of copies.notes → seen ≡ diff_of last → AreShared copies version
@@ -390,7 +391,7 @@ found_diff viewers copies version last seen viewer note diff text e f s noted is
   f ∙ (ap diff_of is ∙ ap (λ (t : List ℕ). Some (diff.from.screen, t)) (sym bytes)),
 )
 
--- The copy that a cache keeps after a difference was stored.
+-- After a difference is stored, the cache's copy is either the old one or the one that the difference starts from.
 pub from_kept : (old new : DiffCache) (note : Note) (text : List ℕ)
     → (new ≡ old) ⊎ ((diff : KeptDiff) × (new.last ≡ Some diff) × (diff.from ≡ note) × (string_bytes diff.text ≡ text))
     → (from_of new.last ≡ from_of old.last) ⊎ (from_of new.last ≡ Some note)

@@ -19,21 +19,21 @@ same_some x y e = cc
 pub own_size : (a : Page) → SameSize a a
 own_size a = record { width = refl; height = refl }
 
--- The parser changed except for its size, and the viewers are unchanged.
+-- Recorded screens still have the mirror's size if only the parser changes and keeps its size.
 pub noted_parser : (old new : MirrorValue) → new.viewers ≡ old.viewers →
     SameSize new.parser.screen.page old.parser.screen.page → IsMirror old → IsMirror new
 noted_parser old new same size m viewer screen e =
     size_through new.parser.screen.page old.parser.screen.page screen.page size
     (m viewer screen (ap (λ (v : ViewersValue). note_of v viewer) (sym same) ∙ e))
 
--- No screen is recorded.
+-- If no screen is recorded, all recorded screens have the mirror's size.
 pub noted_none : (mirror : MirrorValue) → mirror.viewers.notes ≡ [] → IsMirror mirror
 noted_none mirror none viewer screen e =
     absurd (none_some screen (ap
     (λ (notes : List (ℕ × ScreenValue)). note_of (record (mirror.viewers) { notes = notes }) viewer) (sym none)
     ∙ e))
 
--- The screen recorded for one viewer changed.
+-- Recorded screens still have the mirror's size if the screen recorded for one viewer is replaced by one of that size.
 pub noted_put : (old new : MirrorValue) (v : ℕ) (is : Bool) (noted : Option ScreenValue)
     → new.parser ≡ old.parser → Puts old.viewers v is noted new.viewers
     → ((screen : ScreenValue) → noted ≡ Some screen → SameSize old.parser.screen.page screen.page)
@@ -63,7 +63,7 @@ pub noted_leave : (old new : MirrorValue) (viewer : ℕ) (answer : Bool) → new
 noted_leave old new viewer answer same l m =
     noted_put old new viewer false None same l.puts (λ screen e. absurd (none_some screen e)) m
 
--- A copy of the mirror's screen was recorded.
+-- Recorded screens still have the mirror's size after a copy of the mirror's screen is recorded.
 pub noted_copy : (old new : MirrorValue) (v : ℕ) (copy : ScreenValue) → new.parser ≡ old.parser →
     Puts old.viewers v true (Some copy) new.viewers → copy ≡ old.parser.screen → IsMirror old → IsMirror new
 noted_copy old new v copy same p is m =

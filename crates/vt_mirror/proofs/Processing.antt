@@ -1,4 +1,4 @@
--- Bytes keep the size of a mirror's screen.
+-- Parsing bytes keeps the size of a mirror's screen.
 use Rattle.std.proofs.Common.{ℕ, List, refl, sym, subst}
 use Rattle.std.specs.Prelude.{Result, Ok, Err}
 use Rattle.vt_cells.specs.declared.error.Error.{Error}

@@ -1,4 +1,4 @@
--- What a run has read and written, update by update.
+-- The input that a run has read and the output that it has written, update by update.
 use Rattle.std.proofs.Common.{◌≡◌, ℕ, ◌+◌, ◌*◌, ◌/◌, ◌<◌, ◌≤◌, zero, suc, List, [], ◌∷◌, ◌++◌}
 use Rattle.std.proofs.Common.{length, map, take, refl, sym, ap, ap₂, ◌∙◌, append_assoc, arith}
 use Rattle.std.proofs.lemmas.List.{append-nil, length-append, map-append, take-append-le, take_all}
@@ -38,7 +38,7 @@ count_is every count input whole some =
       sum_zero : (n : ℕ) → n ≡ n + 0
       sum_zero n = omega arith
 
--- Fewer bytes than an interval make no update due.
+-- Reading fewer bytes than an interval makes no update due.
 pub fewer_on_way : (first : ScreenValue) (every count : ℕ) (input more : List ℕ) → length input ≡ count * every →
     length more < every → screens_on_way first every (input ++ more) ≡ screens_on_way first every input
 fewer_on_way first every count input more whole fewer =
@@ -57,7 +57,7 @@ pub next_length : (every count : ℕ) (input more : List ℕ) → length input �
     length (input ++ more) ≡ suc count * every
 next_length every count input more whole much = omega (arith, length-append input more, whole, much)
 
--- A full interval makes one more update due.
+-- Reading a full interval makes one more update due.
 pub more_on_way : (first : ScreenValue) (every count : ℕ) (input more : List ℕ) → 0 < every
     → length input ≡ count * every → length more ≡ every
     → screens_on_way first every (input ++ more)

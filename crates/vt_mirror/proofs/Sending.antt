@@ -1,5 +1,5 @@
--- A mirror may be sent to another thread: proved field by field, since a `search` through all of them runs out of
--- steps.
+-- A mirror may be sent to another thread. The proof goes field by field, because a `search` through all fields runs out
+-- of steps.
 use denote.Param.Send.{AllSend, AllSync, IsSend, IsSync, recorded_send, recorded_sync, sendable, struct_send, struct_sync}
 use denote.Param.Send.{view_send, view_sync}
 use denote.Struct.Declared.{fields, shape}

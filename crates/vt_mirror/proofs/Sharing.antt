@@ -1,4 +1,4 @@
--- What a mirror knows of its copies and its texts, call by call.
+-- The copies and stored texts of a mirror stay valid in each call.
 use Rattle.std.proofs.Common.{◌≡◌, ◌⊎◌, ℕ, List, [], Option, Some, None, inl, inr, refl, sym, ap, subst, arith}
 use Rattle.std.specs.Prelude.{IfSome}
 use Rattle.vt_grid.specs.Page.{SameSize}
@@ -66,7 +66,7 @@ HasScrolling parser o = IfSome o (λ diff. Scrolls parser.screen diff.0 diff.1)
 abbrev HasRedraw : Parsing (Unit {0}) → Option (List ℕ) → Type 0
 HasRedraw parser o = IfSome o (IsRedraw parser.screen)
 
--- A redraw was stored, or nothing changed.
+-- The copies and texts of a mirror stay valid after a redraw is stored, or if nothing changes.
 pub sharing_redrawn : (parser : Parsing (Unit {0})) (old new : KeptValue) (text : List ℕ)
     → (new ≡ old) ⊎ (new ≡ record old { redraw = Some text }) → IsRedraw parser.screen text
     → IsSharing parser old → IsSharing parser new
@@ -75,7 +75,7 @@ sharing_redrawn parser old new text (inr kept) is s =
     subst (λ (k : KeptValue). IsSharing parser k) (sym kept)
     (record { sized = s.sized; current = s.current; diff = s.diff; scrolling = s.scrolling; redraw = is })
 
--- The screen changed, but not its size.
+-- The copies and texts of a mirror stay valid after the screen changes but keeps its size.
 pub sharing_changed : (parser after : Parsing (Unit {0})) (old new : KeptValue)
     → new ≡ record old { current = None; diff = None; scrolling = None; redraw = None; current_viewers = [] }
     → SameSize after.screen.page parser.screen.page → IsSharing parser old → IsSharing after new
@@ -90,7 +90,7 @@ sharing_changed parser after old new e size s =
       redraw = tt;
     })
 
--- The screen and its size changed.
+-- The copies and texts of a mirror stay valid after the screen and its size change.
 pub sharing_resized : (after : Parsing (Unit {0})) (old new : KeptValue)
     → new ≡ record {
       viewers = record (old.viewers) { notes = [] };
@@ -110,12 +110,12 @@ sharing_resized after old new e =
       redraw = tt;
     })
 
--- The parser is unchanged.
+-- The copies and texts of a mirror stay valid if the parser is unchanged.
 pub sharing_parser : (parser after : Parsing (Unit {0})) (kept : KeptValue) → after ≡ parser →
     IsSharing parser kept → IsSharing after kept
 sharing_parser parser after kept same s = subst (λ (p : Parsing (Unit {0})). IsSharing p kept) (sym same) s
 
--- Viewers joined or left.
+-- The copies and texts of a mirror stay valid after viewers join or leave.
 pub sharing_viewers : (parser : Parsing (Unit {0})) (old new : KeptValue)
     → new ≡ record old { viewers = new.viewers; current_viewers = new.current_viewers }
     → IsMirror (record { parser = parser; viewers = new.viewers; current = new.current_viewers }) → IsSharing parser old → IsSharing parser new
@@ -127,7 +127,7 @@ sharing_viewers parser old new e sized s = record {
   redraw = subst (HasRedraw parser) (sym (ap (λ (k : KeptValue). k.redraw) e)) s.redraw;
 }
 
--- The current screen was recorded for a viewer.
+-- The copies and texts of a mirror stay valid after the current screen is recorded for a viewer.
 pub sharing_noted : (parser : Parsing (Unit {0})) (old new : KeptValue)
     → IsMirror (record { parser = parser; viewers = new.viewers; current = new.current_viewers }) → CopiesScreen parser new.current
     → new.diff ≡ old.diff → new.scrolling ≡ old.scrolling → new.redraw ≡ old.redraw
@@ -140,7 +140,7 @@ sharing_noted parser old new sized current e f g s = record {
   redraw = subst (HasRedraw parser) (sym g) s.redraw;
 }
 
--- A difference was stored, or the cache is unchanged.
+-- Either the stored difference `is` starts from the screen recorded for the viewer, or it is the one stored before.
 abbrev Kept : KeptValue → (viewer : ℕ) → (was is : Option DiffFrom) → List ℕ → Type 0
 Kept old viewer was is text =
     (is ≡ was) ⊎ ((screen : ScreenValue) × (note_of old.viewers viewer ≡ Some screen) × (is ≡ Some (screen, text)))

@@ -23,7 +23,7 @@ use Rattle.vt_mirror.proofs.Alikes.{drawn_alike, scrolls_alike, size_alike}
 same_some : {A : Type 0} (x y : A) → Some x ≡ Some y → x ≡ y
 same_some x y e = cc
 
--- What holds for the recorded screen holds for each screen that is recorded.
+-- A statement about the screen recorded for a viewer holds for every screen that is recorded for that viewer.
 pub of_noted : (P : ScreenValue → Type 0) (noted : Option ScreenValue) (it : ScreenValue) → noted ≡ Some it → P it →
     (screen : ScreenValue) → noted ≡ Some screen → P screen
 of_noted P noted it e p screen f = subst P (same_some it screen (sym e ∙ f)) p
@@ -88,7 +88,7 @@ full_one : (self noted : ScreenValue) (update : Update) → (IsSteady (shown not
 full_one self noted (Full rows cols text) unsteady is = (unsteady, is)
 full_one self noted (Diff text) unsteady is = absurd is
 
--- A full redraw for a viewer whose recorded screen is not steady.
+-- A full redraw is an update for a viewer whose recorded screen is not steady.
 pub full_update : (inside mirror : MirrorValue) (viewer : ℕ) (noted : ScreenValue) (result : Result Update Error)
     → inside ≡ mirror → note_of inside.viewers viewer ≡ Some noted → (IsSteady (shown noted) → ⊥)
     → IfOk result (λ update. IsFullUpdate mirror.parser.screen update)

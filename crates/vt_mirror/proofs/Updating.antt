@@ -1,4 +1,4 @@
--- A run continues with an update, and the states in which it stops.
+-- The next update of a run, and the states in which a run stops.
 use Rattle.std.proofs.Common.{◌≡◌, ◌⊎◌, inl, inr, ℕ, suc, ◌+◌, ◌<◌, ◌≤◌, Bool, true, false, List, [], ◌∷◌, ◌++◌}
 use Rattle.std.proofs.Common.{length, take, Option, Some, None, Result, Ok, Err, refl, sym, ap, subst, ◌∙◌, arith}
 use Rattle.std.proofs.KnownBytes.{Appends-kept, Appends-trans, Consumes-kept, Consumes-nil, Consumes-trans, Keeps-refl}
@@ -67,7 +67,7 @@ stretch_begun every mirror left some = record {
   count = omega arith;
 }
 
--- The first bytes of a buffer were read by the mirror.
+-- The mirror has parsed the first bytes of a buffer.
 pub processed : (count : ℕ) (buffer behind : List ℕ) (old new : MirrorValue) (answer : Result (Unit {0}) Error)
     (left rest : Option (List ℕ)) → is_err answer ≡ false → count ≤ length buffer →
     MirrorProcesses old (take count (buffer ++ behind)) answer new → Consumes left rest (take count buffer) →
@@ -196,7 +196,7 @@ begun_written every viewer old new left written grown some b w =
           ∙ (sym (append-nil (bytes_of_all (redraw (shown first)))) ∙ ap (chain_text first) (sym none))) w.appends;
     }
 
--- An update to one more screen is sent.
+-- The text of one more update was appended to the output.
 record OneMore (first : ScreenValue) (screens : List ScreenValue) (written grown : Option (List ℕ)) : Type 0 where
   updated : AllByRecursion (IsUpdatedAfter first) (first ∷ screens)
   appends : Appends written grown (chain_text first screens)
@@ -225,7 +225,7 @@ one_more viewer first nexts mid read new written grown more last note size told 
           (Appends-trans written grown more (chain_text first nexts) (text_of_update w.update) appends w.appends);
     }
 
--- The bytes up to the next update were read, and the update was written.
+-- If the bytes up to the next update were read and the update was written, all updates due so far are written.
 pub written_more : (every viewer : ℕ) (old mid read new : MirrorValue) (left at rest written grown more : Option (List ℕ))
     → 0 < every → StandsFor old.parser.scanner start → IsWritten every viewer old mid left at written grown
     → ReadsStretch every true mid read at rest → WritesUpdate read viewer new grown more
@@ -261,7 +261,7 @@ written_more every viewer old mid read new left at rest written grown more some 
       appends = subst (λ (xs : List ScreenValue). Appends written more (chain_text first xs)) (sym screens) one.appends;
     }
 
--- The rest of the input was read, and the last update was written.
+-- If the remaining input was read and the last update was written, the run has written all its updates.
 pub written_all : (every viewer : ℕ) (old mid read new : MirrorValue) (left at rest written grown more : Option (List ℕ))
     → StandsFor old.parser.scanner start → IsWritten every viewer old mid left at written grown
     → ReadsStretch every false mid read at rest → WritesUpdate read viewer new grown more
@@ -292,7 +292,7 @@ written_all every viewer old mid read new left at rest written grown more stands
 
 -- ---- the states in which a run stops
 
--- A run stops after an update.
+-- The state of a run that stops directly after an update.
 pub stops_written : (every viewer : ℕ) (old new : MirrorValue) (left rest written grown : Option (List ℕ)) →
     IsWritten every viewer old new left rest written grown →
     WritesOnWay old.parser.screen every left rest written grown
@@ -304,7 +304,7 @@ stops_written every viewer old new left rest written grown w =
       controls = chain_made old.parser.screen (screens_on_way old.parser.screen every w.input) w.updated;
     }
 
--- A run stops because a read failed.
+-- The state of a run that stops because a read failed.
 pub stops_reading : (every viewer : ℕ) (old mid : MirrorValue) (left at rest written grown : Option (List ℕ)) →
     IsWritten every viewer old mid left at written grown → ReadsFewer every at rest →
     WritesOnWay old.parser.screen every left rest written grown
@@ -320,7 +320,7 @@ stops_reading every viewer old mid left at rest written grown w r = record {
       (chain_made old.parser.screen (screens_on_way old.parser.screen every w.input) w.updated);
 }
 
--- A run stops because an allocation failed while bytes were read.
+-- The state of a run that stops because an allocation failed while bytes were read.
 pub stops_refused : (every viewer : ℕ) (old mid : MirrorValue) (left at rest written grown more : Option (List ℕ)) →
     IsWritten every viewer old mid left at written grown → ReadsAtMost every at rest → Keeps grown more →
     WritesBehind old.parser.screen every left rest written more
@@ -333,7 +333,7 @@ stops_refused every viewer old mid left at rest written grown more w r keeps = r
   controls = chain_made old.parser.screen (screens_on_way old.parser.screen every w.input) w.updated;
 }
 
--- A run stops because an allocation failed for the update after the bytes.
+-- If an allocation fails for the update after some bytes, at most one interval of bytes was read since the last update.
 pub stretch_few : (every : ℕ) (is_whole : Bool) (old new : MirrorValue) (left rest : Option (List ℕ)) →
     ReadsStretch every is_whole old new left rest → ReadsAtMost every left rest
 stretch_few every true old new left rest s =
@@ -341,7 +341,7 @@ stretch_few every true old new left rest s =
 stretch_few every false old new left rest s =
     record { bytes = s.bytes; few = omega (arith, s.fewer refl); reads = s.reads.reads }
 
--- The viewer is still one.
+-- The viewer is still a viewer of the mirror after bytes are read.
 pub still_views : (every viewer : ℕ) (is_whole : Bool) (old mid read : MirrorValue)
     (left at rest written grown : Option (List ℕ))
     → IsWritten every viewer old mid left at written grown → ReadsStretch every is_whole mid read at rest
@@ -349,7 +349,7 @@ pub still_views : (every viewer : ℕ) (is_whole : Bool) (old mid read : MirrorV
 still_views every viewer is_whole old mid read left at rest written grown w s =
     ap (λ (v : ViewersValue). is_viewer v viewer) s.reads.viewers ∙ w.views
 
--- An update was returned, and its text was written.
+-- If an update was returned and its text was written, the viewer's update is written.
 pub update_written : (old : MirrorValue) (viewer : ℕ) (new : MirrorValue) (update : Update) (text : List ℕ)
     (written grown : Option (List ℕ)) (answer : Result (Unit {0}) Fault)
     → GivesUpdate Drawn old viewer update new → text ≡ text_of_update update → OnOk answer (Appends written grown text)
@@ -381,7 +381,7 @@ next_written every viewer false old mid read new left at rest written grown more
 
 -- ---- failed writes
 
--- An update was returned, and a prefix of its text was written.
+-- If an update was returned and a prefix of its text was written, the viewer's update is written in part.
 pub update_part : (old : MirrorValue) (viewer : ℕ) (new : MirrorValue) (update : Update) (text : List ℕ)
     (written grown : Option (List ℕ)) (answer : Result (Unit {0}) Fault)
     → GivesUpdate Drawn old viewer update new → text ≡ text_of_update update
@@ -391,7 +391,7 @@ update_part old viewer new update text written grown (Ok u) gives is part e = cc
 update_part old viewer new update text written grown (Err fault) gives is part e =
     record { update = update; gives = gives; part = subst (AppendsPart written grown) is part }
 
--- Writing the first update failed.
+-- The output of a run whose first update could not be written in full.
 pub fails_first : (viewer : ℕ) (old new : MirrorValue) (left written grown : Option (List ℕ)) →
     IsBegun old viewer → WritesUpdatePart old viewer new written grown →
     FailsAtFirst old.parser.screen left left written grown
@@ -411,7 +411,7 @@ stretch_due : (every : ℕ) (is_whole : Bool) (old new : MirrorValue) (left rest
 stretch_due every true old new left rest s = inl (s.whole refl)
 stretch_due every false old new left rest s = inr (s.fewer refl, s.end refl)
 
--- Writing a later update failed.
+-- The output of a run in which an update other than the first could not be written in full.
 pub fails_later : (every viewer : ℕ) (is_whole : Bool) (old mid read new : MirrorValue)
     (left at rest written grown more : Option (List ℕ))
     → StandsFor old.parser.scanner start → IsWritten every viewer old mid left at written grown

@@ -71,7 +71,7 @@ same_end text p q after plain t reads =
     (read_pieces p q t.calls start (terminal start after) plain.is_failed
     plain.scanner (ap (read (terminal start p.screen)) t.whole ∙ reads) t.reads).1
 
--- A valid plain terminal that displays a screen.
+-- The terminal is valid and plain, and displays the given screen.
 record Plainly {S : Type 0} (self : ScreenValue) (viewer : Parsing S) : Type 0 where
   pub plain : IsPlainParser viewer
   pub shows : shown viewer.screen ≡ shown self
@@ -102,7 +102,7 @@ reads_diff self prev text p q diff steady sound plain shows t =
       shows = shows;
     }) t
 
--- A plain terminal that takes the size of a full update.
+-- The terminal is valid and plain, and has the given size.
 pub record Sized {S : Type 0} (rows cols : ℕ) (q : Parsing S) : Type 0 where
   pub sound : IsScreen q.screen
   pub plain : IsPlainParser q
@@ -154,7 +154,7 @@ full_after : (kind : Kind) (self prev : ScreenValue) (rows cols : ℕ) (text : L
 full_after Drawn self prev rows cols text is = absurd is
 full_after Scrolling self prev rows cols text is = is.1
 
--- An update is read, depending on what is recorded, which the viewer displays.
+-- A viewer that displays the recorded screen, if there is one, displays the new screen after it reads an update.
 takes_update : {S : Type 0} (kind : Kind) (self : ScreenValue) (noted : Option ScreenValue)
     (update : Update) (p q : Parsing S)
     → ((prev : ScreenValue) → noted ≡ Some prev → shown p.screen ≡ shown prev)
@@ -172,7 +172,7 @@ takes_update kind self None (Diff text) p q shows is steady sound plain t = absu
 
 -- ---- one call
 
--- The viewer is plain and displays what it has seen, which is the recorded screen if there is one.
+-- The viewer is plain and displays the screen of its last update, which is the recorded screen if there is one.
 record Holds {S : Type 0} (number : ℕ) (w : Watching S) : Type 0 where
   pub sound : IsScreen w.viewer.screen
   pub plain : IsPlainParser w.viewer
@@ -271,7 +271,7 @@ viewer_shows number calls old new fresh is f =
 
 -- ---- numbers
 
--- A call that returns no number keeps the last number.
+-- After a call that returns no number, the numbers still count up from the same number.
 last_stays : (old new : MirrorValue) (n : ℕ) (numbers : List ℕ) → new.viewers.last ≡ old.viewers.last →
     next_number old.viewers.last ≡ n → CountUp (next_number new.viewers.last) numbers → CountUp n numbers
 last_stays old new n numbers same e c = subst (λ (k : ℕ). CountUp k numbers) (ap next_number same ∙ e) c

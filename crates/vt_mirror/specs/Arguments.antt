@@ -3,8 +3,7 @@
 use Rattle.std.specs.Prelude.{ℕ, List, [], ◌∷◌}
 use Rattle.vt_show.specs.Arguments.{IsSize}
 
--- There are exactly three arguments, each a decimal number from 1 to 65535, and they specify `rows`, `cols` and
--- `every`.
+-- There are exactly three arguments, each a decimal number from 1 to 65535; the numbers are `rows`, `cols` and `every`.
 abbrev pub AsksToMirror : List (List ℕ) → (rows cols every : ℕ) → Type 0
 AsksToMirror (first ∷ second ∷ third ∷ []) rows cols every = IsSize first rows × IsSize second cols × IsSize third every
 AsksToMirror _ rows cols every = ⊥

@@ -22,8 +22,8 @@ use Rattle.vt_mirror.specs.Viewers.{Puts, PutsAmong, ViewersValue, is_viewer, ne
 use Rattle.vt_mirror.specs.declared.update.Update.{Update}
 use Rattle.vt_mirror.specs.declared.update.Update.TheVariants.{Diff, Full}
 
--- The effect of `process`: the bytes are parsed as by a parser whose callbacks do nothing. The size and the viewers
--- are unchanged.
+-- The effect of `process`: the bytes are parsed as by a parser whose callbacks do nothing. The mirror's size and
+-- viewers are unchanged.
 pub record MirrorProcesses (old : MirrorValue) (bytes : List ℕ)
     (answer : Result (Unit {0}) Error) (new : MirrorValue) : Type 0 where
   pub viewers : new.viewers ≡ old.viewers
@@ -49,8 +49,8 @@ pub record Resizes (old : MirrorValue) (rows cols : ℕ)
 abbrev pub greatest : ℕ
 greatest = 2 ^ 64 - 1
 
--- The effect of `join`: a new viewer gets the next number, and no screen is recorded for it yet. After the maximum
--- number, there is no next one, and the call fails. On error, nothing is changed.
+-- The effect of `join`: a new viewer gets the next number, and no screen is recorded for this viewer yet. The call
+-- fails if the maximum number was already assigned. On error, nothing is changed.
 pub record JoinsMirror (old : ViewersValue) (answer : Result ℕ Error) (new : ViewersValue) : Type 0 where
   pub number : IfOk answer (λ viewer. viewer ≡ next_number old.last)
   pub last : IfOk answer (λ viewer. new.last ≡ Some viewer)
@@ -59,7 +59,8 @@ pub record JoinsMirror (old : ViewersValue) (answer : Result ℕ Error) (new : V
   pub only : IfErr answer (λ error. (error ≡ OutOfMemory) ⊎ ((error ≡ NoNumber) × (old.last ≡ Some greatest)))
   pub refused : IfErr answer (λ _. new ≡ old)
 
--- The effect of `leave`: the viewer is removed, and the result says whether there was one.
+-- The effect of `leave`: the viewer with the given number is removed, and the result says whether there was such a
+-- viewer.
 pub record Leaves (old : ViewersValue) (viewer : ℕ) (answer : Bool) (new : ViewersValue) : Type 0 where
   pub was : answer ≡ is_viewer old viewer
   pub last : new.last ≡ old.last
@@ -78,8 +79,8 @@ pub record IsFull (self : ScreenValue) (rows cols : ℕ) (text : List ℕ) : Typ
   pub controls : IsMadeOf drawing_finals drawing_controls text
   pub again : KeepsPlain text
 
--- The text is a difference between two screens of the same size. It is empty if they display the same content; if
--- the screen `self` is steady, it is empty only then.
+-- The text is a difference between two screens of the same size. If both screens display the same content, the text is
+-- empty; conversely, if the text is empty and the screen `self` is steady, both display the same content.
 pub record IsDiff (self prev : ScreenValue) (text : List ℕ) : Type 0 where
   pub size : SameSize self.page prev.page
   pub redraws : Redraws (shown self) (IsReaderOf (shown self) (shown prev)) KeepsRest text
@@ -87,13 +88,13 @@ pub record IsDiff (self prev : ScreenValue) (text : List ℕ) : Type 0 where
   pub empty : IsSameIfEmpty prev self text
   pub again : KeepsPlain text
 
--- The kind of a difference: drawn only, or possibly preceded by moves of rows.
+-- The kind of a difference: one that moves no rows, or one that may move rows first.
 pub data Kind : Type 0 where
   Drawn : Kind
   Scrolling : Kind
 
--- The text is a difference that moves no rows. If the screen `self` is steady, it only affects cells near a row that
--- differs.
+-- The text is a difference that moves no rows. If the screen `self` is steady, the difference touches only positions
+-- near rows that differ, as `IsLocal` defines.
 pub record IsDrawn (self prev : ScreenValue) (text : List ℕ) : Type 0 where
   pub diff : IsDiff self prev text
   pub is : text ≡ bytes_of_all (difference (shown self) (shown prev))
@@ -117,20 +118,20 @@ abbrev pub IsFullUpdate : (self : ScreenValue) → Update → Type 0
 IsFullUpdate self (Full rows cols text) = IsFull self rows cols (string_bytes text)
 IsFullUpdate self (Diff text) = ⊥
 
--- The update is a full redraw although a screen is recorded. This happens only for the kind `Scrolling`, if the
--- recorded screen is not steady.
+-- The update is a full redraw although a screen is recorded for the viewer. This is possible only for the kind
+-- `Scrolling`, and only if the recorded screen is not steady.
 abbrev pub IsFullAfter : Kind → (self prev : ScreenValue) → (rows cols : ℕ) → (text : List ℕ) → Type 0
 IsFullAfter Drawn self prev rows cols text = ⊥
 IsFullAfter Scrolling self prev rows cols text = (IsSteady (shown prev) → ⊥) × IsFull self rows cols text
 
--- The update is a full redraw if no screen is recorded. Otherwise it is a difference of this kind from the recorded
--- screen, if such a difference exists.
+-- The update is a full redraw if no screen is recorded for the viewer. Otherwise, the update is a difference of the
+-- given kind from the recorded screen, or a full redraw as `IsFullAfter` describes.
 abbrev pub IsUpdate : Kind → (self : ScreenValue) → Option ScreenValue → Update → Type 0
 IsUpdate kind self (Some prev) (Diff text) = IsOfKind kind self prev (string_bytes text)
 IsUpdate kind self (Some prev) (Full rows cols text) = IsFullAfter kind self prev rows cols (string_bytes text)
 IsUpdate kind self None update = IsFullUpdate self update
 
--- The viewer gets an update, and the mirror's screen, which is valid, is recorded for it.
+-- The viewer gets an update, and the mirror's screen, which is valid, is recorded for this viewer.
 pub record GivesUpdate (kind : Kind) (old : MirrorValue) (viewer : ℕ) (update : Update) (new : MirrorValue) : Type 0 where
   pub is : is_viewer old.viewers viewer ≡ true
   pub whole : IsScreen old.parser.screen
@@ -141,12 +142,12 @@ pub record GivesUpdate (kind : Kind) (old : MirrorValue) (viewer : ℕ) (update 
   pub puts : Puts old.viewers viewer true (Some old.parser.screen) new.viewers
   pub current : PutsAmong old.current viewer true new.current
 
--- The effect of a successful request for an update; `None` means that no viewer has this number.
+-- The effect of a successful request for an update; `None` means that no viewer has the given number.
 abbrev pub Answers : Kind → (old : MirrorValue) → ℕ → Option Update → (new : MirrorValue) → Type 0
 Answers kind old viewer None new = (is_viewer old.viewers viewer ≡ false) × (new ≡ old)
 Answers kind old viewer (Some update) new = GivesUpdate kind old viewer update new
 
--- The effect of `update` or `update_scrolling`. If no viewer has this number, the result is always `Ok(None)`. On
+-- The effect of `update` or `update_scrolling`. If no viewer has the given number, the result is always `Ok(None)`. On
 -- error, nothing is changed.
 pub record Asks (kind : Kind) (old : MirrorValue) (viewer : ℕ)
     (answer : Result (Option Update) Error) (new : MirrorValue) : Type 0 where

@@ -13,7 +13,8 @@ use Rattle.vt_mirror.specs.Watching.{Ask, IsLeft, Join, Leave, MirrorCall, Mirro
 use Rattle.vt_mirror.specs.declared.update.Update.{Update}
 use Rattle.vt_mirror.specs.declared.update.Update.TheVariants.{Diff, Full}
 
--- A terminal reads `text` through calls to `process` that all return `Ok` and whose chunks concatenate to the text.
+-- A terminal reads `text` through a list of calls to `process` that all return `Ok` and whose bytes concatenate to
+-- `text`.
 pub record ReadsFine {S : Type 0} (does : CallRelation S) (text : List ℕ) (old new : Parsing S) : Type 0 where
   pub sound : IsScreen new.screen
   pub chunks : List (List ℕ)
@@ -21,8 +22,8 @@ pub record ReadsFine {S : Type 0} (does : CallRelation S) (text : List ℕ) (old
   pub ran : FoldsTo (Ran does) old chunks new
   pub works : new.is_failed ≡ false
 
--- A terminal applies an update through calls to `process` that all return `Ok`. For a full redraw, it is resized
--- first.
+-- A terminal applies an update through calls to `process` that all return `Ok`. For a full redraw, the terminal is
+-- resized first.
 abbrev pub TakesFine : {S : Type 0} → CallRelation S → Update → Parsing S → Parsing S → Type 0
 TakesFine {S} does (Diff text) old new = ReadsFine does (string_bytes text) old new
 TakesFine {S} does (Full rows cols text) old new =
@@ -41,8 +42,8 @@ pub record IsTakenFine {S : Type 0} (does : CallRelation S) (number : ℕ) (kind
   pub own : asked ≡ number → SeesAny does kind update old new
   pub others : asked ≢ number → IsLeft old new
 
--- The effect of a call to a mirror on the viewer with this number, whose terminal may have any callbacks and whose
--- screens need not be steady.
+-- The effect of a call to a mirror on the viewer with the given number. The viewer's terminal may have any callbacks,
+-- and the mirror's screens need not be steady.
 abbrev pub WatchesAny : {S : Type 0} → CallRelation S → ℕ → Watching S → MirrorCall → Watching S → Type 0
 WatchesAny {S} does number old (Process bytes answer) new = IsLeft old new
 WatchesAny {S} does number old (SetSize rows cols answer) new = IsLeft old new
@@ -53,12 +54,13 @@ WatchesAny {S} does number old (Ask kind viewer (Ok (Some update))) new =
 WatchesAny {S} does number old (Ask kind viewer (Ok None)) new = IsLeft old new
 WatchesAny {S} does number old (Ask kind viewer (Err error)) new = IsLeft old new
 
--- The effect of a call to a mirror on the mirror and on the viewer with this number, whose terminal may have any
--- callbacks and whose screens need not be steady.
+-- The effect of a call to a mirror on the mirror and on the viewer with the given number. The viewer's terminal may
+-- have any callbacks, and the mirror's screens need not be steady.
 abbrev pub GoesAny : {S : Type 0} → CallRelation S → ℕ → Watching S → MirrorCall → Watching S → Type 0
 GoesAny {S} does number old call new = MirrorDoes old.mirror call new.mirror × WatchesAny does number old call new
 
--- The viewer's terminal is plain. If it has received an update whose screen was steady, it displays that screen.
+-- The viewer's terminal is plain. If the viewer has received an update and the screen of the last update was steady,
+-- the terminal displays that screen.
 pub record ShowsSteady {S : Type 0} (watching : Watching S) : Type 0 where
   pub plain : IsPlainParser watching.viewer
   pub shows : IfSome watching.seen (λ screen. IsSteady (shown screen) → shown watching.viewer.screen ≡ shown screen)

@@ -21,21 +21,22 @@ abbrev pub text_of_update : Update → List ℕ
 text_of_update (Diff text) = string_bytes text
 text_of_update (Full rows cols text) = string_bytes text
 
--- The viewer got an update, and its text was written: the output was `written` before and is `grown` now.
+-- The viewer got an update, and the text of the update was written: the output was `written` before and is `grown` now.
 pub record WritesUpdate (old : MirrorValue) (viewer : ℕ) (new : MirrorValue)
     (written grown : Option (List ℕ)) : Type 0 where
   pub update : Update
   pub gives : GivesUpdate Drawn old viewer update new
   pub appends : Appends written grown (text_of_update update)
 
--- The viewer got an update, and a prefix of its text was written: the output was `written` before and is `grown` now.
+-- The viewer got an update, and a prefix of the update's text was written: the output was `written` before and is
+-- `grown` now.
 pub record WritesUpdatePart (old : MirrorValue) (viewer : ℕ) (new : MirrorValue)
     (written grown : Option (List ℕ)) : Type 0 where
   pub update : Update
   pub gives : GivesUpdate Drawn old viewer update new
   pub part : AppendsPart written grown (text_of_update update)
 
--- The mirror read `bytes` from the input, which was `left` before and is `rest` now. Its viewers and its size are
+-- The mirror read `bytes` from the input, which was `left` before and is `rest` now. The mirror's viewers and size are
 -- unchanged.
 pub record ReadsBytes (bytes : List ℕ) (old new : MirrorValue) (left rest : Option (List ℕ)) : Type 0 where
   pub reads : Consumes left rest bytes
@@ -43,8 +44,8 @@ pub record ReadsBytes (bytes : List ℕ) (old new : MirrorValue) (left rest : Op
   pub viewers : new.viewers ≡ old.viewers
   pub size : SameSize new.parser.screen.page old.parser.screen.page
 
--- The mirror read `every` bytes, or all remaining bytes if there were fewer; `is_whole` says which. The input was
--- `left` before and is `rest` now.
+-- The mirror read `every` bytes if `is_whole` is true, and otherwise all remaining bytes, which were fewer. The input
+-- was `left` before and is `rest` now.
 pub record ReadsStretch (every : ℕ) (is_whole : Bool)
     (old new : MirrorValue) (left rest : Option (List ℕ)) : Type 0 where
   pub bytes : List ℕ
@@ -53,7 +54,8 @@ pub record ReadsStretch (every : ℕ) (is_whole : Bool)
   pub fewer : is_whole ≡ false → length bytes < every
   pub end : is_whole ≡ false → IsAtEnd rest
 
--- The mirror has read some of the `every` bytes before the next update, and `still` of them remain to be read.
+-- The mirror has read some of the `every` bytes that precede the next update, and `still` of these bytes remain to be
+-- read.
 pub record InStretch (every still : ℕ) (old new : MirrorValue) (left rest : Option (List ℕ)) : Type 0 where
   pub bytes : List ℕ
   pub reads : ReadsBytes bytes old new left rest
@@ -73,7 +75,7 @@ pub record ReadsAtMost (every : ℕ) (left rest : Option (List ℕ)) : Type 0 wh
   pub few : length bytes ≤ every
   pub reads : Consumes left rest bytes
 
--- The mirror has read nothing, and its viewer has not received an update yet.
+-- The mirror has read nothing, and the viewer has not received an update yet.
 pub record IsBegun (mirror : MirrorValue) (viewer : ℕ) : Type 0 where
   pub scanner : StandsFor mirror.parser.scanner start
   pub views : is_viewer mirror.viewers viewer ≡ true

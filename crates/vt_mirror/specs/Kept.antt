@@ -14,7 +14,7 @@ use Rattle.vt_mirror.specs.declared.texts.KeptDiff.{KeptDiff}
 
 -- ---- the model of the kept values
 
--- A screen, and the text of the difference from it to the current screen.
+-- A screen, and the text of the difference from that screen to the current one.
 abbrev pub DiffFrom : Type 0
 DiffFrom = ScreenValue × List ℕ
 
@@ -25,12 +25,12 @@ pub record KeptValue : Type 0 where
   -- The differences stored for `Mirror::update` and `Mirror::update_scrolling`.
   pub diff : Option DiffFrom
   pub scrolling : Option DiffFrom
-  -- The text of the current screen's redraw, if it is stored.
+  -- The text of the current screen's redraw, if stored.
   pub redraw : Option (List ℕ)
   -- The viewers that received an update since the screen last changed.
   pub current_viewers : List ℕ
 
--- The recorded screens by viewer number, without the versions of their copies.
+-- The recorded screens with their viewer numbers, without the versions of the copies.
 abbrev pub screens_of : List (ℕ × Note) → List (ℕ × ScreenValue)
 screens_of notes = map (λ (e : ℕ × Note). (e.0, e.1.screen)) notes
 
@@ -55,7 +55,8 @@ noted_at notes viewer = lookup (is_at (nat_cmp viewer)) notes
 abbrev pub have_one_version : (one other : Note) → Bool
 have_one_version one other = nat_lt 0 one.version && (one.version == other.version)
 
--- Whether a note is known to be a copy of the current screen, because it has the same version.
+-- Whether a note has the same version as the kept copy of the current screen, and is therefore known to be a copy of
+-- that screen.
 abbrev pub is_of_current : (current note : Option Note) → Bool
 is_of_current None _ = false
 is_of_current (Some current) None = false
@@ -93,7 +94,7 @@ pub record AreShared (copies : Copies) (version : ℕ) : Type 0 where
   pub agree : (one other : Note) → IsKept copies one → IsKept copies other →
       AreOfOneVersion one other → one.screen ≡ other.screen
 
--- The copy of the current screen has a version. If there is no copy, a next version is available.
+-- If a copy of the current screen is kept, it has a version; otherwise, a next version is available.
 abbrev pub HasVersion : Option Note → (version : ℕ) → Type 0
 HasVersion None version = version < greatest
 HasVersion (Some note) version = 0 < note.version
@@ -114,7 +115,7 @@ HaveNext version notes after renewed =
     ((after ≡ version) × (renewed ≡ notes) × (version < greatest))
     ⊎ ((after ≡ 0) × (renewed ≡ without_versions notes))
 
--- The copy of the current screen is unchanged, or there was none and a new one with the next version was made.
+-- The copy of the current screen is unchanged, or there was no copy and a new one with the next version was made.
 abbrev pub IsRenewed : (screen : ScreenValue) → (version : ℕ) (current : Option Note)
     → (after : ℕ) (renewed : Option Note) → Type 0
 IsRenewed screen version current after renewed =

@@ -21,7 +21,7 @@ IsMirror mirror =
     (viewer : ℕ) (screen : ScreenValue) → note_of mirror.viewers viewer ≡ Some screen →
     SameSize mirror.parser.screen.page screen.page
 
--- The mirror's screen is blank and has this size and scrollback capacity.
+-- The mirror's screen is blank and has the given size and scrollback capacity.
 abbrev pub ShowsFreshScreen : (rows cols capacity : ℕ) → MirrorValue → Type 0
 ShowsFreshScreen rows cols capacity mirror =
     HasFreshScreen rows cols capacity mirror.parser.callbacks mirror.parser

@@ -28,7 +28,7 @@ abbrev pub screens_on_way : (first : ScreenValue) (every : ℕ) → List ℕ →
 screens_on_way first every input =
     map (λ n. screen_in start first (take n input)) (multiples every (length input / every))
 
--- The screens after each full interval of `every` bytes of the input, and the screen at its end.
+-- The screens after each full interval of `every` bytes of the input, followed by the screen after the whole input.
 abbrev pub screens_to_end : (first : ScreenValue) (every : ℕ) → List ℕ → List ScreenValue
 screens_to_end first every input = screens_on_way first every input ++ (screen_in start first input ∷ [])
 
@@ -58,16 +58,16 @@ pub record WritesToEnd (first : ScreenValue) (every : ℕ) (left rest written gr
   pub controls : IsMadeOf drawing_finals drawing_controls (text_to_end first every input)
   pub updated : AllByRecursion (IsUpdatedAfter first) (first ∷ screens_to_end first every input)
 
--- A read failed after `input`, and all updates that were due by then had been written. The input was `left` before
--- and is `rest` now; the output was `written` before and is `grown` now.
+-- A read failed after the bytes `input` had been read, and all updates that were due by then had been written. The
+-- input was `left` before and is `rest` now; the output was `written` before and is `grown` now.
 pub record WritesOnWay (first : ScreenValue) (every : ℕ) (left rest written grown : Option (List ℕ)) : Type 0 where
   pub input : List ℕ
   pub reads : Consumes left rest input
   pub appends : Appends written grown (text_on_way first every input)
   pub controls : IsMadeOf drawing_finals drawing_controls (text_on_way first every input)
 
--- An allocation failed. All updates were written except the one for the last bytes read, at most `every` of them.
--- The input was `left` before and is `rest` now; the output was `written` before and is `grown` now.
+-- An allocation failed. All updates were written except the one for the last bytes read, which are at most `every`
+-- bytes. The input was `left` before and is `rest` now; the output was `written` before and is `grown` now.
 pub record WritesBehind (first : ScreenValue) (every : ℕ) (left rest written grown : Option (List ℕ)) : Type 0 where
   pub input : List ℕ
   pub last : List ℕ
@@ -118,8 +118,8 @@ abbrev pub WritesPart : (first : ScreenValue) (every : ℕ) → (left rest writt
 WritesPart first every left rest written grown =
     FailsAtFirst first left rest written grown ⊎ FailsLater first every left rest written grown
 
--- The effect of a run. The input is read to its end or up to a fault, and the updates that are due are written. The
--- function `error` converts a fault to the error that is returned.
+-- The effect of a run of `vtmirror`. The input is read to its end or up to a fault, and the updates that are due are
+-- written. The function `error` converts a fault to the error that is returned.
 pub record UpdatesOrFails {E : Type 0} (error : Fault → E) (first : ScreenValue) (every : ℕ)
     (left rest written grown : Option (List ℕ)) (result : Result (Unit {0}) E) : Type 0 where
   pub end : OnOk result (IsAtEnd rest)

@@ -21,7 +21,8 @@ is_viewer viewers viewer = list_any (is_at (nat_cmp viewer)) viewers.numbers
 abbrev pub is_among : (numbers : List ℕ) → ℕ → Bool
 is_among numbers viewer = list_any (is_at (nat_cmp viewer)) numbers
 
--- The change to a set of viewer numbers: `is` says whether `viewer` is now in it. All other numbers are unaffected.
+-- The change to a set of viewer numbers: `is` says whether `viewer` is now in the set. All other numbers are
+-- unaffected.
 pub record PutsAmong (old : List ℕ) (viewer : ℕ) (is : Bool) (new : List ℕ) : Type 0 where
   pub here : is_among new viewer ≡ is
   pub others : (other : ℕ) → other ≢ viewer → is_among new other ≡ is_among old other
@@ -35,14 +36,14 @@ abbrev pub next_number : Option ℕ → ℕ
 next_number None = 0
 next_number (Some last) = last + 1
 
--- Every viewer has a number that was assigned, and screens are recorded only for viewers.
+-- Only numbers that have already been assigned belong to viewers, and screens are recorded only for viewers.
 pub record AreViewers (viewers : ViewersValue) : Type 0 where
   pub numbers : (viewer : ℕ) → is_viewer viewers viewer ≡ true → viewer + 1 ≤ next_number viewers.last
   pub notes : (viewer : ℕ) (screen : ScreenValue) →
       note_of viewers viewer ≡ Some screen → is_viewer viewers viewer ≡ true
 
--- The viewers after a change to the number `viewer`: `is` says whether it has a viewer now, and `note` is the screen
--- recorded for it. All other numbers are unchanged.
+-- The viewers after a change to the number `viewer`: `is` says whether a viewer has this number now, and `note` is the
+-- screen recorded for that viewer. All other numbers are unaffected.
 pub record Puts (old : ViewersValue) (viewer : ℕ) (is : Bool)
     (note : Option ScreenValue) (new : ViewersValue) : Type 0 where
   pub here : is_viewer new viewer ≡ is

@@ -26,7 +26,7 @@ pub data MirrorCall : Type 0 where
   Leave : (viewer : ℕ) → (answer : Bool) → MirrorCall
   Ask : (kind : Kind) → (viewer : ℕ) → (answer : Result (Option Update) Error) → MirrorCall
 
--- The effect of a call on the mirror.
+-- The effect that a call to a mirror has on the mirror.
 abbrev pub MirrorDoes : MirrorValue → MirrorCall → MirrorValue → Type 0
 MirrorDoes old (Process bytes answer) new = MirrorProcesses old bytes answer new
 MirrorDoes old (SetSize rows cols answer) new = Resizes old rows cols answer new
@@ -40,13 +40,13 @@ pub record IsFresh (mirror : MirrorValue) : Type 0 where
   pub numbers : mirror.viewers.numbers ≡ []
   pub notes : mirror.viewers.notes ≡ []
 
--- The viewer numbers that the calls returned, in order.
+-- The viewer numbers that the calls to `join` in a list of calls returned, in order.
 abbrev pub numbers_given : List MirrorCall → List ℕ
 numbers_given [] = []
 numbers_given (Join (Ok viewer) ∷ calls) = viewer ∷ numbers_given calls
 numbers_given (_ ∷ calls) = numbers_given calls
 
--- The numbers count up from `n`, so none occurs twice.
+-- The numbers count up from `n`, so no number occurs twice.
 abbrev pub CountUp : ℕ → List ℕ → Type 0
 CountUp n [] = Unit {0}
 CountUp n (x ∷ xs) = (x ≡ n) × CountUp (n + 1) xs
@@ -59,18 +59,19 @@ pub record Watching (S : Type 0) : Type 0 where
   pub viewer : Parsing S
   pub seen : Option ScreenValue
 
--- The terminal is resized, as `Parser::set_size` does when it returns `Ok`.
+-- The terminal is resized as by a call to `Parser::set_size` that returns `Ok`.
 abbrev pub TakesSize : {S : Type 0} → (rows cols : ℕ) → (old new : Parsing S) → Type 0
 TakesSize rows cols old new = new ≡ record old { screen = resized rows cols old.screen; callbacks = new.callbacks }
 
--- The terminal reads `text` through any calls to `process` whose chunks concatenate to the text.
+-- The terminal reads `text` through a list of calls to `process` whose bytes concatenate to `text`.
 pub record ReadsText {S : Type 0} (text : List ℕ) (old new : Parsing S) : Type 0 where
   pub sound : IsScreen new.screen
   pub calls : List Processing
   pub whole : bytes_in calls ≡ text
   pub reads : FoldsTo pieces.Processes old calls new
 
--- The terminal applies an update: for a full redraw, it is resized first, and then it reads the text.
+-- The terminal applies an update: the terminal is resized first if the update is a full redraw, and then reads the
+-- update's text.
 abbrev pub TakesUpdate : {S : Type 0} → Update → Parsing S → Parsing S → Type 0
 TakesUpdate {S} (Diff text) old new = ReadsText (string_bytes text) old new
 TakesUpdate {S} (Full rows cols text) old new =
@@ -93,7 +94,7 @@ pub record IsTakenBy {S : Type 0} (number asked : ℕ) (update : Update) (old ne
   pub own : asked ≡ number → Sees update old new
   pub others : asked ≢ number → IsLeft old new
 
--- The effect of a call to a mirror on the viewer with this number.
+-- The effect of a call to a mirror on the viewer with the given number.
 abbrev pub Watches : {S : Type 0} → ℕ → Watching S → MirrorCall → Watching S → Type 0
 Watches {S} number old (Process bytes answer) new = IsLeft old new
 Watches {S} number old (SetSize rows cols answer) new = IsLeft old new
@@ -103,17 +104,17 @@ Watches {S} number old (Ask kind viewer (Ok (Some update))) new = IsTakenBy numb
 Watches {S} number old (Ask kind viewer (Ok None)) new = IsLeft old new
 Watches {S} number old (Ask kind viewer (Err error)) new = IsLeft old new
 
--- The effect of a call to a mirror on the mirror and on the viewer with this number.
+-- The effect of a call to a mirror on the mirror and on the viewer with the given number.
 abbrev pub Goes : {S : Type 0} → ℕ → Watching S → MirrorCall → Watching S → Type 0
 Goes {S} number old call new = MirrorDoes old.mirror call new.mirror × Watches number old call new
 
--- The viewer's terminal is plain and has had no update.
+-- The viewer's terminal is plain and has received no update.
 pub record IsNew {S : Type 0} (watching : Watching S) : Type 0 where
   pub sound : IsScreen watching.viewer.screen
   pub plain : IsPlainParser watching.viewer
   pub seen : watching.seen ≡ None
 
--- The viewer's terminal is plain. If it has had an update, it displays the screen of the last one.
+-- The viewer's terminal is plain. If it has received an update, it displays the screen of the last update.
 pub record ShowsSeen {S : Type 0} (watching : Watching S) : Type 0 where
   pub plain : IsPlainParser watching.viewer
   pub shows : IfSome watching.seen (λ screen. shown watching.viewer.screen ≡ shown screen)

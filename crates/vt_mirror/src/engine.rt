@@ -25,9 +25,10 @@ const BUFFER_SIZE: usize = 8192;
 /// one viewer, and writes that viewer's updates.
 ///
 /// One update is written at the start, one after every `every` bytes, and one
-/// at the end. Each is flushed. A fresh terminal of this size that reads the
-/// output displays the screen as it was at the last update, if the screen was
-/// steady (each glyph reproduces itself when printed) at each update.
+/// at the end. Each update is flushed. A fresh terminal of the same size that
+/// reads the output displays the screen as it was at the last update, if the
+/// screen was steady (each glyph reproduces itself when printed) at each
+/// update.
 ///
 /// # Errors
 ///
@@ -39,8 +40,9 @@ const BUFFER_SIZE: usize = 8192;
 ///   has not been written.
 /// - `Fault::Write` if a write or a flush fails, or if the writer accepts no
 ///   bytes. An interrupted write is retried. All updates before the failing one
-///   have been written, as well as a prefix of the failing one, possibly all of
-///   it. No input has been read beyond the bytes for which that update was due.
+///   have been written, as well as a prefix (possibly all) of the failing
+///   update. No input has been read beyond the bytes for which that update was
+///   due.
 pub fn run<R: Read, W: Write>(
     alloc: Global,
     reader: &mut R,

@@ -24,10 +24,11 @@ use vt100::Callbacks;
 /// update, after any sequence of calls to a fresh [`Mirror`](crate::Mirror),
 /// including failed calls.
 ///
-/// - `shows`: the viewer may be any parser, with any callbacks, that was plain
-///   before its first update, was resized with `Parser::set_size` to the size
-///   of each full update before reading it, and read all its updates in order,
-///   each split into arbitrary chunks. Each update may come from
+/// - `shows`: the viewer may be any parser, with any callbacks, that meets
+///   three conditions. The parser was plain before its first update. Before
+///   reading each full update, it was resized to the size of that update with
+///   `Parser::set_size`. It read all its updates in order, each split into
+///   arbitrary chunks. Each update may come from
 ///   [`update`](crate::Mirror::update) or
 ///   [`update_scrolling`](crate::Mirror::update_scrolling). The viewer may have
 ///   joined late, may have missed any number of calls, and may have left since.
@@ -36,7 +37,7 @@ use vt100::Callbacks;
 ///
 /// The premises are that the mirror's screen was steady at these updates (see
 /// `Screen::contents_formatted`) and that the viewer's own calls to `set_size`
-/// returned `Ok`. Its calls to `process` return `Ok` by
+/// returned `Ok`. The viewer's calls to `process` return `Ok` by
 /// `vt100::laws::quiet_pieces`. The premise that the viewer's screen is valid
 /// (`IsScreen`) holds for every parser, by the clause `whole` of
 /// `Screen::size`.
@@ -50,12 +51,12 @@ pub fn viewers<CB: Callbacks>()
 /// States that a viewer whose updates all come from
 /// [`update_scrolling`](crate::Mirror::update_scrolling) recovers from screens
 /// that are not steady. After any sequence of calls to a fresh
-/// [`Mirror`](crate::Mirror), it displays the screen as it was at its last
-/// update, if that screen was steady, whatever screens came before.
+/// [`Mirror`](crate::Mirror), such a viewer displays the screen as it was at
+/// its last update, if that screen was steady, whatever screens came before.
 ///
-/// Even if that screen was not steady, the viewer is a plain terminal. The
-/// viewer may be any parser allowed by [`viewers`] whose calls to `process` and
-/// `set_size` all return `Ok`.
+/// The viewer is a plain terminal even if the screen at its last update was not
+/// steady. The viewer may be any parser that [`viewers`] allows and whose calls
+/// to `process` and `set_size` all return `Ok`.
 pub fn heals<CB: Callbacks>()
     ensures shows { (number : ℕ) (calls : List MirrorCall) (old new : Watching CB) →
         IsFresh old.mirror → IsNew old → FoldsTo (GoesAny CB.does number) old calls new → ShowsSteady new }

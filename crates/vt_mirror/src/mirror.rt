@@ -21,17 +21,14 @@ use vt100::{Error, Parser, Screen};
 /// An in-memory terminal with any number of viewers: other terminals that are
 /// kept in sync with it by escape sequences.
 ///
-/// Each viewer has a number, and the mirror records what the screen displayed
-/// at each viewer's last update. A viewer may therefore miss any number of
-/// calls; its next update makes up for all of them.
-/// [`laws::viewers`](crate::laws::viewers) states what this guarantees to
-/// viewers over any sequence of calls.
+/// Each viewer has a number, and the mirror records what the screen displayed at each viewer's last
+/// update. A viewer may therefore miss any number of calls; its next update makes up for all of
+/// them. [`laws::viewers`](crate::laws::viewers) states this guarantee over any sequence of calls.
 ///
-/// Viewers that were last updated to the same screen share one copy of it, and
-/// they also share the text of their next update. An additional viewer that
-/// keeps up therefore takes little memory and time. A viewer needs its own copy
-/// and its own difference only if no other viewer was last updated to the same
-/// screen. A copy contains neither scrollback nor the inactive page (see
+/// Viewers that were last updated to the same screen share one copy of it, and they also share the
+/// text of their next update. An additional viewer that keeps up therefore takes little memory and
+/// time. A viewer needs its own copy and its own diff only if no other viewer was last updated to
+/// the same screen. A copy contains neither scrollback nor the inactive page (see
 /// `Screen::shown_copy`).
 ///
 /// # Examples
@@ -65,8 +62,8 @@ impl Model for Mirror {
     ghost invariant = { λ m. IsSharing m.parser m.viewers };
 }
 
-// `Drop` is implemented by hand so that dropping is a single call in callers' proofs, as for
-// `Screen`.
+// `Drop` is implemented by hand so that dropping a mirror is a single call in callers' proofs, as
+// for `Screen`.
 impl Drop for Mirror {
     fn drop(self) {
         let Mirror {
@@ -110,10 +107,9 @@ impl Mirror {
     ///
     /// # Errors
     ///
-    /// Returns `Error::OutOfMemory` if an allocation fails. The steps before
-    /// the failing one remain in effect. From then on, the mirror reads nothing
-    /// and returns `Error::Failed`, but viewers can still join, leave and be
-    /// updated.
+    /// Returns `Error::OutOfMemory` if an allocation fails. The steps before the failing step
+    /// remain in effect. From then on, the mirror reads nothing and returns `Error::Failed`, but
+    /// viewers can still join, leave and be updated.
     pub fn process(&mut self, bytes: &[u8]) -> Result<(), Error>
         ensures call { MirrorProcesses self.old bytes.now result self.new }
     {
@@ -124,9 +120,8 @@ impl Mirror {
         self.parser.process(bytes)
     }
 
-    /// Resizes the screen, as `Parser::set_size` does. The next update of every
-    /// viewer is then a full one. A resize to the current size changes nothing
-    /// and never fails.
+    /// Resizes the screen, as `Parser::set_size` does. After a resize, the next update of every
+    /// viewer is a full update. A resize to the current size changes nothing and never fails.
     ///
     /// # Errors
     ///
@@ -161,7 +156,7 @@ impl Mirror {
         self.viewers.join()
     }
 
-    /// Removes a viewer and returns whether there was one with this number.
+    /// Removes the viewer whose number is `viewer`. Returns whether there was one.
     pub fn leave(&mut self, viewer: u64) -> bool
         ensures parser { self.new.parser ≡ self.old.parser }
         ensures call { Leaves self.old.viewers viewer result self.new.viewers }
@@ -170,15 +165,15 @@ impl Mirror {
         self.viewers.leave(viewer)
     }
 
-    /// Returns the viewer's next update, or `None` if and only if there is no
-    /// viewer with this number.
+    /// Returns the next update of the viewer whose number is `viewer`, or `None` if and only if
+    /// there is no such viewer.
     ///
-    /// The first update, and the first one after a resize, is a full redraw
-    /// with at least one row and one column. Every other update is the
-    /// difference from the screen at the viewer's last update. It is empty if
-    /// the display has not changed since then and, if the screen is steady
-    /// (each glyph reproduces itself when printed), only in that case. Reading
-    /// it touches only what is near a change, as with `Screen::contents_diff`.
+    /// The first update, and the first update after a resize, is a full redraw with at least one
+    /// row and one column. Every other update is a diff from the screen at the viewer's last update
+    /// to the current screen. The diff is empty if the display has not changed since that update.
+    /// If the screen is steady (each glyph reproduces itself when printed), the diff is empty only
+    /// in that case. Reading the diff touches only what is near a change, as with
+    /// `Screen::contents_diff`.
     ///
     /// A plain terminal is one in ground state, with the full scroll region,
     /// origin mode off and no scrollback displayed. If such a terminal is
@@ -206,13 +201,12 @@ impl Mirror {
     /// Returns the viewer's next update, as [`update`](Mirror::update) does,
     /// but with a difference that may move rows or columns first.
     ///
-    /// As with `Screen::contents_diff_scrolling`, the difference is never
-    /// longer than the plain one, may be much shorter after text has scrolled,
-    /// and may touch any row. If the screen at the viewer's last update was not
-    /// steady, the update is a full one. A viewer that gets all its updates
-    /// from this function therefore displays each steady screen, whatever came
-    /// before (`laws::heals`). The two functions may be mixed from one update
-    /// to the next.
+    /// As with `Screen::contents_diff_scrolling`, the diff is never longer than the one that
+    /// `update` would return, may be much shorter after text has scrolled, and may touch any row.
+    /// If the screen at the viewer's last update was not steady, the update is a full update. A
+    /// viewer that gets all its updates from this function therefore displays each steady screen,
+    /// whatever came before (`laws::heals`). Each update may come from either `update` or
+    /// `update_scrolling`.
     ///
     /// # Errors
     ///
@@ -230,15 +224,14 @@ impl Mirror {
         Ok(Some(update))
     }
 
-    /// Returns whether the viewer is up to date, which means that it has had an
-    /// update since the last call to [`process`](Mirror::process) and the last
-    /// change of size. The next update of such a viewer is an empty difference,
-    /// or a full update if it comes from `update_scrolling` and the screen is
-    /// not steady. The test allocates nothing and reads no cells.
+    /// Returns whether the viewer is up to date, which means that it has had an update since the
+    /// last call to [`process`](Mirror::process) and the last change of size. The next update of
+    /// such a viewer is an empty diff, or a full update if it comes from `update_scrolling` and the
+    /// screen is not steady. The test allocates nothing and reads no cells.
     ///
-    /// It returns false if there is no viewer with this number. After each call
-    /// to `process`, it returns false for every viewer until that viewer's next
-    /// update, even if the display has not changed.
+    /// Returns `false` if there is no viewer whose number is `viewer`. After each call to
+    /// `process`, returns `false` for every viewer until that viewer's next update, even if the
+    /// display has not changed.
     pub fn is_current(&self, viewer: u64) -> bool
         ensures exact { result ≡ is_current self.now viewer }
         ensures noted { IsTrue result → note_of self.now.viewers viewer ≡ Some self.now.parser.screen }
@@ -246,11 +239,11 @@ impl Mirror {
         self.viewers.is_current(viewer)
     }
 
-    /// Returns the full redraw of the screen.
+    /// Returns an update with the full redraw of the screen.
     ///
     /// # Errors
     ///
-    /// Returns `Error::OutOfMemory` if its text cannot be allocated.
+    /// Returns `Error::OutOfMemory` if the text of the update cannot be allocated.
     fn full(&mut self) -> Result<Update, Error>
         ensures same { self.new ≡ self.old }
         ensures ok { IfOk result (λ update. IsFullUpdate self.old.parser.screen update) }
@@ -266,12 +259,12 @@ impl Mirror {
         Ok(full_of(screen, text))
     }
 
-    /// Returns the difference from the screen recorded for a viewer, or the
-    /// full redraw if no screen is recorded.
+    /// Returns the diff from the screen recorded for a viewer to the current screen, or the full
+    /// redraw if no screen is recorded.
     ///
     /// # Errors
     ///
-    /// Returns `Error::OutOfMemory` if its text cannot be allocated.
+    /// Returns `Error::OutOfMemory` if the text of the update cannot be allocated.
     fn drawn_update(&mut self, viewer: u64) -> Result<Update, Error>
         ensures same { self.new ≡ self.old }
         ensures whole { IsScreen self.new.parser.screen }
@@ -300,13 +293,13 @@ impl Mirror {
         Ok(Update::Diff(text))
     }
 
-    /// Returns the difference from the screen recorded for a viewer, possibly
-    /// one that moves rows first, or the full redraw if no screen is recorded
-    /// or the recorded screen is not steady.
+    /// Returns a diff, which may move rows first, from the screen recorded for a viewer to the
+    /// current screen. Returns the full redraw instead if no screen is recorded or the recorded
+    /// screen is not steady.
     ///
     /// # Errors
     ///
-    /// Returns `Error::OutOfMemory` if its text cannot be allocated.
+    /// Returns `Error::OutOfMemory` if the text of the update cannot be allocated.
     fn scrolling_update(&mut self, viewer: u64) -> Result<Update, Error>
         ensures same { self.new ≡ self.old }
         ensures whole { IsScreen self.new.parser.screen }

@@ -1,4 +1,4 @@
-//! A cache for the text of a difference that several viewers need.
+//! A cache for the text of a diff that several viewers need.
 
 ghost use Rattle.std.specs.Prelude.{◌≡◌, ◌⊎◌, IfSome, None, Some, string_bytes};
 ghost use Rattle.vt_mirror.specs.Kept.{AreOfOneVersion};
@@ -7,15 +7,15 @@ ghost use Rattle.vt_mirror.specs.declared.texts.KeptDiff.{KeptDiff};
 use crate::copies::Note;
 use std::alloc::Global;
 
-/// The text of a difference, with a copy of the screen that it starts from.
+/// The text of a diff, with a copy of the screen from which the diff starts.
 #[derive(Drop)]
 pub(crate) struct KeptDiff {
     from: Note,
     text: String,
 }
 
-/// A cache that holds the last difference to the current screen, for all
-/// viewers that need the same one.
+/// A cache that holds the last computed diff to the current screen, for all
+/// viewers that need the same diff.
 #[derive(Drop)]
 pub(crate) struct DiffCache {
     last: Option<KeptDiff>,
@@ -29,8 +29,8 @@ impl DiffCache {
         DiffCache { last: None }
     }
 
-    /// Returns the text of the difference from the screen that `note` is a copy
-    /// of, if it is in the cache.
+    /// Returns the cached text of the diff that starts from the screen copied
+    /// in `note`, or `None` if that text is not in the cache.
     pub(crate) fn get(&self, note: &Note) -> Option<&str>
         ensures { IfSome result (λ text. (diff : KeptDiff) × (self.now.last ≡ Some diff)
             × AreOfOneVersion note.now diff.from × (text.now ≡ string_bytes diff.text)) }
@@ -41,9 +41,9 @@ impl DiffCache {
         }
     }
 
-    /// Stores the text of the difference from the screen that `note` is a copy
-    /// of, if other viewers share that copy. If an allocation fails, the cache
-    /// is unchanged.
+    /// Stores `text` if other viewers share the copy in `note`. `text` is the
+    /// text of the diff that starts from the copied screen. If an allocation
+    /// fails, the cache is unchanged.
     pub(crate) fn keep(&mut self, note: &Note, text: &str, alloc: Global)
         ensures { (self.new ≡ self.old) ⊎ ((diff : KeptDiff) × (self.new.last ≡ Some diff)
             × (diff.from ≡ note.now) × (string_bytes diff.text ≡ text.now)) }
@@ -60,7 +60,7 @@ impl DiffCache {
         self.last = Some(KeptDiff { from, text });
     }
 
-    /// Empties the cache, which is necessary when the screen changes.
+    /// Empties the cache. The cache must be emptied when the screen changes.
     pub(crate) fn clear(&mut self)
         ensures { self.new.last ≡ None }
     {

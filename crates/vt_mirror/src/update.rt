@@ -11,8 +11,8 @@ pub enum Update {
     /// returns them; empty if nothing changed.
     Diff(String),
 
-    /// The escape sequences for any plain terminal of this size, as
-    /// `Screen::contents_formatted` returns them.
+    /// The escape sequences for any plain terminal with `rows` rows and `cols`
+    /// columns, as `Screen::contents_formatted` returns them.
     Full {
         /// The number of rows of the mirror's screen.
         rows: u16,

@@ -33,10 +33,10 @@ pub(crate) struct Viewers {
     /// A copy of the current screen, if one was made since it changed.
     current: Option<Note>,
 
-    /// The last difference to the current screen, for `Mirror::update`.
+    /// The last computed diff to the current screen, for `Mirror::update`.
     diff: DiffCache,
 
-    /// The last scrolling difference to the current screen, for
+    /// The last computed scrolling diff to the current screen, for
     /// `Mirror::update_scrolling`.
     scrolling: DiffCache,
 
@@ -115,7 +115,8 @@ impl Viewers {
         Ok(viewer)
     }
 
-    /// Removes a viewer and returns whether there was one with this number.
+    /// Removes the viewer whose number is `viewer`. Returns whether there was
+    /// one.
     pub(crate) fn leave(&mut self, viewer: u64) -> bool
         ensures call { Leaves self.old.viewers viewer result self.new.viewers }
         ensures rest { self.new ≡ record self.old {
@@ -128,7 +129,7 @@ impl Viewers {
         self.numbers.remove(&viewer)
     }
 
-    /// Returns whether there is a viewer with this number.
+    /// Returns whether there is a viewer whose number is `viewer`.
     pub(crate) fn has(&self, viewer: u64) -> bool
         ensures { result ≡ is_viewer self.now.viewers viewer }
     {
@@ -163,8 +164,9 @@ impl Viewers {
         }
     }
 
-    /// Returns the text of the difference from the screen recorded for a
-    /// viewer, if it is in the cache.
+    /// Returns the cached text of a viewer's diff, or `None` if that text is
+    /// not in the cache. The diff leads from the screen recorded for the viewer
+    /// to the current screen.
     pub(crate) fn kept_diff(&self, viewer: u64) -> Option<&str>
         ensures { IfSome result (λ text. (screen : ScreenValue)
             × (note_of self.now.viewers viewer ≡ Some screen) × (self.now.diff ≡ Some (screen, text.now))) }
@@ -174,8 +176,9 @@ impl Viewers {
         Some(text)
     }
 
-    /// Stores the text of the difference from the screen recorded for a viewer,
-    /// if other viewers may need it and memory can be allocated.
+    /// Stores `text` if other viewers may need it and memory can be allocated.
+    /// `text` is the text of a viewer's diff. The diff leads from the screen
+    /// recorded for the viewer to the current screen.
     pub(crate) fn keep_diff(&mut self, viewer: u64, text: &str, alloc: Global)
         ensures rest { self.new ≡ record self.old { diff = self.new.diff } }
         ensures diff { (self.new.diff ≡ self.old.diff) ⊎ ((screen : ScreenValue)
@@ -187,8 +190,9 @@ impl Viewers {
         self.diff.keep(note, text, alloc);
     }
 
-    /// Returns the text of the scrolling difference from the screen recorded
-    /// for a viewer, if it is in the cache.
+    /// Returns the cached text of a viewer's scrolling diff, or `None` if that
+    /// text is not in the cache. The diff leads from the screen recorded for
+    /// the viewer to the current screen.
     pub(crate) fn kept_scrolling(&self, viewer: u64) -> Option<&str>
         ensures { IfSome result (λ text. (screen : ScreenValue)
             × (note_of self.now.viewers viewer ≡ Some screen) × (self.now.scrolling ≡ Some (screen, text.now))) }
@@ -198,8 +202,9 @@ impl Viewers {
         Some(text)
     }
 
-    /// Stores the text of the scrolling difference from the screen recorded for
-    /// a viewer, if other viewers may need it and memory can be allocated.
+    /// Stores `text` if other viewers may need it and memory can be allocated.
+    /// `text` is the text of a viewer's scrolling diff. The diff leads from the
+    /// screen recorded for the viewer to the current screen.
     pub(crate) fn keep_scrolling(&mut self, viewer: u64, text: &str, alloc: Global)
         ensures rest { self.new ≡ record self.old { scrolling = self.new.scrolling } }
         ensures scrolling { (self.new.scrolling ≡ self.old.scrolling) ⊎ ((screen : ScreenValue)
@@ -221,8 +226,8 @@ impl Viewers {
         }
     }
 
-    /// Stores the text of the current screen's redraw, if there are other
-    /// viewers and memory can be allocated.
+    /// Stores `text` if there are other viewers and memory can be allocated.
+    /// `text` is the redraw of the current screen.
     pub(crate) fn keep_redraw(&mut self, text: &str, alloc: Global)
         ensures { (self.new ≡ self.old) ⊎ (self.new ≡ record self.old { redraw = Some text.now }) }
     {
@@ -267,7 +272,7 @@ impl Viewers {
     }
 
     /// Drops the copy of the current screen and the stored text of all updates.
-    /// This is necessary when the screen changes.
+    /// The mirror must call this function when the screen changes.
     pub(crate) fn discard_current(&mut self)
         ensures { self.new ≡ record self.old {
           current = None;
@@ -285,7 +290,8 @@ impl Viewers {
     }
 
     /// Drops all copies of screens, including those recorded for viewers, and
-    /// the stored text of all updates. This is necessary when the size changes.
+    /// the stored text of all updates. The mirror must call this function when
+    /// the size changes.
     pub(crate) fn discard_all(&mut self)
         ensures { self.new ≡ record {
           viewers = record (self.old.viewers) { notes = [] };
@@ -318,8 +324,8 @@ fn leave_a_version(version: &mut u64, notes: &mut BTreeMap<u64, Note>)
 }
 
 /// Returns a copy of the current screen for a viewer: the stored copy if there
-/// is one, otherwise a new copy with the next version, which is then stored as
-/// well.
+/// is one, otherwise a new copy with the next version. A new copy is also
+/// stored for later calls.
 ///
 /// # Errors
 ///

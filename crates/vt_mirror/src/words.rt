@@ -11,8 +11,8 @@ use vt_show::size;
 /// between updates from exactly three command-line arguments. Returns `None` if
 /// the arguments are invalid.
 ///
-/// Each argument consists of decimal digits with a value from 1 to 65535;
-/// leading zeros are allowed.
+/// Each argument must consist of decimal digits and be from 1 to 65535; leading
+/// zeros are allowed.
 ///
 /// # Examples
 ///

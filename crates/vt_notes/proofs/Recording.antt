@@ -1,4 +1,4 @@
--- Callbacks that write a capture of the rows that are reported.
+-- Callbacks that append the reported rows to a capture.
 use Rattle.std.proofs.Common.{◌≡◌, ◌⊎◌, inl, inr, ℕ, true, false, List, [], sym, ap, ◌∙◌, rules}
 use Rattle.std.proofs.lemmas.Bool.{false≢true}
 use Rattle.std.proofs.lemmas.List.{append-nil}

@@ -21,7 +21,7 @@ use Rattle.vt_rows.proofs.Folds.{folds_then}
 use Rattle.vt100.proofs.Running.{ran_joined}
 use Rattle.vt_notes.specs.Noting.{Noted, NotesIt, nothing_noted, with_call, with_gap}
 
--- The effect of an action: the screen that it leaves, and that it noted these calls, unless a note is missing at the
+-- The effect of an action: it leaves the given screen, and notes the given calls unless the notes are incomplete at the
 -- end.
 pub record Done (a : act.State Noted) (calls : List CallValue)
     (screen : ScreenValue) (b : act.State Noted) : Type 0 where
@@ -72,7 +72,7 @@ done_telling call a b t = record {
   noted = was_noted call a.callbacks b.callbacks t.1;
 }
 
--- The effect of reporting rows.
+-- Reporting rows notes a call for each of them.
 done_called : (alternate : Bool) (rows : List RowValue) (old new : Noted) (screen : ScreenValue) →
     FoldsTo (CalledOnScroll NotesIt alternate) old rows new →
     Done (state old screen) (map (λ (row : RowValue). OnScroll row alternate) rows) screen (state new screen)
@@ -121,7 +121,7 @@ done_steps (x ∷ steps) a b t =
     done_then a t.0 b (calls_of x a.screen) (calls_of_all steps (screen_after x a.screen))
     (screen_after x a.screen) (screen_after_all steps (screen_after x a.screen)) one rest
 
--- The steps of all events are those that the model lists.
+-- The steps that the events of a run perform are those that the model lists.
 same_steps : (events : List Event) (a b : act.State Noted) → FoldsTo (Performs NotesIt) a events b →
     FoldsTo (Takes NotesIt) a (steps_of_all events a.screen) b
 same_steps [] a b e = e

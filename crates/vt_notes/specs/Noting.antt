@@ -3,12 +3,12 @@ use Rattle.std.specs.Prelude.{◌≡◌, ◌⊎◌, Bool, true, false, List, [],
 use Rattle.vt_screen.specs.Calls.{CallValue}
 use Rattle.vt_screen.specs.Screen.{ScreenValue}
 
--- The recorded calls, in order, and whether none is missing.
+-- The recorded calls, in order, and whether no call is missing.
 pub record Noted : Type 0 where
   pub calls : List CallValue
   pub is_complete : Bool
 
--- The initial state, with no calls recorded and none missing.
+-- The initial state of the notes: no call is recorded, and no call is missing.
 abbrev pub nothing_noted : Noted
 nothing_noted = record { calls = []; is_complete = true }
 
@@ -16,7 +16,7 @@ nothing_noted = record { calls = []; is_complete = true }
 abbrev pub with_call : CallValue → Noted → Noted
 with_call call noted = record noted { calls = noted.calls ++ call ∷ [] }
 
--- The notes after the allocation for a call failed.
+-- The notes after a call could not be recorded because an allocation failed.
 abbrev pub with_gap : Noted → Noted
 with_gap noted = record noted { is_complete = false }
 

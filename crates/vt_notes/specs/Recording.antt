@@ -7,7 +7,7 @@ use Rattle.vt_screen.specs.Capture.{basic_texts, written_after_all}
 use Rattle.vt_screen.specs.Screen.{ScreenValue}
 use Rattle.vt_screen.specs.Streamed.{row_of_call}
 
--- The capture so far, its state, and whether no part of it is missing.
+-- The text of a capture so far, the capture's state, and whether no part of the text is missing.
 pub record Recorded : Type 0 where
   pub text : List ℕ
   pub state : Written
@@ -17,7 +17,7 @@ pub record Recorded : Type 0 where
 abbrev pub nothing_recorded : Recorded
 nothing_recorded = record { text = []; state = unwritten; is_whole = true }
 
--- The capture after these rows are appended.
+-- The capture after the given rows are appended.
 abbrev pub with_rows : List RowValue → Recorded → Recorded
 with_rows rows old =
     record old { text = old.text ++ basic_texts old.state rows; state = written_after_all old.state rows }

@@ -13,9 +13,9 @@ ghost use Rattle.vt_screen.specs.Capture.{all_rows, basic_texts};
 ghost use Rattle.vt_screen.specs.Streamed.{HasNoRis};
 ghost use Rattle.vt_screen.specs.CallsOfRun.{calls_in, screen_in};
 
-/// States the result of a run whose callbacks note each call: the screen is the one that the bytes
-/// produce, and if no note is missing, the new notes are exactly the calls that the bytes cause,
-/// each once and in order.
+/// States the result of a run whose callbacks note each call. The screen is the one that the bytes
+/// produce. If no note is missing, the new notes are exactly the calls that the bytes cause, each
+/// once and in order.
 pub fn runs()
     ensures shown { (old new : Parsing Noted) (bytes : List ℕ) (scan : State) → Ran NotesIt old bytes new →
         StandsFor old.scanner scan → new.screen ≡ screen_in scan old.screen bytes }
@@ -26,8 +26,8 @@ pub fn runs()
         new.callbacks.calls ≡ old.callbacks.calls ++ calls_in scan old.screen bytes }
 {}
 
-/// States that the text of a recorder, followed by a full capture, consists of the rows that the
-/// bytes scrolled off the main page, followed by the page itself.
+/// States which rows the text of a recorder contains once a full capture is appended: the rows that
+/// the bytes scrolled off the main page, followed by the rows of the page itself.
 ///
 /// This text does not depend on the scrollback capacity, on how the bytes were split, or on how far
 /// the screen was scrolled back in between.

@@ -5,8 +5,7 @@ use std::alloc::AllocError;
 use std::convert::AsSlice;
 
 impl Note {
-    /// Appends this call to `lines` as one line, including its trailing
-    /// newline.
+    /// Appends the noted call to `lines` as one line, including a trailing newline.
     pub(crate) fn write_line(&self, lines: &mut String) -> Result<(), AllocError> {
         match self {
             Note::AudibleBell => writeln!(lines, "audible_bell()"),
@@ -51,7 +50,7 @@ fn write_texts<T: AsSlice<u8>>(
 }
 
 /// Appends the line for a row that scrolled off: its text in hexadecimal (a dot if the text is
-/// empty), and 1 if it was on the alternate page, otherwise 0.
+/// empty), and 1 if the row was on the alternate page, otherwise 0.
 fn write_scroll(lines: &mut String, text: &[u8], alternate: bool) -> Result<(), AllocError> {
     write!(lines, "scroll ")?;
     if text.is_empty() {

@@ -1,4 +1,4 @@
-//! Notes of calls.
+//! Notes, each of which records a call to a method of `Callbacks`.
 
 ghost use Rattle.std.specs.Prelude.{◌≡◌, map, IfOk};
 ghost use Rattle.vt_notes.specs.Meanings.{HasText, value_of};

@@ -72,9 +72,9 @@ impl Notes {
     /// Returns the calls noted so far as lines of text, one for each call.
     ///
     /// Each line looks like a call in Rust, with numbers in decimal and bytes in double quotes with
-    /// Rust's escapes. A row that scrolled off is written as `scroll`, its basic text in
-    /// hexadecimal (a dot if the text is empty), and 1 if it was on the alternate page, otherwise
-    /// 0.
+    /// Rust's escapes. A row that scrolled off is written as `scroll`, followed by its basic text
+    /// in hexadecimal (a dot if the text is empty) and by 1 if the row was on the alternate page,
+    /// otherwise 0.
     ///
     /// # Errors
     ///
@@ -92,7 +92,7 @@ impl Notes {
         Ok(lines)
     }
 
-    /// Appends a note, or records that one is missing.
+    /// Appends a note, or records that a note is missing.
     fn add(&mut self, note: Result<Note, AllocError>)
         requires { IfOk note HasText }
         ensures made { IfOk note
@@ -109,7 +109,7 @@ impl Notes {
     }
 }
 
-/// Each call is noted once with all its arguments; the screen is unchanged.
+/// Callbacks that note each call once, with all its arguments, and do not change the screen.
 impl Callbacks for Notes {
     ghost use Rattle.vt_notes.specs.Noting.{NotesIt};
 

@@ -89,8 +89,8 @@ impl Recorder {
     }
 }
 
-/// Appends each row of the main page that scrolls off to the capture, and
-/// ignores rows of the alternate page. No callback changes the screen.
+/// Callbacks that append each row that scrolls off the main page to the capture, ignore rows of the
+/// alternate page, and do not change the screen.
 impl Callbacks for Recorder {
     ghost use Rattle.vt_notes.specs.Recording.{Records};
 

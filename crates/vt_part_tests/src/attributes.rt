@@ -1,8 +1,8 @@
-//! Attributes for examples.
+//! Attributes for the tables of examples.
 
 use vt_cells::{Attrs, Color, Intensity};
 
-/// The six components of attributes, as a table of examples writes them.
+/// The six components of a set of attributes, in the form that tables of examples use.
 #[derive(Clone, Copy)]
 pub(crate) struct Parts {
     pub(crate) fgcolor: Color,
@@ -23,7 +23,7 @@ pub(crate) const PLAIN: Parts = Parts {
 };
 
 impl Parts {
-    /// Returns the attributes with these components.
+    /// Returns the attributes that have the given components.
     pub(crate) fn attrs(self) -> Attrs {
         let mut attrs = Attrs::new();
         attrs.set_fgcolor(self.fgcolor);

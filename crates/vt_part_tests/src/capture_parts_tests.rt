@@ -1,11 +1,11 @@
-//! The chunks of captures outside SGR sequences, and their rows.
+//! Tests of the functions that split captures into chunks outside SGR sequences, and into rows.
 
 use std::process::Abort;
 use vt_rows::capture::{
     basic_formatted_rows, basic_formatted_to_plain, basic_formatted_to_plain_indexed,
 };
 
-/// A capture, and the chunks of its plain text with their byte indices.
+/// Test cases: a capture, and the chunks of its plain text with their byte indices.
 const PIECES: [(&str, &[(usize, &str)]); 9] = [
     ("hello\x1b[31;1mworld", &[(0, "hello"), (12, "world")]),
     ("a\x1b[1mb\x1b", &[(0, "a"), (5, "b")]),
@@ -18,7 +18,7 @@ const PIECES: [(&str, &[(usize, &str)]); 9] = [
     ("ab", &[(0, "ab")]),
 ];
 
-/// A capture, a width, and the rows of the capture at that width.
+/// Test cases: a capture, a width, and the rows of the capture at that width.
 #[rattlefmt::skip]
 const ROWS: [(&str, u16, &[&str]); 17] = [
     ("abcd\nef", 2, &["ab", "cd", "ef"]),

@@ -1,4 +1,4 @@
-//! The basic text of consecutive rows.
+//! Tests of the basic text of consecutive rows.
 
 ghost use Rattle.std.specs.Prelude.{◌≡◌, All, IfOk, false};
 ghost use Rattle.vt_cells.specs.Cell.{IsCell};
@@ -23,7 +23,7 @@ const ON_BLUE: Parts = Parts {
     ..PLAIN
 };
 
-/// Puts a character at a column, or a blank if the character takes no columns.
+/// Puts a character at a column, or a blank if the character takes no columns or does not fit.
 fn put(cells: &mut [Cell], column: usize, c: char, attrs: Attrs)
     requires { IsPaired cells.old }
     ensures paired { IsPaired cells.new }
@@ -42,7 +42,8 @@ fn put(cells: &mut [Cell], column: usize, c: char, attrs: Attrs)
     }
 }
 
-/// Creates the cells of a row with these characters at these columns.
+/// Creates the cells of a row of `columns` columns, with characters at the columns that `puts`
+/// gives.
 fn cells_of(
     alloc: Global,
     columns: usize,
@@ -59,8 +60,8 @@ fn cells_of(
     Ok(cells)
 }
 
-/// Creates the contents of a row with these cells. With `goes_on` the row is wrapped if its last
-/// column has a glyph.
+/// Creates the contents of a row with the given cells. The row is wrapped if `goes_on` is true and
+/// its last column is not blank.
 fn row_of(cells: &[Cell], goes_on: bool) -> RowContents<'_>
     requires paired { IsPaired cells.now }
     requires sound { All IsCell cells.now }
@@ -68,7 +69,7 @@ fn row_of(cells: &[Cell], goes_on: bool) -> RowContents<'_>
     lent(cells, cells::flag_left(cells, goes_on))
 }
 
-/// Returns the basic text of consecutive rows.
+/// Returns the concatenated basic text of consecutive rows.
 fn text_of(alloc: Global, rows: &[RowContents<'_>]) -> Result<String, Error> {
     let mut text = String::new(alloc);
     let mut state = BasicFormattedCaptureState::new();
@@ -79,7 +80,7 @@ fn text_of(alloc: Global, rows: &[RowContents<'_>]) -> Result<String, Error> {
 }
 
 /// Returns whether the row begins with a continuation cell. The contract states that no borrowed
-/// row does.
+/// row begins with a continuation cell.
 fn begins_torn(row: &RowContents<'_>) -> bool
     ensures { result ≡ false }
 {
@@ -99,7 +100,8 @@ fn lends_sound_rows(rt: HostRuntime) -> Result<(), Fail> {
     Ok(())
 }
 
-/// The number of columns of a row, the characters put there, and its basic text.
+/// Test cases: the number of columns of a row, the characters put into the row, and the basic text
+/// of the row.
 const WRITTEN: [(usize, &[(usize, char, Parts)], &str); 7] = [
     (3, &[(0, 'a', RED), (2, 'b', PLAIN)], "\x1b[31ma \x1b[mb"),
     (4, &[(0, 'a', PLAIN), (2, '\0', ON_BLUE)], "a \x1b[44m "),
@@ -145,8 +147,8 @@ fn writes_blank_rows_as_line_ends(rt: HostRuntime) -> Result<(), Fail> {
     Ok(())
 }
 
-/// A sink that accepts a number of strings, fails for the next one, and accepts all strings after
-/// it.
+/// A sink that accepts a number of strings, fails for the next string, and accepts all later
+/// strings.
 #[derive(Drop)]
 struct Refusing {
     text: String,
@@ -175,7 +177,7 @@ impl Sink for Refusing {
     }
 }
 
-/// Returns the state after this row, as the first row of a capture.
+/// Returns the state of a capture that consists of `row` alone.
 fn state_after(alloc: Global, row: &RowContents<'_>) -> Result<BasicFormattedCaptureState, Fail> {
     let mut state = BasicFormattedCaptureState::new();
     let mut text = String::new(alloc);
@@ -186,8 +188,8 @@ fn state_after(alloc: Global, row: &RowContents<'_>) -> Result<BasicFormattedCap
 /// The basic text of a row if no write fails.
 const WHOLE: &str = "\n\x1b[mb\x1b[31mc";
 
-/// Writes a row to a sink that fails after `pieces` strings, and returns whether the row was
-/// written whole.
+/// Writes a row to a sink that fails after `pieces` strings, and returns whether the whole row was
+/// written.
 fn is_taken(
     rt: &impl Abort,
     alloc: Global,

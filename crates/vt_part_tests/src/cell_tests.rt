@@ -1,10 +1,10 @@
-//! Cells: texts, combining characters, equality and attributes.
+//! Tests of cells: their text, combining characters, equality and attributes.
 
 use std::test::Fail;
 use vt_cells::runs::same_run;
 use vt_cells::{Attrs, Cell, Color, Intensity, cell, columns};
 
-/// Returns the cell that holds a character with the combining characters after it.
+/// Returns the cell that holds the character and the combining characters in `text`.
 fn cell_of_text(text: &str) -> Cell {
     let mut cell = cell::default_blank();
     for c in text.chars() {
@@ -40,7 +40,8 @@ const WIDE_TWENTY: &str = "中\u{301}\u{301}\u{301}\u{301}\u{301}\u{301}\u{301}\
 const WIDE_TWELVE: &str = "中\u{301}\u{301}\u{301}\u{301}\u{301}\u{301}\u{301}\u{301}\u{301}\u{301}\
      \u{301}\u{301}";
 
-/// A text, the part of it that the cell keeps, whether the cell is wide, and whether its text is.
+/// Test cases: a text, the part of the text that a cell keeps, whether the cell is wide, and
+/// whether its text is wide.
 const KEPT: [(&str, &str, bool, bool); 10] = [
     ("", "", false, false),
     ("a", "a", false, false),

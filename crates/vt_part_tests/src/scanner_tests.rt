@@ -1,4 +1,4 @@
-//! The events of the scanner.
+//! Tests of the events that the scanner reports.
 
 use std::alloc::Global;
 use std::fmt::Write;
@@ -72,7 +72,7 @@ fn feed_all(text: &mut String, scanner: &mut Scanner, bytes: &[u8]) -> Result<()
     Ok(())
 }
 
-/// Returns the events of bytes that arrive in two chunks.
+/// Returns the events that the scanner reports for bytes that arrive in two chunks, as one string.
 fn shown(alloc: Global, first: &[u8], second: &[u8]) -> Result<String, Fail> {
     let mut text = String::new(alloc);
     let mut scanner = Scanner::new(alloc);
@@ -81,7 +81,7 @@ fn shown(alloc: Global, first: &[u8], second: &[u8]) -> Result<String, Fail> {
     Ok(text)
 }
 
-/// Bytes, and their events in order.
+/// Test cases: bytes, and the events that the scanner reports for these bytes, in order.
 const EVENTS: [(&[u8], &str); 26] = [
     (b"a~\x7F", "61,7E,7F,"),
     (b"\x1B[1;2:3;m", "csi [ 1 ][ 2 3 ][ 0 ]m,"),
@@ -130,7 +130,7 @@ fn reads_at_every_cut(rt: HostRuntime) -> Result<(), Fail> {
     Ok(())
 }
 
-/// Returns `ESC [`, `zeros` times `0;`, and the rest.
+/// Returns `ESC [`, followed by `zeros` repetitions of `0;`, followed by `rest`.
 fn many_numbers(alloc: Global, zeros: u8, rest: &[u8]) -> Result<Vec<u8>, Fail> {
     let mut bytes = Vec::new(alloc);
     bytes.extend_from_slice(b"\x1B[")?;
@@ -141,7 +141,7 @@ fn many_numbers(alloc: Global, zeros: u8, rest: &[u8]) -> Result<Vec<u8>, Fail> 
     Ok(bytes)
 }
 
-/// Creates a scanner that has read these bytes, which end in SGR.
+/// Creates a scanner that has read `bytes`, which must end with an SGR sequence.
 fn after_sgr(rt: &impl Abort, alloc: Global, bytes: &[u8]) -> Result<Scanner, Fail> {
     let mut scanner = Scanner::new(alloc);
     let mut text = String::new(alloc);
@@ -150,7 +150,7 @@ fn after_sgr(rt: &impl Abort, alloc: Global, bytes: &[u8]) -> Result<Scanner, Fa
     Ok(scanner)
 }
 
-/// Aborts unless the scanner holds 32 groups, the last of which has only this number.
+/// Aborts unless the scanner holds 32 groups, the last of which consists of the number `last`.
 fn expect_groups(rt: &impl Abort, scanner: &Scanner, last: u16) {
     let groups = scanner.parameters().groups();
     assert_eq!(rt; groups.as_slice().len(), 32);
@@ -193,7 +193,7 @@ fn lends_numbers(rt: HostRuntime) -> Result<(), Fail> {
     Ok(())
 }
 
-/// Checks that a run of bytes which is read in one call ends where the sequence or text ends.
+/// Checks that a run of bytes that is read in one call ends at the end of the sequence or text.
 #[test]
 fn reads_runs(rt: HostRuntime) -> Result<(), Fail> {
     let mut scanner = Scanner::new(rt.alloc());

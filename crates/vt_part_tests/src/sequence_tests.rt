@@ -1,4 +1,4 @@
-//! The text of escape sequences.
+//! Tests of the text of escape sequences.
 
 use crate::attributes::{PLAIN, Parts};
 use std::alloc::Global;
@@ -65,7 +65,8 @@ fn positions(rt: HostRuntime) -> Result<(), Fail> {
     Ok(())
 }
 
-/// A number of columns, the sequence that moves right by it, and the sequence that erases it.
+/// Test cases: a number of columns, the sequence that moves the cursor right by that many columns,
+/// and the sequence that erases that many columns.
 const COUNTS: [(u16, &str, &str); 4] = [
     (0, "", ""),
     (1, "\x1b[C", "\x1b[X"),
@@ -145,7 +146,8 @@ const LAST: Parts = Parts {
     ..PLAIN
 };
 
-/// Two sets of attributes, and the sequence that changes the first to the second.
+/// Test cases: two sets of attributes, and the sequence that changes the attributes from the first
+/// set to the second.
 const CHANGES: [(Parts, Parts, &str); 11] = [
     (PLAIN, PLAIN, ""),
     (BOLD, BOLD, ""),
@@ -169,7 +171,8 @@ fn attributes(rt: HostRuntime) -> Result<(), Fail> {
     Ok(())
 }
 
-/// Whether a mode is set, and the sequences for the keypad, the cursor keys and bracketed paste.
+/// Test cases: whether a mode is set, and the sequences for the keypad, the cursor keys and
+/// bracketed paste.
 const SWITCHES: [(bool, &str, &str, &str); 2] = [
     (true, "\x1b=", "\x1b[?1h", "\x1b[?2004h"),
     (false, "\x1b>", "\x1b[?1l", "\x1b[?2004l"),

@@ -1,4 +1,4 @@
-//! Colours, attributes, errors and the widths of characters.
+//! Tests of colors, attributes, errors and the widths of characters.
 
 use std::alloc::AllocError;
 use std::test::Fail;

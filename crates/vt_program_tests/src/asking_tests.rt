@@ -1,9 +1,9 @@
-//! Runs of the engines of `vtshow` and `vtmirror` with command-line arguments.
+//! Tests of the engines of `vtshow` and `vtmirror` with command-line arguments.
 
 use std::alloc::Global;
 use std::test::Fail;
 
-/// The command-line arguments, the input, and the output.
+/// An example: the command-line arguments, the input, and the expected output.
 type Example = (&'static [&'static str], &'static str, &'static str);
 
 const SHOWN: [Example; 3] = [
@@ -21,7 +21,7 @@ const MIRRORED: [Example; 2] = [
     ),
 ];
 
-/// Command-line arguments that are wrong.
+/// Command-line arguments that are invalid.
 const WRONG: [&[&str]; 3] = [&[], &["2", "4"], &["2", "4", "0"]];
 
 fn words(alloc: Global, given: &[&str]) -> Result<Vec<String>, Fail> {

@@ -1,4 +1,4 @@
-//! Runs of the proved callers: what each returns, and what a terminal displays after it.
+//! Tests of the proved callers: what each returns, and what a terminal displays afterward.
 
 use crate::numbers::size;
 use std::alloc::Global;
@@ -7,20 +7,20 @@ use vt_callers::{mirroring, multiplexer, recording, screen_test};
 use vt_mirror::{Mirror, Update};
 use vt100::{Error, Parser, Screen};
 
-/// Creates a terminal of this size.
+/// Creates a terminal with the given number of rows and columns.
 fn terminal(alloc: Global, rows_and_cols: (u16, u16)) -> Result<Parser, Fail> {
     let (rows, cols) = size(rows_and_cols)?;
     Ok(Parser::new(alloc, rows, cols, 0)?)
 }
 
-/// Returns the screen of two rows and four columns after this input.
+/// Returns a screen of two rows and four columns after the input `text`.
 fn screen_after(alloc: Global, text: &str) -> Result<Screen, Fail> {
     let mut terminal = terminal(alloc, (2, 4))?;
     terminal.process(text.as_bytes())?;
     Ok(terminal.screen().clone()?)
 }
 
-/// Fails if a terminal has a different size, text or cursor position.
+/// Fails if the size, text or cursor position of a terminal is not the expected one.
 fn expect_shown(
     terminal: &Parser,
     rows_and_cols: (u16, u16),
@@ -41,8 +41,9 @@ fn expect_shown(
     Ok(())
 }
 
-/// Fails if a terminal does not display what is sent to it: a screen, the difference to a second
-/// one, and both in reverse order.
+/// Fails if a terminal does not display each screen that is sent to it. Sends a redraw of `first`
+/// and the diff from `first` to `second`, then a redraw of `second` and the diff from `second` to
+/// `first`.
 fn send(first: &Screen, second: &Screen, remote: &mut Parser) -> Result<(), Fail> {
     if first.size() != second.size() {
         return Err(Fail::new("two sizes"));
@@ -62,7 +63,8 @@ fn sends_a_redraw_and_a_difference(rt: HostRuntime) -> Result<(), Fail> {
     send(&first, &second, &mut terminal(rt.alloc(), (2, 4))?)
 }
 
-/// Adds a viewer to a mirror late. Fails if its number or its display is not as expected.
+/// Adds a viewer to a mirror that has already parsed `output`. Fails if the viewer's number or
+/// display is not the expected one.
 fn join_late(
     mirror: &mut Mirror,
     output: &str,
@@ -93,7 +95,7 @@ fn shows_a_late_viewer_what_came_before(rt: HostRuntime) -> Result<(), Fail> {
     join_late(&mut mirror, "\x1b[Hx", &mut terminal, 1, ("x\nc", (0, 1)))
 }
 
-/// Creates a full update of this size.
+/// Creates a full update with the given number of rows and columns.
 fn full(alloc: Global, rows: u16, cols: u16) -> Result<Update, Fail> {
     let text = String::from_str(alloc, "x")?;
     Ok(Update::Full { rows, cols, text })
@@ -115,7 +117,7 @@ fn takes_no_update_without_a_row_or_a_column(rt: HostRuntime) -> Result<(), Fail
     expect_shown(&terminal, (2, 4), "x", (0, 1))
 }
 
-/// A size, the input, and the text of everything that was displayed.
+/// Test cases: a size, the input, and the expected text of everything that was displayed.
 const RECORDED: [((u16, u16), &str, &str); 4] = [
     ((1, 4), "", ""),
     ((1, 4), "ab", "ab"),
@@ -148,8 +150,8 @@ fn expect_recorded(
     Ok(())
 }
 
-/// A row and a column, a text, and whether the cell there has it. Only the first cell of the wide
-/// character has its text.
+/// Test cases: a row and a column, a text, and whether the cell at that position has the text. Only
+/// the first cell of a wide character has its text.
 const CELLS: [(u16, u16, &str, bool); 8] = [
     (0, 0, "a", true),
     (0, 0, "b", false),
@@ -161,7 +163,7 @@ const CELLS: [(u16, u16, &str, bool); 8] = [
     (0, 4, "", false),
 ];
 
-/// A row, a text, and whether the row has it.
+/// Test cases: the index of a row, a text, and whether the row has that text.
 const ROWS: [(u16, &str, bool); 5] = [
     (0, "a\u{4e2d}", true),
     (0, "a", false),
@@ -189,7 +191,8 @@ fn tells_what_stands_where(rt: HostRuntime) -> Result<(), Fail> {
     Ok(())
 }
 
-/// Input on two rows of four columns, a text, and whether that is displayed afterward.
+/// Test cases: input on a screen of two rows and four columns, a text, and whether that text is
+/// displayed afterward.
 const OUTPUTS: [(&str, &str, bool); 4] = [
     ("ab\r\ncd", "ab\ncd", true),
     ("ab\r\ncd", "ab", false),

@@ -1,4 +1,5 @@
-//! A viewer that displays the wrong thing after an unsteady screen, and then the right thing again.
+//! A test of a viewer whose display is wrong after an unsteady screen and correct again after a
+//! steady one.
 
 use crate::numbers::size;
 use std::alloc::Global;
@@ -7,7 +8,7 @@ use vt_mirror::{Mirror, Update};
 use vt100::Parser;
 
 /// Input that leaves U+231A, made narrow by U+FE0E and U+FE0F, in the last column of the last row.
-/// A viewer that prints it wraps and scrolls.
+/// Printing this character makes a viewer wrap and scroll.
 const UNSTEADY: &str = "one\x1b[2;2H\u{231a}\u{fe0e}\u{fe0f}\x1b[2;1H\x1b[@";
 
 /// Input after which the display is steady again.
@@ -16,7 +17,7 @@ const STEADY: &str = "\x1b[2J\x1b[H\x1b[31mab";
 const REDRAW: &str = "\x1b[?25h\x1b[m\x1b[H\x1b[J\x1b[31mab";
 
 /// Applies the mirror's next scrolling update to the viewer's terminal, and returns whether it was
-/// a full one.
+/// a full update.
 fn take_update(mirror: &mut Mirror, number: u64, viewer: &mut Parser) -> Result<bool, Fail> {
     match mirror.update_scrolling(number)? {
         Some(Update::Full { text, .. }) => {

@@ -1,46 +1,48 @@
-//! Calls of a mirror in sequence, and what each returns.
+//! Tests of sequences of calls on a mirror, and of what each call returns.
 
 use crate::numbers::size;
 use std::alloc::Global;
 use std::test::Fail;
 use vt_mirror::{Mirror, Update};
 
-/// A call, and what it must return. `process` and `set_size` must succeed.
+/// A call on a mirror, and what it must return. `process` and `set_size` must succeed.
 #[derive(Clone, Copy, Debug)]
 enum Call {
-    /// Parses a string.
+    /// Parses a string; the call must succeed.
     Process(&'static str),
 
-    /// Resizes the mirror.
+    /// Resizes the mirror; the call must succeed.
     SetSize(u16, u16),
 
-    /// Adds a viewer, which must get this number.
+    /// Adds a viewer, which must get the given number.
     Join(u64),
 
-    /// Removes the viewer of this number; the flag says whether there is one.
+    /// Removes the viewer with the given number; the flag says whether there is such a viewer.
     Leave(u64, bool),
 
-    /// Asks for the viewer of this number; the flag says whether it is up to date.
+    /// Tests whether the viewer with the given number is up to date; the flag is the expected
+    /// result.
     Current(u64, bool),
 
-    /// Asks for an update for a number that no viewer has.
+    /// Requests an update for a number that no viewer has.
     Nobody(u64),
 
-    /// Asks for an update for the viewer of this number; it must be this difference.
+    /// Requests an update for the viewer with the given number; the update must be the given diff.
     Diff(u64, &'static str),
 
-    /// Asks for an update for the viewer of this number; it must be a full one of this size, with
-    /// this text after the clear.
+    /// Requests an update for the viewer with the given number; it must be a full update with the
+    /// given size, and with the given text after [`CLEAR`].
     Full(u64, (u16, u16), &'static str),
 
-    /// Asks for a scrolling update for a number that no viewer has.
+    /// Requests a scrolling update for a number that no viewer has.
     NobodyScrolling(u64),
 
-    /// Asks for a scrolling update for the viewer of this number; it must be this difference.
+    /// Requests a scrolling update for the viewer with the given number; the update must be the
+    /// given diff.
     DiffScrolling(u64, &'static str),
 
-    /// Asks for a scrolling update for the viewer of this number; it must be a full one of this
-    /// size, with this text after the clear.
+    /// Requests a scrolling update for the viewer with the given number; it must be a full update
+    /// with the given size, and with the given text after [`CLEAR`].
     FullScrolling(u64, (u16, u16), &'static str),
 }
 
@@ -67,7 +69,8 @@ const ONE_AND_ANOTHER: [Call; 16] = [
     Call::Join(2),
 ];
 
-/// Each viewer is updated from its own state, and numbers are not reused.
+/// Calls which show that each viewer is updated from its own state, and that numbers are not
+/// reused.
 #[rattlefmt::skip]
 const APART: [Call; 19] = [
     Call::Nobody(0),
@@ -91,8 +94,8 @@ const APART: [Call; 19] = [
     Call::Nobody(u64::MAX),
 ];
 
-/// A resize affects all viewers, even a resize back to the earlier size, and even a viewer without
-/// an update so far.
+/// Calls which show that a resize affects all viewers, including a viewer that has had no update so
+/// far, even if a second resize restores the earlier size.
 #[rattlefmt::skip]
 const RESIZED: [Call; 14] = [
     Call::Process("ab"),
@@ -111,8 +114,9 @@ const RESIZED: [Call; 14] = [
     Call::Diff(1, "c"),
 ];
 
-/// A viewer that receives both kinds of differences, and one that is updated later and with more
-/// changes at once. Rows move up, down, and above a last row that stays.
+/// Calls for a viewer that receives both kinds of diffs, and for a viewer that is updated less
+/// often and with more changes at once. Rows move up and down; in some updates, only the rows above
+/// the last row move.
 #[rattlefmt::skip]
 const MIXED: [Call; 21] = [
     Call::Join(0),
@@ -138,8 +142,8 @@ const MIXED: [Call; 21] = [
     Call::NobodyScrolling(0),
 ];
 
-/// A viewer is up to date from its update to the next input or resize. A resize to the current size
-/// does not count.
+/// Calls which show that a viewer is up to date from its update to the next input or resize, not
+/// counting a resize to the current size.
 #[rattlefmt::skip]
 const CURRENT: [Call; 22] = [
     Call::Current(0, false),
@@ -166,7 +170,8 @@ const CURRENT: [Call; 22] = [
     Call::Current(0, false),
 ];
 
-/// Viewers that keep up receive the same text as a single viewer, by either call.
+/// Calls which show that viewers that keep up receive the same text as a single viewer, from
+/// `update` as well as from `update_scrolling`.
 #[rattlefmt::skip]
 const TOGETHER: [Call; 16] = [
     Call::Join(0),
@@ -187,13 +192,13 @@ const TOGETHER: [Call; 16] = [
     Call::Diff(2, ""),
 ];
 
-/// Creates a mirror of this size, without scrollback.
+/// Creates a mirror with the given number of rows and columns, without scrollback.
 fn mirror(alloc: Global, rows_and_cols: (u16, u16)) -> Result<Mirror, Fail> {
     let (rows, cols) = size(rows_and_cols)?;
     Ok(Mirror::new(alloc, rows, cols, 0)?)
 }
 
-/// Makes the calls. Fails if one returns something else.
+/// Makes the calls in order. Fails if a call does not return what is expected.
 fn expect_all(mirror: &mut Mirror, calls: &[Call]) -> Result<(), Fail> {
     for (index, call) in calls.iter().enumerate() {
         if !answers(mirror, *call)? {
@@ -203,7 +208,7 @@ fn expect_all(mirror: &mut Mirror, calls: &[Call]) -> Result<(), Fail> {
     Ok(())
 }
 
-/// Makes a call, and returns whether its result is as expected.
+/// Makes a call on the mirror, and returns whether its result is as expected.
 fn answers(mirror: &mut Mirror, call: Call) -> Result<bool, Fail> {
     match call {
         Call::Process(text) => Ok(mirror.process(text.as_bytes()).is_ok()),

@@ -1,4 +1,4 @@
-//! Runs of the proved callers that send or read in chunks, and of those that copy values.
+//! Tests of the proved callers that send or read text in chunks, and of those that copy values.
 
 use crate::numbers::size;
 use std::alloc::Global;
@@ -12,7 +12,7 @@ fn terminal(alloc: Global) -> Result<Parser, Fail> {
     Ok(Parser::new(alloc, rows, cols, 0)?)
 }
 
-/// Returns the screen of two rows and four columns after this input.
+/// Returns a screen of two rows and four columns after the input `text`.
 fn screen_after(alloc: Global, text: &str) -> Result<Screen, Fail> {
     copy_after(&mut terminal(alloc)?, text)
 }
@@ -22,7 +22,7 @@ fn copy_after(terminal: &mut Parser, text: &str) -> Result<Screen, Fail> {
     Ok(terminal.screen().clone()?)
 }
 
-/// Fails if a terminal has a different text or cursor position.
+/// Fails if the text or cursor position of a terminal is not the expected one.
 fn expect_shown(terminal: &Parser, text: &str, cursor: (u16, u16)) -> Result<(), Fail> {
     let found = terminal.screen().contents()?;
     if found.as_str() == text && terminal.screen().cursor_position() == cursor {
@@ -31,7 +31,8 @@ fn expect_shown(terminal: &Parser, text: &str, cursor: (u16, u16)) -> Result<(),
     Err(Fail::new(format_args!("{found:?} and not {text:?}, or another cursor")))
 }
 
-/// Sizes of chunks: single bytes, none, and more than there are.
+/// Lists of chunk sizes, which include single bytes, empty chunks, and chunks longer than the
+/// output.
 const CUTS: [&[usize]; 4] = [&[], &[1, 1, 0, 2], &[0, 100], &[3, 4, 5, 6, 7, 8]];
 
 fn send_cut(first: &Screen, second: &Screen, remote: &mut Parser) -> Result<(), Fail> {
@@ -54,7 +55,8 @@ fn sends_in_pieces(rt: HostRuntime) -> Result<(), Fail> {
     send_cut(&first, &second, &mut terminal(rt.alloc())?)
 }
 
-/// Output in chunks on two rows of four columns, a text, and whether that is displayed afterward.
+/// Test cases: output in chunks on a screen of two rows and four columns, a text, and whether that
+/// text is displayed afterward.
 const PIECES: [(&[&[u8]], &str, bool); 4] = [
     (&[], "", true),
     (&[b"a", b"", b"b\r", b"\ncd"], "ab\ncd", true),

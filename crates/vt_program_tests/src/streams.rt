@@ -1,10 +1,10 @@
-//! Readers and writers that return or accept little, or fail.
+//! Readers and writers for tests, which transfer few bytes at a time or fail.
 
 use std::io;
 use std::io::{Read, Write};
 
-/// A reader that returns at most `at_once` bytes at a time, and fails with this kind of error after
-/// the last one.
+/// A reader that returns at most `at_once` bytes at a time, and fails with the given kind of error
+/// after the last byte.
 #[derive(Drop)]
 pub(crate) struct Broken<'a> {
     pub(crate) bytes: &'a [u8],
@@ -33,7 +33,7 @@ impl Read for Slow<'_> {
     }
 }
 
-/// A writer that fails every write, and counts them.
+/// A writer that fails every write, and counts the writes.
 #[derive(Drop)]
 pub(crate) struct Closed(pub(crate) u32);
 
@@ -62,7 +62,7 @@ impl Write for Unflushed {
     }
 }
 
-/// A writer that accepts a number of bytes, and none after them.
+/// A writer that accepts a limited number of bytes, and no bytes after that.
 #[derive(Drop)]
 pub(crate) struct Full {
     pub(crate) bytes: Vec<u8>,

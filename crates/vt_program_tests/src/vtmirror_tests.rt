@@ -1,4 +1,4 @@
-//! Runs of the engine of `vtmirror` on 2 rows and 4 columns, and their output.
+//! Tests of the output of the engine of `vtmirror`, with 2 rows and 4 columns.
 
 use crate::numbers::number;
 use crate::streams::{Broken, Closed, Full, Slow, Unflushed};
@@ -25,13 +25,14 @@ fn run_every<R: Read, W: Write>(
     ))
 }
 
-/// The number of bytes between updates, the input, and the output after the first text, which is
-/// the redraw of a blank screen.
+/// An example: the number of bytes between updates, the input, and the expected output after the
+/// redraw of the blank screen, with which each run begins.
 type Example = (u16, &'static str, &'static str);
 
 const BLANK: &str = "\x1b[?25h\x1b[m\x1b[H\x1b[J";
 
-/// An update brings the current display; displays in between are not written.
+/// Test runs, each with its expected output. An update draws the current display; displays between
+/// two updates are not written.
 #[rattlefmt::skip]
 const RUNS: [Example; 8] = [
     (2, "abcd", "abcd"),
@@ -105,7 +106,7 @@ fn reads_no_further_than_the_update_that_fails(rt: HostRuntime) -> Result<(), Fa
     let mut input = b"abc".as_slice();
     let mut full = Full {
         bytes: Vec::new(rt.alloc()),
-        // The first text has 15 bytes, and there is room for one more.
+        // The redraw of the blank screen has 15 bytes, so there is room for one more byte.
         room: 16,
     };
     let done = run_every(rt.alloc(), &mut input, &mut full, 1)?;

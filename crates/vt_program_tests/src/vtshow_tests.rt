@@ -1,4 +1,4 @@
-//! Runs of the engine of `vtshow`, and their output.
+//! Tests of the output of the engine of `vtshow`.
 
 use crate::numbers::number;
 use crate::streams::{Broken, Closed, Full, Interrupting, Unflushed};
@@ -8,7 +8,7 @@ use std::io::{Read, Write};
 use std::test::Fail;
 use vt_show::{Fault, Mode, run};
 
-/// A size, a mode, the input, and the output.
+/// An example: a size, a mode, the input, and the expected output.
 type Example = ((u16, u16), Mode, &'static str, &'static str);
 
 #[rattlefmt::skip]
@@ -41,7 +41,7 @@ fn writes_the_screen(rt: HostRuntime) -> Result<(), Fail> {
     Ok(())
 }
 
-/// Runs the engine on 2 rows and 4 columns.
+/// Runs the engine of `vtshow` with 2 rows and 4 columns.
 fn run_small<R: Read, W: Write>(
     alloc: Global,
     reader: &mut R,

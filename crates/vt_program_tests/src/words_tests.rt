@@ -1,4 +1,4 @@
-//! The command-line arguments of `vtshow` and `vtmirror`, and how their runs end.
+//! Tests of the command-line arguments of `vtshow` and `vtmirror`, and of how their runs end.
 
 use crate::numbers::number;
 use std::test::Fail;
@@ -66,7 +66,7 @@ fn refuses_words(rt: HostRuntime) {
     }
 }
 
-/// The end of a run, the error lines of `vtshow` and of `vtmirror`, and the exit status of both.
+/// An example: how a run ends, the messages of `vtshow` and of `vtmirror`, and their exit status.
 type Ending = (Option<Fault>, &'static str, &'static str, u8);
 
 #[rattlefmt::skip]

@@ -1,4 +1,4 @@
--- Rows deleted and inserted on a plain page move a band of its rows.
+-- Deleting and inserting rows on a plain page moves a band of its rows.
 use Rattle.std.proofs.Common.{◌≡◌, ℕ, ◌+◌, ◌-◌, ◌<◌, ◌==◌, Bool, true, false, List, length, inl, inr, refl, sym}
 use Rattle.std.proofs.Common.{ap, ◌∙◌, arith}
 use Rattle.std.specs.Prelude.{◌&&◌, nat_le, nat_lt, min, if◌then◌else◌}
@@ -18,7 +18,7 @@ use Rattle.vt_redraw.proofs.Moving.{length-rows_moved, row_or-rows_moved, row_or
 
 -- ---- a row after rows were deleted or inserted
 
--- A row after rows moved up, also past the end, where it is blank.
+-- The row at index r after rows moved up; past the end, it is blank.
 up_at : (width top bottom n : ℕ) (rows : List RowValue) (r : ℕ)
     → row_or width (rows_up width top bottom n rows) r
     ≡ row_or width rows (if nat_lt r (length rows) then up_source (length rows) top bottom n r else length rows)
@@ -50,7 +50,7 @@ down_at width top n rows r h =
 
 -- ---- the row that moves to a row
 
--- The row that moves up to row r, if the band ends with the page.
+-- If the band ends with the page, deleting rows moves the row `band_source` to row r.
 source_up : (height : ℕ) (band : Band) (r : ℕ) → IsBand height band → band.up ≡ true → band.bottom ≡ height → r < height
     → up_source height band.top (height - 1) band.count r ≡ band_source band height r
 source_up height band r is up end h =
@@ -58,7 +58,7 @@ source_up height band r is up end h =
     let b = is.rows in
     rw up (grind (arith, nat_tests))
 
--- The row that moves up to row r, if rows remain below the band.
+-- If rows remain below the band, deleting and inserting rows moves the row `band_source` up to row r.
 source_between_up : (height : ℕ) (band : Band) (r : ℕ) → IsBand height band → band.up ≡ true → r < height
     → (if nat_lt (down_source height (band.bottom - band.count) (height - 1) band.count r) height
     then up_source height band.top (height - 1) band.count
@@ -71,7 +71,7 @@ source_between_up height band r is up h =
     let c = is.inside in
     rw up (grind (arith, nat_tests))
 
--- The row that moves down to row r, if the band ends with the page.
+-- If the band ends with the page, inserting rows moves the row `band_source` to row r.
 source_down : (height : ℕ) (band : Band) (r : ℕ) → IsBand height band → band.up ≡ false → band.bottom ≡ height →
     r < height → down_source height band.top (height - 1) band.count r ≡ band_source band height r
 source_down height band r is up end h =
@@ -79,7 +79,7 @@ source_down height band r is up end h =
     let b = is.rows in
     rw up (grind (arith, nat_tests))
 
--- The row that moves down to row r, if rows remain below the band.
+-- If rows remain below the band, deleting and inserting rows moves the row `band_source` down to row r.
 source_between_down : (height : ℕ) (band : Band) (r : ℕ) → IsBand height band → band.up ≡ false → r < height
     → (if nat_lt (down_source height band.top (height - 1) band.count r) height
     then up_source height (band.bottom - band.count) (height - 1) band.count
@@ -104,7 +104,7 @@ same_rows width band rows new size same =
     (λ r h. let i : r < length rows = omega (arith, size) in
     same r i ∙ sym (row_or-rows_moved width band rows r i))
 
--- A blank row is not wrapped.
+-- A blank row is not wrapped, so clearing its flag changes nothing.
 unflag_blank : (b : Bool) (width : ℕ) → unflagged_if b (blank_row default_attrs width) ≡ blank_row default_attrs width
 unflag_blank true width = refl
 unflag_blank false width = refl
@@ -141,7 +141,7 @@ down_moved width rows band is up end =
     ∙ ap (λ (k : ℕ). unflagged_if (r + 1 == length rows) (row_or width rows k))
     (source_down (length rows) band r is up end h))
 
--- Rows deleted at one row, and as many inserted at another.
+-- The row at index r after rows are deleted at one row and as many are inserted at another.
 between_at : (width gone in_at n : ℕ) (rows : List RowValue) (r : ℕ) → r < length rows
     → row_or width (rows_down width in_at (length rows - 1) n (rows_up width gone (length rows - 1) n rows)) r
     ≡ unflagged_if (r + 1 == length rows)
@@ -194,7 +194,7 @@ down_between width rows band is up =
 
 -- ---- on a plain page
 
--- A page with these rows, and the cursor at the beginning of a row.
+-- A page with the given rows, and the cursor at the beginning of a row.
 abbrev pub page_at_row : List RowValue → ℕ → Page → Page
 page_at_row rows row page = record page { rows = rows; row = row; column = 0 }
 

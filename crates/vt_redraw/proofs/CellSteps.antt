@@ -29,7 +29,7 @@ leads_start text whole = record { bytes = refl; pen = refl; flag = refl }
 pub leads_then : (t u v : List ℕ) (x y z : Scripted) → Leads u y t x → Leads v z u y → Leads v z t x
 leads_then t u v x y z p q = record { bytes = q.bytes ∙ p.bytes; pen = q.pen ∙ p.pen; flag = q.flag ∙ p.flag }
 
--- The output of some operations was appended, and the rest is still to write.
+-- After the output of some operations is appended, the output of the others is still to be written.
 pub leads_after : (text longer : List ℕ) (ops : List Op) (rest whole : Scripted) →
     longer ≡ text ++ bytes_of_all ops → whole ≡ ops_then ops rest → Leads longer rest text whole
 leads_after text longer ops rest whole e f =
@@ -50,7 +50,7 @@ leads_same text rest whole f = record {
   flag = ap (λ (w : Scripted). w.flag) (sym f);
 }
 
--- Nothing is left to write.
+-- If no output is left to write, the text is complete.
 pub leads_text : (text start : List ℕ) (rest whole : Scripted) (pen : Pen) (flag : Bool) →
     rest ≡ no_ops pen flag → Leads text rest start whole → text ≡ start ++ bytes_of_all whole.ops
 leads_text text start rest whole pen flag e h =
@@ -78,7 +78,7 @@ settled_passed r c pen flag (suc k) (x ∷ xs) (y ∷ ys) =
 
 -- ---- one cell, in terms of lists
 
--- The continuation cell of a wide character that is displayed needs no output either.
+-- The continuation cell of a wide character that the terminal displays needs no output.
 half_passed : (r c : ℕ) (pen : Pen) (flag : Bool) (xs ys : List CellValue) →
     (0 < length xs → is_right_half (at xs 0) ≡ true) →
     cells_written r c pen flag 1 xs ys ≡ cells_written r c pen flag 0 xs ys
@@ -165,7 +165,7 @@ run_erased r c pen flag right_half xs y ys n h b count = absurd cc
 from_column : (xs : List CellValue) (c : ℕ) → c < length xs → drop c xs ≡ at xs c ∷ drop (c + 1) xs
 from_column xs c h = drop_more xs c default_blank h
 
--- The output from column c on begins with that of the cell at column c.
+-- The output from column c on can be split into the cell at column c and the cells after it.
 at_column : (r c : ℕ) (pen : Pen) (flag : Bool) (xs ys : List CellValue) → c < length xs → length xs ≤ length ys →
     cells_from r c pen flag xs ys ≡ cells_written r c pen flag 0 (at xs c ∷ drop (c + 1) xs) (at ys c ∷ drop (c + 1) ys)
 at_column r c pen flag xs ys h le =
@@ -173,7 +173,7 @@ at_column r c pen flag xs ys h le =
     ∙ ap (λ (zs : List CellValue). cells_written r c pen flag 0 (at xs c ∷ drop (c + 1) xs) zs)
     (from_column ys c (omega arith))
 
--- The columns n after column c.
+-- Dropping n cells from the cells at and after column c gives the cells from column c + n on.
 behind : (c n : ℕ) (xs : List CellValue) → c < length xs → drop n (at xs c ∷ drop (c + 1) xs) ≡ drop (c + n) xs
 behind c n xs h = ap (drop n) (sym (from_column xs c h)) ∙ drop-drop n c xs
 
@@ -204,7 +204,7 @@ passes_cell c xs ys h range same = record {
       ∙ passed r c pen flag (at xs c) (drop (c + 1) xs) (at ys c) (drop (c + 1) ys) same (first_half xs ys c range);
 }
 
--- Cells that are equal need no output.
+-- A run of cells that are equal in both rows needs no output.
 pub passes_run : (c n : ℕ) (xs ys : List CellValue) → IsRange xs ys → (0 < n → c + n ≤ length xs)
     → ((k : ℕ) → k < n → at xs (c + k) ≡ at ys (c + k)) → Passes c (c + n) xs ys
 passes_run c zero xs ys range inside same =
@@ -297,7 +297,7 @@ run_some a xs c n h b same count =
     ∙ (ap (λ (z : CellValue). blank_run a (z ∷ drop (c + 1) xs)) first ∙ run_first a (drop (c + 1) xs))) in
     omega arith
 
--- A glyph has all its columns in the row that the terminal displays.
+-- All columns of a glyph in a range lie within the row that the terminal displays.
 pub glyph_inside : (xs ys : List CellValue) (c : ℕ) → c < length xs →
     IsRange xs ys → c + glyph_columns (is_wide (at xs c)) ≤ length ys
 glyph_inside xs ys c h range = by_width (is_wide (at xs c)) refl where
@@ -339,7 +339,7 @@ over_end r c pen flag xs ys h =
     ap (λ (zs : List CellValue). cells_written r c pen flag 0 (drop c xs) zs) (drop_all c ys h)
     ∙ nothing_left r c pen flag 0 (drop c xs)
 
--- The cells of two rows of equal width satisfy the premise of a range.
+-- The cells of one row can be drawn as a range over the cells of a row of the same width.
 pub range_of : (xs ys : List CellValue) → length xs ≡ length ys → IsPaired xs → IsRange xs ys
 range_of xs ys same paired = record {
   inside = omega arith;
@@ -349,7 +349,7 @@ range_of xs ys same paired = record {
 
 -- ---- the first column of a range
 
--- A continuation cell in the first column, if the terminal has one there, too.
+-- A continuation cell in the first column of a range needs no output if the terminal displays one there, too.
 pub half_stands : (r c : ℕ) (pen : Pen) (flag : Bool) (xs ys : List CellValue) (text : List ℕ) →
     c < length xs → length xs ≤ length ys → is_right_half (at xs c) ≡ true → is_right_half (at ys c) ≡ true →
     Leads text (cells_from r (c + 1) pen flag xs ys) text
@@ -374,7 +374,7 @@ half_stands r c pen flag xs ys text h le e f =
       both (blank a) more y rest e f = absurd cc
       both (glyph text wide a) more y rest e f = absurd cc
 
--- Any other cell in the first column is written as in a row.
+-- A cell in the first column of a range that is no continuation cell is written as in a whole row.
 pub begin_same : (r c : ℕ) (pen : Pen) (flag : Bool) (xs ys : List CellValue) (text : List ℕ) →
     is_right_half (at xs c) ≡ false →
     Leads text (cells_from r c pen flag xs ys) text
@@ -430,7 +430,7 @@ one_erased r c m pen flag right_half more right_half under e f k = absurd cc
 one_erased r c m pen flag (blank a) more y under e f k = absurd cc
 one_erased r c m pen flag (glyph text wide a) more y under e f k = absurd cc
 
--- A continuation cell in the first column, if the terminal has none there.
+-- A continuation cell in the first column of a range is erased if the terminal displays none there.
 pub half_erased : (r c n m : ℕ) (pen next : Pen) (flag then : Bool) (xs ys : List CellValue) (text longer : List ℕ) →
     c < length xs → length xs ≤ length ys → is_right_half (at xs c) ≡ true → is_right_half (at ys c) ≡ false →
     n ≡ blank_run default_attrs (drop (c + 1) xs) → m ≡ n + 1 →

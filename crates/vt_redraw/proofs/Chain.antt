@@ -14,7 +14,7 @@ use Rattle.vt_redraw.proofs.Redrawing.{redraw_draws}
 same_size : (width height : ℕ) (a b : Picture) → IsOfSize width height a → IsOfSize width height b → SamePictureSize a b
 same_size width height a b p q = record { width = p.columns ∙ sym q.columns; height = p.tall ∙ sym q.tall }
 
--- Operations that display a picture, followed by operations that start from it.
+-- Operations that display one picture, followed by operations that turn it into another, display the second picture.
 after_shows : (ops more : List Op) (any : Canvas) (mid last : Picture) → Shows ops any (with_picture mid any) →
     ((s : Saved) →
     Shows more (with_saved s (with_picture mid any)) (with_picture last (with_saved s (with_picture mid any)))) →

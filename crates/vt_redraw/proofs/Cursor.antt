@@ -1,4 +1,5 @@
--- The cursor moves to its position, also to a pending wrap, and besides only what is saved may change.
+-- The operations for the cursor move it to its position, also to a pending wrap, and change nothing else except the
+-- saved state.
 use Rattle.std.proofs.Common.{◌≡◌, ℕ, zero, suc, ◌+◌, ◌-◌, ◌<◌, ◌≤◌, ◌==◌, nat_lt, Bool, true, false, List, [], ◌∷◌}
 use Rattle.std.proofs.Common.{◌++◌, length, get_or, replicate, Option, Some, None, refl, sym, ap, ◌∙◌, subst, arith}
 use Rattle.std.specs.Prelude.{if◌then◌else◌}
@@ -73,7 +74,7 @@ nearest_is width rows (suc n) =
     (nearest width rows n) (Some (suc n)) (NearestIs width rows (suc n))
     (λ t. nearest_next width rows n (nearest width rows n) t (nearest_is width rows n)) (λ t. (omega arith, t))
 
--- A row whose last column is blank.
+-- The row's last column is a blank.
 pub record EndsBlank (cells : List CellValue) : Type 0 where
   pub pre : List CellValue
   pub attrs : Attrs
@@ -137,7 +138,7 @@ down_draws base rows (suc n) i c height a bottom size h =
     (down_draws base rows n (i + 1) c height a bottom size (omega arith)
     ∙ ap (λ (z : ℕ). Some (at_pen base rows (pen_at z c a))) e)
 
--- A wrap is made pending after the last glyph of row i, and the cursor goes down to row r.
+-- Printing the last glyph of row i makes a wrap pending, and line feeds then move the cursor down to row r.
 under_last_draws : (May : ℕ → ℕ → Type 0) (base : Canvas) (rows : List RowValue) (pen : Pen) (i r height : ℕ) →
     Reads base height base.page.width → length rows ≡ height →
     AllByRecursion (Stands base.page.width) rows → AllByRecursion (PrintsRow base.page.width) rows →
@@ -173,12 +174,12 @@ under_last_draws May base rows pen i r height reads size all prints le low withi
     (down_draws base rows (r - i) i base.page.width height pen.attrs reads.bottom size (omega arith)
     ∙ ap (λ (z : ℕ). Some (at_pen base rows (pen_at z base.page.width pen.attrs))) n)))
 
--- A canvas with this cursor position and these attributes saved.
+-- A canvas with the given cursor position and attributes saved.
 abbrev pub saved_at : Canvas → ℕ → ℕ → Attrs → Canvas
 saved_at base row column attrs =
     with_saved (record { row = row; column = column; origin = base.page.origin; attrs = attrs }) base
 
--- A wrap is made pending by a space that is erased again.
+-- Printing a space and erasing it again makes a wrap pending.
 pub blank_passed_draws : (May : ℕ → ℕ → Type 0) (base : Canvas)
     (done below : List RowValue) (pre : List CellValue) (r : ℕ) (was b : Attrs) →
     0 < base.page.width → length done ≡ r → length pre + 1 ≡ base.page.width →
@@ -240,7 +241,7 @@ over_blank_draws May base done below pre pen r height b reads e rows w h within 
     (ap (λ (z : ℕ). mid base done below row false (pen_at r z pen.attrs)) col))
     (blank_passed_draws May base done below pre r pen.attrs b reads.has_columns e w h may)
 
--- The last column of a row that ends with a blank.
+-- If a row ends with a blank, the first column of its last cell is the column of that blank.
 pub last_blank_column : (pre : List CellValue) (b : Attrs) → last_column (pre ++ blank b ∷ []) ≡ length pre
 last_blank_column pre b =
     let n : length (pre ++ blank b ∷ []) ≡ length pre + 1 = length-append pre (blank b ∷ []) in
@@ -249,7 +250,7 @@ last_blank_column pre b =
 
 -- ---- the rule for the cursor
 
--- The operations draw `goal`, except for what is saved.
+-- The operations draw the canvas `goal`, except for the saved state, and touch only positions for which `May` holds.
 abbrev pub Puts : (ℕ → ℕ → Type 0) → List Op → (start goal : Canvas) → Type 0
 Puts May ops start goal = (saved : Saved) × DrawsIn May ops start (with_saved saved goal)
 

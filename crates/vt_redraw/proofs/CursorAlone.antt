@@ -1,4 +1,4 @@
--- The cursor alone: for a terminal that displays the rest, with its cursor anywhere and default attributes.
+-- Setting only the cursor of a terminal that displays all other parts of a picture and has default attributes.
 use Rattle.std.proofs.Common.{◌≡◌, ℕ, ◌+◌, ◌-◌, ◌<◌, ◌≤◌, nat_lt, Bool, true, false, List, [], ◌∷◌, ◌++◌, length}
 use Rattle.std.proofs.Common.{replicate, Option, Some, None, refl, sym, ap, ◌∙◌, subst, append_assoc, arith}
 use Rattle.std.specs.Prelude.{if◌then◌else◌, All}
@@ -37,7 +37,7 @@ use Rattle.vt_redraw.proofs.Cursor.{split_row, all_row, NearestIs, nearest_is, d
 use Rattle.vt_redraw.proofs.Cursor.{last_blank_column, off, saved_at, saved_of, blank_passed_draws, Puts}
 use Rattle.vt_redraw.proofs.Difference.{rows_stand, picture_prints}
 
--- The last glyph of a row is printed again, with the cursor anywhere.
+-- The last glyph of a row can be printed again, wherever the cursor is.
 printed_again : (May : ℕ → ℕ → Type 0) (base : Canvas) (done below : List RowValue)
     (xs : List CellValue) (flag : Bool) (r : ℕ) (pen : Pen) →
     base.page.origin ≡ false → length done ≡ r → length xs ≡ base.page.width →
@@ -173,7 +173,7 @@ alone_draws May base rows p r height None attrs reads size all prints low near m
           (sym col) there))),
     )
 
--- The cursor moves and is hidden or shown, and at most the end of one row is touched.
+-- The operations of `cursor_state` set the position and visibility of the cursor, and touch at most the end of one row.
 cursor_state_in : (self : Picture) (any : Canvas) → IsPicture self → IsSteady self → IsPlainPage any.page →
     any.page.rows ≡ self.rows → any.page.width ≡ self.width → any.attrs ≡ default_attrs →
     Puts (MayPlace self) (cursor_state self) any (with_cursor_of self any)

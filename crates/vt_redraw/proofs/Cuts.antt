@@ -1,4 +1,4 @@
--- Rows cut to a width are rows of a picture, and cutting those of a page changes nothing.
+-- Rows truncated or extended to a width are rows of a picture; for the rows of a page this changes nothing.
 use Rattle.std.proofs.Common.{◌≡◌, ℕ, suc, ◌-◌, ◌&&◌, Bool, true, false, not, List}
 use Rattle.std.proofs.Common.{[], ◌∷◌, length, refl, sym, ap, ◌∙◌, arith}
 use Rattle.std.specs.Prelude.{All}
@@ -15,7 +15,7 @@ use Rattle.vt_redraw.specs.Picture.{IsPicture, cut_rows, picture_of, picture_ove
 use Rattle.vt_redraw.proofs.Rows.{flags_end}
 use Rattle.vt_redraw.proofs.Difference.{flags_end_of}
 
--- A valid row of any width.
+-- The row is valid for its own width.
 abbrev pub IsAnyRow : RowValue → Type 0
 IsAnyRow row = IsRow (length row.cells) row
 
@@ -55,7 +55,7 @@ cut_last width (x ∷ y ∷ rows) =
     let e : suc (length cut) - 1 ≡ suc (length cut - 1) = omega arith in
     ap (λ (k : ℕ). (row_or width (here ∷ cut) k).wrapped) e ∙ cut_last width (y ∷ rows)
 
--- The displayed rows, as many as a page has and cut to its width, are those of a picture.
+-- The displayed rows, truncated or extended to the page's width, form a valid picture.
 pub picture_over_is : (visible : List RowValue) (canvas : Canvas) → IsPage canvas.page →
     length visible ≡ length canvas.page.rows → All IsAnyRow visible → IsPicture (picture_over visible canvas)
 picture_over_is visible canvas is size rows =

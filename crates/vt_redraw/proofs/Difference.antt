@@ -88,7 +88,7 @@ flags_end_of width (x ∷ y ∷ ys) h =
 
 -- ---- rows, cursor and attributes
 
--- The end of the row at which a pending wrap is made may be touched, on a screen of this width.
+-- A difference may touch the end of the row at which a pending wrap is made, on a screen of width `w`.
 abbrev PlacesAt : (self prev : Picture) → ℕ → Type 0
 PlacesAt self prev w =
     self.column ≡ w → (k : ℕ) →
@@ -193,12 +193,12 @@ difference_in self prev any is steady other size plain e =
           rest.1,
     )
 
--- The operations draw `goal`, except for what is saved.
+-- The operations draw the canvas `goal`, except for the saved state.
 abbrev pub Shows : List Op → (start goal : Canvas) → Type 0
 Shows ops start goal = (saved : Saved) × Draws ops start (with_saved saved goal)
 
--- The difference, drawn on a plain canvas that displays `prev`, displays `self`; besides, only what is saved may
--- change.
+-- Drawing the difference on a plain canvas that displays `prev` makes it display `self`; besides, only the saved state
+-- may change.
 pub difference_draws : (self prev : Picture) (any : Canvas) → IsPicture self → IsSteady self →
     IsPicture prev → SamePictureSize self prev → IsPlainPage any.page → picture_of any ≡ prev →
     Shows (difference self prev) any (with_picture self any)
@@ -206,7 +206,7 @@ difference_draws self prev any is steady other size plain e =
     let puts = difference_in self prev any is steady other size plain e in
     (puts.0, puts.1.draws)
 
--- The difference touches only what is near a differing row, and the end of the row at which a pending wrap is made.
+-- The difference touches only positions near a differing row, and the end of the row at which a wrap is made pending.
 pub difference_local : (self prev : Picture) (any : Canvas) → IsPicture self → IsSteady self →
     IsPicture prev → SamePictureSize self prev → IsPlainPage any.page → picture_of any ≡ prev →
     Touches (IsLocal self prev) (difference self prev) any

@@ -24,7 +24,7 @@ use Rattle.vt_redraw.proofs.Flags.{ends, ends_is, kept}
 abbrev pub row_of : List CellValue → Bool → RowValue
 row_of cells flag = record { cells = cells; wrapped = flag }
 
--- A canvas that has these cells in one row among others, wrapped or not.
+-- A canvas that has the given cells and wrapped flag in one row, between the rows `done` and `below`.
 abbrev pub mid : Canvas → (done below : List RowValue) → List CellValue → Bool → Pen → Canvas
 mid base done below cells flag pen = at_pen base (done ++ row_of cells flag ∷ below) pen
 
@@ -51,7 +51,7 @@ edited_at base done below cells flag pen f new e h =
 
 -- ---- a glyph
 
--- The cells of a glyph, and what an orphaned continuation cell after them becomes.
+-- The cells of a glyph: one cell if it is narrow, and a continuation cell after it if it is wide.
 abbrev pub glyph_cells : List ℕ → Bool → Attrs → List CellValue
 glyph_cells text false attrs = glyph text false attrs ∷ []
 glyph_cells text true attrs = glyph text true attrs ∷ right_half ∷ []
@@ -125,7 +125,7 @@ rest_erased base done below pre rest flag r c n attrs e l fits h =
     rw (s, m) (ap (λ (page : Page). Some (record start { page = page }))
     (erased_at base done below pre rest flag r c (suc n) attrs e l h))
 
--- A run of blanks is erased, to the end of the row or with more columns after it.
+-- A run of blanks can be erased, up to the end of the row or with more columns after it.
 pub run_erased : (base : Canvas) (done below : List RowValue)
     (pre rest more : List CellValue) (flag : Bool) (r c n : ℕ) (attrs : Attrs) →
     length done ≡ r → length pre ≡ c → c + (suc n + length more) ≡ base.page.width → Paired pre →
@@ -139,7 +139,7 @@ run_erased base done below pre rest (y ∷ more) flag r c n attrs e l fits h =
 
 -- ---- a wrap into the next row
 
--- A canvas that has these two rows among others.
+-- A canvas that has two given rows between the rows `done` and `below`.
 abbrev pub two : Canvas → (done below : List RowValue) → (above : List CellValue) →
     (on : Bool) → (cells : List CellValue) → (flag : Bool) → Pen → Canvas
 two base done below above on cells flag pen = at_pen base (done ++ row_of above on ∷ row_of cells flag ∷ below) pen

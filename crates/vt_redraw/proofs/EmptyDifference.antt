@@ -58,7 +58,7 @@ difference_self picture =
 
 -- ---- an empty difference
 
--- A plain canvas that displays a picture.
+-- A plain canvas that displays the given picture.
 abbrev pub showing : Picture → Canvas
 showing picture = record {
   page = record {
@@ -85,12 +85,12 @@ picture_or : Picture → Option Canvas → Picture
 picture_or other (Some canvas) = picture_of canvas
 picture_or other None = other
 
--- Pictures that are equal once their equal widths are set.
+-- Two pictures are equal if they are equal once their equal widths are set.
 pub same_picture : (self other : Picture) (width : ℕ) → self.width ≡ width →
     record self { width = width } ≡ other → self ≡ other
 same_picture self other width e h = ap (λ (w : ℕ). record self { width = w }) e ∙ h
 
--- Operations that draw two pictures on one canvas draw equal pictures.
+-- Two pictures are equal if the same operations draw them on the same canvas.
 pub draws_tell : (ops : List Op) (canvas one two : Canvas) → drawn_all ops canvas ≡ Some one →
     drawn_all ops canvas ≡ Some two → picture_of one ≡ picture_of two
 unfolding picture_or

@@ -24,14 +24,14 @@ g c = glyph (c ∷ []) false default_attrs
 abbrev p : ℕ → Op
 p c = Print (c ∷ [])
 
--- U+4E2D, which takes two columns.
+-- The encoding of U+4E2D, which takes two columns.
 abbrev middle : List ℕ
 middle = 0xE4 ∷ 0xB8 ∷ 0xAD ∷ []
 
 abbrev wide : CellValue
 wide = glyph middle true default_attrs
 
--- U+2764 and U+FE0F, which together take two columns.
+-- The encoding of U+2764 and U+FE0F, which together take two columns.
 abbrev heart : List ℕ
 heart = 0xE2 ∷ 0x9D ∷ 0xA4 ∷ 0xEF ∷ 0xB8 ∷ 0x8F ∷ []
 
@@ -51,7 +51,7 @@ abcd = g 0x61 ∷ g 0x62 ∷ g 0x63 ∷ g 0x64 ∷ []
 abbrev x_row : RowValue
 x_row = row (g 0x78 ∷ b ∷ b ∷ b ∷ [])
 
--- A picture of this width with default attributes and the cursor at a position.
+-- A picture of the given width with default attributes and the cursor at a position.
 abbrev at : ℕ → List RowValue → ℕ → ℕ → Picture
 at width rows r c = record { rows = rows; width = width; row = r; column = c; attrs = default_attrs; hidden = false }
 
@@ -63,7 +63,7 @@ red = record default_attrs { bgcolor = Idx 1 }
 
 -- ---- redraws
 
--- A wrapped row, below it a blank row and a third one, with the cursor on the blank row.
+-- The redraw of a wrapped row, a blank row below it and a third row, with the cursor on the blank row.
 blank_below : redraw (at 4 (on abcd ∷ none ∷ x_row ∷ []) 1 1)
     ≡ cleared
     (p 0x61 ∷ p 0x62 ∷ p 0x63 ∷ p 0x64 ∷ p 0x20 ∷ Backspace ∷ EraseChars 1 ∷ NextRow ∷ p 0x78 ∷ MoveTo 1 1 ∷ [])
@@ -71,20 +71,20 @@ unfolding redraw script rows_written rows_below row_written cells_written row_li
     cursor_written over_blank under_last move_ops attr_ops same_cell same_attrs same_color
 blank_below = refl
 
--- A wrap pending on a blank row below a full one.
+-- The redraw of a blank row with a pending wrap, below a full row.
 pending_below : redraw (at 4 (row abcd ∷ none ∷ []) 1 4) ≡ cleared (p 0x61 ∷ p 0x62 ∷ p 0x63 ∷ p 0x64 ∷ LineFeed ∷ [])
 unfolding redraw script rows_written rows_below row_written cells_written row_link row_break
     cursor_written over_blank under_last move_ops attr_ops same_cell same_attrs same_color
 pending_below = refl
 
--- A wrap pending on a blank row with only blank rows above.
+-- The redraw of a blank row with a pending wrap and only blank rows above it.
 pending_blank : redraw (at 4 (none ∷ none ∷ []) 0 4)
     ≡ cleared (MoveRight 3 ∷ p 0x20 ∷ SaveCursor ∷ Backspace ∷ EraseChars 1 ∷ RestoreCursor ∷ [])
 unfolding redraw script rows_written rows_below row_written cells_written row_link row_break
     cursor_written over_blank under_last move_ops attr_ops same_cell same_attrs same_color
 pending_blank = refl
 
--- A coloured blank row after a wrapped row.
+-- The redraw of a coloured blank row after a wrapped row.
 coloured_below : redraw
     (record (at 2 (on (g 0x61 ∷ g 0x62 ∷ []) ∷ row (blank red ∷ blank red ∷ []) ∷ []) 1 1) { attrs = red })
     ≡ cleared
@@ -93,14 +93,14 @@ unfolding redraw script rows_written rows_below row_written cells_written row_li
     cursor_written over_blank under_last move_ops attr_ops same_cell same_attrs same_color
 coloured_below = refl
 
--- A glyph that a combining character made wide.
+-- The redraw of a glyph that U+FE0F made wide.
 heart_between : redraw (at 4 (row (g 0x61 ∷ glyph heart true default_attrs ∷ right_half ∷ g 0x62 ∷ []) ∷ none ∷ []) 0 4)
     ≡ cleared (p 0x61 ∷ Print heart ∷ p 0x62 ∷ [])
 unfolding redraw script rows_written rows_below row_written cells_written row_link row_break
     cursor_written over_blank under_last move_ops attr_ops same_cell same_attrs same_color
 heart_between = refl
 
--- A full row in other attributes, with a wrap pending.
+-- The redraw of a full row in other attributes, with a wrap pending.
 red_row : redraw (at 4 (row (glyph (0x61 ∷ []) false red ∷ glyph (0x62 ∷ []) false red
     ∷ glyph (0x63 ∷ []) false red ∷ glyph (0x64 ∷ []) false red ∷ [])
     ∷ none ∷ [])
@@ -110,7 +110,7 @@ unfolding redraw script rows_written rows_below row_written cells_written row_li
     cursor_written over_blank under_last move_ops attr_ops same_cell same_attrs same_color
 red_row = refl
 
--- Two rows of one glyph each.
+-- The redraw of two rows of one glyph each.
 two_rows : redraw (at 4 (row (g 0x61 ∷ b ∷ b ∷ b ∷ []) ∷ row (g 0x62 ∷ b ∷ b ∷ b ∷ []) ∷ []) 1 1)
     ≡ cleared (p 0x61 ∷ NextRow ∷ p 0x62 ∷ [])
 unfolding redraw script rows_written rows_below row_written cells_written row_link row_break
@@ -119,7 +119,7 @@ two_rows = refl
 
 -- ---- differences
 
--- A row ceases to be wrapped, and becomes wrapped again.
+-- A difference in which a row ceases to be wrapped, and one in which it becomes wrapped again.
 breaks : difference (at 4 (row abcd ∷ x_row ∷ []) 1 1) (at 4 (on abcd ∷ x_row ∷ []) 1 1)
     ≡ MoveTo 0 3 ∷ EraseChars 1 ∷ p 0x64 ∷ MoveTo 1 1 ∷ []
 unfolding difference script rows_written rows_below row_written cells_written row_link row_break
@@ -132,7 +132,7 @@ unfolding difference script rows_written rows_below row_written cells_written ro
     cursor_written over_blank under_last move_ops attr_ops same_cell same_attrs same_color
 links = refl
 
--- Single cells change, and the cursor moves over those between.
+-- A difference in which single cells change, and the cursor moves over the cells between them.
 skips : difference (at 4 (on (g 0x61 ∷ g 0x62 ∷ g 0x63 ∷ g 0x65 ∷ []) ∷ row (g 0x78 ∷ b ∷ g 0x7A ∷ b ∷ []) ∷ []) 1 1)
     (at 4 (on abcd ∷ row (g 0x78 ∷ g 0x79 ∷ g 0x7A ∷ b ∷ []) ∷ []) 1 3)
     ≡ MoveTo 0 3 ∷ p 0x65 ∷ MoveTo 1 1 ∷ EraseChars 1 ∷ []
@@ -140,7 +140,7 @@ unfolding difference script rows_written rows_below row_written cells_written ro
     cursor_written over_blank under_last move_ops attr_ops same_cell same_attrs same_color
 skips = refl
 
--- Erasing a wide character ends the wrapping, and the rows are linked again.
+-- Erasing a wide character clears the wrapped flag, so the difference links the rows again.
 relinks : difference (at 4 (on (g 0x61 ∷ g 0x62 ∷ b ∷ g 0x64 ∷ []) ∷ x_row ∷ []) 0 4)
     (at 4 (on (g 0x61 ∷ g 0x62 ∷ wide ∷ right_half ∷ []) ∷ x_row ∷ []) 1 1)
     ≡ MoveTo 0 2 ∷ EraseChars 1 ∷ MoveRight 1 ∷ p 0x64 ∷ p 0x78 ∷ MoveTo 0 3 ∷ p 0x64 ∷ []
@@ -174,7 +174,7 @@ unfolding difference script rows_written rows_below row_written cells_written ro
     cursor_written over_blank under_last move_ops attr_ops same_cell same_attrs same_color
 erases = refl
 
--- A break and a link after a wide last glyph.
+-- A break and a link after a wide last glyph of a row.
 wide_breaks : difference (at 4 (row (g 0x61 ∷ g 0x62 ∷ wide ∷ right_half ∷ []) ∷ x_row ∷ []) 1 1)
     (at 4 (on (g 0x61 ∷ g 0x62 ∷ wide ∷ right_half ∷ []) ∷ x_row ∷ []) 1 1)
     ≡ MoveTo 0 2 ∷ EraseChars 1 ∷ Print middle ∷ MoveTo 1 1 ∷ []
@@ -189,7 +189,7 @@ unfolding difference script rows_written rows_below row_written cells_written ro
     cursor_written over_blank under_last move_ops attr_ops same_cell same_attrs same_color
 wide_links = refl
 
--- A glyph that a combining character makes wide replaces two narrow ones.
+-- A difference in which a glyph that U+FE0F makes wide replaces two narrow glyphs.
 widens : difference (at 5 (row (g 0x61 ∷ glyph heart true default_attrs ∷ right_half ∷ g 0x78 ∷ g 0x65 ∷ []) ∷ []) 0 5)
     (at 5 (row (g 0x61 ∷ g 0x62 ∷ g 0x63 ∷ g 0x64 ∷ g 0x65 ∷ []) ∷ []) 0 5)
     ≡ MoveTo 0 1 ∷ Print heart ∷ p 0x78 ∷ p 0x65 ∷ []
@@ -197,7 +197,7 @@ unfolding difference script rows_written rows_below row_written cells_written ro
     cursor_written over_blank under_last move_ops attr_ops same_cell same_attrs same_color
 widens = refl
 
--- A screen of one column.
+-- A difference on a screen of one column.
 one_column : difference (at 1 (on (g 0x61 ∷ []) ∷ row (b ∷ []) ∷ row (g 0x63 ∷ []) ∷ []) 1 0)
     (at 1 (row (g 0x61 ∷ []) ∷ on (g 0x62 ∷ []) ∷ row (g 0x63 ∷ []) ∷ []) 2 1)
     ≡ MoveTo 0 0 ∷ p 0x61 ∷ p 0x20 ∷ Backspace ∷ EraseChars 1 ∷ []
@@ -205,7 +205,7 @@ unfolding difference script rows_written rows_below row_written cells_written ro
     cursor_written over_blank under_last move_ops attr_ops same_cell same_attrs same_color
 one_column = refl
 
--- Rows of scrollback are displayed.
+-- The difference that displays one more row of scrollback above the page's rows.
 scrolls_back : difference (at 4 (row (g 0x61 ∷ b ∷ b ∷ b ∷ []) ∷ row (g 0x62 ∷ b ∷ b ∷ b ∷ []) ∷ []) 1 1)
     (at 4 (row (g 0x62 ∷ b ∷ b ∷ b ∷ []) ∷ row (g 0x63 ∷ b ∷ b ∷ b ∷ []) ∷ []) 1 1)
     ≡ MoveTo 0 0 ∷ p 0x61 ∷ NextRow ∷ p 0x62 ∷ []
@@ -231,12 +231,12 @@ state_home = refl
 
 -- ---- single rows
 
--- Two columns of a row are drawn.
+-- The output that draws two columns of a row.
 two_columns : (item_of_redraw 0 1 3 false (row abcd)).ops ≡ p 0x62 ∷ p 0x63 ∷ []
 unfolding cells_written move_ops attr_ops same_cell same_attrs same_color
 two_columns = refl
 
--- A glyph replaces the continuation cell of a wide character.
+-- A difference of one row in which a glyph replaces the continuation cell of a wide character.
 one_row : (item_of_difference 0 0 4 (on (g 0x61 ∷ g 0x62 ∷ b ∷ g 0x64 ∷ []))
     (on (g 0x61 ∷ g 0x62 ∷ wide ∷ right_half ∷ []))).ops
     ≡ MoveRight 2 ∷ EraseChars 1 ∷ MoveRight 1 ∷ p 0x64 ∷ []

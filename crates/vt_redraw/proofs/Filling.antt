@@ -1,4 +1,4 @@
--- The cells of a row of a picture: the stored ones and the blanks after them.
+-- The cells of a row of a picture: the stored cells and the blanks after them.
 use Rattle.std.proofs.Common.{min, append-nil, ◌≡◌, ℕ, zero, suc, ◌+◌, ◌-◌, ◌<◌, ◌≤◌, ◌==◌, ◌&&◌}
 use Rattle.std.proofs.Common.{nat_lt, not, Bool, true, false, List, [], ◌∷◌, ◌++◌, length, take}
 use Rattle.std.proofs.Common.{drop, ⊎_elim, refl, sym, ap, ◌∙◌, arith, Some, None}
@@ -21,7 +21,8 @@ use Rattle.vt_redraw.specs.Redraw.{nearest}
 use Rattle.vt_redraw.specs.Internals.{filled, is_split, kept_len, cell_past_cut}
 use Rattle.vt_redraw.specs.Script.{is_nil, is_torn, erase_run, starts_other}
 
--- A single continuation cell is left from column k on.
+-- Column k is the last column and has a continuation cell exactly if the cells from column k on are a single
+-- continuation cell.
 pub torn_at : (cells : List CellValue) (k : ℕ) →
     ((k + 1 == length cells) && is_right_half (at cells k)) ≡ is_torn (drop k cells)
 torn_at [] zero = refl
@@ -39,7 +40,7 @@ torn_at (x ∷ xs) (suc k) =
     let e : (suc k + 1 == suc (length xs)) ≡ (k + 1 == length xs) = grind (arith, nat_tests) in
     ap (λ (b : Bool). b && is_right_half (at xs k)) e ∙ torn_at xs k
 
--- No cell is left from column k on.
+-- No cells are left from column k on exactly if k is the number of cells.
 pub nil_at : (cells : List CellValue) (k : ℕ) → k ≤ length cells → is_nil (drop k cells) ≡ (k == length cells)
 nil_at [] zero h = refl
 nil_at [] (suc k) h = absurd (omega arith)
@@ -48,7 +49,7 @@ nil_at (x ∷ xs) (suc k) h =
     let e : (k == length xs) ≡ (suc k == suc (length xs)) = grind (arith, nat_tests) in
     nil_at xs k (omega arith) ∙ e
 
--- An erasure that doesn't reach the end of the row has a count.
+-- An erasure that doesn't reach the end of the row is written with a count.
 pub erase_run_counted : (count end : ℕ) (cells : List CellValue) →
     end < length cells → erase_run count (drop end cells) ≡ EraseChars count
 erase_run_counted count end [] h = absurd (omega arith)
@@ -75,7 +76,7 @@ at-behind cells cols end k h l =
     get_or-append_right cells (replicate (cols - length cells) end) (length cells) k default_blank refl h
     ∙ get_or-replicate (cols - length cells) (k - length cells) end default_blank (omega arith)
 
--- A cell of a slice of a row's stored cells.
+-- The cell at an index of a slice of a row's stored cells.
 pub at-part : (cells : List CellValue) (cols : ℕ) (end : CellValue) (flag : Bool) (start stop k : ℕ) (row : RowValue)
     → record { cells = filled cells cols end; wrapped = flag } ≡ row → start + k < stop → stop ≤ length cells
     → at (slice_range cells start stop) k ≡ at row.cells (start + k)
@@ -83,21 +84,22 @@ at-part cells cols end flag start stop k row is below inside =
     get_or-chunk start (stop - start) cells k default_blank (omega arith)
     ∙ sym (at-filled cells cols end (start + k) (omega arith)) ∙ ap (λ r. at r.cells (start + k)) is
 
--- Whether a row begins with a glyph that the terminal does not display there, by its first cell.
+-- Whether a row begins with a glyph that the terminal does not display there depends only on the first cells of both
+-- rows.
 pub starts_at : (xs ys : List CellValue) → 0 < length xs → 0 < length ys →
     starts_other xs ys ≡ (is_glyph (at xs 0) && not (same_cell (at xs 0) (at ys 0)))
 starts_at [] ys h l = absurd (omega arith)
 starts_at (x ∷ xs) [] h l = absurd (omega arith)
 starts_at (x ∷ xs) (y ∷ ys) h l = refl
 
--- One more line feed.
+-- The output of n + 1 line feeds is the output of n line feeds and one more.
 pub feeds_more : (n : ℕ) → bytes_of_all (replicate (n + 1) LineFeed) ≡ bytes_of_all (replicate n LineFeed) ++ 0x0A ∷ []
 feeds_more zero = refl
 feeds_more (suc n) =
     let e : suc n + 1 ≡ suc (n + 1) = omega arith in
     ap (λ (k : ℕ). bytes_of_all (replicate k LineFeed)) e ∙ ap (λ (bytes : List ℕ). 0x0A ∷ bytes) (feeds_more n)
 
--- The nearest row whose last column is not blank is this one, or one above it.
+-- If the last column of row n is not blank, row n is itself the nearest such row.
 pub nearest_here : (width : ℕ) (rows : List RowValue) (n : ℕ) →
     ends_blank (row_or width rows n).cells ≡ false → nearest width rows n ≡ Some n
 nearest_here width rows zero h = cond-false (ends_blank (row_or width rows 0).cells) None (Some 0) h
@@ -118,7 +120,7 @@ take_past (x ∷ xs) ys n =
     let e : suc (length xs) + n ≡ suc (length xs + n) = omega arith in
     ap (λ (k : ℕ). take k (x ∷ (xs ++ ys))) e ∙ ap (λ (zs : List CellValue). x ∷ zs) (take_past xs ys n)
 
--- The first columns of stored cells and the blanks after them.
+-- Extending the first stored cells to fewer columns gives the first cells of the row extended to all columns.
 pub filled_taken : (cells : List CellValue) (cols stop : ℕ) (end : CellValue) → stop ≤ cols → length cells ≤ cols →
     filled (take (min (length cells) stop) cells) stop end ≡ take stop (filled cells cols end)
 filled_taken cells cols stop end h l =
@@ -144,7 +146,7 @@ filled_taken cells cols stop end h l =
 
 -- ---- a row that is cut or extended
 
--- A cell is unchanged by a cut that keeps its continuation cell.
+-- A cell is unchanged by a cut after its continuation cell, if it has one.
 stays : (cols : ℕ) (cells : List CellValue) (k : ℕ) → IsPaired cells →
     (is_wide (at cells k) ≡ true → nat_lt (k + 1) cols ≡ true) → moved_at cols (λ j. j) cells k ≡ at cells k
 stays cols cells zero paired h =
@@ -158,18 +160,18 @@ stays cols cells (suc k) paired h =
     grind (arith, nat_tests) in
     rw (wide, half) refl
 
--- The first column of a wide character that is cut in two becomes blank.
+-- The first cell of a wide character that is cut in two becomes a blank.
 halved : (cols : ℕ) (cells : List CellValue) (k : ℕ) → k + 1 ≡ cols →
     is_wide (at cells k) ≡ true → moved_at cols (λ j. j) cells k ≡ blank (attrs_of (at cells k))
 halved cols cells k e wide =
     let t : (is_wide (at cells k) && not (nat_lt (k + 1) cols && (k + 1 == k + 1))) ≡ true = grind (arith, nat_tests) in
     rw t refl
 
--- A cell past the end is a default blank.
+-- The cell at an index past the end is a default blank.
 past : (cols : ℕ) (cells : List CellValue) (k : ℕ) → length cells ≤ k → at cells k ≡ default_blank
 past cols cells k h = get_or_past cells k default_blank h
 
--- A wide character has its continuation cell.
+-- Every wide character has its continuation cell.
 pub room : (cells : List CellValue) (k : ℕ) → IsPaired cells → is_wide (at cells k) ≡ true → k + 1 < length cells
 room cells k paired wide =
     ⊎_elim (λ (h : k + 1 < length cells). h)
@@ -180,7 +182,7 @@ room cells k paired wide =
     absurd cc)
     (cases_lt (k + 1) (length cells))
 
--- The cells of a row that is cut within a wide character.
+-- The cells of a row that is cut within a wide character, column by column.
 split_columns : (cols : ℕ) (cells : List CellValue) → 0 < cols → IsPaired cells →
     cols < length cells → is_wide (at cells (cols - 1)) ≡ true → (k : ℕ) → k < cols →
     at (filled (take (cols - 1) cells) cols (blank (attrs_of (at cells (cols - 1))))) k ≡ moved_at cols (λ j. j) cells k
@@ -199,7 +201,7 @@ split_columns cols cells pos paired inside wide k h =
     ∙ sym (halved cols cells k (omega arith) (ap (λ (j : ℕ). is_wide (at cells j)) last ∙ wide))))
     (cases_lt k (cols - 1))
 
--- The cells of a row that is cut between characters.
+-- The cells of a row that is cut between characters, column by column.
 whole_columns : (cols : ℕ) (cells : List CellValue) → IsPaired cells →
     is_split cols cells ≡ false → (k : ℕ) → k < cols →
     at (filled (take cols cells) cols default_blank) k ≡ moved_at cols (λ j. j) cells k

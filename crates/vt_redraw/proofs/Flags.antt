@@ -21,7 +21,7 @@ ends_is (x ∷ y ∷ xs) =
     ap (λ (k : ℕ). is_blank (at (x ∷ y ∷ xs) k)) e
     ∙ (ap (λ (k : ℕ). is_blank (at (y ∷ xs) k)) (sym f) ∙ ends_is (y ∷ xs))
 
--- Whether a row stays wrapped with these cells.
+-- Whether a wrapped row stays wrapped when its cells become the given ones.
 abbrev pub kept : Bool → List CellValue → Bool
 kept flag cells = flag && not (ends cells)
 
@@ -44,8 +44,8 @@ ends_append [] y ys = refl
 ends_append (x ∷ []) y ys = refl
 ends_append (x ∷ z ∷ xs) y ys = ends_append (z ∷ xs) y ys
 
--- Whether the last column of a row is blank if `rest` is left of it after a change; n and o say so for an empty rest
--- and for an orphaned continuation cell.
+-- Whether the last column of a row is blank after a change that leaves the cells `rest`; the two flags give the result
+-- for no cells left and for a single continuation cell.
 abbrev pub ends_after : Bool → Bool → List CellValue → Bool
 ends_after n o [] = n
 ends_after n o (right_half ∷ []) = o
@@ -61,7 +61,7 @@ ends_new xs o (glyph text wide b ∷ ys) = ends_append xs (glyph text wide b) ys
 ends_new xs o (right_half ∷ []) = ends_append xs o []
 ends_new xs o (right_half ∷ y ∷ ys) = ends_append xs o (y ∷ ys)
 
--- Whether a row stays wrapped after a change, by the cells that are left of it.
+-- Whether a row stays wrapped after a change, in terms of the cells that the change leaves.
 flag_after : (f n o : Bool) (rest : List CellValue) →
     (f ≡ true → is_nil rest ≡ false → is_torn rest ≡ false → ends rest ≡ false) →
     (f && not (ends_after n o rest)) ≡ (f && not ((is_nil rest && n) || (is_torn rest && o)))
@@ -93,7 +93,7 @@ end_rest n o (blank a) (z ∷ zs) m h = sym (ends_drop m (z ∷ zs) h)
 end_rest n o (glyph text wide a) (z ∷ zs) m h = sym (ends_drop m (z ∷ zs) h)
 end_rest n o right_half (z ∷ zs) m h = sym (ends_drop m (z ∷ zs) h)
 
--- The cells `new` replace y and the m cells after it.
+-- Whether a row stays wrapped after the cells `new` replace the cell y and the m cells after it.
 pub flag_step : (pre new : List CellValue) (y : CellValue)
     (ys : List CellValue) (q o : CellValue) (m : ℕ) (f b : Bool) →
     ends (pre ++ new) ≡ b → Sound f (pre ++ opened o (y ∷ ys)) →

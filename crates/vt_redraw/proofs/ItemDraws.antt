@@ -1,5 +1,5 @@
--- A row's item, drawn on a canvas that is ready for it, changes the row in its range, and besides at most whether the
--- row is wrapped.
+-- Drawing a row's item on a canvas that is ready for it changes only the cells in the range and possibly the row's
+-- wrapped flag.
 use Rattle.std.proofs.Common.{◌≡◌, ℕ, ◌+◌, ◌<◌, ◌≤◌, ◌==◌, ◌&&◌, Bool, true, false, List, [], ◌∷◌, ◌++◌}
 use Rattle.std.proofs.Common.{length, take, drop, Some, refl, sym, ap, ◌∙◌, subst, append_assoc, arith}
 use Rattle.std.specs.Prelude.{All, slice_index_or, slice_set}
@@ -41,7 +41,7 @@ rows_split : (rows : List RowValue) (r : ℕ) (d : RowValue) → r < length rows
 rows_split rows r d h =
     ap (λ (z : List RowValue). take r rows ++ z) (sym (drop_more rows r d h)) ∙ take-append-drop r rows
 
--- The row and canvas on which an item is drawn.
+-- The canvas has the row `y` at index r and is ready to draw an item of that row.
 record Stood (self : Picture) (r start : ℕ) (y : RowValue) (any : Canvas) : Type 0 where
   inside : r < length any.page.rows
   reads : Reads any (length any.page.rows) any.page.width
@@ -101,7 +101,7 @@ stood self r start y any is steady item =
           r (blank_row default_attrs self.width) (omega arith);
     }
 
--- The canvas after an item has drawn these cells in the row.
+-- Operations that change the cells of one row draw the canvas with that row replaced.
 drawn_in : (self : Picture) (r start : ℕ) (y : RowValue) (any : Canvas)
     (ops : List Op) (cells : List CellValue) (flag : Bool) (pen : Pen) →
     Stood self r start y any →
@@ -124,13 +124,12 @@ drawn_in self r start y any ops cells flag pen at draws =
 
 -- ---- items of a difference
 
--- The item's effect on the canvas: the row has these cells, and besides only whether it is wrapped, the cursor and the
--- attributes change.
+-- The item gives row r the given cells; besides, only the wrapped flag, the cursor and the attributes change.
 abbrev DrawsItem : Scripted → Canvas → ℕ → List CellValue → Type 0
 DrawsItem w any r cells =
     drawn_all w.ops any ≡ Some (row_drawn r (record { cells = cells; wrapped = w.flag }) w.pen any)
 
--- The premises of an item, in the form that the lemmas on rows need.
+-- The preconditions of an item hold in the form that the lemmas on rows need.
 item_of : (self : Picture) (r start stop : ℕ) (y : RowValue) (any : Canvas) →
     Stood self r start y any → start ≤ stop → stop ≤ any.page.width →
     CutsNone start stop (row_or self.width self.rows r).cells → CutsNone start stop y.cells →
@@ -225,7 +224,7 @@ difference_item_draws self r start stop y any is steady item le low cx cy =
 
 -- ---- items of a redraw
 
--- The effect of an item of a redraw on the canvas: the row has these cells and is not wrapped.
+-- The item of a redraw gives row r the given cells and leaves it unwrapped.
 abbrev DrawsOff : Scripted → Canvas → ℕ → List CellValue → Type 0
 DrawsOff w any r cells = drawn_all w.ops any ≡ Some (row_drawn r (record { cells = cells; wrapped = false }) w.pen any)
 
@@ -307,7 +306,7 @@ two_split rows r d above y h e f =
     ∙ (ap (λ (z : List RowValue). take r rows ++ (slice_index_or rows r d ∷ z)) (sym (drop_more rows (r + 1) d h))
     ∙ rows_split rows r d (omega arith)))
 
--- Two adjacent rows are replaced.
+-- Setting a row and then the row below it replaces both rows in the list.
 two_set : (rows done below : List RowValue) (above y on new : RowValue) (r : ℕ) →
     done ++ (above ∷ y ∷ below) ≡ rows → length done ≡ r →
     slice_set (slice_set rows r on) (r + 1) new ≡ done ++ (on ∷ new ∷ below)

@@ -155,7 +155,7 @@ last_is_text cells h e is none =
     last_text [] text true a is none = some_text text true a is.0 none
     last_text (x ∷ pre) text wide a is none = last_text pre text wide a is.1 none
 
--- The operations after cells that are all displayed.
+-- The operations that follow the cells of a row if all cells are displayed already.
 abbrev end_ops : ℕ → Bool → Bool → List CellValue → List Op
 end_ops r flag wanted cells =
     let b = row_break r (pen_at r 0 default_attrs) flag wanted cells in
@@ -214,7 +214,7 @@ range_is r w flag xs ys e h =
     (begun_paired xs h)
     ∙ ap (λ (z : List CellValue). cells_written r 0 (pen_at r 0 default_attrs) flag 0 xs z) (begun_over_paired xs ys h))
 
--- The operations of an item after its cells.
+-- The operations of an item after those of its cells.
 abbrev item_behind : ℕ → Scripted → Bool → List CellValue → List Op
 item_behind r w wanted cells =
     let b = row_break r w.pen w.flag wanted cells in

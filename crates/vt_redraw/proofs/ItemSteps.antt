@@ -20,7 +20,7 @@ use Rattle.vt_redraw.specs.declared.pen.Pen.{Pen}
 use Rattle.vt_redraw.proofs.CellSteps.{settled_passed}
 use Rattle.vt_redraw.proofs.Filling.{room}
 
--- The first columns of a row satisfy the premise of a range.
+-- The first columns of a row can be drawn as a range over a row of the same width.
 pub range_taken : (xs ys : List CellValue) (stop : ℕ) → length xs ≡ length ys → IsPaired xs → IsRange (take stop xs) ys
 range_taken xs ys stop same paired =
     let size = length-take stop xs in
@@ -58,7 +58,7 @@ cut_written r start stop pen flag xs ys h =
     ap (λ (zs : List CellValue). cells_written r start pen flag 0 (with_whole_start zs) (with_whole_start_over zs (drop start ys)))
     (range_is start stop xs h)
 
--- The code's range, with the row's end cut, is that of the script.
+-- The output that the code writes for a range, whose row it first truncates, is that of the script.
 pub range_wrote : (r start stop : ℕ) (pen : Pen) (flag : Bool) (cut xs ys : List CellValue) →
     start ≤ stop → cut ≡ take stop xs → pen ≡ pen_at r start default_attrs →
     cells_written r start pen flag 0 (with_whole_start (drop start cut)) (with_whole_start_over (drop start cut) (drop start ys))

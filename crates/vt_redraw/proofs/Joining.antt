@@ -31,7 +31,8 @@ use Rattle.vt_redraw.proofs.Link.{going_behind_draws, erase_touches, no_tail}
 
 -- ---- the first cell, at a pending wrap
 
--- The canvas after a link: whether the row above is wrapped, and how many first cells of the lower row are done.
+-- The canvas after a link: whether the upper row is wrapped, and how many cells at the beginning of the lower row are
+-- drawn.
 pub record Joins (May : ℕ → ℕ → Type 0) (j : Linked) (base : Canvas) (done below : List RowValue)
     (start : Canvas) (above : List CellValue) (to : Bool) (xs ys : List CellValue) (height : ℕ) : Type 0 where
   pub torn : CellValue
@@ -39,7 +40,7 @@ pub record Joins (May : ℕ → ℕ → Type 0) (j : Linked) (base : Canvas) (do
   pub ready : Ready xs ys [] torn j.settled j.flag
   pub within : Within j.pen height base.page.width
 
--- A glyph is printed at the beginning of the next row.
+-- With a wrap pending, a glyph is printed at the beginning of the next row.
 first_glyph : (May : ℕ → ℕ → Type 0) (base : Canvas) (done below : List RowValue) (above : List CellValue) (on : Bool)
     (y : CellValue) (ys : List CellValue) (flag : Bool) (r : ℕ) (b : Attrs) (text : List ℕ) (wide : Bool) (a : Attrs) →
     length done ≡ r →
@@ -75,7 +76,7 @@ first_glyph May base done below above on y ys flag r b text wide a e bottom full
 first_flag : (f n t : Bool) → (f && not ((n && true) || (t && false))) ≡ (f && not n)
 first_flag f n t = grind (arith)
 
--- A space is printed at the beginning of the next row and erased again.
+-- With a wrap pending, a space is printed at the beginning of the next row and erased again.
 pub first_blank : (May : ℕ → ℕ → Type 0) (base : Canvas) (done below : List RowValue)
     (y : CellValue) (ys : List CellValue) (flag : Bool) (r : ℕ) (a : Attrs) →
     length done ≡ r → 0 < base.page.width → Paired (y ∷ ys) → Sound flag (y ∷ ys) → May r 0 →
@@ -138,7 +139,7 @@ glyph_sound y ys flag text wide a paired sound =
     (glyph_flag [] default_blank y ys flag text wide a
     (subst (Sound flag) (sym (opened_paired default_blank (y ∷ ys) paired)) sound))
 
--- The first cell is drawn at a pending wrap, with a pen of attributes b.
+-- With a wrap pending and the current attributes `b`, the first cell of a row is drawn.
 pub first_draws : (May : ℕ → ℕ → Type 0) (base : Canvas) (done below : List RowValue)
     (above xs ys : List CellValue) (on flag : Bool) (r height : ℕ) (b : Attrs) →
     length done ≡ r → base.page.bottom + 1 ≡ height → r + suc (suc (length below)) ≡ height →
@@ -268,7 +269,7 @@ ready_start xs ys flag same h k sound = record {
   sound = subst (Sound flag) (sym (opened_paired default_blank ys k)) sound;
 }
 
--- No link is needed: the row is as the terminal displays it.
+-- No link is needed if the row above already has the right wrapped flag.
 pub no_join : (May : ℕ → ℕ → Type 0) (base : Canvas) (done below : List RowValue)
     (above xs ys : List CellValue) (on to flag : Bool) (pen : Pen) (height : ℕ) →
     on ≡ to → length xs ≡ length ys → Paired xs → Paired ys → Sound flag ys → Within pen height base.page.width →
@@ -301,7 +302,8 @@ joins_after May ops j base done below a b above to xs ys height h k = record {
 stays_on : (on b : Bool) → (not on || b) ≡ false → on ≡ true
 stays_on on b h = grind (arith, h)
 
--- A link is needed because the row above is not wrapped, or because the row begins with a different glyph.
+-- A link is needed in two cases: the row above is not wrapped, or the row begins with a glyph that the terminal does
+-- not display.
 link_cases : (on at other : Bool) → (not on || (at && other)) ≡ true → (on ≡ false) ⊎ ((at ≡ true) × (other ≡ true))
 link_cases true true true h = inr (refl, refl)
 link_cases true true false h = absurd (cc)

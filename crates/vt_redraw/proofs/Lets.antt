@@ -11,7 +11,7 @@ use Rattle.vt_redraw.proofs.Runs.{blank_of_is}
 use Rattle.vt_redraw.proofs.Halves.{Paired}
 use Rattle.vt_redraw.proofs.TouchedTexts.{MayGlyph}
 
--- `May` holds for blanks, and for glyphs that the terminal does not display there.
+-- `May` holds for all blanks of a row, and for all glyphs that the terminal does not display at their columns.
 abbrev pub Lets : (ℕ → ℕ → Type 0) → (r c : ℕ) → (xs ys : List CellValue) → Type 0
 Lets May r c [] ys = Unit {0}
 Lets May r c (x ∷ xs) [] = Unit {0}
@@ -48,7 +48,7 @@ differs_from_right text wide a (blank b) h = absurd (cc)
 differs_from_right text wide a (glyph other w b) h = absurd (cc)
 differs_from_right text wide a right_half h = refl
 
--- `May` holds for an orphaned continuation cell, where the row has the first column of a cell.
+-- `May` holds for the column of an orphaned continuation cell if the row has the first column of a cell there.
 pub torn_may : (May : ℕ → ℕ → Type 0) (r c : ℕ) (xs ys : List CellValue) → Paired xs → Lets May r c xs ys →
     length xs ≤ length ys → Paired (drop (length xs) ys) → is_right_half (at ys 0) ≡ true → May r c
 torn_may May r c [] [] p h le tail t = absurd (cc)
@@ -61,7 +61,7 @@ torn_may May r c (glyph text wide a ∷ xs) (y ∷ ys) p h le tail t =
     let m = h.0 (differs_from_right text wide a y t) in m.0
 torn_may May r c (right_half ∷ xs) (y ∷ ys) p h le tail t = absurd p
 
--- `May` holds for all columns of a run of blanks.
+-- If a row may be drawn, `May` holds for all columns of a run of blanks.
 pub run_may : (May : ℕ → ℕ → Type 0) (r c : ℕ) (a : Attrs) (xs ys : List CellValue) (k : ℕ) →
     Lets May r c xs ys → length xs ≤ length ys → c ≤ k → k < c + blank_run a xs → May r k
 run_may May r c a [] ys k h le low high = absurd (omega arith)
@@ -78,7 +78,7 @@ run_may May r c a (x ∷ xs) (y ∷ ys) k h le low high =
     by_test true t m rest = let e : c ≡ k = grind (arith, nat_tests) in subst (May r) e m.0
     by_test false t m rest = let l : c + 1 ≤ k = grind (arith, nat_tests) in rest l m.1
 
--- `May` holds for what a differing glyph touches.
+-- If a row may be drawn, `May` holds for all positions that a differing narrow glyph touches.
 pub narrow_may : (May : ℕ → ℕ → Type 0) (r c : ℕ) (text : List ℕ) (a : Attrs) (y : CellValue) (xs ys : List CellValue) →
     same_cell (glyph text false a) y ≡ false → Lets May r c (glyph text false a ∷ xs) (y ∷ ys) →
     Paired xs → length xs ≤ length ys → Paired (drop (length xs) ys) → MayGlyph May r c false ys

@@ -1,4 +1,4 @@
--- The last glyph of a row printed again, and the break to the next row.
+-- Printing the last glyph of a row again, and the break between a row and the next.
 use Rattle.std.proofs.Common.{◌≡◌, ◌≢◌, ◌⊎◌, ℕ, suc, ◌+◌, ◌-◌, ◌<◌, ◌≤◌, ◌==◌, ◌&&◌, min, Bool, true, false, not, List}
 use Rattle.std.proofs.Common.{[], ◌∷◌, ◌++◌, length, take, drop, Some, inl, inr, refl, sym, ap, ◌∙◌, subst, arith}
 use Rattle.std.proofs.lemmas.Bool.{cond_both, and_parts, eqb-true}
@@ -93,7 +93,7 @@ last_glyph_is : (pre : List CellValue) (text : List ℕ) (wide : Bool) (a : Attr
 last_glyph_is pre text true a = rw (last_column_is pre text true a) (glyph_at pre text true a [] (length pre) refl)
 last_glyph_is pre text false a = rw (last_column_is pre text false a) (glyph_at pre text false a [] (length pre) refl)
 
--- What holds for every row that ends in a glyph, holds for a row whose last column is not blank.
+-- A statement about every row that ends in a glyph holds for a row whose last column is not blank.
 pub last_cases : (P : List CellValue → ℕ → CellValue → Type 0) →
     ((pre : List CellValue) (text : List ℕ) (wide : Bool) (a : Attrs) → Paired pre →
     P (pre ++ glyph_cells text wide a) (length pre) (glyph text wide a)) →
@@ -118,7 +118,7 @@ prints_last width (x ∷ pre) text wide a h = prints_last width pre text wide a 
 still : (flag : Bool) → (flag && not false) ≡ flag
 still flag = grind (arith)
 
--- A glyph is printed over itself.
+-- A glyph can be printed over itself at the end of a row.
 pub print_again : (May : ℕ → ℕ → Type 0) (base : Canvas) (done below : List RowValue)
     (pre : List CellValue) (text : List ℕ) (wide : Bool) (a : Attrs) (flag : Bool) (r : ℕ) →
     Prints base.page.width text wide → length done ≡ r → length pre + glyph_columns wide ≡ base.page.width →
@@ -153,7 +153,7 @@ print_again May base done below pre text true a flag r prints e w h sound may =
     }))
     (ap (λ (f : Bool). mid base done below row f (pen_at r (length pre + 2) a)) (still flag))
 
--- The pen moves after the last glyph, and nothing else changes.
+-- The operations move the pen after the last glyph of the row, and nothing else changes.
 pub record GoesBehind (May : ℕ → ℕ → Type 0) (w : Scripted) (base : Canvas) (done below : List RowValue)
     (cells : List CellValue) (flag : Bool) (r : ℕ) (pen : Pen) : Type 0 where
   pub draws : DrawsIn May w.ops (mid base done below cells flag pen) (mid base done below cells flag w.pen)
@@ -217,7 +217,7 @@ going_behind_draws May base done below xs flag r height pen reads e rows w h ful
 
 -- ---- the break
 
--- The cells that remain where the last glyph was erased.
+-- The blanks that are left after the last glyph is erased.
 abbrev pub blanked : Bool → Attrs → List CellValue
 blanked false a = blank a ∷ []
 blanked true a = blank a ∷ default_blank ∷ []
@@ -289,7 +289,7 @@ print_bare May base done below pre text true b a r prints e w h may =
       torn = λ t. absurd (cc);
     })
 
--- The canvas after a break; a row that is still wrapped must be wrapped.
+-- The canvas after a break: the row is wrapped only if it must be.
 pub record Broke (May : ℕ → ℕ → Type 0) (w : Scripted) (base : Canvas) (done below : List RowValue)
     (start : Canvas) (cells : List CellValue) (wanted : Bool) (height : ℕ) : Type 0 where
   pub draws : DrawsIn May w.ops start (mid base done below cells w.flag w.pen)
@@ -378,14 +378,14 @@ no_tail [] (y ∷ ys) h = absurd (omega arith)
 no_tail (x ∷ xs) [] h = absurd (omega arith)
 no_tail (x ∷ xs) (y ∷ ys) h = no_tail xs ys (omega arith)
 
--- The positions that may be touched if a row and the one that the terminal displays differ.
+-- The positions that may be touched if the row `x` differs from the terminal's row `y`.
 pub record RowMay (May : ℕ → ℕ → Type 0) (width r : ℕ) (x y : RowValue) : Type 0 where
   pub lets : Lets May r 0 x.cells y.cells
   pub begin : May r 0
   pub second : is_wide (at x.cells 0) ≡ true → May r 1
   pub last : (k : ℕ) → last_column x.cells ≤ k → k < width → May r k
 
--- A row's cells and the break are drawn.
+-- The cells of a row that differs from the terminal's row, and the break after them, are drawn.
 differing_draws : (May : ℕ → ℕ → Type 0) (base : Canvas) (done below : List RowValue)
     (x y : RowValue) (o : CellValue) (r k height : ℕ) (pen : Pen) (flag : Bool) →
     Reads base height base.page.width → length done ≡ r → r + suc (length below) ≡ height →
@@ -417,7 +417,7 @@ differing_draws May base done below x y o r k height pen flag reads e rows w h v
 same_row : (xs : List CellValue) (o : CellValue) (k : ℕ) → Paired (drop k xs) → shown [] o k xs xs ≡ xs
 same_row xs o k h = ap (λ (z : List CellValue). take k xs ++ z) (opened_paired o (drop k xs) h) ∙ take-append-drop k xs
 
--- A row that the terminal displays already is left unchanged.
+-- Drawing a row that the terminal displays already leaves it unchanged.
 standing_draws : (May : ℕ → ℕ → Type 0) (base : Canvas) (done below : List RowValue)
     (x : RowValue) (o : CellValue) (r k height : ℕ) (pen : Pen) →
     Ready x.cells x.cells [] o k x.wrapped → Within pen height base.page.width →
@@ -436,7 +436,7 @@ standing_draws May base done below x o r k height pen ready within =
       keeps = λ t. t;
     })
 
--- A row is drawn; if the terminal displays an equal row, it must still be wrapped as that row is.
+-- A row is drawn over the terminal's row; if both are equal, the terminal's row must have the same wrapped flag.
 pub row_draws : (May : ℕ → ℕ → Type 0) (base : Canvas) (done below : List RowValue)
     (x y : RowValue) (o : CellValue) (r k height : ℕ) (pen : Pen) (flag : Bool) →
     Reads base height base.page.width → length done ≡ r → r + suc (length below) ≡ height →

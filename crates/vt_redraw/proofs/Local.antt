@@ -1,4 +1,4 @@
--- What differs may be drawn: the rows of a difference touch nothing else.
+-- The rows of a difference touch only positions near rows that differ.
 use Rattle.std.proofs.Common.{◌≡◌, ◌≢◌, ◌⊎◌, ℕ, suc, ◌+◌, ◌-◌, ◌<◌, ◌≤◌, ◌==◌, ◌&&◌, Bool, true, false, List}
 use Rattle.std.proofs.Common.{[], ◌∷◌, length, get_or, inl, inr, refl, sym, ap, ◌∙◌, subst, arith}
 use Rattle.std.specs.Prelude.{if◌then◌else◌}
@@ -69,7 +69,7 @@ may_right self prev r c x y near e f h s =
 
 -- ---- a row
 
--- The cells xs are those of a row from column c on.
+-- The cells `xs` are those of a row from column c on.
 abbrev From : (row : List CellValue) → ℕ → List CellValue → Type 0
 From row c xs = (k : ℕ) → at row (c + k) ≡ at xs k
 
@@ -179,7 +179,7 @@ row_local self prev r near is =
 
 -- ---- the rows
 
--- The rows xs are those of a picture from row r on.
+-- The rows `xs` are those of a picture from row r on.
 abbrev RowsFrom : (picture : Picture) → ℕ → List RowValue → Type 0
 RowsFrom picture r xs = (k : ℕ) → row_of_picture picture (r + k) ≡ get_or xs k (blank_row default_attrs picture.width)
 

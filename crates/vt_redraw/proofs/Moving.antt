@@ -17,14 +17,14 @@ use Rattle.vt_redraw.specs.Moved.{band_source, moved, rows_moved}
 use Rattle.vt_redraw.specs.Picture.{Picture, SamePictureSize}
 use Rattle.vt_redraw.specs.declared.band.Band.{Band}
 
--- A row that is not wrapped if b holds, and otherwise is unchanged.
+-- The row, marked as not wrapped if the test holds, and otherwise unchanged.
 abbrev pub unflagged_if : Bool → RowValue → RowValue
 unflagged_if b row = record row { wrapped = if b then false else row.wrapped }
 
 pub length-unflagged : (width r : ℕ) (rows : List RowValue) → length (unflagged width r rows) ≡ length rows
 length-unflagged width r rows = length-set rows r (record (row_or width rows r) { wrapped = false })
 
--- One row ceases to be wrapped.
+-- Marking one row as not wrapped changes only that row.
 pub row_or-unflagged : (width last r : ℕ) (rows : List RowValue) → last < length rows →
     row_or width (unflagged width last rows) r ≡ unflagged_if (r == last) (row_or width rows r)
 row_or-unflagged width last r rows h =

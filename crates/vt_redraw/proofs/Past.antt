@@ -29,7 +29,7 @@ is_narrow (blank attrs) = false
 is_narrow (glyph text wide attrs) = not wide
 is_narrow right_half = false
 
--- A canvas of one row with these cells.
+-- A canvas of one row with the given cells.
 abbrev pub line : ℕ → Attrs → List CellValue → Bool → ℕ → Canvas
 line width attrs cells flag col = mid (blank_line width attrs) [] [] cells flag (pen_at 0 col attrs)
 
@@ -50,7 +50,7 @@ pub record Past (width : ℕ) (attrs : Attrs) (canvas : Canvas) : Type 0 where
   pub is : canvas ≡ line width attrs cells flag col
   pub past : IsPast width cells col
 
--- The column of the glyph that a combining character joins.
+-- The column k of the glyph that a combining character joins is neither column 0 nor at or after the cursor.
 record IsBehind (col k : ℕ) : Type 0 where
   pub some : 1 ≤ k
   pub before : k < col
@@ -127,7 +127,7 @@ is_right_half-widened wide (blank attrs) = refl
 is_right_half-widened wide (glyph text was attrs) = refl
 is_right_half-widened wide right_half = refl
 
--- A canvas of one row with other cells and another cursor column.
+-- The cursor of a canvas of one row is still past the glyph after its cells and cursor column change.
 past_line : (width : ℕ) (attrs : Attrs) (cells new : List CellValue) (flag : Bool) (col to : ℕ) (page : Page) →
     page ≡ (line width attrs new (kept flag new) to).page → IsPast width new to →
     Past width attrs (record (line width attrs cells flag col) { page = page })
@@ -146,7 +146,7 @@ carried_there s t w wt lt eq a b c d h = grind (arith, a, b, c, d, h)
 room_left : (col width : ℕ) → col ≤ width → (col == width) ≡ false → col < width
 room_left col width h e = grind (arith, nat_tests)
 
--- The width follows the text after a combining character has joined the glyph in column k.
+-- If the glyph in column k takes on the width of its text, the cursor is still past the narrow glyph in column 0.
 past_followed : (width : ℕ) (attrs : Attrs) (cells : List CellValue) (flag : Bool) (col k m : ℕ) →
     is_selector m ≡ true → takes_mark (at cells k) ≡ true → IsPast width cells col → IsBehind col k →
     ((is_selector m && (takes_mark (at cells k) && not (is_wide (at cells k))))
@@ -209,7 +209,7 @@ past_followed width attrs cells flag col k m selector takes past place never =
     })
     (λ _. same))
 
--- A combining character leaves the cursor past the glyph, unless a row scrolls off.
+-- A combining character that scrolls no row off leaves the cursor past the narrow glyph in column 0.
 mark_past : (width : ℕ) (attrs : Attrs) (cells : List CellValue) (flag : Bool) (col m : ℕ) →
     IsPast width cells col → carries m (line width attrs cells flag col).page ≡ false →
     Past width attrs

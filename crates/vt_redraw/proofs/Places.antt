@@ -1,4 +1,4 @@
--- The position at which a row is written, the cells there, and what was written.
+-- The position at which a row is written, the cells there, and the output written so far.
 use Rattle.std.proofs.Common.{◌≡◌, ℕ, zero, suc, ◌-◌, ◌+◌, ◌<◌, ◌≤◌, ◌&&◌, ◌||◌, Bool, true, not, List, [], ◌∷◌, ◌++◌}
 use Rattle.std.proofs.Common.{length, take, drop, min, Some, refl, sym, ap, ◌∙◌, subst, append_assoc, arith}
 use Rattle.std.proofs.lemmas.List.{length-append, length-drop}
@@ -21,7 +21,7 @@ use Rattle.vt_redraw.proofs.Texts.{Prints}
 use Rattle.vt_redraw.specs.Touching.{Changes, Touches}
 use Rattle.vt_redraw.proofs.Touched.{DrawsIn, in_then, quiet_in, going_quiet, changing_quiet, changes_at}
 
--- A glyph that reproduces itself when printed on screens of this width; other cells are drawn without text.
+-- A glyph reproduces itself when printed on screens of the given width; cells of other kinds are drawn without text.
 abbrev pub PrintsCell : ℕ → CellValue → Type 0
 PrintsCell width (glyph text wide attrs) = Prints width text wide
 PrintsCell width (blank attrs) = Unit {0}
@@ -30,7 +30,7 @@ PrintsCell width right_half = Unit {0}
 abbrev pub PrintsCells : ℕ → List CellValue → Type 0
 PrintsCells width cells = AllByRecursion (PrintsCell width) cells
 
--- Column c of row r, with `left` columns left in the row.
+-- The position is column c of row r, and `left` columns are left in the row.
 pub record Place (base : Canvas) (done below : List RowValue)
     (pre : List CellValue) (r c height left : ℕ) : Type 0 where
   pub reads : Reads base height base.page.width
@@ -48,12 +48,12 @@ next_place base done below pre x r c height left at =
     let columns = at.columns in
     record { reads = at.reads; above = at.above; rows = at.rows; before = omega arith; columns = omega arith }
 
--- The terminal's row while it is written: the first k cells of the new row, followed by those displayed before, of
+-- The terminal's row while it is written: the first k cells of the new row, followed by the cells displayed before, of
 -- which an orphaned continuation cell is mended.
 abbrev pub shown : List CellValue → CellValue → ℕ → List CellValue → List CellValue → List CellValue
 shown pre o k xs ys = pre ++ (take k xs ++ opened o (drop k ys))
 
--- The cells xs are to be written over ys after `pre`, and the first k of them are done.
+-- The cells `xs` are to be written over `ys` after the cells `pre`, and the first k of them are written already.
 pub record Ready (xs ys pre : List CellValue) (o : CellValue) (k : ℕ) (flag : Bool) : Type 0 where
   pub same : length xs ≤ length ys
   pub tail : Paired (drop (length xs) ys)
@@ -77,7 +77,7 @@ ready_next x xs ys pre o k flag same tail le behind new old sound = record {
   sound = subst (Sound flag) (sym (append_assoc pre (x ∷ []) (take k xs ++ opened o (drop k ys)))) sound;
 }
 
--- The operations draw these cells in the row, and leave its wrapping and the pen as they say.
+-- The operations draw the given cells in the row, and leave the wrapped flag and the pen as `w` says.
 pub record Wrote (May : ℕ → ℕ → Type 0) (w : Scripted) (base : Canvas) (done below : List RowValue)
     (start : Canvas) (goal : List CellValue) (height : ℕ) : Type 0 where
   pub draws : DrawsIn May w.ops start (mid base done below goal w.flag w.pen)
@@ -94,7 +94,7 @@ wrote_after May ops w base done below a b goal height h k = record {
   sound = k.sound;
 }
 
--- One more cell is displayed: the same row, split one column later.
+-- After one more cell is displayed, the same row can be split one column later.
 pub shifted : (May : ℕ → ℕ → Type 0) (w : Scripted) (base : Canvas) (done below : List RowValue)
     (pre : List CellValue) (x : CellValue) (rest goal : List CellValue) (flag : Bool) (pen : Pen) (height : ℕ) →
     Wrote May w base done below (mid base done below ((pre ++ x ∷ []) ++ rest) flag pen)
@@ -155,7 +155,7 @@ run_flagged pre o y ys flag n attrs sound =
     (ends_append pre (blank attrs) (blanks attrs n) ∙ ends_blanks n attrs) sound
     ∙ run_flag flag (is_nil (drop n ys)) (is_torn (drop n ys))
 
--- The run of the cell y and the n cells after it is erased.
+-- The run of the cell y and the n cells after it can be erased.
 pub run_draws : (base : Canvas) (done below : List RowValue) (pre : List CellValue)
     (o y : CellValue) (ys : List CellValue) (flag : Bool) (r c n : ℕ) (attrs : Attrs) →
     length done ≡ r → length pre ≡ c → Paired pre →

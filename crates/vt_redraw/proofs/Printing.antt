@@ -1,4 +1,4 @@
--- The text of a steady glyph prints the glyph wherever there is room for it, and at a pending wrap.
+-- Printing the text of a steady glyph draws the glyph if there is room for it, and also with a wrap pending.
 use Rattle.std.proofs.Common.{◌≡◌, ℕ, suc, ◌+◌, ◌-◌, ◌≤◌, ◌==◌, ◌&&◌, nat_lt, Bool, true, false, not, List, []}
 use Rattle.std.proofs.Common.{◌∷◌, ◌++◌, length, drop, Option, Some, refl, sym, ap, ◌∙◌, subst, arith}
 use Rattle.std.specs.Prelude.{if◌then◌else◌, chars}
@@ -32,7 +32,7 @@ flag_again f b = grind (arith)
 pub no_tear : (f t : Bool) → (f && not (false && t)) ≡ f
 no_tear f t = grind (arith)
 
--- A narrow glyph is made wide in place.
+-- A narrow glyph can be made wide in place.
 grown_wide : (base : Canvas) (done below : List RowValue) (pre : List CellValue) (o y : CellValue)
     (ys : List CellValue) (flag : Bool) (r c : ℕ) (text : List ℕ) (attrs : Attrs) →
     Spot base done pre o y ys flag r c true →
@@ -61,7 +61,7 @@ grown_wide base done below pre o y ys flag r c text attrs at_spot =
     ∙ (ap (λ (f : Bool). (mid base done below new f (pen_at r (c + 1 + 1) attrs)).page) flags
     ∙ ap (λ (k : ℕ). (mid base done below new (flag_behind flag true (drop 1 ys)) (pen_at r k attrs)).page) col)
 
--- A glyph keeps the width that its text demands, if it isn't made narrow.
+-- A glyph takes on the width that its text requires, unless it would be made narrow.
 settled : (page : Bool → Page) (c : ℕ) (attrs : Attrs) (s q wide : Bool) →
     (wide ≡ true → (if s then q else wide) ≡ true) →
     ((if s then q else wide) ≡ true → made_wide c attrs (page false) ≡ page true) →
@@ -93,7 +93,7 @@ some_column : (wide : Bool) (c : ℕ) → (c + glyph_columns wide == 0) ≡ fals
 some_column true c = ne_eqb (c + 2) 0 (λ same. omega arith)
 some_column false c = ne_eqb (c + 1) 0 (λ same. omega arith)
 
--- A combining character joins a glyph of this width, if the glyph isn't carried to the next row.
+-- A combining character joins a glyph of the given width, if the glyph isn't carried to the next row.
 pub mark_follows : (base : Canvas) (done below : List RowValue) (pre : List CellValue) (o y : CellValue)
     (ys : List CellValue) (flag : Bool) (r c : ℕ) (text : List ℕ) (wide : Bool) (attrs : Attrs) (m : ℕ) →
     IsMark m → has_room text ≡ true → Spot base done pre o y ys flag r c wide →
@@ -139,7 +139,7 @@ room_for : (n : Bool) (c width : ℕ) → c + glyph_columns n ≤ width → n �
 room_for true c width h e = h
 room_for false c width h e = absurd (cc)
 
--- A glyph grows by a combining character.
+-- Printing a combining character appends it to the glyph before the cursor.
 pub mark_drawn : (base : Canvas) (done below : List RowValue) (pre : List CellValue) (o y : CellValue)
     (ys : List CellValue) (flag : Bool) (r c : ℕ) (text : List ℕ) (wide : Bool) (attrs : Attrs) (m : ℕ) →
     IsMark m → has_room text ≡ true → (wide ≡ true → next base.page.width wide text m ≡ true) →
@@ -186,7 +186,7 @@ marks_drawn (m ∷ ms) base done below pre o y ys flag r c text wide attrs last 
     (grows_le base.page.width now (text ++ encode_utf8 m) ms last whole h.1.1) at_spot))
     ∙ marks_drawn ms base done below pre o y ys flag r c (text ++ encode_utf8 m) now attrs last whole h.1.1 at_spot
 
--- Text is printed where there is room for its glyph, at a boundary of a row.
+-- Text can be printed at a boundary of a row if there is room for its glyph.
 pub print_draws : (base : Canvas) (done below : List RowValue) (pre : List CellValue) (o y : CellValue)
     (ys : List CellValue) (flag : Bool) (r c : ℕ) (text : List ℕ) (wide : Bool) (attrs : Attrs) →
     Prints base.page.width text wide → Spot base done pre o y ys flag r c wide →
@@ -240,7 +240,7 @@ first_wraps base done below above on cells flag r attrs first true e b c fits =
     c (rw (some, room_there 2 d2.page (omega arith)) refl)
     (rw some (ap (glyph_put (encode_utf8 first) true attrs) (room_is 2 d2.page (omega arith)))))
 
--- Text is printed at a pending wrap: it is printed at the beginning of the next row, and the row above is wrapped
+-- Text that is printed with a wrap pending appears at the beginning of the next row, and the row above becomes wrapped
 -- exactly if its last column is not blank.
 pub print_wraps : (base : Canvas) (done below : List RowValue) (above : List CellValue) (on : Bool)
     (cells : List CellValue) (flag : Bool) (r : ℕ) (attrs : Attrs) (text : List ℕ) (wide : Bool) (goal : Canvas) →

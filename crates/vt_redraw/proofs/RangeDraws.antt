@@ -18,7 +18,7 @@ use Rattle.vt_redraw.proofs.Lets.{Lets}
 use Rattle.vt_redraw.proofs.Places.{PrintsCells, Place, Ready, Wrote}
 use Rattle.vt_redraw.proofs.Row.{cells_draw}
 
--- Every position may be touched.
+-- The predicate that allows every position to be touched.
 abbrev pub Any : ℕ → ℕ → Type 0
 Any r c = Unit {0}
 
@@ -61,14 +61,14 @@ prints_drop width zero xs h = h
 prints_drop width (suc n) [] h = tt
 prints_drop width (suc n) (x ∷ xs) h = prints_drop width n xs h.1
 
--- A range that cuts no wide character of the row or of the one that the terminal displays.
+-- The range cuts no wide character of the row or of the row that the terminal displays.
 pub record IsClean (start stop : ℕ) (xs ys : List CellValue) : Type 0 where
   pub before : Paired (take start ys)
   pub there : Paired (drop start ys)
   pub behind : Paired (drop stop ys)
   pub range : Paired (in_range start stop xs)
 
--- The premises of an item that is written.
+-- The preconditions for drawing a row's item.
 pub record IsItem (base : Canvas) (done below : List RowValue)
     (r start stop height : ℕ) (xs ys : List CellValue) : Type 0 where
   pub reads : Reads base height base.page.width

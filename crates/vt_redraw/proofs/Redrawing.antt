@@ -1,4 +1,4 @@
--- The redraw of a picture draws it on any plain canvas of its size, whatever that displayed.
+-- The redraw of a picture draws it on any plain canvas of its size, whatever the canvas displayed before.
 use Rattle.std.proofs.Common.{◌≡◌, ℕ, ◌-◌, List, length, refl, sym, ap, ◌∙◌, subst, arith}
 use Rattle.std.specs.Prelude.{replicate}
 use Rattle.std.proofs.lemmas.List.{length-replicate, get_or-replicate}
@@ -17,7 +17,7 @@ use Rattle.vt_redraw.proofs.Clear.{cleared}
 use Rattle.vt_redraw.proofs.Difference.{Shows, script_draws}
 use Rattle.vt_redraw.proofs.EmptyDifference.{showing, showing_plain, same_picture, draws_tell}
 
--- What a canvas with a valid page displays is a picture.
+-- A canvas with a valid page displays a valid picture.
 pub page_picture : (canvas : Canvas) → IsPage canvas.page → IsPicture (picture_of canvas)
 page_picture canvas is = record {
   has_columns = is.has_columns;
@@ -27,7 +27,7 @@ page_picture canvas is = record {
   last = is.last;
 }
 
--- A blank picture of the same size is a picture.
+-- A blank picture of the size of a valid picture is valid.
 blank_is : (picture : Picture) → IsPicture picture → IsPicture (blank_like picture)
 blank_is picture is =
     let blank = blank_row default_attrs picture.width in
@@ -44,7 +44,7 @@ blank_is picture is =
           (get_or-replicate height (length (replicate height blank) - 1) blank blank (omega arith));
     }
 
--- The canvas after the clear.
+-- The canvas after it is cleared for a redraw.
 abbrev clear_canvas : Picture → Canvas → Canvas
 clear_canvas self any = record any {
   page = record (any.page)
@@ -80,7 +80,7 @@ redraw_draws self any is steady other plain size =
           ∙ (ap (λ (p : Picture). drawn_all (script self p) base) (sym shows) ∙ rest.1.draws),
     )
 
--- Two pictures of one size with equal redraws are equal.
+-- Two steady pictures of the same size are equal if their redraws are equal.
 pub redraws_only : (a b : Picture) → IsPicture a → IsSteady a → IsPicture b →
     IsSteady b → SamePictureSize a b → redraw a ≡ redraw b → a ≡ b
 redraws_only a b is_a steady_a is_b steady_b size e =

@@ -1,4 +1,4 @@
--- Output that a sink may refuse: output isn't empty if a part of it isn't.
+-- Output that a sink may refuse is nonempty if a part of it is nonempty.
 use Rattle.std.proofs.Common.{◌≡◌, ℕ, ◌-◌, ◌<◌, ◌≤◌, Bool, true, false, List, [], ◌∷◌, ◌++◌}
 use Rattle.std.proofs.Common.{length, refl, sym, subst, ap, arith}
 use Rattle.std.proofs.Common.{append-nil, append_assoc, length-append, replicate, ◌∙◌}
@@ -52,7 +52,7 @@ pub grown_gathered : (before buffer after : List ℕ) → after ≡ gathered bef
 unfolding gathered
 grown_gathered before buffer after e = grown before buffer after e
 
--- The whole output isn't empty if what is still to write isn't.
+-- The whole output is nonempty if the buffer or the output that is still to be written is nonempty.
 pub leads_some : (old mid buffer : List ℕ) (rest whole : Scripted) → Leads (gathered mid buffer) rest old whole →
     length old ≤ length mid → 0 < length (buffer ++ bytes_of_all rest.ops) → 0 < length (bytes_of_all whole.ops)
 leads_some old mid buffer rest whole leads le some =
@@ -61,7 +61,7 @@ leads_some old mid buffer rest whole leads le some =
     (ap (λ (xs : List ℕ). gathered mid buffer ++ xs) (append-nil (bytes_of_all rest.ops)) ∙ leads.bytes) le
     (omega arith)
 
--- The whole output isn't empty if what is still to write isn't, with an empty buffer.
+-- With an empty buffer, the whole output is nonempty if the output that is still to be written is nonempty.
 pub rest_some : (old mid : List ℕ) (rest whole : Scripted) → Leads mid rest old whole →
     length old ≤ length mid → 0 < length (bytes_of_all rest.ops) → 0 < length (bytes_of_all whole.ops)
 rest_some old mid rest whole leads le some =
@@ -71,7 +71,7 @@ rest_some old mid rest whole leads le some =
     ap (λ (xs : List ℕ). length xs) leads.bytes in
     omega arith
 
--- The whole output isn't empty if what is written next isn't.
+-- The whole output is nonempty if the part that is written next is nonempty.
 pub behind_some : (old mid more : List ℕ) (rest whole : Scripted) → Leads (mid ++ more) rest old whole →
     length old ≤ length mid → 0 < length more → 0 < length (bytes_of_all whole.ops)
 behind_some old mid more rest whole leads le some =
@@ -82,7 +82,7 @@ behind_some old mid more rest whole leads le some =
     ap (λ (xs : List ℕ). length xs) leads.bytes in
     omega arith
 
--- The whole output isn't empty if what is written first isn't.
+-- The whole output is nonempty if its first part is nonempty.
 pub start_some : (first : List ℕ) (rest whole : Scripted) → Leads first rest [] whole →
     0 < length first → 0 < length (bytes_of_all whole.ops)
 start_some first rest whole leads some =
@@ -101,7 +101,7 @@ grown_behind before buffer mid more after e f =
     let then = grown mid more after f in
     omega arith
 
--- Operations that are written after the buffer.
+-- Appending operations after the buffer is flushed has the effect of appending them through the buffer.
 pub gathers_behind : {A E : Type 0} (result : Result A E) (start before mid end behind : List ℕ) (ops : List Op) →
     mid ≡ gathered start before → behind ≡ [] → AppendsOrStops result mid end ops →
     GathersOrStops result start before end behind ops
@@ -113,7 +113,7 @@ gathers_behind result start before mid end behind ops flushed empty appends = re
   some = on_err_weaker result (some_behind before (bytes_of_all ops)) appends.some;
 }
 
--- The whole output isn't empty if a part after its first part isn't.
+-- A text is nonempty if a part after its first part is nonempty.
 pub text_behind_some : (old first mid more whole : List ℕ) → mid ≡ old ++ first → mid ++ more ≡ old ++ whole →
     0 < length more → 0 < length whole
 text_behind_some old first mid more whole e f some =
@@ -125,7 +125,7 @@ text_behind_some old first mid more whole e f some =
 
 -- ---- rows
 
--- The output of a row, and that of a link, if nothing was refused.
+-- If nothing was refused, the output of a row, or of a link, was written in full.
 pub wrote_all : (text : List ℕ) (whole : Scripted) →
     Writes text (text ++ bytes_of_all whole.ops) whole.pen whole.flag whole
 wrote_all text whole = record { bytes = refl; stands = refl; goes_on = refl }

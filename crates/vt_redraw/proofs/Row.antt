@@ -45,7 +45,7 @@ behind_wide text a right_half ys h = (refl, h)
 behind_wide text a (blank b) ys h = absurd h
 behind_wide text a (glyph other wide b) ys h = absurd h
 
--- A pen in the row, at most after its last column, is within the page.
+-- A pen in the row, at most directly after its last column, is within the page.
 pen_within : (base : Canvas) (done below : List RowValue) (pre : List CellValue) (r c height left col : ℕ) (a : Attrs) →
     Place base done below pre r c height left → col ≤ c + left → Within (pen_at r col a) height base.page.width
 pen_within base done below pre r c height left col a at h =
@@ -53,7 +53,7 @@ pen_within base done below pre r c height left col a at h =
     let columns = at.columns in
     record { row = omega arith; col = omega arith }
 
--- There is room for a glyph that is printed here.
+-- If enough columns are left, there is room for a glyph at the current position.
 glyph_spot : (base : Canvas) (done below : List RowValue) (pre : List CellValue)
     (o y : CellValue) (ys : List CellValue) (flag : Bool) (r c height left : ℕ) (wide : Bool) →
     Place base done below pre r c height left → glyph_columns wide ≤ left → Paired pre →
@@ -62,14 +62,14 @@ glyph_spot base done below pre o y ys flag r c height left wide at h front sound
     let columns = at.columns in
     record { row = at.above; col = at.before; fits = omega arith; front = front; sound = sound }
 
--- The statement that a row's cells are drawn.
+-- The operations for the cells of a row draw these cells.
 abbrev RowDraws : (ℕ → ℕ → Type 0) → Canvas → (done below : List RowValue) →
     (xs ys pre : List CellValue) → CellValue → (r c k : ℕ) → Pen → Bool → ℕ → Type 0
 RowDraws May base done below xs ys pre o r c k pen flag height =
     Wrote May (cells_written r c pen flag k xs ys) base done below
     (mid base done below (shown pre o k xs ys) flag pen) (pre ++ (xs ++ drop (length xs) ys)) height
 
--- The first cell is displayed already.
+-- A first cell that the terminal displays already needs no operations.
 same_draws : (May : ℕ → ℕ → Type 0) (w : Scripted) (base : Canvas) (done below : List RowValue)
     (x y : CellValue) (pre ys goal : List CellValue) (o : CellValue) (flag : Bool) (pen : Pen) (height : ℕ) →
     same_cell x y ≡ true → Loose (y ∷ ys) → opened o (x ∷ ys) ≡ x ∷ ys →

@@ -1,4 +1,4 @@
--- Steps of the writer from row to row.
+-- The writer's steps from row to row.
 use Rattle.std.proofs.Common.{◌≡◌, ℕ, ◌+◌, ◌<◌, ◌≤◌, Bool, List, ◌∷◌, ◌++◌, length}
 use Rattle.std.proofs.Common.{drop, sym, ap, subst, ◌∙◌, arith, append_assoc}
 use Rattle.std.proofs.lemmas.List.{drop_more, drop_all}
@@ -15,7 +15,7 @@ use Rattle.vt_redraw.specs.declared.links.Link.{Link}
 use Rattle.vt_redraw.specs.declared.pen.Pen.{Pen}
 use Rattle.vt_redraw.proofs.CellSteps.{leads_after, settled_passed}
 
--- The output of two lists of operations is concatenated.
+-- The output of two lists of operations is the concatenation of their outputs.
 joined_bytes : (t0 t1 t2 : List ℕ) (xs ys : List Op) → t1 ≡ t0 ++ bytes_of_all xs →
     t2 ≡ t1 ++ bytes_of_all ys → t2 ≡ t0 ++ bytes_of_all (xs ++ ys)
 joined_bytes t0 t1 t2 xs ys e f =
@@ -30,7 +30,7 @@ from_settled r k pen flag xs ys =
     sym (settled_passed r 0 pen flag k xs ys
     ∙ ap (λ (n : ℕ). cells_written r n pen flag 0 (drop k xs) (drop k ys)) (omega arith))
 
--- The output of the cells of a row and of the break.
+-- The output of a row is that of its cells, followed by that of the break.
 pub row_writes : (r k : ℕ) (pen p1 p2 : Pen) (flag f1 on : Bool)
     (x : RowValue) (ys : List CellValue) (t0 t1 t2 : List ℕ) →
     t1 ≡ t0 ++ bytes_of_all (cells_from r k pen flag x.cells ys).ops →

@@ -25,7 +25,8 @@ use Rattle.vt_redraw.proofs.Joining.{Joins, ready_start, no_join, link_draws}
 
 -- ---- the rows
 
--- A valid row of this width: no wide character is cut, and it is wrapped only if its last column is not blank.
+-- The row is valid for the given width: no wide character is cut, and it is wrapped only if its last column is not
+-- blank.
 pub record Stands (width : ℕ) (row : RowValue) : Type 0 where
   pub columns : length row.cells ≡ width
   pub paired : Paired row.cells
@@ -128,7 +129,7 @@ row_same r k pen flag x y e f =
     ∙ (ap (λ (z : RowValue). (row_written r k pen x.wrapped x z.cells).flag) (sym e)
     ∙ ap (λ (w : Scripted). w.flag) (row_nothing r k pen x))
 
--- The rows differ if the terminal's row ceased to be wrapped although it must be.
+-- If a row must be wrapped and the terminal's row ceased to be wrapped, the two rows differ.
 fell : (r k : ℕ) (pen : Pen) (flag : Bool) (x y : RowValue) → (x ≡ y → flag ≡ y.wrapped) →
     (row_written r k pen flag x y.cells).flag ≡ false → x.wrapped ≡ true → x ≢ y
 fell r k pen flag x y same f t e = let s = row_same r k pen flag x y e (same e) in cc
@@ -138,7 +139,8 @@ fell r k pen flag x y same f t e = let s = row_same r k pen flag x y e (same e) 
 abbrev pub PrintsRow : ℕ → RowValue → Type 0
 PrintsRow width row = PrintsCells width row.cells
 
--- `May` holds for what the rows below row r touch: rows that differ, and rows directly below such a row.
+-- `May` holds for all positions that may be touched below row r: those of rows that differ, and of rows directly below
+-- such a row.
 abbrev pub BelowMay : (ℕ → ℕ → Type 0) → (width r : ℕ) → (above other : RowValue) → (xs ys : List RowValue) → Type 0
 BelowMay May width r above other [] ys = Unit {0}
 BelowMay May width r above other (x ∷ xs) [] = Unit {0}
@@ -209,13 +211,13 @@ abbrev pub flags_end : List RowValue → Type 0
 flags_end [] = Unit {0}
 flags_end (x ∷ xs) = ends_unwrapped x xs
 
--- `May` holds for what all rows touch.
+-- `May` holds for all positions that drawing the rows may touch.
 abbrev pub RowsMay : (ℕ → ℕ → Type 0) → (width : ℕ) → (xs ys : List RowValue) → Type 0
 RowsMay May width [] ys = Unit {0}
 RowsMay May width (x ∷ xs) [] = Unit {0}
 RowsMay May width (x ∷ xs) (y ∷ ys) = (x ≢ y → RowMay May width 0 x y) × BelowMay May width 0 x y xs ys
 
--- The rows that the terminal displays become those of the new picture.
+-- Drawing the rows turns the rows that the terminal displays into those of the new picture.
 pub rows_draw : (May : ℕ → ℕ → Type 0) (base : Canvas) (xs ys : List RowValue) (height : ℕ) (pen : Pen) →
     Reads base height base.page.width → length xs ≡ height → length ys ≡ height →
     AllByRecursion (Stands base.page.width) xs → AllByRecursion (Stands base.page.width) ys →

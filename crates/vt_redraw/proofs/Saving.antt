@@ -21,7 +21,7 @@ use Rattle.vt_redraw.specs.Redraw.{row_written, link_of, rows_below, rows_writte
 use Rattle.vt_redraw.specs.Redraw.{blank_passed, pending_at, cursor_written, pen_of, script, hiding, difference}
 use Rattle.vt_redraw.specs.Redraw.{blank_like, redraw, pending_alone, cursor_state}
 
--- Whether the cursor was saved, after an operation.
+-- Whether the cursor has been saved after an operation, given whether it was saved before.
 abbrev pub saved_after : Bool → Op → Bool
 saved_after saved SaveCursor = true
 saved_after saved _ = saved
@@ -30,7 +30,7 @@ abbrev pub IsAllowed : Bool → Op → Type 0
 IsAllowed saved RestoreCursor = saved ≡ true
 IsAllowed saved _ = Unit {0}
 
--- Each restoration comes after the cursor was saved.
+-- The cursor is saved before each operation that restores it.
 abbrev pub SavesFirst : Bool → List Op → Type 0
 SavesFirst saved [] = Unit {0}
 SavesFirst saved (op ∷ ops) = IsAllowed saved op × SavesFirst (saved_after saved op) ops

@@ -1,4 +1,4 @@
--- A space prints on every screen.
+-- A space reproduces itself when printed on every screen.
 use Rattle.std.proofs.Common.{◌≡◌, ℕ, ◌<◌, false, List, [], ◌∷◌, ◌++◌, refl, sym, ap, ◌∙◌, lit<, lit≤, arith}
 use Rattle.std.specs.Prelude.{chars}
 use Rattle.std.specs.Char.{encode_utf8}

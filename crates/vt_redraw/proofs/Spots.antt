@@ -1,4 +1,4 @@
--- A glyph printed where there is room for it: its cells, whether the row stays wrapped, and the cursor after it.
+-- Printing a glyph where there is room for it: its cells, the row's wrapped flag, and the cursor after it.
 use Rattle.std.proofs.Common.{◌≡◌, ℕ, ◌+◌, ◌≤◌, ◌&&◌, ◌||◌, nat_lt, Bool, true, false, not, List}
 use Rattle.std.proofs.Common.{[], ◌∷◌, ◌++◌, length, drop, Option, Some, refl, ap, ◌∙◌, arith}
 use Rattle.std.proofs.lemmas.Bool.{lt-ltb}
@@ -18,18 +18,18 @@ use Rattle.vt_redraw.proofs.Halves.{Paired, drop_opened}
 use Rattle.vt_redraw.proofs.Flags.{ends_append, kept, Sound, flag_step}
 use Rattle.vt_redraw.proofs.Edits.{mid, glyph_cells, orphan, glyph_put_at, room_there, room_is}
 
--- The cells that a glyph of this width leaves of those after its first column.
+-- The cells after a glyph of the given width, if `ys` are the cells after its first column.
 abbrev pub rest_behind : Bool → List CellValue → List CellValue
 rest_behind false ys = ys
 rest_behind true ys = drop 1 ys
 
--- The cells of a row with a glyph printed after `pre`, over the cells ys.
+-- The cells of a row after a glyph is printed over the cells `ys`, directly after the cells `pre`.
 abbrev pub with_glyph : List CellValue → List ℕ → Bool → Attrs → List CellValue → List CellValue
 with_glyph pre text wide attrs ys =
     pre ++ (glyph_cells text wide attrs ++ opened (orphan wide attrs) (rest_behind wide ys))
 
--- There is room for a glyph of this width at a boundary, over y and ys, of which the first may be an orphaned
--- continuation cell.
+-- There is room for a glyph of the given width at a boundary, over the cells y and ys, the first of which may be an
+-- orphaned continuation cell.
 pub record Spot (base : Canvas) (done : List RowValue) (pre : List CellValue) (o y : CellValue)
     (ys : List CellValue) (flag : Bool) (r c : ℕ) (wide : Bool) : Type 0 where
   pub row : length done ≡ r
@@ -38,7 +38,7 @@ pub record Spot (base : Canvas) (done : List RowValue) (pre : List CellValue) (o
   pub front : Paired pre
   pub sound : Sound flag (pre ++ opened o (y ∷ ys))
 
--- The canvas before a glyph is printed.
+-- The canvas on which a glyph is about to be printed after the cells `pre`, over the cells y and ys.
 abbrev pub spot : Canvas → (done below : List RowValue) → (pre : List CellValue) →
     (o y : CellValue) → (ys : List CellValue) → Bool → (r c : ℕ) → Attrs → Canvas
 spot base done below pre o y ys flag r c attrs = mid base done below (pre ++ opened o (y ∷ ys)) flag (pen_at r c attrs)

@@ -1,4 +1,4 @@
--- A row that the terminal displays already needs no output, and rows can be distinguished.
+-- A row that the terminal displays already needs no output. Equality of rows is decidable.
 use Rattle.std.proofs.Common.{◌≡◌, ◌≢◌, ◌⊎◌, ℕ, zero, suc, ◌+◌, ◌-◌, ◌&&◌, Bool, true, false}
 use Rattle.std.proofs.Common.{not, List, [], ◌∷◌, inl, inr, refl, sym, ap, ◌∙◌, arith}
 use Rattle.vt_cells.specs.Cell.{CellValue, blank, glyph, right_half, same_cell}
@@ -32,7 +32,7 @@ cell_equal x y = by_test (same_cell x y) refl where
   by_test true t = inl (cell_of-same x y t)
   by_test false t = inr (λ e. let s = ap (same_cell x) (sym e) ∙ same_cell-itself x in cc)
 
--- The first cell of a list, or a default.
+-- The first cell of a list, or the given default.
 abbrev head_or : CellValue → List CellValue → CellValue
 head_or d [] = d
 head_or d (x ∷ xs) = x

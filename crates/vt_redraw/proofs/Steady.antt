@@ -1,4 +1,4 @@
--- The text of a steady glyph is never made narrow while it is printed, so it prints everywhere.
+-- The text of a steady glyph is never made narrow while it is printed, so it prints the same glyph at every position.
 use Rattle.std.proofs.Common.{◌≡◌, ℕ, zero, suc, ◌+◌, ◌<◌, ◌≤◌, ◌&&◌, nat_lt, Bool, true, false, not, List}
 use Rattle.std.proofs.Common.{[], ◌∷◌, ◌++◌, drop, Option, Some, None, refl, sym, ap, ◌∙◌, arith}
 use Rattle.std.specs.Prelude.{if◌then◌else◌}
@@ -41,7 +41,7 @@ first_cell : (n : ℕ) (text : List ℕ) (wide : Bool) (attrs : Attrs) →
 first_cell n text true attrs = refl
 first_cell n text false attrs = refl
 
--- A glyph alone on a row is not past a narrow glyph.
+-- A canvas with a single glyph never has the cursor past a narrow glyph in column 0.
 alone_not_past : (n : ℕ) (text : List ℕ) (wide : Bool) (attrs : Attrs) →
     Past (suc n) attrs (alone n text wide attrs) → ⊥
 alone_not_past n text wide attrs p =
@@ -55,7 +55,7 @@ alone_not_past n text wide attrs p =
     by_width true e h far = absurd (cc)
     by_width false e h far = omega arith
 
--- A wide glyph is made narrow.
+-- After a wide glyph in column 0 is made narrow, the cursor is past a narrow glyph in column 0.
 narrowed : (n : ℕ) (text : List ℕ) (attrs : Attrs) → 2 ≤ suc n →
     Past (suc n) attrs (record (alone n text true attrs) { page = made_narrow 0 attrs (alone n text true attrs).page })
 narrowed n text attrs h =
@@ -96,7 +96,7 @@ next_fits width wide text m pos h =
     both false true g = omega arith
     both false false g = omega arith
 
--- A combining character makes a wide glyph narrow.
+-- If a combining character makes the text of a wide glyph narrow, printing it makes the glyph narrow.
 mark_narrows : (n : ℕ) (text : List ℕ) (attrs : Attrs) (m : ℕ) → IsMark m →
     has_room text ≡ true → 2 ≤ suc n → next (suc n) true text m ≡ false →
     drawn_char m (alone n text true attrs)
@@ -179,7 +179,7 @@ too_wide : (c k width : ℕ) (attrs : Attrs) → columns_of c ≡ Some (suc (suc
 too_wide c k width attrs e h =
     char_drawn c (Some (suc (suc k))) (blank_line width attrs) (blank_line width attrs).page e (rw h refl) (rw h refl)
 
--- A steady glyph prints on every screen of its width.
+-- A steady glyph reproduces itself when printed on every screen of the width for which it is steady.
 pub steady_prints : (n : ℕ) (text : List ℕ) (wide : Bool) (attrs : Attrs) → IsGlyphText text wide →
     glyph_columns wide ≤ suc n → IsSteadyGlyph (suc n) text wide attrs → Prints (suc n) text wide
 steady_prints n text wide attrs g le steady = by_columns (columns_of g.first) refl

@@ -1,4 +1,4 @@
--- How a steady glyph is recognized: by its width after each of its characters.
+-- Recognizing a steady glyph by its width after each of its characters.
 use Rattle.std.proofs.Common.{◌≡◌, ◌↔◌, ℕ, zero, suc, ◌+◌, ◌-◌, ◌<◌, ◌≤◌, ◌||◌, nat_lt, Bool, true, false, List, []}
 use Rattle.std.proofs.Common.{◌∷◌, ◌++◌, drop, length, take, Some, None, Option, refl, sym, ap, subst, ◌∙◌, arith}
 use Rattle.std.proofs.Common.{eqb-true, get_or, length-append, ◌≢◌, ◌&&◌}
@@ -74,7 +74,7 @@ pub none_of : (b : Bool) → (b ≡ true → ⊥) → b ≡ false
 none_of true h = absurd (h refl)
 none_of false h = refl
 
--- A text of fewer than four bytes has no U+FE0F, because that is no first character and takes three bytes after one.
+-- A text of fewer than four bytes has no U+FE0F, because U+FE0F takes three bytes and comes after a first character.
 pub short_has_none : (cell : CellValue) → IsCell cell → length (text_of cell) < 4 → has_selector cell ≡ false
 short_has_none (blank attrs) is short = refl
 short_has_none right_half is short = refl
@@ -96,7 +96,8 @@ same_start false false e = refl
 same_start true false e = absurd (cc)
 same_start false true e = absurd (cc)
 
--- A glyph is steady exactly if its text grows to it from its first character.
+-- A glyph is steady exactly if printing its characters makes its text grow to the whole text, without ever making the
+-- glyph narrow.
 pub steady_grows_so : (width : ℕ) (text : List ℕ) (wide : Bool) (attrs : Attrs) (first : ℕ) (marks : List ℕ)
     (start : Bool) → IsGlyphText text wide → glyph_columns wide ≤ width → chars text ≡ first ∷ marks →
     columns_of first ≡ Some (glyph_columns start) →
@@ -132,7 +133,7 @@ steady_grows_so (suc n) text wide attrs first marks start g le is columns = (
 
 -- ---- rows
 
--- Each glyph of a row has all its columns there.
+-- Every glyph of a row fits in the row's width.
 pub row_fits : (width : ℕ) (cells : List CellValue) → Paired cells → length cells ≤ width → All (FitsColumns width) cells
 row_fits width [] p le = All-nil (FitsColumns width)
 row_fits width (blank a ∷ cells) p le =
@@ -169,7 +170,7 @@ steady_so width n own cells is rest = (
   λ all. subst (All (IsSteadyCell width)) (sym is) (All-take (IsSteadyCell width) n cells all),
 )
 
--- Cells followed by blanks have no U+FE0F if they have none without the blanks.
+-- If cells have no U+FE0F, neither do these cells with blanks after them.
 pub none_so : (n : ℕ) (own cells : List CellValue) → own ≡ take n cells →
     All (λ (cell : CellValue). is_blank cell ≡ true) (drop n cells) →
     All (λ (cell : CellValue). has_selector cell ≡ false) own → All (λ (cell : CellValue). has_selector cell ≡ false) cells
@@ -181,15 +182,15 @@ none_so n own cells is rest all =
 
 -- ---- a glyph printed character by character
 
--- All but some last characters of a glyph's text were printed and gave a text of this width: the glyph is steady
--- exactly if these characters make that text grow to the glyph.
+-- The characters of a glyph's text, except for the last ones, were printed and gave a text of the given width. The
+-- glyph is steady exactly if the last characters make that text grow to the glyph's text.
 pub record IsPrintedTo (width : ℕ) (cell printed : CellValue) (wide : Bool) (rest : List ℕ) : Type 0 where
   pub glyph : is_glyph printed ≡ true
   pub marks : AllByRecursion IsMark rest
   pub joins : Joins (text_of printed) rest (text_of cell)
   pub so : IsSteadyCell width cell ↔ Grows width wide (text_of printed) rest (is_wide cell) (text_of cell)
 
--- The first character of a glyph and its combining characters.
+-- The text of the cell consists of the given first character and combining characters.
 pub record IsSpelled (cell : CellValue) (first : ℕ) (marks : List ℕ) : Type 0 where
   pub drawn : columns_of first ≢ Some 0
   pub shown : columns_of first ≢ None
@@ -243,7 +244,7 @@ printed_first width (glyph text wide a) first marks start attrs t g le e columns
       so = steady_grows_so width text wide a first marks start g le e columns;
     }
 
--- The width after one more character.
+-- The width of a glyph after one more character is printed.
 abbrev pub width_then : ℕ → Bool → CellValue → ℕ → Bool
 width_then width wide printed mark =
     if is_selector mark then is_wide_text (text_of printed) && nat_lt 1 width else wide
@@ -298,7 +299,7 @@ printed_narrowed width cell printed after wide follows mark rest h is by was not
     let still : follows ≡ true = new ∙ (h.so.0 steady).1.0 was in
     absurd (cc)
 
--- A glyph that is printed in full is steady exactly if it has the right width.
+-- A glyph of which all characters are printed is steady exactly if it has the right width.
 pub printed_all : (width : ℕ) (cell printed : CellValue) (wide : Bool) → IsPrintedTo width cell printed wide [] →
     (same : Bool) → same ≡ beq wide (is_wide cell) → IsTrue same ↔ IsSteadyCell width cell
 printed_all width cell printed wide h same is = (
@@ -353,7 +354,8 @@ within_left a b cell h = within_le a (bit_or a b) (or_le_left a b) cell h
 pub within_right : (a b : ℕ) (cell : CellValue) → IsWithin b cell → IsWithin (bit_or a b) cell
 within_right a b cell h = within_le b (bit_or a b) (or_le_right a b) cell h
 
--- The first cells and enough of those after them to be all of the cells.
+-- If the first i cells and the n cells after them are all cells of a list, a bound on their text lengths holds for the
+-- list.
 pub within_parts : (bound i n : ℕ) (cells : List CellValue) → length cells ≤ i + n →
     All (IsWithin bound) (take i cells) → All (IsWithin bound) (take n (drop i cells)) → All (IsWithin bound) cells
 within_parts bound i n cells le first rest =
@@ -367,7 +369,8 @@ within_both a b i n cells le first rest =
     (All-weaker (IsWithin a) (IsWithin (bit_or a b)) (within_left a b) (take i cells) first)
     (All-weaker (IsWithin b) (IsWithin (bit_or a b)) (within_right a b) (take n (drop i cells)) rest)
 
--- The first eight cells, the next eight, and the rest.
+-- A bound on the text lengths of the first eight cells, the next eight cells and all later cells holds for the whole
+-- list.
 pub within_sixteen : (a b bound n : ℕ) (cells : List CellValue) → a ≤ bound → b ≤ bound → length cells ≤ 16 + n →
     All (IsWithin a) (take 8 cells) → All (IsWithin b) (take 8 (drop 8 cells)) →
     All (IsWithin bound) (take n (drop 16 cells)) → All (IsWithin bound) cells
@@ -379,7 +382,7 @@ within_sixteen a b bound n cells le_a le_b le first second rest =
     (All-weaker (IsWithin b) (IsWithin bound) (within_le b bound le_b) (take 8 (drop 8 cells)) second)))
     rest
 
--- Exactly four cells, one by one.
+-- A bound on the text length of each of four cells holds for the list of the four.
 pub within_four : (bound : ℕ) (cells : List CellValue) (a b c d : CellValue) → length cells ≡ 4
     → a ≡ get_or cells 0 a → b ≡ get_or cells 1 b
     → c ≡ get_or cells 2 c → d ≡ get_or cells 3 d
@@ -400,7 +403,7 @@ within_four bound cells a b c d four is_a is_b is_c is_d first second third four
 pub within_short : (bound : ℕ) → bound < 4 → (cell : CellValue) → IsWithin bound cell → has_selector cell ≡ false
 within_short bound short cell h = short_has_none cell h.sound (omega (arith, h.bytes, short))
 
--- The result of a test of a row holds for an equal row.
+-- The result of testing a row for steadiness holds for an equal row.
 pub row_tells : (width : ℕ) (row other : RowValue) (test : Bool) → row ≡ other → length row.cells ≡ width →
     (IsTrue test ↔ All (IsSteadyCell (length row.cells)) row.cells) → IsTrue test ↔ IsSteadyRow width other
 row_tells width row other test same columns tells =
@@ -411,7 +414,7 @@ past_cut : (split : Bool) (attrs : Attrs) → has_selector (if split then blank 
 past_cut true attrs = refl
 past_cut false attrs = refl
 
--- A row cut to a width has no U+FE0F if the whole row has none.
+-- A row that is truncated or extended has no U+FE0F if the original row has none.
 pub none_resized : (width : ℕ) (cells : List CellValue) → 0 < width → IsPaired cells →
     All (λ (cell : CellValue). has_selector cell ≡ false) cells →
     All (λ (cell : CellValue). has_selector cell ≡ false) (resized width cells)

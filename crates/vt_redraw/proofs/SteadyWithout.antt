@@ -1,4 +1,4 @@
--- Glyphs that are steady: all without U+FE0F, whatever the widths of characters are, and U+2764 with U+FE0F.
+-- Glyphs that are steady: all glyphs without U+FE0F, and U+2764 with U+FE0F.
 use Rattle.std.proofs.Common.{◌≡◌, ℕ, zero, suc, ◌<◌, ◌≤◌, ◌||◌, nat_lt, Bool, true, false, List, [], ◌∷◌}
 use Rattle.std.proofs.Common.{◌++◌, length, Option, Some, None, refl, sym, ap, ◌∙◌, append-nil, arith}
 use Rattle.std.specs.Prelude.{All, chars}
@@ -30,7 +30,7 @@ and_then_nothing : (x : Option Canvas) → and_then (drawn_all []) x ≡ x
 and_then_nothing None = refl
 and_then_nothing (Some canvas) = refl
 
--- Text that prints as a glyph on screens of a width is steady there.
+-- Text that prints as one glyph on screens of a given width is steady there.
 pub prints_steady : (n : ℕ) (text : List ℕ) (wide : Bool) (attrs : Attrs) →
     Prints (suc n) text wide → IsSteadyGlyph (suc n) text wide attrs
 prints_steady n text wide attrs prints =
@@ -52,7 +52,7 @@ rest_not : (a b : Bool) → (a || b) ≡ false → b ≡ false
 rest_not true b h = absurd (cc)
 rest_not false b h = h
 
--- Text without U+FE0F keeps its width.
+-- Text without U+FE0F keeps its width while it is printed.
 grows_without : (width : ℕ) (wide : Bool) (text ms whole : List ℕ) → AllByRecursion IsMark ms →
     Joins text ms whole → list_any is_selector ms ≡ false → Grows width wide text ms wide whole
 grows_without width wide text [] whole marks joins none = (refl, joins)
@@ -118,7 +118,7 @@ heart_steady n attrs =
 
 -- ---- rows and pictures without U+FE0F
 
--- A glyph without U+FE0F that fits is steady.
+-- A glyph without U+FE0F that fits on the screen is steady.
 pub without_cell : (n : ℕ) (text : List ℕ) (wide : Bool) (attrs : Attrs) → IsGlyphText text wide →
     has_selector (glyph text wide attrs) ≡ false → glyph_columns wide ≤ suc n → IsSteadyGlyph (suc n) text wide attrs
 without_cell n text wide attrs g none le =
@@ -151,7 +151,7 @@ plain_row (suc n) row some is none =
     without_cells n row.cells (paired_of row.cells is.paired) (omega arith) (recursion_from_All IsCell row.cells is.sound)
     (recursion_from_All (λ cell. has_selector cell ≡ false) row.cells none)
 
--- A picture without U+FE0F in its glyphs is steady.
+-- A picture whose glyphs have no U+FE0F is steady.
 pub picture_steady : (picture : Picture) → IsPicture picture → HasNoSelector picture → IsSteady picture
 picture_steady picture is none =
     by_rows picture.rows (recursion_from_All (IsRow picture.width) picture.rows is.rows)
@@ -164,7 +164,7 @@ picture_steady picture is none =
           All-cons (λ (row : RowValue). All (IsSteadyCell picture.width) row.cells) x
           xs (plain_row picture.width x is.has_columns rs.0 ns.0) (by_rows xs rs.1 ns.1)
 
--- U+2764 and U+FE0F are steady on two columns or more.
+-- The glyph of U+2764 and U+FE0F is steady on screens of two or more columns.
 pub heart_is_steady : (width : ℕ) (attrs : Attrs) → 1 < width → IsSteadyCell width (glyph heart_text true attrs)
 heart_is_steady zero attrs two = absurd (omega arith)
 heart_is_steady (suc zero) attrs two = absurd (omega arith)

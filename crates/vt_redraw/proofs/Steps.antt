@@ -1,4 +1,4 @@
--- What single operations draw on a page whose scroll region is the whole page.
+-- The effect of single operations on a page whose scroll region is the whole page.
 use Rattle.std.proofs.Common.{◌≡◌, ℕ, zero, suc, ◌+◌, ◌-◌, ◌<◌, ◌≤◌, ◌==◌, ◌&&◌, nat_lt, min, true}
 use Rattle.std.proofs.Common.{false, List, [], ◌∷◌, length, Option, Some, refl, sym, ap, ◌∙◌, arith}
 use Rattle.std.proofs.lemmas.Bool.{cond_both, and_parts, eqb-true, ltb-true, ne_eqb, lt-ltb}
@@ -12,14 +12,15 @@ use Rattle.vt_redraw.specs.Script.{pen_at, move_ops, attr_ops}
 use Rattle.vt_redraw.specs.declared.pen.Pen.{Pen}
 use Rattle.vt_grid.proofs.Drawing.{Draws}
 
--- The terminal with these rows, and its cursor and attributes those of the pen.
+-- The canvas with the given rows, and with the cursor and attributes of the pen.
 abbrev pub at_pen : Canvas → List RowValue → Pen → Canvas
 at_pen base rows pen = record base {
   page = record (base.page) { rows = rows; row = pen.row; column = pen.col };
   attrs = pen.attrs;
 }
 
--- The premises about the rest of the terminal.
+-- The preconditions on the parts of a canvas other than its rows: full scroll region, no origin mode, and the given
+-- nonzero width.
 pub record Reads (base : Canvas) (height width : ℕ) : Type 0 where
   pub bottom : base.page.bottom + 1 ≡ height
   pub origin : base.page.origin ≡ false

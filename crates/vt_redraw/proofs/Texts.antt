@@ -21,8 +21,8 @@ use Rattle.vt_redraw.proofs.Edits.{mid, glyph_cells, cursor_row_is, edited_at}
 abbrev pub next : ℕ → Bool → List ℕ → ℕ → Bool
 next width wide text mark = if is_selector mark then is_wide_text (text ++ encode_utf8 mark) && nat_lt 1 width else wide
 
--- A text of this width grows by these combining characters to another text and width, and is never made narrow on the
--- way.
+-- A text of the given width grows by the combining characters to another text and width, and is never made narrow on
+-- the way.
 abbrev pub Grows : ℕ → Bool → List ℕ → List ℕ → Bool → List ℕ → Type 0
 Grows width wide text [] last whole = (wide ≡ last) × (text ≡ whole)
 Grows width wide text (m ∷ ms) last whole =
@@ -30,7 +30,7 @@ Grows width wide text (m ∷ ms) last whole =
     × ((wide ≡ true → next width wide text m ≡ true)
     × Grows width (next width wide text m) (text ++ encode_utf8 m) ms last whole)
 
--- The text prints as one glyph on a screen of this width.
+-- The text prints as one glyph on a screen of the given width.
 pub record Prints (width : ℕ) (text : List ℕ) (wide : Bool) : Type 0 where
   pub first : ℕ
   pub marks : List ℕ
@@ -68,7 +68,7 @@ mark_column_at pre text true attrs rest c e =
     let i : c + 2 - 2 ≡ c = omega arith in
     rw (at_second pre (glyph text true attrs) right_half rest (c + 2 - 1) (omega arith)) i
 
--- A page with a glyph before its cursor.
+-- The page with a glyph directly before its cursor.
 abbrev pub marking : Canvas → (done below : List RowValue) → (pre : List CellValue) → (text : List ℕ) →
     (wide : Bool) → Attrs → (rest : List CellValue) → (flag : Bool) → (r c : ℕ) → Page
 marking base done below pre text wide attrs rest flag r c =
@@ -140,7 +140,7 @@ put_marked base done below pre text wide attrs rest flag r c m e l room =
     replaced true =
         set_at pre (glyph text true attrs) (right_half ∷ rest) (glyph (text ++ encode_utf8 m) true attrs) c l
 
--- The page after the width of a glyph has followed that of its text.
+-- The page after a glyph takes on the width of its text.
 abbrev pub followed : Bool → Bool → ℕ → Attrs → Page → Page
 followed was wide k attrs page =
     if was then (if wide then page else made_narrow k attrs page) else (if wide then made_wide k attrs page else page)
@@ -153,7 +153,8 @@ followed_is page k attrs text wide a e =
     ap
     (λ (cell : CellValue). followed (is_wide cell) (is_wide_text (text_of cell) && nat_lt 1 page.width) k attrs page) e
 
--- A combining character is printed after a glyph of this width that has room for it.
+-- Printing a combining character appends it to the glyph before the cursor, if that has room for it, and adapts the
+-- glyph's width.
 pub mark_printed_is : (base : Canvas) (done below : List RowValue) (pre : List CellValue)
     (text : List ℕ) (wide : Bool) (attrs : Attrs) (rest : List CellValue) (flag : Bool) (r c m : ℕ) →
     length done ≡ r → length pre ≡ c → has_room text ≡ true →

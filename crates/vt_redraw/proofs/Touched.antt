@@ -1,4 +1,4 @@
--- What operations draw, together with what they touch.
+-- The effect of operations, together with the positions that they touch.
 use Rattle.std.proofs.Common.{◌≡◌, ℕ, zero, suc, ◌+◌, ◌-◌, ◌<◌, ◌≤◌, ◌==◌, ◌&&◌, ◌||◌, ◌⊎◌, nat_lt}
 use Rattle.std.proofs.Common.{Bool, true, false, List, [], ◌∷◌, ◌++◌, length, replicate, Option}
 use Rattle.std.proofs.Common.{Some, None, inl, inr, refl, sym, ap, ◌∙◌, subst, arith}
@@ -49,7 +49,7 @@ in_then May xs ys a b c h k = record {
   touches = touches_then May xs ys a b h.touches h.draws k.touches;
 }
 
--- Operations draw a canvas if they draw an equal one.
+-- If operations draw a canvas, they draw every canvas equal to it.
 pub in_to : (May : ℕ → ℕ → Type 0) (ops : List Op) (a b c : Canvas) → DrawsIn May ops a b → b ≡ c → DrawsIn May ops a c
 in_to May ops a b c h e = subst (DrawsIn May ops a) e h
 
@@ -145,7 +145,7 @@ no_left pre rest c k e h = by_test (k + 1 == c) refl where
   by_test false t = refl
   by_test true t = let same : k + 1 ≡ c = grind (arith, nat_tests) in last_not_wide pre rest k h (omega arith)
 
--- A change of n columns after `pre` touches these columns, and an orphaned continuation cell after them.
+-- A change of n columns after the cells `pre` touches those columns, and an orphaned continuation cell after them.
 pub changes_at : (May : ℕ → ℕ → Type 0) (base : Canvas) (done below : List RowValue)
     (pre rest : List CellValue) (flag : Bool) (r c n col : ℕ) (a : Attrs) →
     length done ≡ r → length pre ≡ c → Paired pre →

@@ -1,4 +1,4 @@
--- The text of a steady glyph touches the columns of the glyph, and an orphaned continuation cell after them.
+-- Printing the text of a steady glyph touches the columns of the glyph, and an orphaned continuation cell after them.
 use Rattle.std.proofs.Common.{◌≡◌, ℕ, suc, ◌+◌, ◌-◌, ◌<◌, ◌≤◌, ◌==◌, ◌&&◌, nat_lt, Bool, true, false, not, List}
 use Rattle.std.proofs.Common.{[], ◌∷◌, ◌++◌, length, drop, Option, Some, refl, sym, ap, ◌∙◌, subst, arith}
 use Rattle.std.specs.Prelude.{if◌then◌else◌, chars}
@@ -25,7 +25,7 @@ use Rattle.vt_redraw.proofs.Printing.{mark_drawn, print_draws, print_wraps, wide
 use Rattle.vt_redraw.proofs.Printing.{grows_le, first_wraps, wrapped_room}
 use Rattle.vt_redraw.proofs.Touched.{DrawsIn, some_same, changes_at}
 
--- `May` holds for what a glyph at column c of row r touches, over y and ys.
+-- `May` holds for all positions that a glyph at column c of row r touches when it is printed over other cells.
 pub record MayGlyph (May : ℕ → ℕ → Type 0) (r c : ℕ) (wide : Bool) (ys : List CellValue) : Type 0 where
   pub first : May r c
   pub second : wide ≡ true → May r (c + 1)
@@ -46,7 +46,7 @@ at_drop : (ys : List CellValue) → at (drop 1 ys) 0 ≡ at ys 1
 at_drop [] = refl
 at_drop (y ∷ ys) = refl
 
--- `May` holds for a range of one column, and of two.
+-- `May` holds for each column in a range of one column.
 within_one : (May : ℕ → ℕ → Type 0) (r c k : ℕ) → May r c → c ≤ k → k < c + 1 → May r k
 within_one May r c k h le lt = let e : c ≡ k = omega arith in subst (May r) e h
 
@@ -56,7 +56,7 @@ within_two May r c k h g le lt = by_test (k == c) refl where
   by_test true t = let e : c ≡ k = grind (arith, nat_tests) in subst (May r) e h
   by_test false t = let e : c + 1 ≡ k = grind (arith, nat_tests) in subst (May r) e g
 
--- The first character touches one column or two.
+-- Printing the first character of a glyph touches one or two columns.
 first_touches : (May : ℕ → ℕ → Type 0) (base : Canvas) (done below : List RowValue) (pre : List CellValue)
     (o y : CellValue) (ys : List CellValue) (flag : Bool) (r c first : ℕ) (start wide : Bool) (attrs : Attrs) →
     columns_of first ≡ Some (glyph_columns start) → (start ≡ true → wide ≡ true) →
@@ -88,7 +88,7 @@ first_touches May base done below pre o y ys flag r c first true true attrs e gr
 first_touches May base done below pre o y ys flag r c first true false attrs e grows at_spot may =
     let k = grows refl in absurd (cc)
 
--- A narrow glyph that is made wide in place touches both columns.
+-- Making a narrow glyph wide in place touches both of its columns.
 wide_touches : (May : ℕ → ℕ → Type 0) (base : Canvas) (done below : List RowValue)
     (pre : List CellValue) (o y : CellValue) (ys : List CellValue)
     (now flag : Bool) (r c : ℕ) (text : List ℕ) (was wide : Bool) (attrs : Attrs) →
@@ -109,7 +109,7 @@ wide_touches May base done below pre o y ys now flag r c text false true attrs w
       (λ t. absurd (cc)),
     )
 
--- One more combining character touches the glyph.
+-- Printing one more combining character touches only the columns of the glyph.
 mark_touches : (May : ℕ → ℕ → Type 0) (base : Canvas) (done below : List RowValue)
     (pre : List CellValue) (o y : CellValue) (ys : List CellValue) (flag : Bool)
     (r c : ℕ) (text : List ℕ) (was wide : Bool) (attrs : Attrs) (m : ℕ) →
@@ -245,7 +245,7 @@ split_text : (May : ℕ → ℕ → Type 0) (cs : List ℕ) (c : ℕ) (ms : List
     cs ≡ c ∷ ms → TextTouches May cs canvas → TextTouches May (c ∷ ms) canvas
 split_text May cs c ms canvas e h = subst (λ (z : List ℕ). TextTouches May z canvas) e h
 
--- Text printed at a pending wrap touches the columns of its glyph on the next row.
+-- Text printed with a wrap pending touches the columns of its glyph on the next row.
 pub print_in_wraps : (May : ℕ → ℕ → Type 0) (base : Canvas) (done below : List RowValue)
     (above : List CellValue) (on : Bool) (cells : List CellValue) (flag : Bool)
     (r : ℕ) (attrs : Attrs) (text : List ℕ) (wide : Bool) (goal : Canvas) →

@@ -123,7 +123,7 @@ unfolding row_break
 broken_off r pen true cells = refl
 broken_off r pen false cells = refl
 
--- An item of a whole row leaves the row not wrapped if it is not wrapped in the picture.
+-- If a row of the picture is not wrapped, its item leaves the terminal's row unwrapped.
 pub item_off : (r width : ℕ) (x y : RowValue) → length x.cells ≡ width →
     x.wrapped ≡ false → (item_of_difference r 0 width x y).flag ≡ false
 item_off r width x y e off =

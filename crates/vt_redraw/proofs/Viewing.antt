@@ -76,7 +76,7 @@ cut_at width (x ∷ y ∷ rows) (suc r) h =
     let e : (r + 1 == suc (length rows)) ≡ (suc r + 1 == suc (suc (length rows))) = grind (arith, nat_tests) in
     cut_at width (y ∷ rows) r (omega arith) ∙ ap (λ (b : Bool). cut_row b width (row_or width (y ∷ rows) r)) e
 
--- Past the end there are blank rows, whether cut or not.
+-- A blank row stays blank when it is truncated or extended.
 blank_cut : (b : Bool) (width : ℕ) → cut_row b width (blank_row default_attrs width) ≡ blank_row default_attrs width
 blank_cut b width =
     let is = IsRow-blank_row default_attrs width in
@@ -92,7 +92,7 @@ blank_cut b width =
       no_flag true = refl
       no_flag false = refl
 
--- A row of a picture of displayed rows.
+-- A row of the picture of the displayed rows is that displayed row, truncated or extended.
 pub seen_at : (width : ℕ) (rows : List RowValue) (r : ℕ) →
     row_or width (cut_rows width rows) r ≡ row_seen false width rows r
 seen_at width rows r = elim (cases_lt r (length rows)) [
@@ -176,20 +176,20 @@ row_sound (Moved band) above rows width pen hidden r is h =
 
 -- ---- a row as the code finds it
 
--- A row past the end is blank.
+-- A row of the view past the end is blank.
 pub row_past : (b : Bool) (width : ℕ) (rows : List RowValue) (r : ℕ) → length rows ≤ r →
     row_seen b width rows r ≡ blank_row default_attrs width
 row_past b width rows r past =
     ap (cut_row (b || (r + 1 == length rows)) width) (get_or_past rows r (blank_row default_attrs width) past)
     ∙ blank_cut (b || (r + 1 == length rows)) width
 
--- A row that ceases to be wrapped is cut as the last row is.
+-- A row that is marked as not wrapped is cut like the last row of a picture.
 last_seen : (b c : Bool) (width : ℕ) (row : RowValue) →
     unflagged_if b (cut_row c width row) ≡ cut_row (b || c) width row
 last_seen true c width row = refl
 last_seen false c width row = refl
 
--- After a band has moved, a row is the one that moved there.
+-- After a band has moved, each row of the picture is the one that moved there.
 pub moved_seen : (width : ℕ) (band : Band) (rows : List RowValue) (r from : ℕ) → r < length rows →
     from ≡ band_source band (length rows) r →
     row_or width (rows_moved width band (cut_rows width rows)) r
@@ -266,7 +266,7 @@ pub row_after : (s : Source) (above : Scrollback) (rows : List RowValue) (width 
     row ≡ row_or width (picture_of_source s above rows width pen hidden).rows r
 row_after s above rows width pen hidden band r row e f = rw e f
 
--- The view of a picture of which a band has moved.
+-- The view of a picture in which a band has moved is the moved picture.
 pub moved_is : (above : Scrollback) (page : Page) (rows : List RowValue) (width height row : ℕ)
     (attrs drawn : Attrs) (hidden : Bool) (band : Band) →
     rows ≡ page.rows → width ≡ page.width → height ≡ length page.rows →

@@ -47,7 +47,7 @@ range_all xs ys w e f =
     take_whole [] = refl
     take_whole (z ∷ zs) = ap (λ (r : List CellValue). z ∷ r) (take_whole zs)
 
--- The row is displayed, and is wrapped only if it must be.
+-- The row is drawn, and is wrapped only if it must be.
 pub record DrewRow (w : Scripted) (base : Canvas) (done below : List RowValue)
     (start : Canvas) (x : RowValue) : Type 0 where
   pub draws : Draws w.ops start (mid base done below x.cells w.flag w.pen)
@@ -97,7 +97,7 @@ whole_item_draws base done below r height x y item hx hy =
 
 -- ---- items of a redraw after a wrapped row
 
--- The first cell is displayed.
+-- The first cell of the row is drawn.
 record Begins (j : Linked) (base : Canvas) (done below : List RowValue)
     (start : Canvas) (xs ys : List CellValue) (height : ℕ) : Type 0 where
   pub torn : CellValue
@@ -209,7 +209,7 @@ begin_draws base done below (blank a ∷ xs) (y ∷ ys) flag r height b e rows h
       within = record { row = omega arith; col = omega arith };
     }
 
--- The rest of the row is drawn.
+-- After the first cell, the other cells of the row are drawn.
 rest_draws : (j : Linked) (base : Canvas) (done below : List RowValue)
     (start : Canvas) (xs ys : List CellValue) (r height : ℕ) →
     Reads base height base.page.width → length done ≡ r → r + suc (length below) ≡ height →
@@ -231,7 +231,7 @@ rest_draws j base done below start xs ys r height reads e rows hx hy prints begi
     (subst (λ (z : List CellValue). DrawsIn Any w.ops middle (mid base done below z w.flag w.pen)) none drawn.draws) in
     all.draws
 
--- The item is read with the cursor in the first column of a blank row.
+-- The item of a row below a wrapped row can be drawn with the cursor in the first column of a blank row.
 pub linked_item_draws : (base : Canvas) (done below : List RowValue) (xs : List CellValue) (r height : ℕ) →
     Reads base height base.page.width → length done ≡ r → r + suc (length below) ≡ height →
     length xs ≡ base.page.width → Paired xs → PrintsCells base.page.width xs →
@@ -255,7 +255,8 @@ first_alike r pen other flag (right_half ∷ xs) (y ∷ ys) e n m h = absurd h
 first_alike r pen other flag (blank a ∷ xs) (y ∷ ys) e n m h = rw e refl
 first_alike r pen other flag (glyph text wide a ∷ xs) (y ∷ ys) e n m h = rw e refl
 
--- The item is read with a wrap pending after a glyph at the end of the row above, which then is wrapped.
+-- The item of a row below a wrapped row can be drawn with a wrap pending after a glyph at the end of the row above,
+-- which then becomes wrapped.
 pub linked_item_wraps : (base : Canvas) (done below : List RowValue)
     (above xs : List CellValue) (on : Bool) (r height : ℕ) →
     Reads base height base.page.width → length done ≡ r → r + suc (suc (length below)) ≡ height → ends above ≡ false →

@@ -1,4 +1,4 @@
--- Steps of the writer of a redraw.
+-- The writer's steps for a redraw.
 use Rattle.std.proofs.Common.{◌≡◌, ℕ, sym, ap, arith, eqb-true, true, false, List, [], ◌∷◌, refl, append-nil}
 use Rattle.std.proofs.lemmas.Bool.Decides.{nat_tests}
 use Rattle.std.proofs.lemmas.Bool.{cond_both}

@@ -7,7 +7,7 @@ use Rattle.vt_cells.specs.Glyph.{columns_of}
 use Rattle.vt_cells.specs.Op.{Op, Hide, ClearAttrs, MoveTo, MoveRight, NextRow, LineFeed, Backspace, EraseBelow}
 use Rattle.vt_cells.specs.Op.{EraseRest, EraseChars, SaveCursor, RestoreCursor, ChangeAttrs, Print, FitsAttrs}
 
--- The character is printed, or is added to the glyph before it.
+-- The character is printed, or is added to the glyph before the cursor.
 pub record IsDrawn (c : ℕ) : Type 0 where
   pub scalar : IsScalar c
   pub shown : columns_of c ≢ None

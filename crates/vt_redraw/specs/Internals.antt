@@ -26,64 +26,67 @@ use Rattle.vt_redraw.specs.declared.pen.Pen.{Pen}
 use Rattle.vt_redraw.specs.declared.view.Source.{Source}
 use Rattle.vt_redraw.specs.declared.view.Source.TheVariants.{InView, Blank, Moved}
 
--- The stored cells, extended to `cols` columns with copies of `end`.
+-- A row's stored cells, extended to `cols` columns with copies of the cell `end`.
 abbrev pub filled : List CellValue → ℕ → CellValue → List CellValue
 filled cells cols end = cells ++ replicate (cols - length cells) end
 
--- The stored cells of a picture's row fit in its columns, and the cell `end` that extends them is a blank.
+-- The stored cells of a picture's row fit in the row's `cols` columns, and the cell `end`, which fills the other
+-- columns, is a blank.
 pub record IsFilled (cells : List CellValue) (cols : ℕ) (end : CellValue) : Type 0 where
   pub inside : length cells ≤ cols
   pub blank : is_blank end ≡ true
 
--- Whether truncating the row to this many columns splits a wide character.
+-- Whether truncating a row to the given number of columns splits a wide character.
 abbrev pub is_split : ℕ → List CellValue → Bool
 is_split cols cells = nat_lt cols (length cells) && is_wide (at cells (cols - 1))
 
--- The number of cells that are unchanged when a row is truncated to this many columns.
+-- The number of cells at the start of a row that stay unchanged when the row is truncated to the given number of
+-- columns.
 abbrev pub kept_len : ℕ → List CellValue → ℕ
 kept_len cols cells = if is_split cols cells then cols - 1 else cols
 
--- The cell after the unchanged cells of a truncated row. It is a blank with the attributes of the wide character
--- that is split, if there is one, and otherwise a default blank.
+-- The cell after the unchanged cells of a truncated row: a blank with the attributes of the wide character that the
+-- truncation splits, if there is one, and otherwise a default blank.
 abbrev pub cell_past_cut : ℕ → List CellValue → CellValue
 cell_past_cut cols cells = if is_split cols cells then blank (attrs_of (at cells (cols - 1))) else default_blank
 
--- The precondition on the cells of a range and the cells displayed there and to its right. Each wide character has
--- its continuation cell in the range, or begins in the last column of the range with another displayed column after
--- it.
+-- The cells of a range can be drawn over the displayed cells `over`, a list that begins in the same column and is at
+-- least as long. Each wide character among `cells` has its continuation cell in the range, or begins in the last column
+-- of the range with another displayed column after it.
 pub record IsRange (cells over : List CellValue) : Type 0 where
   pub inside : length cells ≤ length over
   pub halves : (k : ℕ) → is_wide (at cells k) ≡ true → k + 1 < length cells → is_right_half (at cells (k + 1)) ≡ true
   pub room : (k : ℕ) → is_wide (at cells k) ≡ true → k + 1 < length over
 
--- The precondition on the cells of a row and the cells `over` displayed there: both lists have the same nonzero
--- length, and no wide character is split.
+-- The cells of a row can be drawn over the displayed cells `over`: both lists have the same nonzero length, and no wide
+-- character is split.
 pub record IsRowOver (cells over : List CellValue) : Type 0 where
   pub some : 0 < length cells
   pub same : length cells ≡ length over
   pub paired : IsPaired cells
 
--- The cell fits on a row of this many columns; a wide character takes two.
+-- The cell fits on a row of the given width; a wide character takes two columns.
 abbrev pub FitsColumns : ℕ → CellValue → Type 0
 FitsColumns width cell = glyph_columns (is_wide cell) ≤ width
 
--- The precondition on the cells of row `r + 1`, the cells `upper` of the row above, and the cells `over` that the
--- terminal displays in row `r + 1`.
+-- The cells of row `r + 1` can be drawn over the displayed cells `over`, below a row with the cells `upper`: neither
+-- row is empty or splits a wide character, and `r + 1` fits in 16 bits.
 pub record IsRowUnder (r : ℕ) (upper cells over : List CellValue) : Type 0 where
   pub short : r + 1 < 65536
   pub above : 0 < length upper
   pub last : IsPaired upper
   pub row : IsRowOver cells over
 
--- A row of a picture, truncated or extended to `width` columns. It is not wrapped if its last column is then blank
--- or if it is the last row.
+-- A row of a picture, truncated or extended to `width` columns. Its wrapped flag is cleared if its last column is then
+-- blank or if the row is the last one.
 abbrev pub cut_row : (is_last : Bool) → ℕ → RowValue → RowValue
 cut_row is_last width row = record {
   cells = resized width row.cells;
   wrapped = not is_last && (row.wrapped && not (ends_blank (resized width row.cells)));
 }
 
--- The precondition on the page, its scrollback and the pen from which a picture is built.
+-- A picture can be built from the page, its scrollback and the pen: all rows are valid, the page has at least one
+-- column and fewer than 65536 rows, and the pen is on the page.
 pub record IsSource (above : Scrollback) (rows : List RowValue) (width : ℕ) (pen : Pen) : Type 0 where
   pub scrollback : IsScrollback above
   pub page : All (IsRow width) rows
@@ -92,24 +95,26 @@ pub record IsSource (above : Scrollback) (rows : List RowValue) (width : ℕ) (p
   pub row : pen.row < length rows
   pub column : pen.col ≤ width
 
--- The precondition on the rows of a page and its scrollback: they are valid, and the page has `columns` columns.
+-- The rows of a page and of its scrollback are valid, and the page has `columns` columns, where `columns` is at least
+-- 1.
 pub record IsPageUnder (scrollback : Scrollback) (full : ℕ) (rows : List RowValue) (columns : ℕ) : Type 0 where
   pub above : IsScrollback scrollback
   pub page : All (IsRow full) rows
   pub width : full ≡ columns
   pub some : 0 < columns
 
--- Row `r` of a picture of the displayed rows; a blank row past the end.
+-- Row `r` of the picture made of the given displayed rows, or a blank row if `r` is past the end.
 abbrev pub row_seen : (is_last : Bool) → ℕ → List RowValue → ℕ → RowValue
 row_seen is_last width rows r = cut_row (is_last || (r + 1 == length rows)) width (row_or width rows r)
 
--- The rows of a picture that is built from this source.
+-- The rows of a picture, given its source: the displayed rows, blank rows, or the displayed rows after a band of rows
+-- has moved.
 abbrev pub source_rows : Source → Scrollback → List RowValue → ℕ → List RowValue
 source_rows InView above rows width = cut_rows width (visible above rows)
 source_rows Blank above rows width = replicate (length rows) (blank_row default_attrs width)
 source_rows (Moved band) above rows width = rows_moved width band (cut_rows width (visible above rows))
 
--- The picture that is built from this source.
+-- The picture that is built from the given source, with the position and attributes of the given pen.
 abbrev pub picture_of_source : Source → Scrollback → List RowValue → ℕ → Pen → Bool → Picture
 picture_of_source source above rows width pen hidden = record {
   rows = source_rows source above rows width;
@@ -124,7 +129,7 @@ picture_of_source source above rows width pen hidden = record {
 abbrev pub columns_of : CellValue → ℕ
 columns_of x = glyph_columns (is_wide x)
 
--- The operations that print a glyph at a position.
+-- The operations that print the glyph of a cell at a position.
 abbrev pub glyph_ops : Pen → Pos → CellValue → List Op
 glyph_ops pen pos x = placed_op pen pos.row pos.col (attrs_of x) (Print (text_of x))
 
@@ -132,12 +137,13 @@ glyph_ops pen pos x = placed_op pen pos.row pos.col (attrs_of x) (Print (text_of
 abbrev pub run_ops : Pen → Pos → Attrs → (count : ℕ) → RowValue → List Op
 run_ops pen pos attrs count y = placed_op pen pos.row pos.col attrs (erase_run count (drop (pos.col + count) y.cells))
 
--- Whether the cell in column `c` needs no output, because the terminal displays it already or it is the continuation
--- cell of a wide character.
+-- Whether the cell in column `c` of the row `x` needs no output, because the displayed row `y` has an equal cell there
+-- or because the cell is the continuation cell of a wide character.
 abbrev pub stands : ℕ → (x y : RowValue) → Bool
 stands c x y = is_right_half (at x.cells c) || same_cell (at x.cells c) (at y.cells c)
 
--- The precondition on the cell at column `c`, which is in a range and needs output.
+-- The cell at column `c` of the row `x` needs output, and the cells of `x` can be drawn over the cells of `y`. The row
+-- `y` has fewer than 65536 cells.
 pub record IsOther (c : ℕ) (x y : RowValue) : Type 0 where
   pub inside : c < length x.cells
   pub range : IsRange x.cells y.cells
@@ -145,14 +151,14 @@ pub record IsOther (c : ℕ) (x y : RowValue) : Type 0 where
   pub other : stands c x y ≡ false
 
 -- Appending the remaining output `written` to `text` gives the same text as appending the whole output `whole` to
--- `start`.
+-- `start`, and leads to the same pen and the same wrapped flag.
 pub record Leads (text : List ℕ) (written : Scripted) (start : List ℕ) (whole : Scripted) : Type 0 where
   pub bytes : text ++ bytes_of_all written.ops ≡ start ++ bytes_of_all whole.ops
   pub pen : written.pen ≡ whole.pen
   pub flag : written.flag ≡ whole.flag
 
--- Appending the remaining output `written` to `text` gives the same text as appending the whole output `whole` to
--- `start`, and `text` is not shorter than `start`.
+-- Appending the remaining output `written` to `text` gives the same text, pen and wrapped flag as appending the whole
+-- output `whole` to `start`, and `text` is not shorter than `start`.
 pub record LeadsOn (text : List ℕ) (written : Scripted) (start : List ℕ) (whole : Scripted) : Type 0 where
   pub leads : Leads text written start whole
   pub grows : length start ≤ length text
@@ -165,32 +171,32 @@ cells_from r c pen flag xs ys = cells_written r c pen flag 0 (drop c xs) (drop c
 abbrev pub cells_over : Pos → Pen → Bool → (x y : RowValue) → Scripted
 cells_over pos pen flag x y = cells_from pos.row pos.col pen flag x.cells y.cells
 
--- The output that replaces the displayed row `y` with the row `x`, starting at a position. A continuation cell at
--- that position counts as a default blank.
+-- The output that replaces the displayed row `y` with the row `x`, starting at a position. A continuation cell of `x`
+-- at that position counts as a default blank.
 abbrev pub range_over : Pos → Pen → Bool → (x y : RowValue) → Scripted
 range_over pos pen flag x y =
     cells_written pos.row pos.col pen flag 0 (with_whole_start (drop pos.col x.cells))
     (with_whole_start_over (drop pos.col x.cells) (drop pos.col y.cells))
 
--- No cell in columns `c..next` needs output, so the output from either column is the same.
+-- No cell in columns `c..next` needs output, so the output from column `c` on equals the output from column `next` on.
 pub record Passes (c next : ℕ) (xs ys : List CellValue) : Type 0 where
   pub same : (r : ℕ) (pen : Pen) (flag : Bool) → cells_from r c pen flag xs ys ≡ cells_from r next pen flag xs ys
 
--- The effect of appending the output of `ops`. It fails only if the sink rejects some nonempty output.
+-- The effect of appending the output of `ops`. The call fails only if the sink rejects some nonempty output.
 pub record AppendsOrStops {A E : Type 0} (result : Result A E) (start end : List ℕ) (ops : List Op) : Type 0 where
   pub text : OnOk result (end ≡ start ++ bytes_of_all ops)
   pub some : RefusedOnlyIfSome result (bytes_of_all ops)
 
--- The effect of appending the output of `ops` through a buffer for small writes. It fails only if the sink rejects
--- some nonempty output.
+-- The effect of appending the output of `ops` through a buffer for small writes. The call fails only if the sink
+-- rejects some nonempty output.
 pub record GathersOrStops {A E : Type 0} (result : Result A E) (start before end behind : List ℕ)
     (ops : List Op) : Type 0 where
   pub text : OnOk result (gathered end behind ≡ gathered start before ++ bytes_of_all ops)
   pub grows : OnOk result (length start ≤ length end)
   pub some : RefusedOnlyIfSome result (before ++ bytes_of_all ops)
 
--- The effect of writing the output for the cells at a position. It returns the number of columns that it completed,
--- and fails only if the sink rejects some nonempty output.
+-- The effect of writing the output for the cells at a position. The call returns the number of columns that it
+-- completed, and fails only if the sink rejects some nonempty output.
 pub record SettlesOrStops {E : Type 0} (result : Result ℕ E) (start before end behind : List ℕ)
     (pen : Pen) (flag : Bool) (pos : Pos) (x y : RowValue) (whole : Scripted) : Type 0 where
   pub leads : IfOk result (λ n. Leads (gathered end behind)
@@ -200,42 +206,45 @@ pub record SettlesOrStops {E : Type 0} (result : Result ℕ E) (start before end
   pub grows : OnOk result (length start ≤ length end)
   pub refused : RefusedOnlyIfSome result (before ++ bytes_of_all whole.ops)
 
--- `text` is `start` followed by the output of a link, and the state after the link is that of `whole`.
+-- `text` is `start` followed by a link, which is the output that joins a row to the wrapped row above it. After the
+-- link, the pen, the wrapped flag and the number of cells already drawn are those of `whole`.
 pub record Links (start text : List ℕ) (pen : Pen) (link : Link) (whole : Linked) : Type 0 where
   pub bytes : text ≡ start ++ bytes_of_all whole.ops
   pub stands : pen ≡ whole.pen
   pub goes_on : link.flag ≡ whole.flag
   pub done : link.settled ≡ whole.settled
 
--- The effect of writing the output of a link. It fails only if the sink rejects some nonempty output.
+-- The effect of writing a link, which is the output that joins a row to the wrapped row above it. The call fails only
+-- if the sink rejects some nonempty output.
 pub record LinksOrStops {E : Type 0} (result : Result Link E)
     (start text : List ℕ) (pen : Pen) (whole : Linked) : Type 0 where
   pub links : IfOk result (λ link. Links start text pen link whole)
   pub some : RefusedOnlyIfSome result (bytes_of_all whole.ops)
 
--- `text` is `start` followed by the output of a row, and the state after the row is that of `whole`.
+-- `text` is `start` followed by the output of a row, and the pen and the wrapped flag after the row are those of
+-- `whole`.
 pub record Writes (start text : List ℕ) (pen : Pen) (flag : Bool) (whole : Scripted) : Type 0 where
   pub bytes : text ≡ start ++ bytes_of_all whole.ops
   pub stands : pen ≡ whole.pen
   pub goes_on : flag ≡ whole.flag
 
--- The output for a row, after its link to the row above was written.
+-- The output for row `r` after the link that joins this row to the row above was written.
 abbrev pub row_behind : ℕ → Link → Pen → (x y : RowValue) → Scripted
 row_behind r link pen x y = row_written r link.settled pen link.flag x y.cells
 
--- The output for the rows below row `r`.
+-- The output that turns the terminal's rows below row `r` from those of `ys` into those of `xs`.
 abbrev pub rows_under : (r width : ℕ) → Pen → Bool → (xs ys : List RowValue) → Scripted
 rows_under r width pen on xs ys = rows_below r pen (row_or width xs r) on (drop (r + 1) xs) (drop (r + 1) ys)
 
--- The operations that set the wrapped flag of the terminal's row if it is wanted and not set.
+-- The operations that set the wrapped flag of the terminal's row; none unless the flag is wanted and not yet set.
 abbrev pub mark_of : ℕ → Pen → (flag wanted : Bool) → List CellValue → List Op
 mark_of r pen flag wanted cells = if wanted && not flag then (behind_last_glyph r pen cells).ops else []
 
--- The output that clears the wrapped flag of the terminal's row, if row `x` is not wrapped.
+-- The output that clears the wrapped flag of the terminal's row if the row to be drawn is not wrapped.
 abbrev pub break_of : ℕ → Pen → Bool → RowValue → Scripted
 break_of r pen flag x = row_break r pen flag x.wrapped x.cells
 
--- The operations that follow the cells of a whole row: they clear or set the wrapped flag of the terminal's row.
+-- The operations that follow the cells of a whole row and clear or set the wrapped flag of the terminal's row.
 abbrev pub end_ops : ℕ → Pen → Bool → RowValue → List Op
 end_ops r pen flag x =
     (break_of r pen flag x).ops
@@ -246,6 +255,6 @@ pub record IsWithin (bound : ℕ) (cell : CellValue) : Type 0 where
   pub sound : IsCell cell
   pub bytes : length (text_of cell) ≤ bound
 
--- Every glyph of the row is steady.
+-- Every glyph of the row is steady on a screen of the given width.
 abbrev pub IsSteadyRow : ℕ → RowValue → Type 0
 IsSteadyRow width row = All (IsSteadyCell width) row.cells

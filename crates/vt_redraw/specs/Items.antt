@@ -25,16 +25,16 @@ with_whole_start (right_half ∷ xs) = default_blank ∷ xs
 with_whole_start (blank a ∷ xs) = blank a ∷ xs
 with_whole_start (glyph text wide a ∷ xs) = glyph text wide a ∷ xs
 
--- The displayed cells `ys`, adapted to `with_whole_start xs`. If `xs` begins with a continuation cell, the first
--- cell of `ys` becomes a default blank if it is also a continuation cell, so that it needs no output. If it is not,
--- it becomes a continuation cell, so that the blank is drawn.
+-- The displayed cells `ys`, adapted to `with_whole_start xs`. If both lists begin with a continuation cell, the first
+-- cell of `ys` becomes a default blank, so that it needs no output. If only `xs` begins with a continuation cell, the
+-- first cell of `ys` becomes a continuation cell, so that the blank is drawn.
 abbrev pub with_whole_start_over : (xs ys : List CellValue) → List CellValue
 with_whole_start_over (right_half ∷ xs) (right_half ∷ ys) = default_blank ∷ ys
 with_whole_start_over (right_half ∷ xs) (blank a ∷ ys) = right_half ∷ ys
 with_whole_start_over (right_half ∷ xs) (glyph text wide a ∷ ys) = right_half ∷ ys
 with_whole_start_over _ ys = ys
 
--- The output for the cells in a range of columns.
+-- The output that replaces the displayed cells `ys` with `xs` in the columns `start..stop` of row `r`.
 abbrev pub range_written : (r start stop : ℕ) → Bool → (xs ys : List CellValue) → Scripted
 range_written r start stop flag xs ys =
     cells_written r start (pen_at r start default_attrs) flag 0
@@ -43,7 +43,7 @@ range_written r start stop flag xs ys =
 abbrev pub is_whole : (start stop width : ℕ) → Bool
 is_whole start stop width = (start == 0) && (stop == width)
 
--- The output `w`, after which the row's last glyph is printed again if the row must be wrapped and the terminal's row
+-- The given output, followed by printing the row's last glyph again if the row must be wrapped and the terminal's row
 -- is not.
 abbrev pub marked_on : ℕ → Scripted → Bool → List CellValue → Scripted
 marked_on r w wanted cells =
@@ -59,15 +59,16 @@ abbrev pub is_linked : (width : ℕ) → List RowValue → ℕ → Bool
 is_linked width rows zero = false
 is_linked width rows (suc r) = (row_or width rows r).wrapped
 
--- The output that replaces a range of the terminal's row `y` with the row `x`. For a whole row, it also sets or
--- clears the wrapped flag.
+-- The output that replaces a range of the terminal's row `y` with the same range of the row `x`. If the range is the
+-- whole row, the output also sets or clears the wrapped flag.
 abbrev pub item_of_difference : (r start stop : ℕ) → (x y : RowValue) → Scripted
 item_of_difference r start stop x y =
     let w = range_written r start stop y.wrapped x.cells y.cells in
     let b = row_break r w.pen w.flag x.wrapped x.cells in
     if is_whole start stop (length x.cells) then marked_on r (ops_then w.ops b) x.wrapped x.cells else w
 
--- The output for a whole row below a wrapped row: its first cell is printed as in a link.
+-- The output for a whole row below a wrapped row: the row's first cell is printed while a wrap is pending in the
+-- wrapped row.
 abbrev pub linked_item : ℕ → List CellValue → Scripted
 linked_item r xs =
     let first = first_written r (pen_at r 0 default_attrs) false xs (blanks default_attrs (length xs)) in
@@ -79,7 +80,7 @@ item_of_redraw r start stop linked x =
     if is_whole start stop (length x.cells) && linked then linked_item r x.cells
     else range_written r start stop false x.cells (blanks default_attrs (length x.cells))
 
--- The bytes of the output that turns a range of row `r` of the picture `prev` into that of `self`.
+-- The bytes of the output that turns a range of row `r` of the picture `prev` into the same range of row `r` of `self`.
 abbrev pub changed_row_text : (r start stop : ℕ) → (self prev : Picture) → List ℕ
 changed_row_text r start stop self prev =
     bytes_of_all (item_of_difference r start stop (row_or self.width self.rows r) (row_or self.width prev.rows r)).ops
@@ -91,7 +92,7 @@ formatted_row_text r start stop self =
 
 -- ---- the rows that are drawn
 
--- The cells `ys`, with the cells in the range replaced by those of `xs`.
+-- The cells `ys`, with the cells in the columns `start..stop` replaced by those of `xs`.
 abbrev pub with_range : (start stop : ℕ) → (xs ys : List CellValue) → List CellValue
 with_range start stop xs ys = take start ys ++ (in_range start stop xs ++ drop stop ys)
 
@@ -99,7 +100,7 @@ with_range start stop xs ys = take start ys ++ (in_range start stop xs ++ drop s
 abbrev pub CutsNone : (start stop : ℕ) → List CellValue → Type 0
 CutsNone start stop cells = (is_right_half (at cells start) ≡ false) × (is_right_half (at cells stop) ≡ false)
 
--- The canvas is plain, has the picture's size and default attributes, and its row `r` is `stood`. The cursor is in
+-- The canvas is plain, has default attributes and the picture's size, and has `stood` as its row `r`. The cursor is in
 -- column `c` of that row.
 pub record AwaitsItem (self : Picture) (r c : ℕ) (stood : RowValue) (any : Canvas) : Type 0 where
   pub plain : IsPlainPage any.page
@@ -110,17 +111,18 @@ pub record AwaitsItem (self : Picture) (r c : ℕ) (stood : RowValue) (any : Can
   pub attrs : any.attrs ≡ default_attrs
   pub stands : row_at any.page r ≡ stood
 
--- The row `y` after it receives the output `item_of_difference`.
+-- The terminal's row `y` after the output of `item_of_difference` has replaced a range of its columns with those of the
+-- row `x`.
 abbrev pub changed_row : (r start stop : ℕ) → (x y : RowValue) → RowValue
 changed_row r start stop x y =
     record { cells = with_range start stop x.cells y.cells; wrapped = (item_of_difference r start stop x y).flag }
 
--- A blank row after it receives the output `item_of_redraw`.
+-- A blank row of the terminal after the output of `item_of_redraw` has drawn a range of the given row on it.
 abbrev pub formatted_row : (start stop width : ℕ) → RowValue → RowValue
 formatted_row start stop width x =
     record { cells = with_range start stop x.cells (blanks default_attrs width); wrapped = false }
 
--- The canvas with row `r` replaced, and with the cursor and attributes of a pen.
+-- The canvas after row `r` is replaced with the given row, with the cursor position and attributes of a pen.
 abbrev pub row_drawn : ℕ → RowValue → Pen → Canvas → Canvas
 row_drawn r row pen any = record any {
   page = record (with_row r row any.page) { row = pen.row; column = pen.col };

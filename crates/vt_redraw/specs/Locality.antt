@@ -20,16 +20,16 @@ Differs self prev r = row_of_picture self r ≢ row_of_picture prev r
 abbrev pub IsNear : (self prev : Picture) → ℕ → Type 0
 IsNear self prev r = Differs self prev r ⊎ ((0 < r) × Differs self prev (r - 1))
 
--- The first column of the cell that covers column `k`.
+-- The first column of the cell or wide glyph that covers column `k`.
 abbrev pub begin_of : List CellValue → ℕ → ℕ
 begin_of cells k = if is_right_half (at cells k) then k - 1 else k
 
--- Whether column `k` is covered by a glyph that is equal in both rows.
+-- Whether column `k` is covered by a glyph that both rows have at the same place.
 abbrev pub stands_alike : (xs ys : List CellValue) → ℕ → Bool
 stands_alike xs ys k = is_glyph (at xs (begin_of xs k)) && same_cell (at xs (begin_of xs k)) (at ys (begin_of xs k))
 
--- The position is in or directly below a row that differs. If a glyph there is equal in both pictures, it is the
--- first or the last of its row.
+-- The position is in or directly below a row that differs between the two pictures. If a glyph at the position is equal
+-- in both pictures, this glyph begins in the first column or covers the last column of its row.
 abbrev pub MayDraw : (self prev : Picture) → ℕ → ℕ → Type 0
 MayDraw self prev r c =
     IsNear self prev r
@@ -37,18 +37,20 @@ MayDraw self prev r c =
     → (begin_of (row_of_picture self r).cells c ≡ 0)
     ⊎ (begin_of (row_of_picture self r).cells c ≡ last_column (row_of_picture self r).cells))
 
--- The row on whose last glyph the cursor is placed to make a wrap pending.
+-- The row in which the cursor is placed to make a wrap pending in row `r`: row `i` if the first argument is `Some i`,
+-- otherwise row `r` itself.
 abbrev pub placing_row : Option ℕ → ℕ → ℕ
 placing_row None r = r
 placing_row (Some i) r = i
 
--- The position is in the last glyph, or the blank last column, of the row where a wrap is made pending.
+-- The cursor of the picture has a wrap pending, and the position is in the last glyph, or in the blank last column, of
+-- the row in which that wrap is made pending.
 abbrev pub MayPlace : Picture → ℕ → ℕ → Type 0
 MayPlace self r c =
     (self.column ≡ self.width)
     × ((r ≡ placing_row (nearest self.width self.rows self.row) self.row)
     × (last_column (row_of_picture self r).cells ≤ c))
 
--- A difference may touch this position.
+-- A difference that turns the picture `prev` into `self` may touch the position.
 abbrev pub IsLocal : (self prev : Picture) → ℕ → ℕ → Type 0
 IsLocal self prev r c = MayDraw self prev r c ⊎ MayPlace self r c

@@ -16,18 +16,20 @@ use Rattle.vt_redraw.specs.Script.{last_glyph, cells_written, Linked, no_link, r
 
 -- ---- the rows from the top
 
--- The output for one row: its cells, except for the first `settled` cells, and the break after it.
+-- The output for row `r`: the row's cells, except for the first `settled` cells, and then the break, which clears the
+-- wrapped flag if the row must not be wrapped.
 unfoldable pub row_written : (r settled : ℕ) → Pen → Bool → RowValue → List CellValue → Scripted
 row_written r settled pen flag x ys =
     let cells = cells_written r 0 pen flag settled x.cells ys in
     ops_then cells.ops (row_break r cells.pen cells.flag x.wrapped x.cells)
 
--- The link from row `r` to the next row, if row `r` is wrapped.
+-- The output that joins row `r` to the next row if row `r` is wrapped; empty otherwise.
 abbrev pub link_of : ℕ → Pen → RowValue → Bool → RowValue → RowValue → Linked
 link_of r pen above on x y =
     if above.wrapped then row_link r pen above.cells on y.wrapped x.cells y.cells else no_link pen y.wrapped
 
--- The output for the rows below row `r`, which is `above`; `on` says whether row `r` of the terminal is wrapped.
+-- The output that turns the rows `ys`, which the terminal displays below a given row, into the rows `xs`; the flag says
+-- whether the given row is wrapped on the terminal.
 unfoldable pub rows_below : ℕ → Pen → RowValue → Bool → (xs ys : List RowValue) → Scripted
 rows_below r pen above on [] ys = no_ops pen on
 rows_below r pen above on (x ∷ xs) [] = no_ops pen on
@@ -56,12 +58,13 @@ blank_passed was attrs =
     Print (0x20 ∷ [])
     ∷ (attr_ops was attrs ++ (SaveCursor ∷ Backspace ∷ EraseChars 1 ∷ RestoreCursor ∷ attr_ops attrs was))
 
--- The operations that make a wrap pending at the end of row `r`, whose last column is a blank with these attributes.
+-- The operations that make a wrap pending at the end of row `r`, whose last column is a blank with the given
+-- attributes.
 unfoldable pub over_blank : Pen → (r width : ℕ) → Attrs → List Op
 over_blank pen r width attrs = move_ops pen r (width - 1) ++ blank_passed pen.attrs attrs
 
--- The operations that make a wrap pending at the end of row `r`: they print the last glyph of row `i` and then move
--- down.
+-- The operations that make a wrap pending at the end of row `r` by printing the last glyph of row `i` and then moving
+-- down to row `r`.
 unfoldable pub under_last : Pen → (i r : ℕ) → List CellValue → List Op
 under_last pen i r cells =
     (behind_last_glyph i pen cells).ops
@@ -83,7 +86,7 @@ cursor_written pen width rows row column =
 abbrev pub pen_of : Picture → Pen
 pen_of picture = pen_at picture.row picture.column picture.attrs
 
--- The operations that turn the picture `prev` into `self`: rows, cursor and attributes.
+-- The operations that turn the picture `prev` into `self`: first its rows, then its cursor and attributes.
 unfoldable pub script : (self prev : Picture) → List Op
 script self prev =
     let written = rows_written (pen_of prev) self.rows prev.rows in
@@ -96,7 +99,7 @@ hiding self prev = if same_bool self.hidden prev.hidden then [] else Hide self.h
 unfoldable pub difference : (self prev : Picture) → List Op
 difference self prev = hiding self prev ++ script self prev
 
--- The blank picture of the same size.
+-- The blank picture of the same size as the given picture.
 abbrev pub blank_like : Picture → Picture
 blank_like picture = record {
   rows = replicate (length picture.rows) (blank_row default_attrs picture.width);
@@ -134,7 +137,7 @@ cursor_state self = Hide self.hidden ∷ cursor_alone self
 
 -- ---- pictures in sequence
 
--- The differences between each picture and the one before it.
+-- The operations that turn the first picture into each picture of the list in turn.
 abbrev pub differences : Picture → List Picture → List Op
 differences prev [] = []
 differences prev (x ∷ xs) = difference x prev ++ differences x xs

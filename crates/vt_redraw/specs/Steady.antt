@@ -15,8 +15,8 @@ abbrev pub blank_line : ℕ → Attrs → Canvas
 blank_line width attrs =
     record { page = blank_page 1 width; attrs = attrs; saved_attrs = default_attrs; hidden = false }
 
--- Printing the characters of the text on a blank row produces exactly this glyph at the beginning of the row, with
--- the cursor after it.
+-- Printing the characters of a glyph's text on a blank row produces exactly that glyph at the beginning of the row,
+-- with the cursor after it.
 abbrev pub IsSteadyGlyph : ℕ → List ℕ → Bool → Attrs → Type 0
 IsSteadyGlyph width text wide attrs =
     drawn_text (chars text) (blank_line width attrs)
@@ -30,7 +30,7 @@ IsSteadyCell width right_half = Unit {0}
 abbrev pub IsSteady : Picture → Type 0
 IsSteady picture = All (λ row. All (IsSteadyCell picture.width) row.cells) picture.rows
 
--- The picture is valid, steady, and of this width and height.
+-- The picture is valid, steady, and of the given width and height.
 pub record IsOfSize (width height : ℕ) (picture : Picture) : Type 0 where
   pub is : IsPicture picture
   pub steady : IsSteady picture

@@ -98,7 +98,8 @@ fn gather_glyph<S: Sink>(
 }
 
 /// Writes the sequence that erases `count` columns (ECH), or the rest of the
-/// row (EL) if the columns extend to its end. `end` is the column after them.
+/// row (EL) if the columns extend to its end. `end` is the column after the
+/// erased columns.
 #[tactic(auto, using(crate::proofs::Filling::erase_run_counted))]
 fn write_erase<S: Sink>(
     sink: &mut S,
@@ -214,7 +215,8 @@ fn pass_same(cells: &PictureRow<'_>, over: &PictureRow<'_>, col: u16) -> u16
 /// column past the end of the row if there is none.
 ///
 /// One loop handles the columns in which both rows have stored cells, a second
-/// one those in which only `cells` has them, and a third one the rest.
+/// loop the columns in which only `cells` has stored cells, and a third loop
+/// the remaining columns.
 fn next_other(cells: &PictureRow<'_>, over: &PictureRow<'_>, col: u16) -> u16
     requires range { IsRange cells.now.cells over.now.cells }
     ensures order { col ≤ result }
@@ -261,7 +263,7 @@ fn write_next<S: Sink>(
 }
 
 /// Writes the output that the cells of a row need, starting at a column.
-/// Returns early if they need none.
+/// Returns early if no cell needs output.
 ///
 /// # Errors
 ///

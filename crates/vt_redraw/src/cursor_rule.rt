@@ -51,7 +51,7 @@ pub fn write_feeds<S: Sink>(sink: &mut S, count: u16) -> Result<(), S::Error>
 
 /// Writes the sequences that leave a wrap pending after a blank with attributes
 /// `attrs` in the last column. They print a space there and erase it again
-/// without cancelling the wrap. The cursor must be on the last column. The
+/// without canceling the wrap. The cursor must be on the last column. The
 /// terminal has the attributes `was` both before and after.
 ///
 /// # Errors

@@ -1,5 +1,6 @@
 //! A guess at the rows that have moved between two pictures. Correctness does
-//! not depend on it: after any band has moved, the difference draws the rest.
+//! not depend on the guess: after any band has moved, the diff draws all
+//! remaining changes.
 
 ghost use Rattle.std.specs.Prelude.{◌≡◌, ◌+◌, ◌<◌, ◌≤◌, IfSome, IsSome, length};
 ghost use Rattle.vt_redraw.specs.Moved.{IsBand};
@@ -24,8 +25,7 @@ const MARGIN: u16 = 8;
 /// row.
 const RUN: i32 = 4;
 
-/// The minimum length, in bytes, of a difference that is examined for moved
-/// rows.
+/// The minimum length, in bytes, of a diff that is examined for moved rows.
 const LEAST_TEXT: usize = 20;
 
 /// The number of columns, starting after the margin, whose text determines the
@@ -54,7 +54,7 @@ struct Shift {
 }
 
 /// A range of rows that a shift moves to the right place, and the approximate
-/// number of bytes that this saves.
+/// number of bytes that the shift saves.
 #[derive(Clone, Copy)]
 struct Stretch {
     gain: i32,
@@ -232,7 +232,7 @@ fn likely_shift(view: &View<'_>, prev: &View<'_>, height: u16, here: &Numbers) -
 }
 
 /// Adds a vote of the given weight for each shift that would move a row of
-/// `prev` that matches `cells` to `row`. Adds none if `cells` has no text.
+/// `prev` that matches `cells` to `row`. Adds no vote if `cells` has no text.
 fn vote(
     votes: &mut [i32; 512],
     cells: &PictureRow<'_>,
@@ -299,8 +299,8 @@ fn are_alike(cells: &PictureRow<'_>, over: &PictureRow<'_>, start: u16) -> bool 
     true
 }
 
-/// Returns the shift with the most votes. In a tie, returns the one that moves
-/// rows furthest down.
+/// Returns the shift with the most votes. In a tie, returns the shift that
+/// moves rows furthest down.
 fn heaviest(votes: &[i32; 512]) -> Option<Shift> {
     let mut best = 0;
     let mut shift = None;
@@ -317,9 +317,8 @@ fn heaviest(votes: &[i32; 512]) -> Option<Shift> {
     shift
 }
 
-/// Returns, for each row, how many fewer bytes the rows above it would need in
-/// total if the terminal's rows were blank than they need over the terminal's
-/// present rows.
+/// Returns, for each row, how many bytes the rows above it would save in total
+/// if they were drawn over blank rows instead of the terminal's present rows.
 fn savings(view: &View<'_>, height: u16, here: &Numbers) -> [i32; 257]
     requires inside { height ≤ length view.now.rows }
     requires few { height ≤ 256 }
@@ -337,8 +336,8 @@ fn savings(view: &View<'_>, height: u16, here: &Numbers) -> [i32; 257]
     savings
 }
 
-/// Returns how many fewer bytes rows `first..behind` would need if the
-/// terminal's rows were blank than they need over the terminal's present rows.
+/// Returns how many bytes rows `first..behind` would save if they were drawn
+/// over blank rows instead of the terminal's present rows.
 fn between(savings: &[i32; 257], first: u16, behind: u16) -> i32
     requires first { first ≤ 256 }
     requires behind { behind ≤ 256 }
@@ -347,7 +346,8 @@ fn between(savings: &[i32; 257], first: u16, behind: u16) -> i32
 }
 
 /// Returns the range of rows for which the shift saves the most bytes, or
-/// `None` if it saves none. In a tie, returns the range that ends last.
+/// `None` if the shift saves no bytes. In a tie, returns the range that ends
+/// last.
 fn best_stretch(
     view: &View<'_>,
     prev: &View<'_>,
@@ -412,7 +412,7 @@ impl Shift {
 
 impl Stretch {
     /// Returns the range extended by `row`, or a new range that begins with
-    /// `row` if that saves more.
+    /// `row` if the new range saves more bytes.
     fn and_row(&self, row: u16, opening: i32, gain: i32) -> Stretch
         requires { row < 65535 }
         ensures { result.behind ≡ row + 1 }
@@ -432,9 +432,9 @@ impl Stretch {
         }
     }
 
-    /// Returns the number of bytes that moving the range saves if the range
-    /// ends here. Rows below it that become blank count as savings, and the
-    /// escape sequences of the move as costs.
+    /// Returns the number of bytes that moving the range saves if the range is
+    /// not extended. Rows below the range that become blank count as savings,
+    /// and the escape sequences of the move as costs.
     fn closed(
         &self,
         shift: Shift,

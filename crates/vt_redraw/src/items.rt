@@ -54,8 +54,9 @@ fn write_begin<S: Sink>(
     Ok(col + count)
 }
 
-/// Writes a range of columns of a row. `cells` must be cut to the end of the
-/// range. `flag` says whether the terminal's row is wrapped, and is updated.
+/// Writes the output that a range of columns of a row needs. `cells` must be
+/// cut to the end of the range. `flag` says whether the terminal's row is
+/// wrapped, and is updated.
 fn write_range<S: Sink>(
     sink: &mut S,
     pen: &mut Pen,
@@ -75,7 +76,8 @@ fn write_range<S: Sink>(
 }
 
 /// Prints the last glyph of a row again if the row is wrapped and the
-/// terminal's row is not. A wrap is then pending on the terminal.
+/// terminal's row is not. In that case, a wrap is pending on the terminal
+/// afterward.
 fn write_mark<S: Sink>(
     sink: &mut S,
     pen: &mut Pen,
@@ -98,8 +100,9 @@ fn write_mark<S: Sink>(
 }
 
 /// Writes the output that a whole row needs after its cells. If only the
-/// terminal's row is wrapped, this is a break. If only the picture's row is
-/// wrapped, it is the last glyph again, which leaves a wrap pending.
+/// terminal's row is wrapped, this output is a break, after which the row is no
+/// longer wrapped. If only the picture's row is wrapped, the last glyph is
+/// printed again, which leaves a wrap pending.
 fn write_end<S: Sink>(
     sink: &mut S,
     pen: &mut Pen,
@@ -117,8 +120,9 @@ fn write_end<S: Sink>(
 
 /// Writes columns `start..stop` of a row of `view`, for a terminal that
 /// displays the same row of `prev`. If these columns are the whole row, the
-/// terminal's row is then not wrapped if the row of `view` is not. If only the
-/// row of `view` is wrapped, a wrap is then pending on the terminal.
+/// terminal's row is not wrapped afterward unless the row of `view` is wrapped.
+/// If only the row of `view` is wrapped, a wrap is pending on the terminal
+/// afterward.
 ///
 /// The terminal's cursor must be in column `start` of the row, and the terminal
 /// must have default attributes.
@@ -158,7 +162,7 @@ pub fn write_row_diff<S: Sink>(
     write_end(sink, &mut pen, row, flag, &cells)
 }
 
-/// Returns whether a range of columns is the whole row.
+/// Returns whether the columns `start..stop` are the whole row.
 fn is_whole(start: u16, stop: u16, cells: &PictureRow<'_>) -> bool
     ensures { result ≡ is_whole start stop (length cells.now.cells) }
 {
@@ -219,8 +223,8 @@ fn is_linked(view: &View<'_>, row: u16) -> bool
     row > 0 && view.row(row - 1).wrapped()
 }
 
-/// Returns whether a range of columns is a whole row and the row above it is
-/// wrapped.
+/// Returns whether the columns `start..stop` are a whole row and the row above
+/// it is wrapped.
 fn needs_link(view: &View<'_>, row: u16, start: u16, stop: u16, cells: &PictureRow<'_>) -> bool
     requires { row < length view.now.rows }
     ensures { result ≡ (is_whole start stop (length cells.now.cells) && is_linked view.now.width view.now.rows row) }

@@ -1,5 +1,5 @@
-//! Theorems about redraws and differences. The functions do nothing when
-//! called; their clauses state what is proved.
+//! Theorems about redraws and diffs. The functions do nothing when called;
+//! their clauses state what is proved.
 
 ghost use Rattle.std.specs.Prelude.{◌≡◌, ◌+◌, ◌<◌, ◌≤◌, ◌↔◌, ◌++◌, ℕ, [], Bool, List, Some, false, length, true};
 ghost use Rattle.std.specs.List.{AllByRecursion};
@@ -21,51 +21,55 @@ ghost use Rattle.vt_redraw.specs.Redraw.{cursor_state, difference, differences, 
 ghost use Rattle.vt_redraw.specs.Steady.{HasNoSelector, IsOfSize, IsSteady, IsSteadyCell, heart_text};
 ghost use Rattle.vt_redraw.specs.Touching.{Touches};
 
-/// States that the difference between `self` and `prev`, drawn on any plain
-/// canvas that displays `prev`, makes it display `self`. Apart from that, only
-/// the saved cursor, origin mode and attributes may change.
+/// States that drawing the diff from one picture to another on a plain canvas
+/// that displays the first picture makes the canvas display the second picture,
+/// if the second picture is steady. Apart from what is displayed, only the
+/// saved cursor, origin mode and attributes may change.
 pub fn difference_draws()
     ensures { (self prev : Picture) → (any : Canvas) → IsPicture self → IsSteady self →
         IsPicture prev → SamePictureSize self prev → IsPlainPage any.page → picture_of any ≡ prev →
         (saved : Saved) × (drawn_all (difference self prev) any ≡ Some (with_saved saved (with_picture self any))) }
 {}
 
-/// States that the difference between two pictures touches only positions in or
-/// near what differs, and possibly the end of one row.
+/// States that the diff from one picture to another touches only positions in
+/// rows that differ or directly below them, and possibly the end of one row.
+/// The second picture must be steady.
 pub fn difference_local()
     ensures { (self prev : Picture) → (any : Canvas) → IsPicture self → IsSteady self →
         IsPicture prev → SamePictureSize self prev → IsPlainPage any.page →
         picture_of any ≡ prev → Touches (IsLocal self prev) (difference self prev) any }
 {}
 
-/// States that the difference between a picture and itself is empty.
+/// States that the diff from a picture to itself is empty.
 pub fn difference_self()
     ensures { (picture : Picture) → difference picture picture ≡ [] }
 {}
 
-/// States that two pictures are equal if the difference between them is empty.
+/// States that two pictures of the same size are equal if the diff from the
+/// first picture to the second is empty and the second picture is steady.
 pub fn empty_only()
     ensures { (self prev : Picture) → IsPicture self → IsSteady self → IsPicture prev →
         SamePictureSize self prev → difference self prev ≡ [] → self ≡ prev }
 {}
 
-/// States that the redraw of a picture, drawn on any plain canvas of the same
-/// size, makes it display the picture.
+/// States that the redraw of a steady picture, drawn on any plain canvas of the
+/// same size, makes the canvas display the picture.
 pub fn redraw_draws()
     ensures { (self : Picture) → (any : Canvas) → IsPicture self → IsSteady self →
         IsPicture (picture_of any) → IsPlainPage any.page → SamePictureSize self (picture_of any) →
         (saved : Saved) × (drawn_all (redraw self) any ≡ Some (with_saved saved (with_picture self any))) }
 {}
 
-/// States that two pictures of the same size are equal if their redraws are
-/// equal.
+/// States that two steady pictures of the same size are equal if their redraws
+/// are equal.
 pub fn redraws_only()
     ensures { (a b : Picture) → IsPicture a → IsSteady a → IsPicture b →
         IsSteady b → SamePictureSize a b → redraw a ≡ redraw b → a ≡ b }
 {}
 
-/// States that a redraw, followed by the differences between consecutive
-/// pictures of any list, makes a plain canvas display the last picture.
+/// States that drawing the redraw of the first picture of a list and then the
+/// diffs between consecutive pictures makes a plain canvas display the last
+/// picture. All pictures must be steady and have the size of the canvas.
 pub fn chain_draws()
     ensures { (self : Picture) → (nexts : List Picture) → (any : Canvas) →
         IsOfSize any.page.width (length any.page.rows) self →
@@ -76,8 +80,8 @@ pub fn chain_draws()
         ≡ Some (with_saved saved (with_picture (last_picture self nexts) any))) }
 {}
 
-/// States that each operation in a difference contains only numbers and text
-/// that a terminal parses back unchanged.
+/// States that each operation in a diff contains only numbers and text that a
+/// terminal parses back unchanged.
 pub fn difference_fits()
     ensures { (self prev : Picture) → IsPicture self → IsColoredPicture self →
         FitsAttrs prev.attrs → AllByRecursion Fits (difference self prev) }
@@ -95,16 +99,17 @@ pub fn cursor_state_fits()
     ensures { (self : Picture) → IsPicture self → IsColoredPicture self → AllByRecursion Fits (cursor_state self) }
 {}
 
-/// States that the output for the cursor sets the cursor position and hides or
-/// shows the cursor, on a plain canvas that displays the rows and has default
-/// attributes.
+/// States that drawing the output for the cursor on a plain canvas sets the
+/// cursor position and hides or shows the cursor. The picture must be steady.
+/// The canvas must display the rows of the picture and have default attributes.
 pub fn cursor_state_draws()
     ensures { (self : Picture) → (any : Canvas) → IsPicture self → IsSteady self → IsPlainPage any.page →
         any.page.rows ≡ self.rows → any.page.width ≡ self.width → any.attrs ≡ default_attrs →
         (saved : Saved) × (drawn_all (cursor_state self) any ≡ Some (with_saved saved (with_cursor_of self any))) }
 {}
 
-/// States that the output for the cursor touches at most the end of one row.
+/// States that the output for the cursor of a steady picture touches at most
+/// the end of one row.
 pub fn cursor_state_local()
     ensures { (self : Picture) → (any : Canvas) → IsPicture self → IsSteady self →
         IsPlainPage any.page → any.page.rows ≡ self.rows → any.page.width ≡ self.width →
@@ -129,10 +134,11 @@ pub fn whole_cuts_none()
         CutsNone 0 self.width (row_of_picture self r).cells }
 {}
 
-/// States that the difference for a range of columns in a row, drawn on a plain
+/// States that the diff for a range of columns in a row, drawn on a plain
 /// canvas that displays the old row, gives the row the new cells in that range.
-/// Apart from that, only the row's wrapped flag, the cursor and the attributes
-/// may change.
+/// Apart from those cells, only the row's wrapped flag, the cursor and the
+/// attributes may change. The new picture must be steady, and the range must
+/// cut no wide character in two.
 pub fn difference_item_draws()
     ensures { (self : Picture) → (r start stop : ℕ) → (y : RowValue) → (any : Canvas) → IsPicture self → IsSteady self →
         AwaitsItem self r start y any → start ≤ stop → stop ≤ self.width →
@@ -142,15 +148,15 @@ pub fn difference_item_draws()
         (item_of_difference r start stop (row_of_picture self r) y).pen any) }
 {}
 
-/// States that the difference for a whole row leaves the row not wrapped if it
-/// is not wrapped in the picture.
+/// States that drawing the diff for a whole row leaves the canvas row unwrapped
+/// if the row is not wrapped in the new picture.
 pub fn difference_item_off()
     ensures { (r width : ℕ) → (x y : RowValue) → length x.cells ≡ width →
         x.wrapped ≡ false → (changed_row r 0 width x y).wrapped ≡ false }
 {}
 
-/// States that the difference for a whole row is empty if and only if the two
-/// pictures have the same row.
+/// States that the diff for a whole row is empty if and only if the row is the
+/// same in both pictures.
 pub fn difference_item_empty()
     ensures { (self prev : Picture) → (r : ℕ) → IsPicture self → IsPicture prev → SamePictureSize self prev →
         r < length self.rows →
@@ -160,7 +166,8 @@ pub fn difference_item_empty()
 
 /// States that the redraw for a range of columns in a row, drawn on a plain
 /// canvas over a row of default blanks, gives the row the cells in that range.
-/// Apart from that, only the cursor and the attributes change.
+/// Apart from those cells, only the cursor and the attributes change. The
+/// picture must be steady, and the range must cut no wide character in two.
 pub fn redraw_item_draws()
     ensures { (self : Picture) → (r start stop : ℕ) → (linked : Bool) → (any : Canvas) → IsPicture self →
         IsSteady self → AwaitsItem self r start (blank_row default_attrs self.width) any → start ≤ stop →
@@ -172,7 +179,7 @@ pub fn redraw_item_draws()
 
 /// States that the redraw for a whole row, drawn while a wrap is pending after
 /// a glyph at the end of the row above, draws the row and makes the row above
-/// wrapped.
+/// wrapped. The picture must be steady.
 pub fn redraw_item_wraps()
     ensures { (self : Picture) → (r : ℕ) → (above : RowValue) → (any : Canvas) → IsPicture self → IsSteady self →
         AwaitsItem self r self.width above any → ends_blank above.cells ≡ false → r + 1 < length self.rows →
@@ -182,8 +189,8 @@ pub fn redraw_item_wraps()
         (item_of_redraw (r + 1) 0 self.width true (row_of_picture self (r + 1))).pen (going_on r any)) }
 {}
 
-/// States that each operation in the difference for a range of columns contains
-/// only numbers and text that a terminal parses back unchanged.
+/// States that each operation in the diff for a range of columns contains only
+/// numbers and text that a terminal parses back unchanged.
 pub fn difference_item_fits()
     ensures { (self : Picture) → (r start stop : ℕ) → (y : RowValue) → IsPicture self →
         IsColoredPicture self → r < length self.rows → start ≤ stop → stop ≤ self.width →

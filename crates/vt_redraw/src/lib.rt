@@ -1,6 +1,5 @@
-//! Pictures of what a screen displays, and the output that displays them on
-//! another terminal: a full redraw, or the difference from what that terminal
-//! already displays.
+//! Pictures of what a screen displays, and the output that displays them on another terminal: a
+//! full redraw, or a diff from what that terminal already displays.
 #![tactic(auto)]
 
 pub mod band;

@@ -29,8 +29,8 @@ pub struct Link {
     pub settled: u16,
 }
 
-/// Prints the last glyph of a row again, unless the pen is already after it. A wrap is then pending
-/// on the terminal.
+/// Prints the last glyph of a row again, unless the pen is already after that glyph. Afterward, a
+/// wrap is pending on the terminal.
 ///
 /// # Errors
 ///
@@ -155,9 +155,9 @@ fn starts_other(cells: &PictureRow<'_>, over: &PictureRow<'_>) -> bool
     cell.has_contents() && !(cell == over.cell(0))
 }
 
-/// Returns whether a row below a wrapped row needs a link. It does if the terminal's upper row is
-/// not wrapped (`on` is false). It also does if a wrap is pending there and the terminal's lower
-/// row begins with a different glyph.
+/// Returns whether a link is needed between a wrapped row and the row below it. A link is needed if
+/// the terminal's upper row is not wrapped (`on` is false). It is also needed if a wrap is pending
+/// at the end of that row and the terminal's lower row begins with a different glyph.
 fn needs_link(
     pen: &Pen,
     row: u16,
@@ -208,8 +208,8 @@ pub fn write_link<S: Sink>(
     Ok(link)
 }
 
-/// Writes the break after a row if the terminal's row is wrapped but must not be, by erasing the
-/// last glyph and printing it again. Returns whether the terminal's row is then wrapped.
+/// Writes the break after a row if the terminal's row is wrapped but must not be. The break erases
+/// the last glyph and prints it again. Returns whether the terminal's row is wrapped afterward.
 ///
 /// # Errors
 ///

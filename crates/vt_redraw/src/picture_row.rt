@@ -52,9 +52,9 @@ impl<'a> PictureRow<'a> {
         }
     }
 
-    /// Creates a picture row from `row`, cut or extended to `cols` columns. It
-    /// is wrapped if `row` is wrapped, unless its last column is then blank or
-    /// it is the last row of the picture.
+    /// Creates a picture row from `row`, cut or extended to `cols` columns. The
+    /// picture row is wrapped if `row` is wrapped, unless its last column is
+    /// blank after the cut or it is the last row of the picture (`is_last`).
     #[tactic(auto, using(crate::proofs::Filling::resized_columns))]
     pub fn cut(row: &RowContents<'a>, cols: u16, is_last: bool) -> PictureRow<'a>
         requires some { 0 < cols }
@@ -68,7 +68,8 @@ impl<'a> PictureRow<'a> {
     }
 
     /// Returns whether the row is wrapped after it has been cut. `wrapped` says
-    /// whether it was wrapped before.
+    /// whether it was wrapped before. The last row of a picture (`is_last`) is
+    /// never wrapped.
     fn keeps_flag(&self, wrapped: bool, is_last: bool) -> bool
         requires { 0 < length self.now.cells }
         ensures { result ≡ (not is_last && (wrapped && not (ends_blank self.now.cells))) }
@@ -76,8 +77,8 @@ impl<'a> PictureRow<'a> {
         !is_last && wrapped && !self.ends_blank()
     }
 
-    /// Creates a picture row from `cells`, cut or extended to `cols` columns.
-    /// It is not wrapped.
+    /// Creates an unwrapped picture row from `cells`, cut or extended to `cols`
+    /// columns.
     #[tactic(auto, using(crate::proofs::Filling::filled_resized, crate::proofs::Filling::kept_inside))]
     fn unwrapped(cells: &'a [Cell], cols: u16) -> PictureRow<'a>
         requires some { 0 < cols }
@@ -243,7 +244,7 @@ fn kept_cells<'a>(cells: &'a [Cell], cols: u16) -> &'a [Cell]
 
 /// Returns the cell that follows the unchanged cells when a row is cut to
 /// `cols` columns. It is a blank with the attributes of the wide character that
-/// is cut in two, or a default blank if none is cut.
+/// is cut in two, or a default blank if no wide character is cut.
 fn end_cell(cells: &[Cell], cols: u16) -> Cell
     requires { 0 < cols }
     ensures { result ≡ cell_past_cut cols cells.now }

@@ -12,8 +12,8 @@ use crate::view::View;
 use vt_cells::Sink;
 use vt_cells::term::{BufWrite, ClearAttrs, ClearScreen, HideCursor};
 
-/// Writes the full redraw of a picture. It hides or shows the cursor, clears
-/// the screen, and draws the picture on the blank screen.
+/// Writes the full redraw of a picture. The redraw hides or shows the cursor,
+/// clears the screen, and draws the picture on the blank screen.
 ///
 /// # Errors
 ///
@@ -33,7 +33,7 @@ pub fn write_contents_formatted<S: Sink>(sink: &mut S, view: &View<'_>) -> Resul
 }
 
 /// Writes the output that turns the display of `prev` into the display of
-/// `view`. Writes nothing if the two are equal.
+/// `view`. Writes nothing if both displays are equal.
 ///
 /// # Errors
 ///

@@ -15,9 +15,9 @@ use crate::picture_row::PictureRow;
 use crate::view::View;
 use vt_cells::{Pos, Sink};
 
-/// Writes the output for the cells of a row, except for the leading ones that
+/// Writes the output for the cells of a row, except for the leading cells that
 /// `link` has settled, and then the break. Returns whether the terminal's row
-/// is then wrapped.
+/// is wrapped afterward.
 #[tactic(auto, using(crate::proofs::CellSteps::range_of))]
 fn write_row<S: Sink>(
     sink: &mut S,
@@ -45,7 +45,7 @@ fn write_row<S: Sink>(
 }
 
 /// Writes the output for the first row. Returns whether the terminal's row is
-/// then wrapped.
+/// wrapped afterward.
 fn write_top<S: Sink>(
     sink: &mut S,
     pen: &mut Pen,

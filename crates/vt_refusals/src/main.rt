@@ -1,13 +1,13 @@
 //! Makes calls that allocate, one after another, and prints the result of each and the state after
 //! it.
 //!
-//! The program allocates in no other place, except at first: for each byte of standard input it
-//! makes one allocation and frees it. So if the allocation of a given number fails, the length of
-//! the input decides which call it belongs to. That call must return an error, and everything else
-//! must be unchanged; `tests/refusals` checks this.
+//! The program makes no other allocations, except at the start: for each byte of standard input it
+//! makes one allocation and frees it. If the allocation with a given number is made to fail, the
+//! length of the input thus determines in which call it fails. That call must return an error and
+//! leave everything else unchanged; `tests/refusals` checks this.
 //!
-//! If the input is a single exclamation mark, all memory is allocated first, and then calls are
-//! made without any: `tests/scarce` runs that with a memory limit.
+//! If the input is a single exclamation mark, the program allocates all memory first and then makes
+//! calls while none is left. `tests/scarce` runs the program in this way with a memory limit.
 #![tactic(auto)]
 
 mod mirrors;
@@ -35,7 +35,7 @@ use vt100::{Error, Parser};
 /// The maximum number of bytes of standard input that are read.
 const MOST: usize = 1024;
 
-/// The input that asks for calls without memory.
+/// The input that requests calls while no memory is left.
 const SCARCE: u8 = b'!';
 
 fn main(rt: HostRuntime) -> io::Result<()> {
@@ -50,7 +50,7 @@ fn main(rt: HostRuntime) -> io::Result<()> {
     run_scenes(&rt)
 }
 
-/// Makes `count` allocations and frees each; returns `false` if one fails.
+/// Makes `count` allocations and frees each of them. Returns `false` if one fails.
 fn has_warmed_up(alloc: Global, count: usize) -> bool {
     for _ in 0..count {
         if Vec::<u8>::with_capacity(alloc, 1).is_err() {
@@ -60,7 +60,7 @@ fn has_warmed_up(alloc: Global, count: usize) -> bool {
     true
 }
 
-/// Makes the calls of all scenes.
+/// Makes the calls of all scenes, and prints their results.
 fn run_scenes<R: AllocGlobal + Print>(rt: &R) -> io::Result<()> {
     for scene in &SCENES {
         run(rt, scene)?;
@@ -84,7 +84,7 @@ fn run_scenes<R: AllocGlobal + Print>(rt: &R) -> io::Result<()> {
     mirrors::run_sharing(rt)
 }
 
-/// Creates a parser, and makes the calls of a scene.
+/// Creates a parser, makes the calls of a scene on it, and prints the results.
 fn run<R: AllocGlobal + Print>(rt: &R, scene: &Scene) -> io::Result<()> {
     println!(rt; "-- {}", scene.name)?;
     let Ok(mut parser) = new_parser(rt.alloc(), scene.size, scene.scrollback) else {
@@ -102,7 +102,8 @@ fn run<R: AllocGlobal + Print>(rt: &R, scene: &Scene) -> io::Result<()> {
     Ok(())
 }
 
-/// Creates two parsers of two rows, each with a scrollback of one row, and makes their calls.
+/// Creates two parsers with two rows and a scrollback of one row each, performs the actions on
+/// them, and prints the results.
 fn run_pair<R: AllocGlobal + Print>(rt: &R, name: &str, acts: &[Act]) -> io::Result<()> {
     println!(rt; "-- {name}")?;
     let mut pair = match new_pair(rt.alloc()) {
@@ -120,7 +121,8 @@ fn run_pair<R: AllocGlobal + Print>(rt: &R, name: &str, acts: &[Act]) -> io::Res
     Ok(())
 }
 
-/// Creates two parsers; returns the name of the one that could not be allocated.
+/// Creates two parsers. If a parser cannot be allocated, returns the name of that parser as the
+/// error.
 fn new_pair(alloc: Global) -> Result<Pair, &'static str> {
     let Ok(first) = new_parser(alloc, (2, 4), 1) else {
         return Err("first");
@@ -131,7 +133,7 @@ fn new_pair(alloc: Global) -> Result<Pair, &'static str> {
     }
 }
 
-/// Prints the state after a failed call.
+/// Prints the state that was determined after a failed call.
 fn print<R: Print>(rt: &R, standing: Result<Standing, Error>) -> io::Result<()> {
     match standing {
         Ok(standing) => print!(rt; "; {standing}"),
@@ -139,7 +141,8 @@ fn print<R: Print>(rt: &R, standing: Result<Standing, Error>) -> io::Result<()> 
     }
 }
 
-/// Creates a parser of this size that counts calls, with a scrollback of this many rows.
+/// Creates a parser of the given size, with callbacks that count calls and a scrollback of at most
+/// `scrollback` rows.
 fn new_parser(alloc: Global, size: (u16, u16), scrollback: usize) -> Result<Parser<Tally>, Error> {
     let (rows, cols) = step::size(size);
     Parser::new_with_callbacks(alloc, rows, cols, scrollback, Tally::default())

@@ -1,11 +1,11 @@
-//! Allocations of a mirror with viewers.
+//! Calls on a mirror with viewers that may allocate.
 
 use crate::step;
 use std::{fmt, io};
 use vt_mirror::{Mirror, Update};
 use vt100::Error;
 
-/// A call of a mirror.
+/// A call on a mirror.
 #[derive(Clone, Copy)]
 enum Call {
     /// Calls `process`.
@@ -27,7 +27,7 @@ enum Call {
     UpdateScrolling(u64),
 }
 
-/// The result of a call.
+/// The result of a call on a mirror.
 #[derive(Drop)]
 enum Answer {
     /// The call succeeded.
@@ -36,21 +36,22 @@ enum Answer {
     /// The number of a new viewer.
     Number(u64),
 
-    /// Whether there was such a viewer.
+    /// Whether there was a viewer with the number that was passed to `leave`.
     Was(bool),
 
-    /// An update.
+    /// The update that was returned.
     Update(Update),
 
-    /// No viewer has the number.
+    /// No viewer has the number that was passed.
     Nobody,
 
     /// The call failed.
     Refused(Error),
 }
 
-/// The calls of the first scene. Each update and each resize is requested twice, so that a failed
-/// one is made up for. Only the third line feed of the second text scrolls a row into scrollback.
+/// The calls of the first scene. Each update and each resize is requested twice, so that the second
+/// call succeeds if the first one fails. Only the third line feed of the second text scrolls a row
+/// into scrollback.
 #[rattlefmt::skip]
 const CALLS: [Call; 21] = [
     Call::Join,
@@ -76,8 +77,8 @@ const CALLS: [Call; 21] = [
     Call::Update(0),
 ];
 
-/// Calls of a mirror whose viewer receives both kinds of differences. The second text scrolls the
-/// screen: a row with a colour for each glyph moves up, and another row goes into scrollback.
+/// Calls on a mirror whose viewer receives both kinds of diffs. The second text scrolls the screen:
+/// a row whose glyphs have different colors moves up, and another row goes into scrollback.
 #[rattlefmt::skip]
 const SCROLLING_CALLS: [Call; 9] = [
     Call::Join,
@@ -91,10 +92,10 @@ const SCROLLING_CALLS: [Call; 9] = [
     Call::UpdateScrolling(0),
 ];
 
-/// Calls of a mirror whose viewers share texts and copies.
+/// Calls on a mirror whose viewers share texts and copies of the screen.
 ///
-/// The first viewer of a text allocates memory to keep it for others; the second one need not. If
-/// that allocation fails, the call succeeds nevertheless.
+/// The update of the first viewer allocates memory to keep the text for other viewers; the update
+/// of the second viewer need not. If this allocation fails, the call succeeds nevertheless.
 #[rattlefmt::skip]
 const SHARING_CALLS: [Call; 15] = [
     Call::Join,
@@ -114,25 +115,26 @@ const SHARING_CALLS: [Call; 15] = [
     Call::UpdateScrolling(1),
 ];
 
-/// Runs a mirror with viewers that come and go.
+/// Makes the calls on a mirror whose viewers join and leave, and prints the results.
 pub fn run<R: AllocGlobal + Print>(rt: &R) -> io::Result<()> {
     println!(rt; "-- a mirror and its viewers")?;
     run_calls(rt, &CALLS)
 }
 
-/// Runs a mirror whose rows move.
+/// Makes the calls on a mirror whose rows move, and prints the results.
 pub fn run_scrolling<R: AllocGlobal + Print>(rt: &R) -> io::Result<()> {
     println!(rt; "-- a mirror whose rows move")?;
     run_calls(rt, &SCROLLING_CALLS)
 }
 
-/// Runs a mirror whose viewers keep up with it.
+/// Makes the calls on a mirror whose viewers keep up with its screen, and prints the results.
 pub fn run_sharing<R: AllocGlobal + Print>(rt: &R) -> io::Result<()> {
     println!(rt; "-- a mirror whose viewers share")?;
     run_calls(rt, &SHARING_CALLS)
 }
 
-/// Creates a mirror of 2 rows and 4 columns with a scrollback of one row, and makes the calls.
+/// Creates a mirror with 2 rows, 4 columns and a scrollback of one row, makes the calls on it, and
+/// prints the results.
 fn run_calls<R: AllocGlobal + Print>(rt: &R, calls: &[Call]) -> io::Result<()> {
     let (rows, cols) = step::size((2, 4));
     let Ok(mut mirror) = Mirror::new(rt.alloc(), rows, cols, 1) else {
@@ -147,7 +149,7 @@ fn run_calls<R: AllocGlobal + Print>(rt: &R, calls: &[Call]) -> io::Result<()> {
 }
 
 impl Call {
-    /// Makes the call.
+    /// Makes the call on a mirror, and returns its result.
     fn make(self, mirror: &mut Mirror) -> Answer {
         match self {
             Call::Process(text) => match mirror.process(text.as_bytes()) {
@@ -172,7 +174,7 @@ impl Call {
     }
 }
 
-/// Converts the result of a call that returns an update.
+/// Converts the result of a call that returns an update to an [`Answer`].
 fn answer_of(made: Result<Option<Update>, Error>) -> Answer {
     match made {
         Ok(Some(update)) => Answer::Update(update),

@@ -6,7 +6,7 @@ use std::alloc::Global;
 use std::{fmt, mem};
 use vt100::Parser;
 
-/// Two parsers.
+/// The two parsers on which actions are performed.
 #[derive(Drop)]
 pub struct Pair {
     pub first: Parser<Tally>,
@@ -16,24 +16,24 @@ pub struct Pair {
 /// An action on two parsers.
 #[derive(Clone, Copy)]
 pub enum Act {
-    /// A call of the first parser.
+    /// A call on the first parser.
     First(Step),
 
-    /// A call of the second parser.
+    /// A call on the second parser.
     Second(Step),
 
     /// The parsers exchange their screens.
     Exchange,
 
-    /// The first parser gets a copy of the second one's screen.
+    /// The screen of the first parser is replaced by a copy of the second parser's screen.
     Copy,
 
-    /// The difference from the second parser's screen to the first one's.
+    /// The diff from the second parser's screen to the first parser's screen is generated.
     Differ(Change),
 }
 
 impl Pair {
-    /// Performs the action.
+    /// Performs an action on the two parsers, and returns its result.
     pub fn make(&mut self, alloc: Global, act: Act) -> Answer {
         match act {
             Act::First(step) => step.make(alloc, &mut self.first),
@@ -53,7 +53,8 @@ impl Pair {
         }
     }
 
-    /// Returns the parser that the action changes, the second one if it changes both.
+    /// Returns the parser that an action changes. If the action changes both parsers, returns the
+    /// second parser.
     pub fn changed_by(&self, act: Act) -> &Parser<Tally> {
         match act {
             Act::First(_) | Act::Copy | Act::Differ(_) => &self.first,

@@ -1,4 +1,4 @@
-//! Calls without any memory left: those that do not allocate succeed, and the others fail.
+//! Calls while no memory is left: calls that do not allocate succeed, and all other calls fail.
 
 use crate::shown::Shown;
 use crate::step::{Step, size};
@@ -15,14 +15,15 @@ use vt100::{Error, Parser, Screen};
 /// The maximum number of blocks of memory that are allocated.
 const MOST: usize = 1 << 14;
 
-/// The sizes in bytes of the blocks that are allocated, as many of each as there are.
+/// The sizes, in bytes, of the blocks that are allocated. Blocks of each size are allocated until
+/// an allocation fails.
 const SIZES: [usize; 7] = [1 << 24, 1 << 20, 1 << 16, 1 << 12, 1 << 8, 1 << 4, 1];
 
-/// A capture with colours.
+/// A capture that contains colors, a wide character and a newline.
 const CAPTURE: &str = "\x1b[31mabc\x1b[m中\nd";
 
-/// Calls that do not allocate: the input has no operating system command, scrolls no row into
-/// scrollback, and enters an alternate page that exists already.
+/// Calls that do not allocate. Their input contains no operating system command, scrolls no row
+/// into scrollback, and enters the alternate page only after it has been created.
 #[rattlefmt::skip]
 const FREE: [Step; 14] = [
     Step::Process(b"\x1b[1;31mab\xe4\xb8\xad"),
@@ -59,7 +60,7 @@ const TAKING: [Step; 13] = [
 ];
 
 /// Creates a parser without scrollback that has entered its alternate page, and makes all calls
-/// without memory. Then makes the calls that allocate once more, with memory.
+/// while no memory is left. Then frees the memory and repeats the calls that allocate.
 pub fn run<R: AllocGlobal + Print>(rt: &R) -> io::Result<()> {
     let (rows, cols) = size((2, 4));
     let parser = Parser::new_with_callbacks(rt.alloc(), rows, cols, 0, Tally::default());
@@ -86,7 +87,7 @@ fn run_scarce<R: AllocGlobal + Print>(
     }
 }
 
-/// Allocates all memory that there is.
+/// Allocates all available memory, and returns the allocated blocks.
 fn all_memory(alloc: Global) -> Result<Vec<Vec<u8>>, AllocError> {
     let mut blocks = Vec::with_capacity(alloc, MOST)?;
     for size in &SIZES {
@@ -129,7 +130,8 @@ fn make_all<R: AllocGlobal + Print>(
     Ok(())
 }
 
-/// Makes a capture into a string with enough capacity, and a copy of a cell.
+/// Appends a capture to a string that has enough capacity, and copies a cell. Neither operation
+/// allocates memory.
 fn capture<R: Print>(rt: &R, screen: &Screen, text: &mut String) -> io::Result<()> {
     let mut state = BasicFormattedCaptureState::new();
     let range = BasicFormattedCaptureRange::Full(&mut state);

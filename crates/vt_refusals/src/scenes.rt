@@ -1,14 +1,14 @@
-//! The calls that are made.
+//! Tables of calls that may allocate.
 
 use crate::pair::Act;
 use crate::step::{Change, Step};
 
-/// A parser, and its calls.
+/// A new parser, and the calls that are made on it.
 #[derive(Clone, Copy)]
 pub struct Scene {
     pub name: &'static str,
 
-    /// The number of rows and of columns.
+    /// The number of rows and the number of columns.
     pub size: (u16, u16),
 
     /// The scrollback capacity in rows.
@@ -16,10 +16,11 @@ pub struct Scene {
     pub steps: &'static [Step],
 }
 
-/// The scenes with one parser.
+/// The first group of scenes with one parser.
 ///
-/// A call that can fail without making the parser fail is made twice, so that its effect is seen as
-/// well. Calls that do not allocate show whether the parser still accepts input.
+/// A call that can fail without making the parser fail is made twice, so that its effect is tested
+/// even if the first call fails. Calls that do not allocate show whether the parser still accepts
+/// input.
 pub const SCENES: [Scene; 8] = [
     Scene {
         name: "a title, collected in memory that grows",
@@ -105,15 +106,15 @@ pub const SCENES: [Scene; 8] = [
     },
 ];
 
-/// The actions on two parsers.
+/// Actions on two parsers: modes, sizes, exchanged screens and a copy.
 ///
-/// The first parser sets several modes, among them that of the alternate page. Then the parsers
-/// exchange their screens, so that the second one, which has not failed, continues with that
-/// screen: it shows which cursor was saved, writes on the alternate page and leaves it. When it is
-/// resized, a row of the main page moves into scrollback, and one of the alternate page is
-/// reported. The first parser, now with the other screen, enters the alternate page, too, and its
-/// screen is resized; a row of the main page moves into scrollback. At the end it gets a copy of
-/// the second parser's screen.
+/// The first parser sets several modes, including the one that enters the alternate page. Then the
+/// parsers exchange their screens, so that the second parser, which has not failed, continues with
+/// the first parser's screen: it restores the saved cursor, writes on the alternate page and leaves
+/// it. When that screen is resized, a row of the main page moves into scrollback, and a row of the
+/// alternate page is reported. The first parser, whose screen came from the second parser, also
+/// enters the alternate page, and its screen is resized; a row of the main page moves into
+/// scrollback. At the end, the first parser gets a copy of the second parser's screen.
 pub const ACTS: [Act; 12] = [
     Act::First(Step::Process(b"x")),
     Act::First(Step::Process(b"\x1b[2;3H\x1b[?1;1049;2004h")),
@@ -129,10 +130,10 @@ pub const ACTS: [Act; 12] = [
     Act::Copy,
 ];
 
-/// The output of two screens, each kind requested twice.
+/// Actions that generate each kind of output of two screens twice.
 ///
-/// The second screen displays a row of scrollback. The first one has a wrapped row, wide glyphs, a
-/// pending wrap and attributes.
+/// The second screen displays a row of scrollback. The first screen has a wrapped row, wide glyphs,
+/// a pending wrap and attributes.
 pub const TEXTS: [Act; 13] = [
     Act::Second(Step::Process(b"a\r\nb\r\n\xe4\xb8\xad")),
     Act::Second(Step::SetScrollback(1)),
@@ -149,11 +150,11 @@ pub const TEXTS: [Act; 13] = [
     Act::Second(Step::Redraw),
 ];
 
-/// More output of two screens, each kind requested twice; the text of a row is requested even if
-/// that of the row before it failed.
+/// Actions that generate further kinds of output of two screens, each kind twice. The text of a row
+/// is requested even if generating the text of the previous row failed.
 ///
-/// The second screen has a row in scrollback, and reports mouse events. The first one has a wrapped
-/// row, wide glyphs, attributes, application keypad mode and a different cursor style.
+/// The second screen has a row in scrollback and a mouse mode. The first screen has a wrapped row,
+/// wide glyphs, attributes, application keypad mode and a different cursor style.
 pub const MORE_TEXTS: [Act; 20] = [
     Act::Second(Step::Process(b"a\r\nb\r\nc\x1b[?1000h")),
     Act::First(Step::Process(b"\x1b[1;31mab\xe4\xb8\xadxy\x1b=\x1b[2 q")),
@@ -177,10 +178,11 @@ pub const MORE_TEXTS: [Act; 20] = [
     Act::Second(Step::Capture),
 ];
 
-/// Differences that move rows first, requested twice. Both kinds are made, and the shorter one is
-/// returned.
+/// Actions that generate, twice, a diff that moves rows first. Each time, both kinds of diffs are
+/// generated, and the shorter diff is returned.
 ///
-/// The second screen has the upper row of the first one below, with a colour for each glyph.
+/// The lower row of the second screen is the upper row of the first screen, with a different color
+/// for each glyph.
 pub const MOVED: [Act; 4] = [
     Act::Second(Step::Process(b"x\r\n\x1b[31ma\x1b[32mb\x1b[33mc\x1b[34md")),
     Act::First(Step::Process(b"\x1b[31ma\x1b[32mb\x1b[33mc\x1b[34md\r\nz")),
@@ -188,8 +190,8 @@ pub const MOVED: [Act; 4] = [
     Act::Differ(Change::Scrolling),
 ];
 
-/// The output for the rows of two screens, item by item. The item after a failed one is that of the
-/// next row.
+/// Actions that generate the output for the rows of two screens, item by item. The item after a
+/// failed item is the item of the next row.
 pub const ROWS: [Act; 4] = [
     Act::Second(Step::Process(b"ab\r\ncd")),
     Act::First(Step::Process(b"\x1b[1;31mxy\r\nzw")),
@@ -197,10 +199,10 @@ pub const ROWS: [Act; 4] = [
     Act::Differ(Change::Rows),
 ];
 
-/// More scenes with one parser: rows that scroll off in the middle of the input, a title after
-/// text, and calls on a screen that has everything a screen can have: two pages with saved cursors,
-/// scroll regions and origin modes, attributes, modes, and more rows that scrolled off than
-/// scrollback keeps.
+/// The second group of scenes with one parser. Rows scroll off in the middle of the input, a title
+/// follows text, and calls are made on a screen with all kinds of state: two pages with saved
+/// cursors, scroll regions and origin modes, attributes, modes, and more rows that scrolled off
+/// than scrollback keeps.
 pub const MORE_SCENES: [Scene; 4] = [
     Scene {
         name: "rows that are pushed while a text is read",

@@ -5,8 +5,8 @@ use std::fmt;
 use vt100::{Parser, Screen};
 
 /// Displays the state of a parser: the cells of its screen, row by row with a dot for each blank;
-/// the cursor; the number of titles counted; the rows in scrollback and those displayed; the number
-/// of rows reported; and the modes that are set.
+/// the cursor; the number of titles counted; the number of rows in scrollback, and how many of them
+/// are displayed; the number of rows reported; and the modes that are set.
 #[derive(Clone, Copy)]
 pub struct Shown<'a>(pub &'a Parser<Tally>);
 

@@ -1,4 +1,4 @@
-//! The state after an allocation failed.
+//! The state after a failed allocation, compared with the states before and after each step.
 
 use crate::pair::{Act, Pair};
 use crate::scenes::Scene;
@@ -10,17 +10,17 @@ use std::alloc::Global;
 use std::fmt;
 use vt100::{Error, Parser};
 
-/// The state after a call that failed, found by making the same calls of other parsers without
-/// failures.
+/// The state of a parser after a failed call, determined by making the same calls on a control
+/// parser without failures.
 #[derive(Clone, Copy)]
 pub enum Standing {
-    /// The state before the call.
+    /// The parser is in the state before the call.
     Before,
 
-    /// The state after `taken` of the `of` steps of the call's input.
+    /// The parser is in the state after the first `taken` of the `of` steps of the call's input.
     After { taken: usize, of: usize },
 
-    /// Any other state.
+    /// The parser is in any other state.
     Other,
 }
 
@@ -34,8 +34,8 @@ impl fmt::Display for Standing {
     }
 }
 
-/// Inputs whose steps are not single bytes, or that have several steps in one sequence, each with
-/// the inputs that do the same step by step. In all other input each byte is a step.
+/// Inputs in which some step is not a single byte, each with a list of inputs that perform the same
+/// steps one by one. In all other input, each byte is a step.
 #[rattlefmt::skip]
 const STEPS: [(&[u8], &[&[u8]]); 8] = [
     (b"a\x1b[5b", &[b"a", b"a", b"a", b"a", b"a", b"a"]),
@@ -51,8 +51,8 @@ const STEPS: [(&[u8], &[&[u8]]); 8] = [
     ),
 ];
 
-/// Returns the state of a parser after the step of this number failed; `parser` has made the steps
-/// before it.
+/// Returns the state of `parser` after step `number` of the scene has failed. The parser has
+/// performed all steps before it.
 pub fn of_scene(
     alloc: Global,
     scene: &Scene,
@@ -69,7 +69,8 @@ pub fn of_scene(
     }
 }
 
-/// Returns the state after a call that changes nothing if it fails.
+/// Returns the state of `parser` after a failed call that must not have changed anything. `control`
+/// is in the state before the call.
 fn of_call(
     alloc: Global,
     control: &Parser<Tally>,
@@ -81,8 +82,8 @@ fn of_call(
     Ok(Standing::Other)
 }
 
-/// Returns the state after `process` failed: the smallest number of steps after which the control
-/// parser equals the parser.
+/// Returns the state of `parser` after `process` has failed: the smallest number of steps after
+/// which the control parser has the same state. `control` is in the state before the call.
 fn of_reading(
     alloc: Global,
     bytes: &[u8],
@@ -118,7 +119,8 @@ fn of_pieces(
     Ok(Standing::Other)
 }
 
-/// Returns the state after `process` failed on input in which each byte is a step.
+/// Returns the state of `parser` after `process` has failed on input in which each byte is a step.
+/// `control` is in the state before the call.
 fn of_bytes(
     alloc: Global,
     bytes: &[u8],
@@ -137,7 +139,7 @@ fn of_bytes(
     Ok(Standing::Other)
 }
 
-/// Returns the state of a pair after the action of this number failed; `pair` has done the actions
+/// Returns the state of `pair` after action `number` has failed. The pair has performed all actions
 /// before it.
 pub fn of_pair(alloc: Global, acts: &[Act], number: usize, pair: &Pair) -> Result<Standing, Error> {
     let Ok(mut control) = new_pair(alloc) else {

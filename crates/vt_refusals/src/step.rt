@@ -7,60 +7,63 @@ use std::num::NonZeroU16;
 use vt100::capture::{BasicFormattedCaptureRange, BasicFormattedCaptureState};
 use vt100::{Error, Parser, Screen};
 
-/// A call of a parser or its screen.
+/// A call on a parser or on its screen.
 #[derive(Clone, Copy)]
 pub enum Step {
-    /// Calls `process` with these bytes.
+    /// Calls `process` with the given bytes.
     Process(&'static [u8]),
 
-    /// Calls `contents_formatted` of the screen.
+    /// Calls `contents_formatted` on the screen.
     Redraw,
 
-    /// Calls `contents_formatted_reset` of the screen.
+    /// Calls `contents_formatted_reset` on the screen.
     Reset,
 
-    /// Calls `cursor_state_formatted` of the screen.
+    /// Calls `cursor_state_formatted` on the screen.
     Cursor,
 
-    /// Calls `attributes_formatted` of the screen.
+    /// Calls `attributes_formatted` on the screen.
     Attributes,
 
-    /// Calls `state_formatted` of the screen.
+    /// Calls `state_formatted` on the screen.
     State,
 
-    /// Calls `input_mode_formatted` of the screen.
+    /// Calls `input_mode_formatted` on the screen.
     Modes,
 
-    /// Calls `contents` of the screen.
+    /// Calls `contents` on the screen.
     Contents,
 
-    /// Calls `contents_between` the top left of the screen and the fifth column of its second row.
+    /// Calls `contents_between` on the screen, from the top left corner to the fifth column of the
+    /// second row.
     Range,
 
-    /// Takes the item of this row from `rows` of the screen, whatever those before it are.
+    /// Takes the item of the given row from the screen's iterator `rows`, whether or not the items
+    /// before it are errors.
     Row(u16),
 
-    /// Calls `contents_formatted_basic` of the screen.
+    /// Calls `contents_formatted_basic` on the screen.
     Basic,
 
-    /// Calls `write_contents_formatted_basic` for all rows of the screen, into a `String`.
+    /// Calls `write_contents_formatted_basic` for all rows of the screen, with a `String` as the
+    /// sink.
     Capture,
 
-    /// Takes each item of `rows_formatted` of the screen, over all columns, and the one after the
-    /// last.
+    /// Takes each item of the screen's iterator `rows_formatted` over all columns, and calls `next`
+    /// once more after the last item.
     Rows,
 
-    /// Calls `set_scrollback` of the screen with this number of rows.
+    /// Calls `set_scrollback` on the screen with the given number of rows.
     SetScrollback(usize),
 
-    /// Calls `set_size` of the parser with this number of rows and columns.
+    /// Calls `set_size` on the parser with the given number of rows and columns.
     SetSize(u16, u16),
 
-    /// Calls `set_size` of the screen with this number of rows and columns.
+    /// Calls `set_size` on the screen with the given number of rows and columns.
     SetScreenSize(u16, u16),
 }
 
-/// Converts a number of rows and of columns, raising each to at least 1.
+/// Converts a row count and a column count to nonzero integers, replacing 0 with 1.
 pub fn size((rows, cols): (u16, u16)) -> (NonZeroU16, NonZeroU16) {
     let rows = NonZeroU16::new(rows.max(1)).unwrap();
     let cols = NonZeroU16::new(cols.max(1)).unwrap();
@@ -68,7 +71,7 @@ pub fn size((rows, cols): (u16, u16)) -> (NonZeroU16, NonZeroU16) {
 }
 
 impl Step {
-    /// Makes the call.
+    /// Makes the call on `parser` or its screen, and returns its result.
     pub fn make(self, alloc: Global, parser: &mut Parser<Tally>) -> Answer {
         match self {
             Step::Process(bytes) => done(parser.process(bytes)),
@@ -105,7 +108,7 @@ impl Step {
     }
 }
 
-/// Converts the result of a call without a value.
+/// Converts the result of a call that returns no value to an [`Answer`].
 fn done(made: Result<(), Error>) -> Answer {
     match made {
         Ok(()) => Answer::Done,
@@ -113,7 +116,7 @@ fn done(made: Result<(), Error>) -> Answer {
     }
 }
 
-/// Converts the result of a call that returns a string.
+/// Converts the result of a call that returns a string to an [`Answer`].
 fn answer_of(made: Result<String, Error>) -> Answer {
     match made {
         Ok(text) => Answer::Text(text),
@@ -121,7 +124,7 @@ fn answer_of(made: Result<String, Error>) -> Answer {
     }
 }
 
-/// Returns the result of one item of `rows`.
+/// Returns the result of taking the item of row `row` from the screen's iterator `rows`.
 fn row_text(screen: &Screen, row: u16) -> Answer {
     let mut rows = screen.rows(0, u16::MAX);
     for _ in 0..row {
@@ -133,7 +136,7 @@ fn row_text(screen: &Screen, row: u16) -> Answer {
     }
 }
 
-/// Returns the basic text of all rows, written into a `String`.
+/// Writes the basic text of all rows into a `String`, and returns the result.
 fn captured(alloc: Global, screen: &Screen) -> Answer {
     let mut text = String::new(alloc);
     let mut state = BasicFormattedCaptureState::new();
@@ -144,7 +147,7 @@ fn captured(alloc: Global, screen: &Screen) -> Answer {
     }
 }
 
-/// A kind of output with the difference between two screens.
+/// A kind of diff between two screens.
 #[derive(Clone, Copy)]
 pub enum Change {
     /// Calls `contents_diff`.
@@ -159,12 +162,14 @@ pub enum Change {
     /// Calls `input_mode_diff`.
     Modes,
 
-    /// Takes each item of `rows_diff` over all columns, and the one after the last.
+    /// Takes each item of the iterator `rows_diff` over all columns, and calls `next` once more
+    /// after the last item.
     Rows,
 }
 
 impl Change {
-    /// Makes the call; the screens must have the same size.
+    /// Generates the diff of this kind from `prev` to `screen`. Returns the result, or
+    /// [`Answer::TwoSizes`] if the screens differ in size.
     pub fn make(self, screen: &Screen, prev: &Screen) -> Answer {
         if !screen.is_sized_as(prev) {
             return Answer::TwoSizes;
@@ -187,7 +192,7 @@ impl Change {
     }
 }
 
-/// Returns the first three items of `rows_formatted` over all columns.
+/// Takes three items from `rows_formatted` over all columns, and returns them.
 fn formatted_rows(screen: &Screen) -> Answer {
     let (_rows, _cols) = screen.size();
     let mut rows = screen.rows_formatted(0, u16::MAX);
@@ -198,7 +203,7 @@ fn formatted_rows(screen: &Screen) -> Answer {
     })
 }
 
-/// The items of two rows, and the one after the last.
+/// The items of an iterator over two rows, and the result of `next` after the last row.
 #[derive(Drop)]
 pub struct Items {
     first: Option<Result<String, Error>>,
@@ -224,7 +229,7 @@ impl fmt::Display for Items {
     }
 }
 
-/// Writes an item, or that there is none.
+/// Writes an item of an iterator over rows, or a word for `None`.
 fn write_item<W: fmt::Write>(
     f: &mut fmt::Formatter<W>,
     item: &Option<Result<String, Error>>,
@@ -259,19 +264,19 @@ impl fmt::Display for Step {
     }
 }
 
-/// The result of a call.
+/// The result of a call on a parser or its screen.
 #[derive(Drop)]
 pub enum Answer {
     /// The call succeeded.
     Done,
 
-    /// A string.
+    /// The string that the call returned.
     Text(String),
 
     /// The items of an iterator over rows.
     Rows(Items),
 
-    /// An allocation failed, now or earlier.
+    /// An allocation failed, in this call or in an earlier call.
     Refused(Error),
 
     /// No output, because the screens differ in size.
@@ -282,7 +287,8 @@ pub enum Answer {
 }
 
 impl Answer {
-    /// Returns whether an allocation failed now, for the call or for one of the items.
+    /// Returns whether an allocation failed in the call, including the calls that take items from
+    /// its iterator.
     pub fn is_refusal(&self) -> bool {
         match self {
             Answer::Refused(Error::OutOfMemory) => true,

@@ -1,4 +1,4 @@
-//! Callbacks that count.
+//! Callbacks that count titles and reported rows.
 
 use vt100::capture::RowContents;
 use vt100::{Call, Callbacks, Screen};

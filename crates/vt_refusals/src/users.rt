@@ -1,4 +1,5 @@
-//! Allocations of what is built on a parser, and of a parser of the default size.
+//! Calls that may allocate: the creation of a parser of the default size, and the writers, notes,
+//! recorders and engines that use a parser.
 
 use crate::step;
 use std::io;
@@ -7,7 +8,7 @@ use vt_notes::{Notes, Recorder};
 use vt_show::{Fault, Mode};
 use vt100::{Error, Parser};
 
-/// Creates a parser of the default size.
+/// Creates a parser of the default size, and prints the result.
 pub fn run_default<R: AllocGlobal + Print>(rt: &R) -> io::Result<()> {
     println!(rt; "-- a parser of the default size")?;
     match Parser::default(rt.alloc()) {
@@ -19,7 +20,7 @@ pub fn run_default<R: AllocGlobal + Print>(rt: &R) -> io::Result<()> {
     }
 }
 
-/// Uses a parser as a writer; a title is collected in allocated memory.
+/// Uses a parser as a writer, and prints the results. A title is collected in allocated memory.
 pub fn run_writer<R: AllocGlobal + Print>(rt: &R) -> io::Result<()> {
     println!(rt; "-- a parser as a writer")?;
     let (rows, cols) = step::size((1, 4));
@@ -37,7 +38,8 @@ pub fn run_writer<R: AllocGlobal + Print>(rt: &R) -> io::Result<()> {
     Ok(())
 }
 
-/// Uses a parser that notes its calls: the bell, a title, and a row that is not kept.
+/// Uses a parser that notes the callbacks it invokes (a bell, a title, and a row that is not kept),
+/// and prints the results.
 pub fn run_notes<R: AllocGlobal + Print>(rt: &R) -> io::Result<()> {
     println!(rt; "-- calls that are noted")?;
     let (rows, cols) = step::size((1, 4));
@@ -57,7 +59,7 @@ pub fn run_notes<R: AllocGlobal + Print>(rt: &R) -> io::Result<()> {
     Ok(())
 }
 
-/// Returns the word for a result.
+/// Returns the word that is printed for a result.
 fn word(answer: Result<(), Error>) -> &'static str {
     match answer {
         Ok(()) => "ok",
@@ -67,7 +69,7 @@ fn word(answer: Result<(), Error>) -> &'static str {
     }
 }
 
-/// Writes a capture as rows scroll off, and then the page, twice.
+/// Captures rows as they scroll off and then, twice, the page, and prints the results.
 pub fn run_recorder<R: AllocGlobal + Print>(rt: &R) -> io::Result<()> {
     println!(rt; "-- a capture that is written as rows leave")?;
     let (rows, cols) = step::size((1, 8));
@@ -102,7 +104,7 @@ impl Write for Counted {
     }
 }
 
-/// Runs the engine of `vtshow`.
+/// Runs the engine of `vtshow`, and prints how the run ends.
 pub fn run_show<R: AllocGlobal + Print>(rt: &R) -> io::Result<()> {
     println!(rt; "-- from an input to a text")?;
     let (rows, cols) = step::size((1, 4));
@@ -119,8 +121,8 @@ pub fn run_show<R: AllocGlobal + Print>(rt: &R) -> io::Result<()> {
     println!(rt; "run: {answer}; {} bytes", written.0)
 }
 
-/// Runs the engine of `vtmirror`: one update at the start, one after four bytes, and one at the
-/// end.
+/// Runs the engine of `vtmirror`, with one update at the start, one after four bytes, and one at
+/// the end, and prints how the run ends.
 pub fn run_mirror<R: AllocGlobal + Print>(rt: &R) -> io::Result<()> {
     println!(rt; "-- from an input to updates")?;
     let (rows, every) = step::size((1, 4));
@@ -137,7 +139,7 @@ pub fn run_mirror<R: AllocGlobal + Print>(rt: &R) -> io::Result<()> {
     println!(rt; "run: {answer}; {} bytes", written.0)
 }
 
-/// Returns the word for the end of a run.
+/// Returns the word that is printed for how a run ends.
 fn ending(answer: Result<(), Fault>) -> &'static str {
     match answer {
         Ok(()) => "ok",

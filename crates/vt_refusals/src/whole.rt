@@ -6,11 +6,13 @@ use std::num::NonZeroU16;
 use vt100::capture::{BasicFormattedCaptureRange, BasicFormattedCaptureState};
 use vt100::{Error, Parser, Screen};
 
-/// Input before a screen is examined: none, or the activation of one of the pages.
+/// Input that a copy of a screen parses before it is examined: none, or the sequence that activates
+/// one of the pages.
 const PAGES: [&[u8]; 3] = [b"", b"\x1b[?47l", b"\x1b[?47h"];
 
-/// Input that makes hidden state visible: none, and then the saved cursor, the last character, the
-/// top and the bottom of the region, origin mode, and the saved origin mode.
+/// Inputs that make hidden state visible: first empty input, then one input each for the saved
+/// cursor, the last character, the top and the bottom of the scroll region, origin mode, and the
+/// saved origin mode.
 const PROBES: [&[u8]; 7] = [
     b"",
     b"\x1b8",
@@ -21,12 +23,13 @@ const PROBES: [&[u8]; 7] = [
     b"\x1b8\x1b[2;3r\x1b[H",
 ];
 
-/// The number of rows that are added to a screen, which reveals how many rows have scrolled off.
+/// The number of rows that are added to a screen to reveal how many rows have scrolled off.
 const MORE_ROWS: u16 = 20;
 
-/// Returns a string that two screens share only if they agree in everything that can be observed,
-/// now or later: both pages with their cursors, regions and modes; saved state; the rows in
-/// scrollback, how many of them are displayed, may be kept and have scrolled off.
+/// Returns a string that is the same for two screens only if they agree in everything that can be
+/// observed, now or later. The string covers both pages with their cursors, regions and modes;
+/// saved state; the rows of scrollback and how many of them are displayed; the scrollback capacity;
+/// and how many rows have scrolled off.
 pub fn whole(alloc: Global, screen: &Screen) -> Result<String, Error> {
     let mut text = String::new(alloc);
     write_counts(&mut text, screen)?;
@@ -41,8 +44,8 @@ pub fn whole(alloc: Global, screen: &Screen) -> Result<String, Error> {
     Ok(text)
 }
 
-/// Writes the size, and the number of rows of scrollback that are displayed, are kept and may be
-/// kept.
+/// Writes the size of a screen, the number of rows by which it is scrolled back, the number of rows
+/// in scrollback, and its capacity.
 fn write_counts(text: &mut String, screen: &Screen) -> Result<(), Error> {
     let (rows, cols) = screen.size();
     let (in_view, kept) = (screen.scrollback(), screen.scrollback_len());
@@ -53,14 +56,14 @@ fn write_counts(text: &mut String, screen: &Screen) -> Result<(), Error> {
     }
 }
 
-/// Writes all rows as they are stored.
+/// Writes the basic text of all rows of a screen, including scrollback.
 fn write_rows(text: &mut String, screen: &Screen) -> Result<(), Error> {
     let mut state = BasicFormattedCaptureState::new();
     let range = BasicFormattedCaptureRange::Full(&mut state);
     screen.write_contents_formatted_basic(text, range)
 }
 
-/// Writes what a copy of the screen displays after some input.
+/// Writes what a copy of the screen displays after it has parsed `page` and then `probe`.
 fn write_probed(
     alloc: Global,
     text: &mut String,
@@ -74,7 +77,7 @@ fn write_probed(
     write_shown(text, parser.screen())
 }
 
-/// Writes a text that screens share only if they have the same display and modes.
+/// Writes a text that is the same for two screens only if they have the same display and modes.
 fn write_shown(text: &mut String, screen: &Screen) -> Result<(), Error> {
     let shown = screen.state_formatted()?;
     push(text, shown.as_str())?;
@@ -88,7 +91,7 @@ fn push(text: &mut String, piece: &str) -> Result<(), Error> {
     }
 }
 
-/// Writes the display with each number of rows of scrollback displayed.
+/// Writes what a screen displays when it is scrolled back by each possible number of rows.
 fn write_views(alloc: Global, text: &mut String, screen: &Screen) -> Result<(), Error> {
     let mut parser = with_copy(alloc, screen)?;
     for rows in 0..screen.scrollback_len().saturating_add(1) {
@@ -98,7 +101,7 @@ fn write_views(alloc: Global, text: &mut String, screen: &Screen) -> Result<(), 
     Ok(())
 }
 
-/// Writes the display of the main page with more rows.
+/// Writes what the main page displays after the screen has been resized to more rows.
 fn write_resized(alloc: Global, text: &mut String, screen: &Screen) -> Result<(), Error> {
     let mut parser = with_copy(alloc, screen)?;
     let (rows, cols) = screen.size();
@@ -115,8 +118,8 @@ fn with_copy(alloc: Global, screen: &Screen) -> Result<Parser, Error> {
     Ok(parser)
 }
 
-/// Returns whether two parsers have screens that agree in everything, and callbacks with the same
-/// counts.
+/// Returns whether two parsers have screens that agree in everything that can be observed, and
+/// callbacks with the same counts.
 pub fn are_alike(alloc: Global, one: &Parser<Tally>, other: &Parser<Tally>) -> Result<bool, Error> {
     let (one_tally, other_tally) = (*one.callbacks(), *other.callbacks());
     if one_tally.titles != other_tally.titles || one_tally.reported != other_tally.reported {

@@ -16,7 +16,7 @@ no_change : (attrs : Attrs) → change_text attrs attrs ≡ []
 unfolding change_text
 no_change attrs = rw (same_attrs-itself attrs) refl
 
--- If the attributes are unchanged, no change is written.
+-- If a cell leaves the attributes unchanged, no change of attributes is written before it.
 both : (attrs after : Attrs) → after ≡ attrs → (after ≡ attrs) × (change_text attrs after ≡ [])
 both attrs after e = (e, ap (change_text attrs) e ∙ no_change attrs)
 
@@ -62,10 +62,10 @@ right_adds attrs cell xs e = rw ((kept_right attrs cell e).1, half_shown cell e)
 pub right_keeps : (attrs : Attrs) (cell : CellValue) → is_right_half cell ≡ true → attrs ≡ attrs_after attrs cell
 right_keeps attrs cell e = sym (kept_right attrs cell e).0
 
--- The attributes after each kind of cell.
+-- The lemmas on the attributes after each kind of cell.
 pub ruleset attrs_kept = (kept_same, kept_default, kept_right, own)
 
--- If a write of the change of attributes before a cell stopped, the write of the cell's text stopped.
+-- If writing the change of attributes before a cell stopped, writing the cell's whole text stopped there.
 pub change_stopped : (refuses : List ℕ → List ℕ → List ℕ → Type 0) (before buffer : List ℕ) (attrs new : Attrs)
     (cell : CellValue) (after : List ℕ) → attrs_after attrs cell ≡ new
     → IsStopped refuses before (buffer ++ change_text attrs new) after
@@ -73,7 +73,7 @@ pub change_stopped : (refuses : List ℕ → List ℕ → List ℕ → Type 0) (
 change_stopped refuses before buffer attrs new cell after e stopped =
     rw e (stopped_before refuses before buffer (change_text attrs new) (shown_text cell) after stopped)
 
--- If a write of a cell stopped after its change of attributes, the write of the cell's text stopped.
+-- If writing a cell stopped after its change of attributes was written, writing the cell's whole text stopped there.
 pub shown_stopped : (refuses : List ℕ → List ℕ → List ℕ → Type 0) (old mid was buffer : List ℕ) (attrs new : Attrs)
     (cell : CellValue) (shown after : List ℕ) → attrs_after attrs cell ≡ new → shown ≡ shown_text cell
     → gathered mid buffer ≡ gathered old was ++ change_text attrs new → length old ≤ length mid
@@ -82,7 +82,7 @@ pub shown_stopped : (refuses : List ℕ → List ℕ → List ℕ → Type 0) (o
 shown_stopped refuses old mid was buffer attrs new cell shown after e s g le stopped =
     rw (e, sym s) (stopped_behind refuses old mid was buffer (change_text attrs new) shown after g le stopped)
 
--- The text of a list of cells is that of the first, followed by that of the others.
+-- The text of a list of cells is the text of the first cell, followed by the text of the others.
 pub one_first : (attrs : Attrs) (cells rest : List CellValue) (cell : CellValue) → cells ≡ cell ∷ rest →
     cells_text attrs cells ≡ cell_text attrs cell ++ cells_text (attrs_after attrs cell) rest
 one_first attrs cells rest cell e =

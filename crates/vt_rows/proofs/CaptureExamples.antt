@@ -26,7 +26,7 @@ rows_of_characters : (width : ℕ) (cs : List ℕ) (capture : List ℕ) (utf8 : 
 rows_of_characters width cs capture utf8 e rows same =
     subst (AreRowsOf width capture) (ap (slices_behind width 0 []) e ∙ same) (rows_are width capture utf8)
 
--- The capture `ab` on no columns has one row for each character.
+-- The capture `ab` at a width of 0 columns has one row for each character.
 one_character_each : (utf8 : IsUtf8 (0x61 ∷ 0x62 ∷ [])) →
     AreRowsOf 0 (0x61 ∷ 0x62 ∷ []) ((0, 0x61 ∷ []) ∷ (1, 0x62 ∷ []) ∷ [])
 unfolding shown_columns unicode_width encode_utf8

@@ -36,7 +36,7 @@ pub columns_in-more : (row : List ℕ) (c : ℕ) →
     columns_in (row ++ c ∷ []) ≡ columns_in row + columns_added (ends_within row) c
 columns_in-more row c = columns_more false row c
 
--- The text was read up to `rest`; `row` is the current row.
+-- The text of a capture was read up to `rest`, and `row` is its current row.
 pub record IsRead (width : ℕ) (text row rest : List ℕ) : Type 0 where
   pub parts : text ≡ encode_utf8_all row ++ rest
   pub utf8 : IsUtf8 rest
@@ -85,7 +85,7 @@ module _ (width : ℕ) (text row rest later : List ℕ) (c : ℕ)
       ∙ sym read.parts in
       record { parts = sym whole; utf8 = IsUtf8-past_char rest later c read.utf8 next; rows = sym step ∙ seen }
 
--- If nothing is left to read, the text is the last row.
+-- If nothing is left to read of a text, the whole text is its last row.
 pub row_last : (width : ℕ) (text row rest : List ℕ) →
     IsRead width text row rest → length rest ≡ 0 → rows_of width text ≡ text ∷ []
 row_last width text row [] read e =
@@ -95,7 +95,7 @@ row_last width text row [] read e =
     ap (map encode_utf8_all) (sym last) ∙ ap (λ only. only ∷ []) whole
 row_last width text row (b ∷ rest) read e = absurd (omega arith)
 
--- The first part of a text is the slice of its length.
+-- The first part of a text is the slice from index 0 to the length of the part.
 pub front_part : (text front back : List ℕ) (n : ℕ) →
     text ≡ front ++ back → n ≡ length front → slice_range text 0 n ≡ front
 front_part text front back n parts e =
@@ -150,7 +150,8 @@ within_bound : (width used added : ℕ) → is_beyond width used added ≡ false
     used ≤ width + 2 → added ≤ 2 → used + added ≤ width + 2
 within_bound width used added fits low most = grind (arith, nat_tests)
 
--- A row that continues is at most two columns wider than the width.
+-- A row that is at most two columns wider than the given width stays so when a character that doesn't overflow it is
+-- added.
 pub bound_kept : (width : ℕ) (row : List ℕ) (c : ℕ) → overflows width row c ≡ false →
     columns_in row ≤ width + 2 → columns_in (row ++ c ∷ []) ≤ width + 2
 bound_kept width row c fits low =

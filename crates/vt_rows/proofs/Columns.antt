@@ -95,7 +95,7 @@ at-behind c n k o new cells e le =
     get_or-append_right new (opened o rest) n (k - c) default_blank e i
     ∙ (at-opened o rest (k - c - n) ∙ rw (t, d) refl)
 
--- The cell at each column after an edit of some columns, even past the end.
+-- After `put_cells`, each column, even past the end, has the cell that `column_of` describes.
 pub put_columns : (c n : ℕ) (o : CellValue) (new cells : List CellValue) (k : ℕ) → length new ≡ n →
     c + n ≤ length cells → at (put_cells c o new n cells) k ≡ column_of c n o new cells k
 unfolding put_cells

@@ -6,7 +6,7 @@ use Rattle.std.proofs.lemmas.List.{get_or_append_left, get_or-append_right, get_
 use Rattle.vt_cells.specs.Cell.{CellValue, default_blank}
 use Rattle.vt_rows.specs.Cells.{at}
 
--- The items before `from`, followed by the chunk up to `to`, are those before `to`.
+-- The items before index `from`, followed by the items up to index `to`, are the items before `to`.
 pub piece_taken : {X : Type 0} (xs : List X) (from to : ℕ) → from ≤ to →
     take from xs ++ slice_range xs from to ≡ take to xs
 piece_taken xs from to le =
@@ -18,7 +18,7 @@ pub length-piece : {X : Type 0} (xs : List X) (from to : ℕ) → from ≤ to �
 length-piece xs from to le inside =
     omega (arith, length-take (to - from) (drop from xs), length-drop from xs)
 
--- After copies overwrite the first n cells, those are the copies.
+-- After copies overwrite the first n cells, those cells equal the copies.
 pub at-copied : (n k : ℕ) (copies cells : List CellValue) → n ≤ length copies → k < n →
     at (take n copies ++ drop n cells) k ≡ at copies k
 at-copied n k copies cells le lt =

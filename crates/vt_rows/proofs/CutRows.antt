@@ -26,7 +26,8 @@ line_end_text : (c : ℕ) → c ≡ 0x0A → encode_utf8 c ≡ 0x0A ∷ []
 unfolding encode_utf8
 line_end_text c lf = ap encode_utf8 lf
 
--- The rows with their indices, for the characters that follow those of `row`, which begins at byte `at`.
+-- The rows, with their indices, formed by the unfinished row `row`, which begins at byte `at`, and the characters after
+-- it.
 abbrev pub slices_behind : ℕ → ℕ → List ℕ → List ℕ → List Piece
 slices_behind width at row [] = (at, encode_utf8_all row) ∷ []
 slices_behind width at row (c ∷ text) =
@@ -55,7 +56,7 @@ scalars_more (c ∷ row) text p q =
     let parts = and_parts _ (all_scalars row) p in
     rw (parts.0, scalars_more row text parts.1 q) refl
 
--- An uncut row with a character that neither ends nor overflows it is uncut.
+-- An uncut row stays uncut when a character is added that neither ends nor overflows it.
 uncut_more : (width : ℕ) (row : List ℕ) (c : ℕ) → IsUncut width row →
     ends_row row c ≡ false → overflows width row c ≡ false → IsUncut width (row ++ c ∷ [])
 uncut_more width row c uncut goes fits k lt = by (place k (length row)) where
@@ -80,7 +81,7 @@ uncut_one : (width c : ℕ) → ends_row [] c ≡ false → IsUncut width (c ∷
 uncut_one width c goes zero lt = (goes, refl)
 uncut_one width c goes (suc k) lt = absurd (omega (arith, lt))
 
--- A character that overflows a row does not end it.
+-- A character that overflows a row is a line end after that row exactly if it is one at the beginning of a row.
 full_goes : (width : ℕ) (row : List ℕ) (c : ℕ) → overflows width row c ≡ true → ends_row row c ≡ ends_row [] c
 full_goes width row c full =
     let outside : ends_within row ≡ false = beyond_outside width (columns_in row) (ends_within row) c full in
@@ -254,7 +255,7 @@ read_on width at row (c ∷ back) rest uncut =
     let on = read_on width at (row ++ c ∷ []) back rest (rw whole uncut) in
     rw (here.0, here.1) (on ∙ ap (λ front. slices_behind width at front rest) whole)
 
--- The text after a slice of UTF-8 is UTF-8.
+-- Dropping a prefix that is UTF-8 from UTF-8 text leaves UTF-8 text.
 utf8_behind : (text : List ℕ) (n : ℕ) → IsUtf8 text → IsUtf8 (take n text) → n ≤ length text → IsUtf8 (drop n text)
 utf8_behind text n whole front le = IsUtf8-drop text n whole (IsCharBoundary-from_take text n whole le front)
 

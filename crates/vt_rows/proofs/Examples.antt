@@ -8,7 +8,8 @@ use Rattle.vt_rows.specs.Cells.{narrowed_at, moved, inserted, deleted, resized}
 use Rattle.vt_rows.specs.Plain.{plain_text}
 use Rattle.vt_rows.specs.Row.{with_cells, trimmed, resized_row}
 
--- Cells: x and y are narrow, U+4E2D and U+56FD wide; a are attributes from before, b those of the edit.
+-- The narrow cell of an ASCII letter. In the examples, x and y are narrow letters, U+4E2D and U+56FD are wide
+-- characters, `a` are the attributes before an edit, and `b` are those of the edit.
 abbrev letter : ℕ → Attrs → CellValue
 letter c attrs = glyph (c ∷ []) false attrs
 
@@ -59,7 +60,8 @@ wide_made_narrow : (a b : Attrs) →
 unfolding put_cells
 wide_made_narrow a b = refl
 
--- A first cell and a continuation cell that are brought together do not form a wide glyph.
+-- If a move brings the first cell of one wide glyph next to the continuation cell of another, they do not form a wide
+-- glyph.
 two_pairs_torn : (a b : Attrs) →
     deleted 1 2 (wide a ∷ right_half ∷ other b ∷ right_half ∷ letter 0x78 b ∷ [])
     ≡ blank a ∷ default_blank ∷ letter 0x78 b ∷ default_blank ∷ default_blank ∷ []
@@ -109,7 +111,7 @@ coloured_stays : (a : Attrs) →
 unfolding same_attrs same_color
 coloured_stays a = refl
 
--- The wrapped flag is cleared if the last column becomes a blank, and stays if a space is put there.
+-- The wrapped flag is cleared if the last column becomes a blank, and stays if a space is written there.
 flag_falls : (a b : Attrs) →
     with_cells (record { cells = wide a ∷ right_half ∷ []; wrapped = true }) (erased 0 1 b (wide a ∷ right_half ∷ []))
     ≡ record { cells = blank b ∷ default_blank ∷ []; wrapped = false }
@@ -125,11 +127,11 @@ flag_stays a b = refl
 
 -- ---- Plain text
 
--- A row of a, a wide glyph, a blank, b, and a blank.
+-- The cells of a row: the letter a, a wide glyph, a blank, the letter b, and a blank.
 abbrev mixed : Attrs → List CellValue
 mixed a = letter 0x61 a ∷ wide a ∷ right_half ∷ coloured ∷ letter 0x62 a ∷ default_blank ∷ []
 
--- Blanks at the end are no text, whatever their attributes.
+-- Blanks at the end of a row add no text, whatever their attributes.
 whole_text : (a : Attrs) → plain_text 0 6 (mixed a) ≡ 0x61 ∷ 0xE4 ∷ 0xB8 ∷ 0xAD ∷ 0x20 ∷ 0x62 ∷ []
 unfolding plain_text
 whole_text a = refl
@@ -139,7 +141,7 @@ cut_behind_left_half : (a : Attrs) → plain_text 0 2 (mixed a) ≡ 0x61 ∷ 0xE
 unfolding plain_text
 cut_behind_left_half a = refl
 
--- The continuation cell of a wide glyph that begins before the range is a space.
+-- The continuation cell of a wide glyph that begins before the range is written as a space.
 cut_before_right_half : (a : Attrs) → plain_text 2 6 (mixed a) ≡ 0x20 ∷ 0x20 ∷ 0x62 ∷ []
 unfolding plain_text
 cut_before_right_half a = refl

@@ -1,4 +1,5 @@
--- Moves of columns: where each column comes from, and that wide glyphs stay whole and cells valid.
+-- Moves of columns: each column comes from the column that the definition says, wide glyphs stay whole, and cells stay
+-- valid.
 use Rattle.std.proofs.Common.{◌≡◌, ℕ, ◌+◌, ◌-◌, ◌<◌, ◌≤◌, ◌==◌, ◌&&◌, nat_lt, not, Bool, true, false}
 use Rattle.std.proofs.Common.{List, length, refl, inl, inr, sym, ap, subst, ◌∙◌, zero-add, arith}
 use Rattle.std.specs.Prelude.{All, if◌then◌else◌}
@@ -29,8 +30,8 @@ moved_is n source cells ys e f = fill_by_all (moved_at n source cells) ys n defa
 
 -- ---- Wide glyphs
 
--- A cell after a move is wide if it was and its continuation cell moves along (t); s says whether the first cell
--- moves along.
+-- After a move, a cell is wide exactly if it was wide and its continuation cell moved along with it (`t`). For a
+-- continuation cell, `s` says whether the first cell moved along.
 wide_moved : (t s : Bool) (x : CellValue) →
     is_wide (if is_wide x && not t then blank (attrs_of x) else if is_right_half x && not s then default_blank else x)
     ≡ (is_wide x && t)

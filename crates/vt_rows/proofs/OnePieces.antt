@@ -40,7 +40,7 @@ module _ (capture : List ℕ) (at : ℕ) (p : Piece) (ps : List Piece) (q : Piec
       let there = (agree p.0 mine.1 (omega (arith, inside))).0 (inl (omega arith, omega (arith, inside))) in
       not_later capture q.0 p.0 (q ∷ qs) (yours.0, omega arith, yours.2) there
 
-  -- Pieces that begin at the same byte cannot differ in length: the byte after the shorter one would be in none.
+  -- Pieces that begin at the same byte cannot differ in length: the byte after the shorter one would be in no piece.
   no_shorter : p.0 ≡ q.0 → piece_end p < piece_end q → ⊥
   no_shorter same less =
       let mine_in = begins_in capture p mine.0 in

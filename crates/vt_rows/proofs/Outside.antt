@@ -12,7 +12,7 @@ use Rattle.vt_rows.specs.Pieces.{Piece, piece_end, IsInSome, AreApart, ArePieces
 use Rattle.vt_rows.specs.Pieces.{plain_from, without_stretches}
 use Rattle.vt_rows.specs.Stretches.{IsInStretch, begins_stretch, ends_stretch, ends_within, is_within_after}
 
--- Byte k is inside an SGR sequence, for a text that begins inside one or not.
+-- Whether byte k is inside an SGR sequence; the first argument says whether the text begins inside one.
 abbrev in_stretch : Bool → List ℕ → ℕ → Bool
 in_stretch within [] k = within
 in_stretch within (b ∷ text) zero = within || begins_stretch b
@@ -128,7 +128,7 @@ apart_later : (capture : List ℕ) (at low : ℕ) (pieces : List Piece) →
 apart_later capture at low [] le apart = tt
 apart_later capture at low (piece ∷ pieces) le apart = (apart.0, omega (arith, le, apart.1), apart.2)
 
--- The pieces of a text inside an SGR sequence that begins with `m`, which ends the sequence.
+-- If a text inside an SGR sequence begins with `m`, its pieces are those of the text after the `m`.
 covers_end : (at : ℕ) (text : List ℕ) (pieces : List Piece) (capture : List ℕ) →
     AreApart capture (at + 1) pieces → Covers false (at + 1) text pieces → Covers true at (0x6D ∷ text) pieces
 covers_end at text pieces capture apart covers zero lt =
@@ -182,7 +182,8 @@ place (suc k) (suc n) = by (place k n) where
   by (inr (inl e)) = inr (inl (omega (arith, e)))
   by (inr (inr j)) = inr (inr (j.0, omega (arith, j.1)))
 
--- The pieces of a plain piece, an ESC, and the text inside the sequence after it.
+-- The pieces of a text without ESC, then an ESC, then text inside an SGR sequence: a piece for the first part, followed
+-- by the pieces of the last part.
 covers_begin : (capture : List ℕ) (at : ℕ) (piece text : List ℕ) (later : List Piece) → Lacks 0x1B piece →
     AreApart capture (at + length piece + 1) later → Covers true (at + length piece + 1) text later →
     Covers false at (piece ++ 0x1B ∷ text) (piece_at at piece ++ later)
@@ -317,7 +318,7 @@ in_places text k lt = (
     within (inl s) = none s
     within (inr s) = true≢false (sym s.0)
 
--- A text ends inside an SGR sequence exactly if the test says so for the index after its last byte.
+-- A text ends inside an SGR sequence exactly if `in_stretch` holds for the index after its last byte.
 at_end : (within : Bool) (text : List ℕ) → in_stretch within text (length text) ≡ fold is_within_after within text
 at_end within [] = refl
 at_end within (b ∷ text) = at_end (is_within_after within b) text
@@ -343,7 +344,7 @@ pieces_are capture =
           (λ h. places.0 (here.0 h), λ none. here.1 (places.1 none));
     }
 
--- The pieces, joined, are the text without its SGR sequences.
+-- Joining the text of a piece with the texts of later pieces gives the piece followed by the joined later texts.
 joined_piece : (at : ℕ) (piece : List ℕ) (later : List Piece) →
     concat (texts_of (piece_at at piece ++ later)) ≡ piece ++ concat (texts_of later)
 joined_piece at [] later = refl
@@ -382,7 +383,7 @@ mutual
 pub pieces_joined : (capture : List ℕ) → concat (texts_of (pieces_from 0 capture)) ≡ without_stretches capture
 pieces_joined capture = joined_behind 0 [] capture
 
--- What an iterator over a whole capture has still to return are the pieces of the capture.
+-- The pieces that an iterator over a whole capture has yet to return are the pieces of the capture.
 pub whole_are : (capture : List ℕ) (len : ℕ) → len ≡ length capture →
     ArePiecesOf capture (pieces_from (len - length capture) capture)
 whole_are capture len e =

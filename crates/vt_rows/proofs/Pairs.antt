@@ -87,8 +87,8 @@ right_column c n o new cells k h =
       right_opened (k == c + n) o (at cells k) h,
     ) refl
 
--- The cells after n cells are replaced stay paired: w and r say which cells were wide or continuation cells before, v
--- and s which of the new ones are.
+-- Replacing n cells keeps wide glyphs whole: `w` and `r` say which old cells are wide and which are continuation cells,
+-- and `v` and `s` say this of the new cells.
 joined : (c n k : ℕ) (w r v s : ℕ → Bool) → ((j : ℕ) → w j ≡ r (j + 1)) →
     ((j : ℕ) → v j ≡ s (j + 1)) → s 0 ≡ false → ((j : ℕ) → n ≤ j → s j ≡ false) →
     (if nat_lt k c then (not (k + 1 == c) && w k) else if nat_lt k (c + n) then v (k - c) else w k)

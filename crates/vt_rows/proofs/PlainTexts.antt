@@ -11,22 +11,22 @@ use Rattle.vt_rows.specs.Cells.{opened}
 use Rattle.vt_rows.specs.Internals.{plain_behind}
 use Rattle.vt_rows.specs.Plain.{up_to_last_glyph}
 
--- If no glyph begins in the cells, nothing is left of them.
+-- If no glyph begins in a list of cells, the list of cells up to the last glyph is empty.
 no_glyph : (cells : List CellValue) → list_any is_glyph cells ≡ false → up_to_last_glyph cells ≡ []
 no_glyph [] e = refl
 no_glyph (x ∷ xs) e = rw e refl
 
--- Spaces followed by one more space.
+-- Appending one more space to n spaces gives n + 1 spaces.
 one_more : (n : ℕ) (rest : List ℕ) → replicate n 0x20 ++ (0x20 ∷ rest) ≡ replicate (n + 1) 0x20 ++ rest
 one_more n rest =
     sym (append_assoc (replicate n 0x20) (0x20 ∷ []) rest) ∙ ap (λ (xs : List ℕ). xs ++ rest) (replicate_more n 0x20)
 
--- The text of cells after n columns without a glyph.
+-- The plain text of cells that follow n columns without a glyph.
 abbrev spread : ℕ → List CellValue → List ℕ
 spread n cells =
     if list_any is_glyph cells then replicate n 0x20 ++ flat_map shown_text (up_to_last_glyph cells) else []
 
--- The text of cells without a gap before them.
+-- Without a gap before them, the plain text of cells is the text of each cell up to the last glyph.
 no_gap : (cells : List CellValue) → spread 0 cells ≡ flat_map shown_text (up_to_last_glyph cells)
 no_gap cells = by_any (list_any is_glyph cells) refl where
   by_any : (b : Bool) → list_any is_glyph cells ≡ b →
@@ -58,7 +58,7 @@ behind_glyph n text wide attrs cells =
     sym (ap (λ (xs : List ℕ). (replicate n 0x20 ++ text) ++ xs) (no_gap cells)
     ∙ append_assoc (replicate n 0x20) text (flat_map shown_text (up_to_last_glyph cells)))
 
--- The text of cells after a gap agrees with its definition cell by cell.
+-- The text of cells that follow n columns without a glyph agrees with its cell-by-cell definition.
 is_spread : (n : ℕ) (cells : List CellValue) → plain_behind n cells ≡ spread n cells
 is_spread n [] = refl
 is_spread n (blank attrs ∷ cells) = is_spread (n + 1) cells ∙ sym (behind_blank n attrs cells)
@@ -67,7 +67,7 @@ is_spread n (glyph text wide attrs ∷ cells) =
     ∙ sym (behind_glyph n text wide attrs cells)
 is_spread n (right_half ∷ cells) = is_spread n cells ∙ sym (behind_half n cells)
 
--- The plain text of cells of which the first is no continuation cell.
+-- If the first cell is no continuation cell, the plain text of cells is the text of each cell up to the last glyph.
 pub plain_whole : (cells : List CellValue) → is_right_half (slice_index_or cells 0 default_blank) ≡ false →
     plain_behind 0 cells ≡ flat_map shown_text (up_to_last_glyph (opened default_blank cells))
 plain_whole [] e = refl
@@ -89,7 +89,7 @@ pub plain_cut : (cells : List CellValue) → is_right_half (slice_index_or cells
     ≡ flat_map shown_text (up_to_last_glyph (opened default_blank cells))
 plain_cut cells e = ap (plain_behind 1) (take_rest cells 1) ∙ plain_opened cells e
 
--- Sixteen spaces written, of those that are left.
+-- Writing sixteen of the remaining spaces, and then the others, writes all remaining spaces.
 pub sixteen : (old new : List ℕ) (n : ℕ) → 16 ≤ n → new ≡ old ++ replicate 16 0x20 →
     new ++ replicate (n - 16) 0x20 ≡ old ++ replicate n 0x20
 sixteen old new n h e =
@@ -99,5 +99,5 @@ sixteen old new n h e =
     ∙ ap (λ (xs : List ℕ). old ++ xs)
     (replicate-append-replicate 16 (n - 16) 0x20 ∙ ap (λ (m : ℕ). replicate m 0x20) all))
 
--- The plain text of the cells of a row, whole or cut.
+-- The lemmas on the plain text of a row's cells, with a whole or a split wide glyph at the beginning.
 pub ruleset plain_rows = (plain_whole, plain_cut)

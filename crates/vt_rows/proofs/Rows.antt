@@ -1,4 +1,4 @@
--- The invariant of every row of a page, after each edit.
+-- Each edit keeps the invariant of the rows of a page.
 use Rattle.std.proofs.Common.{◌≡◌, ℕ, ◌+◌, ◌-◌, ◌<◌, ◌≤◌, ◌==◌, ◌&&◌, not, Bool, true, false, List}
 use Rattle.std.proofs.Common.{[], ◌∷◌, length, refl, sym, ap, ◌∙◌, inl, inr, lit<, arith}
 use Rattle.std.specs.Prelude.{◌||◌, All, if◌then◌else◌}
@@ -73,7 +73,7 @@ blank_if : (t : Bool) (x y : CellValue) → is_blank (if t then x else y) ≡ (i
 blank_if true x y = refl
 blank_if false x y = refl
 
--- Whether the last column is a blank after n columns from c on are replaced.
+-- The condition under which the last column is a blank after n columns, starting at column c, are replaced.
 pub ends_blank-put_cells : (c n : ℕ) (o : CellValue) (new cells : List CellValue) →
     length new ≡ n → 0 < n → c + n ≤ length cells →
     ends_blank (put_cells c o new n cells)

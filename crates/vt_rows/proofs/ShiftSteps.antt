@@ -1,4 +1,4 @@
--- The steps of the code for a shift of columns make the move of columns that the definition says.
+-- The code's steps for a shift of columns give the result that the definition of the shift says.
 use Rattle.std.proofs.Common.{◌≡◌, ℕ, ◌+◌, ◌-◌, ◌<◌, ◌≤◌, ◌==◌, ◌&&◌, nat_lt, not, Bool, true, false}
 use Rattle.std.proofs.Common.{List, ◌++◌, length, min, refl, inl, inr, sym, ap, ◌∙◌, arith}
 use Rattle.std.specs.Prelude.{◌⊎◌, if◌then◌else◌, slice_set}
@@ -81,7 +81,8 @@ pub end_blanked-none : (cells : List CellValue) →
 unfolding end_blanked
 end_blanked-none cells e = rw e refl
 
--- A move that cuts a wide glyph only at the end, or before columns that come from elsewhere.
+-- If a move separates the cells of a wide glyph only in the last column, blanking that glyph there gives the cell that
+-- the definition of a move requires.
 settle : (last t s : Bool) (x : CellValue) → (last ≡ true → t ≡ false) →
     (last ≡ false → is_wide x ≡ true → t ≡ true) → (is_right_half x ≡ true → s ≡ true) →
     (if last && is_wide x then blank (attrs_of x) else x)
@@ -119,7 +120,7 @@ at-grown n k cells = elim (cases_lt k (length cells)) [
       ∙ (at-blanks n (k - length cells) ∙ sym (at-past cells k ge))
 ]
 
--- A row is extended by default blanks after it.
+-- Appending default blanks to a row gives the row resized to a greater width.
 pub grown_is : (n : ℕ) (cells : List CellValue) → IsPaired cells → length cells ≤ n →
     cells ++ blanks default_attrs (n - length cells) ≡ resized n cells
 grown_is n cells p le =
@@ -145,7 +146,8 @@ inserted_behind c cells p = by_half (is_right_half (at cells c)) refl where
   by_half true e = let h = p.halves c in let n = not_both (at cells c) in grind (arith)
   by_half false e = e
 
--- The cells after a column between wide glyphs move right, and what comes from past the end is blank.
+-- If each cell has moved to where an insertion puts it, blanking a wide glyph that is split at the end completes the
+-- insertion.
 pub insert_steps : (s n : ℕ) (cells ys : List CellValue) → IsPaired cells →
     s ≤ length cells → is_right_half (at cells s) ≡ false → length ys ≡ length cells →
     ((k : ℕ) → k < length cells → at ys k ≡ at cells (insert_source (length cells) s n k)) →
@@ -311,7 +313,8 @@ deleted-none c n cells p le e = moved_is (length cells) (delete_source c n) cell
       (delete_source c n k == delete_source c n (k - 1) + 1) (at cells (delete_source c n k))
       (λ l. cc) (λ l w. behind k h w) (λ r. before k h r)
 
--- A move that cuts a wide glyph only at the first of the columns that come from elsewhere.
+-- If a move separates the cells of a wide glyph only at the first column after a deletion, blanking that column gives
+-- the cell that the definition of a move requires.
 settle_opened : (first t s : Bool) (x : CellValue) → (is_wide x ≡ true → t ≡ true) →
     (first ≡ true → s ≡ false) → (first ≡ false → is_right_half x ≡ true → s ≡ true) →
     (if first && is_right_half x then default_blank else x)
@@ -322,7 +325,7 @@ settle_opened first t s (glyph text false attrs) a b r = grind (arith)
 settle_opened true t s right_half a b r = let e = b refl in grind (arith)
 settle_opened false t s right_half a b r = let e = r refl refl in grind (arith)
 
--- The cell at each column after the cells beside the deleted columns were prepared.
+-- The cell at each column after the wide glyphs that a deletion splits are blanked.
 repaired_column : (c m j : ℕ) (cells : List CellValue) → IsPaired cells → c < length cells → 0 < m →
     at (right_replaced (c + m - 1) default_blank (left_blanked c cells)) j
     ≡ (if (j == c + m - 1 + 1) && is_wide (at cells (c + m - 1)) then default_blank

@@ -1,4 +1,4 @@
--- An edit leaves valid cells if the cells before and those that are put are valid.
+-- An edit leaves valid cells if the old cells and the written cells are valid.
 use Rattle.std.proofs.Common.{ℕ, true, false, List, [], ◌∷◌, take, drop}
 use Rattle.std.specs.Prelude.{All}
 use Rattle.std.proofs.lemmas.List.Elements.{All-nil, All-cons, All-head, All-tail, All-append}

@@ -279,13 +279,13 @@ wide_steps c x g cells p h =
     ) (wide_cases c k x g cells p)
     ∙ sym (put_columns c 2 x (g ∷ right_half ∷ []) cells k refl (omega arith)))
 
--- If column c holds no continuation cell, preparing it changes nothing.
+-- If column c holds no continuation cell, preparing the column for an overwrite changes nothing.
 pub left_blanked-none : (c : ℕ) (cells : List CellValue) →
     is_right_half (at cells c) ≡ false → left_blanked c cells ≡ cells
 unfolding left_blanked
 left_blanked-none c cells e = rw e refl
 
--- Preparing the column after changes no cell at an earlier column.
+-- Replacing the continuation cell after column d changes no cell up to column d.
 pub at-right_replaced_same : (c d : ℕ) (x : CellValue) (cells : List CellValue) →
     IsPaired cells → c ≤ d → at (right_replaced d x cells) c ≡ at cells c
 at-right_replaced_same c d x cells p h =
@@ -298,14 +298,14 @@ at-repaired c x cells p h =
     (at-right_replaced c c x (left_blanked c cells) (HasRoom-left_blanked c c cells p h), at-left_blanked c c cells p h)
     (grind (arith, nat_tests))
 
--- A wide cell is the wide glyph of its text.
+-- A wide cell is the wide glyph with its text and attributes.
 pub wide_is : (x : CellValue) → is_wide x ≡ true → x ≡ glyph (text_of x) true (attrs_of x)
 wide_is (blank attrs) e = cc
 wide_is (glyph text true attrs) e = refl
 wide_is (glyph text false attrs) e = cc
 wide_is right_half e = cc
 
--- The cell at a column whose neighbors were prepared is unchanged.
+-- Preparing the neighbors of a column for an overwrite leaves the cell in that column unchanged.
 pub read-repaired : (c : ℕ) (x d : CellValue) (cells : List CellValue) → IsPaired cells →
     c < length cells → get_or (right_replaced c x (left_blanked c cells)) c d ≡ at cells c
 read-repaired c x d cells p h =

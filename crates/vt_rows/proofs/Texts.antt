@@ -24,7 +24,8 @@ use Rattle.vt_rows.proofs.Sound.{All-put_cells}
 
 -- ---- One byte after the other
 
--- The cell at column k after one cell is put at column c and further ones after it.
+-- The cell at column k is the same whether cells are put from column c on in one edit, or in two edits: the first cell,
+-- and then the others.
 split_column : (c n k : ℕ) (o x : CellValue) (xs cells : List CellValue) → is_wide x ≡ false → is_right_half o ≡ false →
     column_of c (suc n) o (x ∷ xs) cells k
     ≡ (let y = column_of c 1 o (x ∷ []) cells k in
@@ -50,7 +51,7 @@ split_column c n k o x xs cells w r = elim (cases_lt k c) [
   ]
 ]
 
--- Cells that are put from a column on may be put in two edits, the first with a single narrow cell.
+-- Putting cells from a column on equals two edits, of which the first puts a single narrow cell.
 pub put_cells_after : (c n : ℕ) (o x : CellValue) (xs cells : List CellValue) →
     is_wide x ≡ false → is_right_half o ≡ false → length xs ≡ n → c + suc n ≤ length cells →
     put_cells c o (x ∷ xs) (suc n) cells ≡ put_cells (c + 1) o xs n (put_cells c o (x ∷ []) 1 cells)
@@ -69,7 +70,7 @@ put_cells_after c n o x xs cells w r e h =
 pub length-glyphs_of : (attrs : Attrs) (text : List ℕ) → length (glyphs_of attrs text) ≡ length text
 length-glyphs_of attrs text = length-map text (narrow_glyph attrs)
 
--- Putting a text equals putting its first character and then the others.
+-- Putting a text equals putting its first character and then the rest of the text.
 pub put_text_after : (c b : ℕ) (text : List ℕ) (attrs : Attrs) (cells : List CellValue) →
     c + suc (length text) ≤ length cells →
     put_text c (b ∷ text) attrs cells ≡ put_text (c + 1) text attrs (put_narrow c (encode_utf8 b) attrs cells)
@@ -134,7 +135,8 @@ IsRow-put_text width row c text attrs h t r =
     (length-put_text c text attrs row.cells (omega arith) ∙ l)
     (IsPaired-put_text c text attrs row.cells (omega arith) r.paired) (All-put_text c text attrs row.cells t r.sound)
 
--- Cells that are the glyphs of a text, one by one, are its list of glyphs.
+-- If the cell at each index is the glyph of the character at that index of a text, the cells are the text's list of
+-- glyphs.
 pub glyphs_of_is : (attrs : Attrs) (text : List ℕ) (cells : List CellValue) → length cells ≡ length text →
     ((k : ℕ) → k < length text → at cells k ≡ narrow_glyph attrs (get_or text k 0)) → cells ≡ glyphs_of attrs text
 glyphs_of_is attrs text cells e f =
@@ -142,7 +144,7 @@ glyphs_of_is attrs text cells e f =
     (λ k h. let lt : k < length text =
     omega arith in f k lt ∙ sym (get_or-map (narrow_glyph attrs) text k 0 default_blank lt))
 
--- The glyphs of the bytes before `from`, followed by those of the next chunk, are the glyphs of the bytes before
+-- The glyphs of the bytes before `from`, followed by those of the bytes up to `to`, are the glyphs of the bytes before
 -- `to`.
 pub glyphs_on : (attrs : Attrs) (text : List ℕ) (from to : ℕ) → from ≤ to →
     glyphs_of attrs (take from text) ++ glyphs_of attrs (slice_range text from to) ≡ glyphs_of attrs (take to text)

@@ -50,7 +50,8 @@ not_all cells k h e =
     false_from_ne_true (list_all is_default_blank cells)
     (λ t. let a = ap is_default_blank (all_default-at cells k t) ∙ is_default-itself in cc)
 
--- Cells cut before the default blanks at the end, after a cell that is none, are the trimmed cells.
+-- The first n cells of a row are its trimmed cells if all later cells are default blanks and cell n - 1, if any, is
+-- not.
 pub trimmed_is : (cells : List CellValue) (n : ℕ) → n ≤ length cells → ((k : ℕ) → n ≤ k → at cells k ≡ default_blank) →
     ((j : ℕ) → n ≡ suc j → is_default_blank (at cells j) ≡ false) → take n cells ≡ trimmed cells
 trimmed_is [] zero h f g = refl
@@ -112,7 +113,7 @@ IsRow-trimmed_row width row r = record {
   sound = All-trimmed row.cells r.sound;
 }
 
--- Four default blanks, one by one, are a list of them.
+-- Four cells that are each a default blank are the list of four default blanks.
 pub four_blanks : (cells : List CellValue) → length cells ≡ 4 → at cells 0 ≡ default_blank → at cells 1 ≡ default_blank →
     at cells 2 ≡ default_blank → at cells 3 ≡ default_blank → cells ≡ blanks default_attrs 4
 four_blanks cells l a b c d = blanks_is default_attrs 4 cells l each
@@ -124,7 +125,8 @@ four_blanks cells l a b c d = blanks_is default_attrs 4 cells l each
     each (suc (suc (suc zero))) lt = d
     each (suc (suc (suc (suc k)))) lt = absurd (omega arith)
 
--- If all cells from i + 8 on are default blanks, and so are the eight before them, then all from i on are.
+-- If all cells from i + 8 on are default blanks, and so are the eight cells before them, then all cells from i on are
+-- default blanks.
 pub eight_more : (cells : List CellValue) (i : ℕ) → slice_range cells i (i + 8) ≡ blanks default_attrs 8 →
     ((k : ℕ) → i + 8 ≤ k → at cells k ≡ default_blank) → (k : ℕ) → i ≤ k → at cells k ≡ default_blank
 eight_more cells i eight behind k le =

@@ -52,7 +52,7 @@ split_pair c n k o x xs cells r = elim (cases_lt k c) [
   ]
 ]
 
--- Cells that are put from a column on may be put in two edits, the first with one wide glyph.
+-- Putting cells from a column on equals two edits, of which the first puts one wide glyph.
 pub put_cells_after_pair : (c n : ℕ) (o x : CellValue) (xs cells : List CellValue) →
     is_right_half o ≡ false → length xs ≡ n → c + suc (suc n) ≤ length cells →
     put_cells c o (x ∷ right_half ∷ xs) (suc (suc n)) cells
@@ -74,7 +74,7 @@ pub length-wide_glyphs_of : (attrs : Attrs) (text : List ℕ) → length (wide_g
 length-wide_glyphs_of attrs [] = refl
 length-wide_glyphs_of attrs (x ∷ text) = let l = length-wide_glyphs_of attrs text in omega (arith, l)
 
--- Putting a text of wide characters equals putting its first character and then the others.
+-- Putting a text of wide characters equals putting its first character and then the rest of the text.
 pub put_wide_text_after : (c x : ℕ) (text : List ℕ) (attrs : Attrs) (cells : List CellValue) →
     c + 2 * suc (length text) ≤ length cells →
     put_wide_text c (x ∷ text) attrs cells ≡ put_wide_text (c + 2) text attrs (put_wide c (encode_utf8 x) attrs cells)
@@ -147,7 +147,8 @@ IsRow-put_wide_text width row c text attrs h t r =
     (length-put_wide_text c text attrs row.cells (omega arith) ∙ l)
     (IsPaired-put_wide_text c text attrs row.cells (omega arith) r.paired) (All-put_wide_text c text attrs row.cells t r.sound)
 
--- Cells that are the wide glyphs of a text, two by two, are its list of cells.
+-- If the two cells for each character of a text are those of its wide glyph, the cells are the text's list of wide
+-- glyphs.
 pub wide_glyphs_of_is : (attrs : Attrs) (text : List ℕ) (cells : List CellValue) → length cells ≡ 2 * length text →
     ((k : ℕ) → k < length text →
     (at cells (2 * k) ≡ wide_glyph attrs (get_or text k 0)) × (at cells (2 * k + 1) ≡ right_half)) →

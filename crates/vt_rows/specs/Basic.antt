@@ -5,45 +5,46 @@ use Rattle.vt_cells.specs.Cell.{CellValue, blank, glyph, right_half, is_default_
 use Rattle.vt_cells.specs.Op.{change_text}
 use Rattle.vt_rows.specs.Row.{RowValue, trimmed}
 
--- The state between two rows: the current attributes, and whether a line end is due before the next row.
+-- The state of a capture between two rows: the current attributes, and whether a line end is due before the next row.
 pub record Written : Type 0 where
   pub attrs : Attrs
   pub is_due : Bool
 
--- The initial state, before any text is written.
+-- The initial state of a capture, before any text is written.
 abbrev pub unwritten : Written
 unwritten = record { attrs = default_attrs; is_due = false }
 
--- The cell has no attributes of its own: it is a default blank or a continuation cell.
+-- The cell has no attributes of its own, because it is a default blank or a continuation cell.
 abbrev pub is_bare : CellValue → Bool
 is_bare cell = is_default_blank cell || is_right_half cell
 
--- The text that is written for a cell: a space for a blank, and nothing for a continuation cell.
+-- The text that is written for a cell: the text of a glyph, a space for a blank, and nothing for a continuation cell.
 abbrev pub shown_text : CellValue → List ℕ
 shown_text (blank attrs) = 0x20 ∷ []
 shown_text (glyph text wide attrs) = text
 shown_text right_half = []
 
--- The attributes after a cell is written: the cell's own attributes, or the previous ones if it has none.
+-- The current attributes after a cell is written: the cell's attributes, or the previous ones if the cell is a default
+-- blank or a continuation cell.
 abbrev pub attrs_after : Attrs → CellValue → Attrs
 attrs_after attrs cell = if is_bare cell then attrs else attrs_of cell
 
--- The text of a list of cells, each preceded by the SGR change to its attributes.
+-- The text of a list of cells, each preceded by the SGR change to the cell's attributes.
 abbrev pub cells_text : Attrs → List CellValue → List ℕ
 cells_text attrs [] = []
 cells_text attrs (cell ∷ cells) =
     change_text attrs (attrs_after attrs cell) ++ (shown_text cell ++ cells_text (attrs_after attrs cell) cells)
 
--- The attributes after a list of cells is written.
+-- The current attributes after a list of cells is written.
 abbrev pub attrs_after_all : Attrs → List CellValue → Attrs
 attrs_after_all attrs [] = attrs
 attrs_after_all attrs (cell ∷ cells) = attrs_after_all (attrs_after attrs cell) cells
 
--- The basic text of a row: the line end if one is due, and the cells without their trailing default blanks.
+-- The basic text of a row: a line end if one is due, followed by the text of the cells without trailing default blanks.
 abbrev pub basic_text : Written → RowValue → List ℕ
 basic_text written row = (if written.is_due then 0x0A ∷ [] else []) ++ cells_text written.attrs (trimmed row.cells)
 
--- The state after a row is written: a line end is due unless the row is wrapped.
+-- The state of a capture after a row is written: a line end is due unless the row is wrapped.
 abbrev pub written_after : Written → RowValue → Written
 written_after written row =
     record { attrs = attrs_after_all written.attrs (trimmed row.cells); is_due = not row.wrapped }

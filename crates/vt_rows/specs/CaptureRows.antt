@@ -4,11 +4,12 @@ use Rattle.std.specs.Prelude.{◌∷◌, ◌+◌, ◌<◌, IsUtf8, chars, get_or
 use Rattle.vt_rows.specs.Pieces.{Piece, piece_end}
 use Rattle.vt_rows.specs.Stretches.{columns_added, columns_in, ends_within}
 
--- The character after the text `row` is a line end: an LF outside SGR sequences.
+-- The character that follows the text `row` is a line end, that is, an LF outside SGR sequences.
 abbrev pub ends_row : List ℕ → ℕ → Bool
 ends_row row c = not (ends_within row) && (c == 0x0A)
 
--- A character of `added` columns doesn't fit after `used` columns. It always fits if either number is 0.
+-- In a row of `width` columns, a character of `added` columns doesn't fit after `used` columns. A character always fits
+-- if `used` or `added` is 0.
 abbrev pub is_beyond : ℕ → ℕ → ℕ → Bool
 is_beyond width used added = nat_lt 0 used && (nat_lt 0 added && nat_lt width (used + added))
 
@@ -16,24 +17,24 @@ is_beyond width used added = nat_lt 0 used && (nat_lt 0 added && nat_lt width (u
 abbrev pub overflows : ℕ → List ℕ → ℕ → Bool
 overflows width row c = is_beyond width (columns_in row) (columns_added (ends_within row) c)
 
--- No character of the row is a line end, and each fits after the characters before it.
+-- No character of the row is a line end, and every character fits after the characters before it.
 abbrev pub IsUncut : ℕ → List ℕ → Type 0
 IsUncut width row =
     (k : ℕ) → k < length row →
     (ends_row (take k row) (get_or row k 0) ≡ false) × (overflows width (take k row) (get_or row k 0) ≡ false)
 
--- The row is the slice of the capture at its index, consists of whole characters, and contains no row break.
+-- The row is the slice of the capture at the row's index, consists of whole characters, and contains no row break.
 pub record IsRowOf (width : ℕ) (capture : List ℕ) (row : Piece) : Type 0 where
   pub slice : take (length row.1) (drop row.0 capture) ≡ row.1
   pub utf8 : IsUtf8 row.1
   pub uncut : IsUncut width (chars row.1)
 
--- The next row begins after the line end that ends this row.
+-- The row `next` begins directly after the line end that ends `row`.
 pub record IsBehindEnd (capture : List ℕ) (row next : Piece) : Type 0 where
   pub place : next.0 ≡ piece_end row + 1
   pub ends : ends_row (chars row.1) (get_or capture (piece_end row) 0) ≡ true
 
--- The next row begins directly at the end of this row, with a character that doesn't fit on it.
+-- The row `next` begins directly at the end of `row`, with a character that doesn't fit on `row`.
 pub record IsBehindFull (width : ℕ) (row next : Piece) : Type 0 where
   pub place : next.0 ≡ piece_end row
   pub first : ℕ

@@ -6,11 +6,11 @@ use Rattle.vt_cells.specs.Cell.{CellValue, blank, glyph, right_half, default_bla
 use Rattle.vt_cells.specs.Cell.{is_blank, is_right_half, attrs_of, marked, widened}
 use Rattle.vt_cells.specs.Attrs.{Attrs}
 
--- The cell at a column; a default blank past the end.
+-- The cell at a column, or a default blank if the column is past the end.
 abbrev pub at : List CellValue → ℕ → CellValue
 at cells k = slice_index_or cells k default_blank
 
--- A row of `n` columns, in which column `k` is `f k`.
+-- The cells of a row of `n` columns, given by a function from a column's index to the column's cell.
 abbrev pub by_column : ℕ → (ℕ → CellValue) → List CellValue
 by_column n f = map f (range_with_len 0 n)
 
@@ -19,7 +19,7 @@ pub record IsPaired (cells : List CellValue) : Type 0 where
   pub halves : (k : ℕ) → is_wide (at cells k) ≡ is_right_half (at cells (k + 1))
   pub first : is_right_half (at cells 0) ≡ false
 
--- The last column is blank.
+-- The last column of the row is blank.
 abbrev pub ends_blank : List CellValue → Bool
 ends_blank cells = is_blank (at cells (length cells - 1))
 
@@ -29,30 +29,30 @@ blanks attrs n = replicate n (blank attrs)
 
 -- ---- Edits that replace columns
 
--- The cell, or a blank with its attributes if it is the first cell of a wide glyph.
+-- The cell itself, or a blank with the same attributes if the cell is the first cell of a wide glyph.
 abbrev pub mended : CellValue → CellValue
 mended (glyph text true attrs) = blank attrs
 mended (glyph text false attrs) = glyph text false attrs
 mended (blank attrs) = blank attrs
 mended right_half = right_half
 
--- The first cells of a row, after the cells to their right are cut off. If the last of them is the first cell of a
--- wide glyph, it becomes a blank.
+-- The first cells of a row, after the cells to their right are cut off. If the last of the remaining cells is the first
+-- cell of a wide glyph, it becomes a blank.
 abbrev pub shut : List CellValue → List CellValue
 shut [] = []
 shut (x ∷ []) = mended x ∷ []
 shut (x ∷ y ∷ xs) = x ∷ shut (y ∷ xs)
 
--- The last cells of a row, after the cells to their left are cut off. If the first of them is a continuation cell,
--- it becomes `orphan`.
+-- The last cells of a row, after the cells to their left are cut off. If the first of the remaining cells is a
+-- continuation cell, it becomes `orphan`.
 abbrev pub opened : CellValue → List CellValue → List CellValue
 opened orphan [] = []
 opened orphan (right_half ∷ xs) = orphan ∷ xs
 opened orphan (blank attrs ∷ xs) = blank attrs ∷ xs
 opened orphan (glyph text wide attrs ∷ xs) = glyph text wide attrs ∷ xs
 
--- The cells with `n` columns, starting at column `c`, replaced by `new`. A continuation cell that loses its wide
--- glyph becomes `orphan`.
+-- The cells of a row after `n` of them, starting at column `c`, are replaced by the cells `new`. A wide glyph that
+-- loses its continuation cell becomes a blank, and a continuation cell that loses its wide glyph becomes `orphan`.
 unfoldable pub put_cells : ℕ → CellValue → List CellValue → ℕ → List CellValue → List CellValue
 put_cells c orphan new n cells = shut (take c cells) ++ (new ++ opened orphan (drop n (drop c cells)))
 
@@ -69,35 +69,35 @@ column_of c n orphan new cells k =
 abbrev pub put_narrow : ℕ → List ℕ → Attrs → List CellValue → List CellValue
 put_narrow c text attrs cells = put_cells c (glyph (0x20 ∷ []) false attrs) (glyph text false attrs ∷ []) 1 cells
 
--- The cells after a wide glyph is written at columns `c` and `c + 1`. A continuation cell that loses its own wide
--- glyph becomes a blank with the attributes of the new one.
+-- The cells after a wide glyph is written at columns `c` and `c + 1`. A continuation cell that loses its own wide glyph
+-- becomes a blank with the attributes of the new glyph.
 abbrev pub put_wide : ℕ → List ℕ → Attrs → List CellValue → List CellValue
 put_wide c text attrs cells = put_cells c (blank attrs) (glyph text true attrs ∷ right_half ∷ []) 2 cells
 
--- The cells with `n` columns erased, starting at column `c`. If only one cell of a wide glyph is erased, the other
--- becomes a blank. This blank has the glyph's attributes if it was the first cell, and default attributes if it was
--- the continuation cell.
+-- The cells of a row after `n` columns, starting at column `c`, are erased. If only one cell of a wide glyph is erased,
+-- the other cell becomes a blank: with the glyph's attributes if it was the first cell, and with default attributes if
+-- it was the continuation cell.
 abbrev pub erased : ℕ → ℕ → Attrs → List CellValue → List CellValue
 erased c n attrs cells = put_cells c default_blank (blanks attrs n) n cells
 
--- The cells after a combining character is added to the cell at column `k`. The width of the cell is unchanged.
+-- The cells after a combining character is added to the cell at column `k`. The width of that cell is unchanged.
 abbrev pub marked_at : ℕ → ℕ → List CellValue → List CellValue
 marked_at k mark cells = slice_set cells k (marked mark (at cells k))
 
--- The cells after the narrow glyph at column `k` becomes wide. A continuation cell that loses its own wide glyph
--- becomes a blank with the attributes `attrs`.
+-- The cells after the narrow glyph at column `k` becomes wide. If the new continuation cell overwrites the first cell
+-- of another wide glyph, that glyph's continuation cell becomes a blank with the attributes `attrs`.
 abbrev pub widened_at : ℕ → Attrs → List CellValue → List CellValue
 widened_at k attrs cells = put_cells k (blank attrs) (widened true (at cells k) ∷ right_half ∷ []) 2 cells
 
--- The cells after the glyph at column `k` becomes narrow. Its continuation cell becomes a space with the attributes
--- `attrs`.
+-- The cells after the wide glyph at column `k` becomes narrow. The glyph's continuation cell becomes a space with the
+-- attributes `attrs`.
 abbrev pub narrowed_at : ℕ → Attrs → List CellValue → List CellValue
 narrowed_at k attrs cells = put_cells k (glyph (0x20 ∷ []) false attrs) (widened false (at cells k) ∷ []) 1 cells
 
 -- ---- Edits that move columns: column `k` was column `source k`, or is a default blank if that is past the end
 
--- The cell at column `k` of a row of `n` columns, after columns moved. If it belongs to a wide glyph whose other
--- cell is no longer next to it, it becomes a blank with its own attributes.
+-- The cell at column `k` of a row of `n` columns, after columns moved. A cell that is no longer next to the other cell
+-- of its wide glyph becomes a blank with the cell's own attributes.
 abbrev pub moved_at : ℕ → (ℕ → ℕ) → List CellValue → ℕ → CellValue
 moved_at n source cells k =
     if is_wide (at cells (source k)) && not (nat_lt (k + 1) n && (source (k + 1) == source k + 1))
@@ -105,28 +105,32 @@ moved_at n source cells k =
     else if is_right_half (at cells (source k)) && not (source k == source (k - 1) + 1) then default_blank
     else at cells (source k)
 
--- The row of `n` columns after columns moved.
+-- The cells of a row of `n` columns after columns moved: column `k` gets the cell that was in column `source k`. A cell
+-- that is no longer next to the other cell of its wide glyph becomes a blank.
 unfoldable pub moved : ℕ → (ℕ → ℕ) → List CellValue → List CellValue
 moved n source cells = by_column n (moved_at n source cells)
 
--- The column at which blanks are inserted: after both cells of a wide glyph, never between them.
+-- The column at which blanks are inserted: the given column, or the next one if the given column holds a continuation
+-- cell.
 abbrev pub insert_column : ℕ → List CellValue → ℕ
 insert_column c cells = if is_right_half (at cells c) then c + 1 else c
 
--- The former index of column `k`, after `n` columns are inserted at column `c`. For an inserted column, it is
--- `past`, an index past the end.
+-- The index that column `k` had before `n` columns were inserted at column `c`; for an inserted column, the index
+-- `past`, which is past the end of the row.
 abbrev pub insert_source : ℕ → ℕ → ℕ → ℕ → ℕ
 insert_source past c n k = if nat_lt k c then k else if nat_lt k (c + n) then past else k - n
 
--- The former index of column `k`, after `n` columns are deleted at column `c`.
+-- The index that column `k` had before `n` columns were deleted at column `c`.
 abbrev pub delete_source : ℕ → ℕ → ℕ → ℕ
 delete_source c n k = if nat_lt k c then k else k + n
 
--- The cells with `n` default blanks inserted at column `c` (ICH). Cells that are pushed past the end are lost.
+-- The cells of a row after `n` default blanks are inserted at column `c` (ICH). Cells that are pushed past the end are
+-- lost.
 unfoldable pub inserted : ℕ → ℕ → List CellValue → List CellValue
 inserted c n cells = moved (length cells) (insert_source (length cells) (insert_column c cells) n) cells
 
--- The cells with `n` columns deleted at column `c` (DCH). Default blanks fill the end.
+-- The cells of a row after `n` columns, starting at column `c`, are deleted (DCH). Default blanks fill the end of the
+-- row.
 unfoldable pub deleted : ℕ → ℕ → List CellValue → List CellValue
 deleted c n cells = moved (length cells) (delete_source c n) cells
 

@@ -3,7 +3,7 @@ use Rattle.std.specs.Prelude.{◌≡◌, ◌≢◌, ◌<◌, ◌≤◌, ◌↔�
 use Rattle.std.specs.Prelude.{◌∷◌, ◌+◌, length, take, drop, map, if◌then◌else◌, ⊤}
 use Rattle.vt_rows.specs.Stretches.{IsInStretch, begins_stretch, is_within_after}
 
--- A slice of a capture, and the number of bytes before it.
+-- A slice of a capture, together with the number of bytes before the slice.
 abbrev pub Piece : Type 0
 Piece = ℕ × List ℕ
 
@@ -20,17 +20,18 @@ abbrev pub IsInSome : ℕ → List Piece → Type 0
 IsInSome k [] = ⊥
 IsInSome k (piece ∷ pieces) = IsIn k piece ⊎ IsInSome k pieces
 
--- The piece is a nonempty slice of the capture at its index.
+-- The piece is a nonempty slice of the capture, located at the piece's index.
 abbrev pub IsPieceOf : List ℕ → Piece → Type 0
 IsPieceOf capture piece = (piece.1 ≢ []) × (take (length piece.1) (drop piece.0 capture) ≡ piece.1)
 
--- The pieces are in order, begin at or after byte `at`, and are separated by at least one byte.
+-- The pieces are nonempty slices of the capture, are in order, begin at or after byte `at`, and are separated by at
+-- least one byte.
 abbrev pub AreApart : List ℕ → ℕ → List Piece → Type 0
 AreApart capture at [] = ⊤
 AreApart capture at (piece ∷ pieces) =
     IsPieceOf capture piece × (at ≤ piece.0) × AreApart capture (piece_end piece + 1) pieces
 
--- The pieces are the plain text of the capture: a byte is in one of them if and only if it is not in an SGR
+-- The pieces are the plain text of the capture: a byte is in one of the pieces if and only if it is not in an SGR
 -- sequence.
 pub record ArePiecesOf (capture : List ℕ) (pieces : List Piece) : Type 0 where
   pub apart : AreApart capture 0 pieces
@@ -40,7 +41,7 @@ pub record ArePiecesOf (capture : List ℕ) (pieces : List Piece) : Type 0 where
 abbrev pub texts_of : List Piece → List (List ℕ)
 texts_of pieces = map (λ p. p.1) pieces
 
--- The bytes of a string that are outside SGR sequences; `within` says whether the string begins inside one.
+-- The bytes of a string that are outside SGR sequences; `within` says whether the string begins inside an SGR sequence.
 abbrev pub plain_from : Bool → List ℕ → List ℕ
 plain_from within [] = []
 plain_from true (b ∷ text) = plain_from (is_within_after true b) text

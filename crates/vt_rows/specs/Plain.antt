@@ -5,8 +5,8 @@ use Rattle.vt_cells.specs.Cell.{CellValue, default_blank, is_glyph}
 use Rattle.vt_rows.specs.Basic.{shown_text}
 use Rattle.vt_rows.specs.Cells.{opened}
 
--- The cells of the row in the columns `start..stop`, stopping at the end of the row. A continuation cell at the
--- beginning becomes a default blank.
+-- The cells of a row in the columns `start..stop`, as far as the row has these columns. If the first of these cells is
+-- a continuation cell, it becomes a default blank.
 abbrev pub columns_between : (start stop : ℕ) → List CellValue → List CellValue
 columns_between start stop cells = opened default_blank (drop start (take stop cells))
 
@@ -15,8 +15,8 @@ abbrev pub up_to_last_glyph : List CellValue → List CellValue
 up_to_last_glyph [] = []
 up_to_last_glyph (cell ∷ cells) = if list_any is_glyph (cell ∷ cells) then cell ∷ up_to_last_glyph cells else []
 
--- The text of the columns `start..stop` up to the last glyph that begins in them. A continuation cell adds no text,
--- and any other column without a glyph adds a space.
+-- The plain text of the columns `start..stop` of a row, up to the last glyph that begins in these columns. A
+-- continuation cell adds no text, and any other column without a glyph adds a space.
 unfoldable pub plain_text : (start stop : ℕ) → List CellValue → List ℕ
 plain_text start stop cells = flat_map shown_text (up_to_last_glyph (columns_between start stop cells))
 

@@ -5,36 +5,36 @@ use Rattle.vt_cells.specs.Cell.{CellValue, IsCell, is_default_blank}
 use Rattle.vt_cells.specs.Attrs.{Attrs}
 use Rattle.vt_rows.specs.Cells.{IsPaired, blanks, ends_blank, inserted, deleted, resized}
 
--- The value of a row: its cells, and whether it is wrapped.
+-- The value of a row: its cells, and whether the row is wrapped.
 pub record RowValue : Type 0 where
   pub cells : List CellValue
   pub wrapped : Bool
 
--- A row of `width` blanks with the given attributes; it is not wrapped.
+-- A row of `width` blanks with the given attributes. The row is not wrapped.
 abbrev pub blank_row : Attrs → ℕ → RowValue
 blank_row attrs width = record { cells = blanks attrs width; wrapped = false }
 
--- The row after printing or erasing changed its cells. It is no longer wrapped if its last column is blank.
+-- The row after printing or erasing replaced its cells. The wrapped flag is cleared if the last column is now blank.
 abbrev pub with_cells : RowValue → List CellValue → RowValue
 with_cells row cells = record { cells = cells; wrapped = row.wrapped && not (ends_blank cells) }
 
--- The invariant of every row of a page: it has the page's width, its wide glyphs are complete, it isn't wrapped if
--- its last column is blank, and its cells are valid.
+-- The invariant of every row of a page: the row has the page's width, its wide glyphs are complete, its wrapped flag is
+-- clear if its last column is blank, and its cells are valid.
 pub record IsRow (width : ℕ) (row : RowValue) : Type 0 where
   pub columns : length row.cells ≡ width
   pub paired : IsPaired row.cells
   pub flagged : row.wrapped ≡ true → ends_blank row.cells ≡ false
   pub sound : All IsCell row.cells
 
--- The row after columns are inserted; it is not wrapped.
+-- The row after `n` default blanks are inserted at column `c` (ICH); its wrapped flag is cleared.
 abbrev pub inserted_row : ℕ → ℕ → RowValue → RowValue
 inserted_row c n row = record { cells = inserted c n row.cells; wrapped = false }
 
--- The row after columns are deleted; it is not wrapped.
+-- The row after `n` columns, starting at column `c`, are deleted (DCH); its wrapped flag is cleared.
 abbrev pub deleted_row : ℕ → ℕ → RowValue → RowValue
 deleted_row c n row = record { cells = deleted c n row.cells; wrapped = false }
 
--- The row, truncated or extended to `n` columns. It is no longer wrapped if its width changes.
+-- The row, truncated or extended to `n` columns. Its wrapped flag is cleared if its width changes.
 abbrev pub resized_row : ℕ → RowValue → RowValue
 resized_row n row = record { cells = resized n row.cells; wrapped = row.wrapped && (length row.cells == n) }
 

@@ -77,7 +77,7 @@ pub fn lent<'a>(cells: &'a [Cell], wrapped: bool) -> RowContents<'a>
     RowContents { cells, wrapped }
 }
 
-/// Returns the cells of a row, for the lifetime of the borrow.
+/// Returns a reference to the cells of a row, with the lifetime of the borrowed row.
 #[inline]
 pub fn cells_of<'a>(row: &RowContents<'a>) -> &'a [Cell]
     ensures { result.now ≡ row.now.cells }

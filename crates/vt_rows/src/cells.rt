@@ -1,8 +1,8 @@
 //! In-place edits of the cells of a row.
 //!
 //! A wide glyph takes two columns: its first cell holds the text, and the next column is its
-//! continuation cell. No edit leaves one without the other. If an edit overwrites only one of the
-//! two cells, the documentation of the function says what the other one becomes.
+//! continuation cell. No edit leaves one of these two cells without the other. If an edit
+//! overwrites only one of them, the documentation of the function says what the other cell becomes.
 
 ghost use Rattle.std.specs.Prelude.{◌≡◌, ◌≢◌, ◌<◌, ◌≤◌, ◌+◌, ◌-◌, ◌*◌, ◌&&◌, ◌∷◌, [], All};
 ghost use Rattle.std.specs.Prelude.{Some, encode_utf8, false, true, length, not};
@@ -29,8 +29,8 @@ const GLYPHS: usize = 8;
 /// Puts a narrow glyph at a column.
 ///
 /// If the column held the continuation cell of a wide glyph, the first cell of that glyph becomes a
-/// blank with its own attributes. If the column held the first cell, the continuation cell becomes
-/// a space with attributes `attrs`.
+/// blank with its own attributes. If the column held the first cell of a wide glyph, the
+/// continuation cell of that glyph becomes a space with attributes `attrs`.
 #[inline(always)]
 pub fn put_narrow(cells: &mut [Cell], column: usize, c: char, attrs: Attrs)
     requires paired { IsPaired cells.old }
@@ -52,8 +52,8 @@ pub fn put_narrow(cells: &mut [Cell], column: usize, c: char, attrs: Attrs)
 ///
 /// The result is the same as that of calling [`put_narrow`] for each byte. If the first column held
 /// the continuation cell of a wide glyph, the first cell of that glyph becomes a blank with its own
-/// attributes. If the last column held the first cell of one, its continuation cell becomes a space
-/// with attributes `attrs`.
+/// attributes. If the last column held the first cell of a wide glyph, the continuation cell of
+/// that glyph becomes a space with attributes `attrs`.
 #[inline]
 pub fn put_text(cells: &mut [Cell], column: usize, text: &[u8], attrs: Attrs)
     requires paired { IsPaired cells.old }
@@ -106,8 +106,8 @@ fn write_each(cells: &mut [Cell], text: &[u8], attrs: Attrs)
 ///
 /// The result is the same as that of calling [`put_narrow`] for each character. If the first column
 /// held the continuation cell of a wide glyph, the first cell of that glyph becomes a blank with
-/// its own attributes. If the last column held the first cell of one, its continuation cell becomes
-/// a space with attributes `attrs`.
+/// its own attributes. If the last column held the first cell of a wide glyph, the continuation
+/// cell of that glyph becomes a space with attributes `attrs`.
 #[inline]
 pub fn put_narrow_text(cells: &mut [Cell], column: usize, text: &[char], attrs: Attrs)
     requires paired { IsPaired cells.old }
@@ -140,8 +140,8 @@ fn write_narrow(cells: &mut [Cell], text: &[char], attrs: Attrs)
 /// Puts a wide glyph at `column` and the next column.
 ///
 /// If the first column held the continuation cell of a wide glyph, the first cell of that glyph
-/// becomes a blank with its own attributes. If the second column held the first cell of one, its
-/// continuation cell becomes a blank with attributes `attrs`.
+/// becomes a blank with its own attributes. If the second column held the first cell of a wide
+/// glyph, the continuation cell of that glyph becomes a blank with attributes `attrs`.
 #[inline(always)]
 pub fn put_wide(cells: &mut [Cell], column: usize, c: char, attrs: Attrs)
     requires paired { IsPaired cells.old }
@@ -178,8 +178,8 @@ pub fn put_wide_cell(cells: &mut [Cell], column: usize, cell: Cell)
 ///
 /// The result is the same as that of calling [`put_wide`] for each character. If the first column
 /// held the continuation cell of a wide glyph, the first cell of that glyph becomes a blank with
-/// its own attributes. If the last column held the first cell of one, its continuation cell becomes
-/// a blank with attributes `attrs`.
+/// its own attributes. If the last column held the first cell of a wide glyph, the continuation
+/// cell of that glyph becomes a blank with attributes `attrs`.
 #[inline]
 pub fn put_wide_text(cells: &mut [Cell], column: usize, text: &[char], attrs: Attrs)
     requires paired { IsPaired cells.old }
@@ -213,8 +213,8 @@ fn write_wide(cells: &mut [Cell], text: &[char], attrs: Attrs)
 
 /// Removes the cell at a column and returns it, leaving a blank with attributes `attrs`.
 ///
-/// If the cell was one of the two cells of a wide glyph, the other one becomes a blank with its own
-/// attributes.
+/// If the cell was one of the two cells of a wide glyph, the other cell becomes a blank with its
+/// own attributes.
 pub fn lift(cells: &mut [Cell], column: usize, attrs: Attrs) -> Cell
     requires paired { IsPaired cells.old }
     requires inside { column < length cells.old }
@@ -321,7 +321,8 @@ fn clear_each(cells: &mut [Cell], attrs: Attrs)
 
 /// Sets columns `start..end` to blanks with attributes `attrs`.
 ///
-/// If one cell of a wide glyph is erased, the other one becomes a blank with its own attributes.
+/// If only one cell of a wide glyph is erased, the other cell becomes a blank with its own
+/// attributes.
 pub fn erase(cells: &mut [Cell], start: usize, end: usize, attrs: Attrs)
     requires paired { IsPaired cells.old }
     requires some { start < end }
@@ -346,8 +347,8 @@ pub fn ends_blank(cells: &[Cell]) -> bool
     }
 }
 
-/// Returns the wrapped flag of a row that has the cells `cells` after printing or erasing:
-/// `wrapped`, or `false` if the last cell is a blank.
+/// Returns the wrapped flag of a row whose cells are `cells` after printing or erasing: `wrapped`,
+/// or `false` if the last cell is a blank.
 #[inline]
 pub fn flag_left(cells: &[Cell], wrapped: bool) -> bool
     ensures { result ≡ (wrapped && not (ends_blank cells.now)) }

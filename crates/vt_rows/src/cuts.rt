@@ -47,8 +47,8 @@ fn four_default(cells: &[Cell]) -> bool
 /// Copies the cells of `from` into the blank row `cells`, which may have a different width. Copies
 /// as many cells as the narrower row has.
 ///
-/// If the last column then holds the first cell of a wide glyph, it becomes a blank with its own
-/// attributes.
+/// If the last column holds the first cell of a wide glyph after the copy, that cell becomes a
+/// blank with its own attributes.
 pub fn refit(cells: &mut [Cell], from: &[Cell])
     requires blank { cells.old ≡ blanks default_attrs (length cells.old) }
     requires paired { IsPaired from.now }

@@ -5,13 +5,13 @@ ghost use Rattle.vt_rows.specs.CaptureRows.{AreRowsOf};
 ghost use Rattle.vt_rows.specs.Pieces.{ArePiecesOf, Piece};
 ghost use Rattle.vt_rows.specs.Stretches.{IsInStretch, ends_within};
 
-/// States that a capture has exactly one list of chunks.
+/// States that a capture determines its list of chunks uniquely.
 pub fn pieces_are_one()
     ensures { (capture : List ℕ) (pieces others : List Piece) →
         ArePiecesOf capture pieces → ArePiecesOf capture others → pieces ≡ others }
 {}
 
-/// States that a capture has exactly one list of rows on a terminal of a given width.
+/// States that a capture and a terminal width determine the list of rows uniquely.
 pub fn rows_are_one()
     ensures { (width : ℕ) (capture : List ℕ) (rows others : List Piece) → IsUtf8 capture →
         AreRowsOf width capture rows → AreRowsOf width capture others → rows ≡ others }

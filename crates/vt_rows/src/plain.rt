@@ -19,8 +19,8 @@ const SPACES: &str = "                ";
 ///
 /// # Errors
 ///
-/// Returns the sink's error. Part of the text may have been written by then. Writing an empty text
-/// never fails.
+/// Returns the sink's error. Part of the text may have been written by then. The call never fails
+/// if the text is empty.
 #[tactic(auto, unfolding(crate::specs::Plain::plain_text), using(crate::proofs::PlainTexts::plain_rows))]
 pub fn write_contents<S: Sink>(
     sink: &mut S,
@@ -79,8 +79,8 @@ fn write_behind<S: Sink>(sink: &mut S, cells: &[Cell], gap: usize) -> Result<(),
 }
 
 /// If the cell is a glyph, appends `gap` spaces and the text of the cell. `gap` is the number of
-/// columns without a glyph directly before the cell. Returns the number of such columns directly
-/// before the next cell.
+/// columns without a glyph directly before the cell. Returns the number of columns without a glyph
+/// directly before the next cell.
 #[inline(always)]
 fn add_cell<S: Sink>(
     sink: &mut S,

@@ -132,8 +132,9 @@ impl Row {
     /// Takes over the cells of `from`, truncated or extended to the width of this row, which must
     /// be blank.
     ///
-    /// If the last column then holds the first cell of a wide glyph, it becomes a blank with its
-    /// own attributes. The row is wrapped if `from` is wrapped and has the same width.
+    /// If the last column holds the first cell of a wide glyph after the change, that cell becomes
+    /// a blank with its own attributes. The row is wrapped if `from` is wrapped and has the same
+    /// width.
     pub fn refit(&mut self, from: Row)
         requires blank { self.old ≡ blank_row default_attrs (length self.old.cells) }
         requires paired { IsPaired from.cells }

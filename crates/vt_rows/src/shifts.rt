@@ -12,7 +12,8 @@ use vt_cells::{Attrs, Cell};
 /// are lost.
 ///
 /// If the column holds a continuation cell, the blanks are inserted after it. If the last column
-/// then holds the first cell of a wide glyph, it becomes a blank with its own attributes.
+/// holds the first cell of a wide glyph after the insertion, that cell becomes a blank with its own
+/// attributes.
 pub fn insert(cells: &mut [Cell], column: usize, count: usize)
     requires paired { IsPaired cells.old }
     requires inside { column ≤ length cells.old }
@@ -29,9 +30,10 @@ pub fn insert(cells: &mut [Cell], column: usize, count: usize)
 }
 
 /// Deletes `count` columns starting at `column`, stopping at the end of the row (DCH). The cells
-/// after them move left, and default blanks fill the end of the row.
+/// after the deleted columns move left, and default blanks fill the end of the row.
 ///
-/// If one cell of a wide glyph is deleted, the other one becomes a blank with its own attributes.
+/// If only one cell of a wide glyph is deleted, the other cell becomes a blank with its own
+/// attributes.
 pub fn delete(cells: &mut [Cell], column: usize, count: usize)
     requires paired { IsPaired cells.old }
     requires inside { column ≤ length cells.old }
@@ -100,8 +102,8 @@ pub fn turn<T>(items: &mut [T], from: usize, to: usize, count: usize)
     items[from..to].rotate_left(count);
 }
 
-/// Returns the column at which cells are inserted: after the two cells of a wide glyph, not between
-/// them.
+/// Returns the column at which an insertion at `column` takes place: `column` itself, or the next
+/// column if `column` would split a wide glyph.
 fn insert_column(cells: &[Cell], column: usize) -> usize
     requires paired { IsPaired cells.now }
     requires inside { column ≤ length cells.now }

@@ -2,8 +2,8 @@
 //! viewers, so that its memory and its instructions can be measured (`bench/mirrors`).
 //!
 //! WHAT says when viewers are updated (see [`Work`]), and CALL is `update` or `update_scrolling`.
-//! Prints the number of updates, the number of full ones among them, and the total length of the
-//! differences in bytes.
+//! Prints the number of updates, the number of full updates among them, and the total length of the
+//! diffs in bytes.
 #![tactic(auto)]
 
 use anyhow::{Context, Result, bail};
@@ -16,7 +16,7 @@ use vt_mirror::{Mirror, Update};
 /// The number of groups of viewers that take turns in [`Work::Lag`].
 const GROUPS: u64 = 16;
 
-/// The schedule by which viewers are updated.
+/// The schedule on which viewers are updated.
 #[derive(Clone, Copy)]
 enum Work {
     /// All viewers are updated after every EVERY bytes.
@@ -28,7 +28,7 @@ enum Work {
     /// All viewers are updated EVERY times after the whole file.
     Idle,
 
-    /// There are no viewers: the file is only parsed, EVERY bytes at a time.
+    /// There are no viewers; the file is only parsed, EVERY bytes at a time.
     Read,
 }
 
@@ -89,7 +89,7 @@ fn run<R: AllocGlobal + Env + Files + Print>(rt: &R) -> Result<()> {
     Ok(())
 }
 
-/// Returns the work of this name.
+/// Returns the schedule named `name`, or `None` if there is no such schedule.
 fn work_named(name: &str) -> Option<Work> {
     match name {
         "step" => Some(Work::Step),
@@ -100,7 +100,7 @@ fn work_named(name: &str) -> Option<Work> {
     }
 }
 
-/// Creates a mirror with the viewers of a task.
+/// Creates a mirror, and adds the viewers of the task, or none for [`Work::Read`].
 fn mirror_with(
     alloc: Global,
     rows: NonZeroU16,
@@ -117,7 +117,7 @@ fn mirror_with(
     Ok(mirror)
 }
 
-/// Does the work of a task, and returns the counts.
+/// Feeds `bytes` to the mirror, updates the viewers as the task specifies, and returns the counts.
 fn measured(mut mirror: Mirror, task: Task, bytes: &[u8]) -> Result<Totals> {
     let mut totals = Totals {
         updates: 0,
@@ -143,7 +143,7 @@ fn measured(mut mirror: Mirror, task: Task, bytes: &[u8]) -> Result<Totals> {
     Ok(totals)
 }
 
-/// Updates the viewers whose turn it is.
+/// Updates the viewers that are due in turn `turn`, and adds their updates to `totals`.
 fn update_viewers(mirror: &mut Mirror, task: Task, turn: u64, totals: &mut Totals) -> Result<()> {
     for viewer in 0..task.viewers {
         let is_due = match task.work {
@@ -158,7 +158,7 @@ fn update_viewers(mirror: &mut Mirror, task: Task, turn: u64, totals: &mut Total
     Ok(())
 }
 
-/// Returns a viewer's update of the kind that a task asks for.
+/// Calls the method that the task specifies, and returns the viewer's update.
 fn updated(mirror: &mut Mirror, task: Task, viewer: u64) -> Result<Option<Update>> {
     if task.scrolls {
         return Ok(mirror.update_scrolling(viewer)?);

@@ -24,7 +24,7 @@ use Rattle.vt_scan.proofs.Stepping.{step_in-table}
 abbrev pub at : Kind → List ℕ → State
 at kind collected = record { kind = kind; collected = collected }
 
--- What a scanner holds that has read exactly the bytes collected in a state.
+-- The data that a scanner holds after it has read exactly the bytes collected in the given state.
 abbrev pub held_of : State → Held
 held_of state = record {
   kind = state.kind;
@@ -37,7 +37,7 @@ held_of state = record {
 abbrev pub Alike : State → State → Type 0
 Alike s t = StandsFor (held_of s) t
 
--- Two collected texts are equivalent in a kind of state.
+-- Two collected texts are equivalent in states of the given kind.
 abbrev pub AlikeIn : Kind → List ℕ → List ℕ → Type 0
 AlikeIn kind a b = Reads (held_of (at kind a)) kind b
 
@@ -107,11 +107,11 @@ pub record Same (x y : Step) : Type 0 where
 same_itself : (x : Step) → Same x x
 same_itself x = record { alike = itself x.state; events = refl }
 
--- Every transition of the table has the shared property.
+-- Every transition of the table is consistent.
 turn_fits : (kind : Kind) (class : Class) → Fits kind (turn_of kind class)
 turn_fits kind class = search rules
 
--- If two texts are equivalent inside a sequence, so are both with one more byte.
+-- Two equivalent texts inside a sequence stay equivalent when the same byte is appended to both.
 sequence_more : (kind next : Kind) (a b : List ℕ) (x : ℕ) → ReadsSequence (held_of (at kind a)) b →
     ReadsSequence (held_of (at next (a ++ x ∷ []))) (b ++ x ∷ [])
 sequence_more kind next a b x r = by (is_parameter x) refl

@@ -1,4 +1,4 @@
--- One more collected byte of a sequence: a parameter byte or an intermediate.
+-- Collecting one more byte of a sequence: a parameter byte or an intermediate.
 use Rattle.std.proofs.Common.{◌≡◌, ◌≢◌, ℕ, Bool, true, false, not, cond, List, []}
 use Rattle.std.proofs.Common.{◌∷◌, ◌++◌, take, filter, sym, ◌∙◌, ap, inl, inr}
 use Rattle.std.proofs.lemmas.List.{append-nil}
@@ -12,7 +12,7 @@ use Rattle.vt_scan.specs.declared.table.Kind.TheVariants.{Ground, Escape, Escape
 use Rattle.vt_scan.specs.declared.table.Kind.TheVariants.{CsiIntermediate, CsiIgnore, OscString, Skip}
 use Rattle.vt_scan.specs.declared.table.Turn.TheVariants.{Collect}
 
--- A sequence is read alike in each kind of state inside sequences.
+-- In every kind of state inside a sequence, the scanner holds the numbers and intermediates of the collected bytes.
 pub sequence_from : (kind : Kind) (held : Held) (text : List ℕ) →
     InSequence kind → Reads held kind text → ReadsSequence held text
 sequence_from Ground held text s r = absurd s

@@ -1,4 +1,4 @@
--- What the scanner holds after a byte represents the next state.
+-- After each byte, the data of the scanner stands for the automaton's next state.
 use Rattle.std.proofs.Common.{◌≡◌, ◌≢◌, ℕ, ◌==◌, ◌<◌, ◌≤◌, length, map, true, false, List, [], ◌∷◌, ◌++◌}
 use Rattle.std.proofs.Common.{Some, None, inl, refl, sym, subst, ◌∙◌, ap}
 use Rattle.std.specs.Option.{option_to_list}
@@ -35,12 +35,12 @@ one_event e = record { first = Some e; second = None }
 pub some_from : (text : List ℕ) → false ≡ (length text == 0) → text ≢ []
 some_from text e none = false≢true (e ∙ ap (λ (t : List ℕ). length t == 0) none)
 
--- What follows a step follows an equal step.
+-- A result that follows a step follows every step equal to it.
 pub follows_as : (new : Held) (answer : Events) (step known : Step) →
     step ≡ known → Follows new answer known → Follows new answer step
 follows_as new answer step known e f = subst (λ (s : Step). Follows new answer s) (sym e) f
 
--- In the ground state, the bytes of an incomplete character are all that matters.
+-- A scanner in the ground state stands for the ground state with the bytes of its incomplete character.
 pub stands_at : (held : Held) (text : List ℕ) → held.kind ≡ Ground →
     held.unfinished ≡ text → StandsFor held (record { kind = Ground; collected = text })
 stands_at held text is same = record { kind = is; reads = subst (λ (k : Kind). Reads held k text) (sym is) same }
@@ -80,14 +80,15 @@ fed_character unfinished now new b code answer same some is extends e =
     subst (λ (l : List ℕ). Follows new answer (step_in Ground l b))
     same (character unfinished new b code answer some is extends e)
 
--- The events of a result with one event, after another event.
+-- Prepending an event to the first event of a result gives the same list as prepending it to all its events, if it has
+-- no second event.
 alone : (held : Held) (e : automaton.Event) (events : Events) → events.second ≡ None
     → e ∷ map (event_of held) (option_to_list events.first) ≡ e ∷ events_in held events
 alone held e events s =
     ap (λ l. e ∷ map (event_of held) l)
     (sym (ap (λ o. option_to_list events.first ++ option_to_list o) s ∙ append-nil (option_to_list events.first)))
 
--- The step for a byte that breaks an incomplete character: a U+FFFD, and then the event of the byte itself.
+-- A byte that breaks an incomplete character issues a U+FFFD, followed by the event of the byte itself.
 pub fed_broken : (unfinished : List ℕ) (new : Held) (b : ℕ) (events answer : Events) (left : List ℕ)
     → unfinished ≢ [] → Extends unfinished b Broken left
     → Follows new events (fresh_step b) → events.second ≡ None
@@ -104,7 +105,7 @@ fed_broken unfinished new b events answer left some extends f single e =
           ∙ ap (λ l. automaton.Character 0xFFFD ∷ l) f.means;
     })
 
--- The step for a printable byte when no character is incomplete.
+-- If no character is incomplete, the step for a printable byte issues that character.
 pub fresh_character : (held : Held) (b code : ℕ) (answer : Events)
     → held.kind ≡ Ground → held.unfinished ≡ [] → 0x20 ≤ b → b < 0x80 → code ≡ b
     → answer ≡ one_event (given.Character code) → Follows held answer (fresh_step b)
@@ -155,7 +156,7 @@ fresh_broken held b answer is none high broken e =
     (gives Ground [] (automaton.Character 0xFFFD ∷ [])) (fresh_step-broken b high broken)
     (subst (λ (a : Events). Follows held a (gives Ground [] (automaton.Character 0xFFFD ∷ []))) (sym e) known)
 
--- A printable byte in the ground state leaves what is held unchanged.
+-- A printable byte in the ground state leaves the data of the scanner unchanged.
 pub text_feeds : (held : Held) (b : ℕ) → held.kind ≡ Ground → held.unfinished ≡ [] →
     0x20 ≤ b → b < 0x80 → Feeds held b held (one_event (given.Character b))
 text_feeds held b is none low high = λ s stands.
@@ -166,7 +167,7 @@ text_feeds held b is none low high = λ s stands.
     (subst (λ (c : List ℕ). Follows held (one_event (given.Character b)) (step_in Ground c b)) (sym collected)
     (fresh_character held b b (one_event (given.Character b)) is none low high refl refl))
 
--- A control character in the ground state leaves what is held unchanged.
+-- A control character in the ground state leaves the data of the scanner unchanged.
 pub control_feeds : (held : Held) (b : ℕ) → held.kind ≡ Ground → held.unfinished ≡ [] →
     b < 0x20 → b ≢ 0x1B → Feeds held b held (one_event (given.Executed b))
 control_feeds held b is none low other = λ s stands.
@@ -177,7 +178,8 @@ control_feeds held b is none low other = λ s stands.
     (subst (λ (c : List ℕ). Follows held (one_event (given.Executed b)) (step_in Ground c b)) (sym collected)
     (fresh_control held b (one_event (given.Executed b)) is none low other refl))
 
--- The events at the end of a sequence: entering the next state clears nothing that they refer to.
+-- The events at the end of a sequence are those of the automaton, because entering the next state clears nothing that
+-- they refer to.
 given_by : (old new : Held) (next : Kind) (end : ending.Ending) (text : List ℕ) (b : ℕ) → old.kind ≢ Ground
     → FitsEnding old.kind next end → Begins old new next → Reads old old.kind text
     → events_in new (answer_of end b) ≡ automaton.given end text b
@@ -199,7 +201,7 @@ given_by old new next ends.OscDispatchAndExecuted text b other fits begun reads 
     let was : old.text ≡ text = subst (λ (k : Kind). Reads old k text) fits.0 reads in
     ap (λ t. automaton.OscDispatch (parts_of t) ∷ automaton.Executed b ∷ []) (begun.text (inl fits.1) ∙ was)
 
--- A byte that ends a sequence according to the table makes the step of the automaton.
+-- Feeding a byte that ends a sequence according to the table performs the automaton's step.
 pub fed_end : (old new : Held) (next : Kind) (end : ending.Ending) (b : ℕ) (answer : Events) → old.kind ≢ Ground
     → turn_of old.kind (class_of b) ≡ End next end → Fits old.kind (End next end) → Begins old new next
     → answer ≡ answer_of end b → Feeds old b new answer

@@ -1,5 +1,5 @@
--- What is kept of a text determines what is kept of it with one more byte: the table of the parameters, and the first
--- two intermediates.
+-- The data kept of a text (its table of parameters and its first two intermediates) determines the data kept of the
+-- text with one more byte.
 use Rattle.std.proofs.Common.{◌≡◌, ℕ, zero, suc, ◌<◌, ◌≤◌, nat_lt, true, List, []}
 use Rattle.std.proofs.Common.{◌∷◌, ◌++◌, take, refl, sym, subst, ◌∙◌, ap, arith}
 use Rattle.std.proofs.Math.Logic.{⊎_elim}
@@ -27,7 +27,7 @@ parameter_cases P b is digit colon semicolon =
     (cases_lt b 0x3B))
     (cases_lt b 0x3A)
 
--- The table depends only on the groups.
+-- Two texts with the same groups have the same table of kept numbers.
 table-groups : (text other : List ℕ) → groups_of text ≡ groups_of other → table_of text ≡ table_of other
 unfolding table_of
 table-groups text other e = ap (λ g. table (first_numbers 32 g) (nat_lt 32 (total g))) e

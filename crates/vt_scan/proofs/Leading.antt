@@ -1,4 +1,4 @@
--- Bytes that introduce a sequence have no event, and the bytes that end one.
+-- The bytes that introduce a sequence, which have no event, and the bytes that end one.
 use Rattle.std.proofs.Common.{◌≡◌, ◌⊎◌, ℕ, ◌≤◌, true, not, List, [], ◌∷◌, ◌++◌, take}
 use Rattle.std.proofs.Common.{◌≢◌, ◌<◌, ◌==◌, false, length, filter, inl, inr, refl, sym, subst, ◌∙◌, ap, arith}
 use Rattle.std.specs.List.{AllByRecursion}

@@ -6,7 +6,7 @@ use Rattle.std.proofs.Common.{◌≡◌, ◌<◌, Bool, true, false, cond, List,
 use Rattle.std.proofs.Common.{◌++◌, map, length, refl, sym, ◌∙◌, ap, arith}
 use Rattle.std.specs.List.{slice_split, onto_first}
 
--- The list with its last item changed.
+-- The list after a function is applied to its last item.
 abbrev pub on_last : {A : Type 0} → (A → A) → List A → List A
 on_last f [] = []
 on_last f (x ∷ []) = f x ∷ []
@@ -17,7 +17,7 @@ on_last-push f [] x = refl
 on_last-push f (y ∷ []) x = refl
 on_last-push f (y ∷ z ∷ xs) x = ap (λ l. y ∷ l) (on_last-push f (z ∷ xs) x)
 
--- Changing the last item commutes with a map.
+-- Changing the last item of a list commutes with mapping the list.
 pub map-on_last : {A B : Type 0} (h : A → B) (f : A → A) (g : B → B) →
     ((x : A) → h (f x) ≡ g (h x)) → (xs : List A) → map h (on_last f xs) ≡ on_last g (map h xs)
 map-on_last h f g e [] = refl
@@ -34,7 +34,7 @@ pub on_last-front : {A : Type 0} (f : A → A) (x : A) (xs : List A) →
 on_last-front f x [] h = absurd (omega arith)
 on_last-front f x (y ∷ ys) h = refl
 
--- An item added in front of the first part stays there when the last part changes.
+-- An item prepended to the first part stays there when the last part changes.
 on_last-onto_first : {A : Type 0} (b c : A) (parts : List (List A)) → 0 < length parts →
     onto_first b (on_last (λ part. part ++ c ∷ []) parts) ≡ on_last (λ part. part ++ c ∷ []) (onto_first b parts)
 on_last-onto_first b c [] h = absurd (omega arith)
@@ -58,7 +58,7 @@ slice_split-some {A = A} p (x ∷ xs) = by (p x)
     by true = omega arith
     by false = length-onto_first x (slice_split p xs)
 
--- An item that is no separator joins the last part.
+-- Appending an item that is no separator to a list appends it to the last part of the split list.
 pub slice_split-push : {A : Type 0} (p : A → Bool) (xs : List A) (c : A) → p c ≡ false →
     slice_split p (xs ++ c ∷ []) ≡ on_last (λ part. part ++ c ∷ []) (slice_split p xs)
 slice_split-push p [] c h = rw h refl
@@ -71,7 +71,7 @@ slice_split-push {A = A} p (x ∷ xs) c h = by (p x) (slice_split-push p xs c h)
         ap (λ l. [] ∷ l) e ∙ sym (on_last-front (λ part. part ++ c ∷ []) [] (slice_split p xs) (slice_split-some p xs))
     by false e = ap (onto_first x) e ∙ on_last-onto_first x c (slice_split p xs) (slice_split-some p xs)
 
--- A separator begins an empty part.
+-- Appending a separator to a list appends an empty part to the split list.
 pub slice_split-push_cut : {A : Type 0} (p : A → Bool) (xs : List A) (c : A) →
     p c ≡ true → slice_split p (xs ++ c ∷ []) ≡ slice_split p xs ++ [] ∷ []
 slice_split-push_cut p [] c h = rw h refl
@@ -83,11 +83,11 @@ slice_split-push_cut {A = A} p (x ∷ xs) c h = by (p x) (slice_split-push_cut p
     by true e = ap (λ l. [] ∷ l) e
     by false e = ap (onto_first x) e ∙ onto_first-append x (slice_split p xs) ([] ∷ []) (slice_split-some p xs)
 
--- A slice up to the end is the rest of the list.
+-- A slice of a list up to its end is the list without the items before the slice.
 pub all_left : (bytes : List ℕ) (k : ℕ) → take (length bytes - k) (drop k bytes) ≡ drop k bytes
 all_left bytes k = take_all (length bytes - k) (drop k bytes) (omega (arith, length-drop k bytes))
 
--- The bytes before index k, the byte there, and some after it are a longer prefix.
+-- The bytes before index k, the byte at k and n further bytes form a prefix of length k + 1 + n.
 pub take_past : (bytes : List ℕ) (k n : ℕ) → k < length bytes →
     take (k + (1 + n)) bytes ≡ take k bytes ++ get_or bytes k 0 ∷ take n (drop (k + 1) bytes)
 take_past bytes k n h =

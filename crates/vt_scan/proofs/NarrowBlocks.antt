@@ -22,7 +22,7 @@ is_one kinds.Narrow = true
 is_one kinds.Ambiguous = true
 is_one _ = false
 
--- A character that is in none of the blocks, or takes one column.
+-- A character is outside the blocks or takes one column, given whether it is in the blocks and how wide it is.
 is_fit : Bool → Kind → Bool
 is_fit inside found = not inside || is_one found
 

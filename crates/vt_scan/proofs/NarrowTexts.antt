@@ -25,7 +25,7 @@ use Rattle.vt_scan.proofs.Whole.{at_start, read_whole}
 pub narrow_none : AreNarrow [] []
 narrow_none = record { read = refl; narrow = All-nil IsNarrowCharacter }
 
--- Printable ASCII.
+-- A byte of printable ASCII is parsed as one narrow character.
 pub narrow_byte : (b : ℕ) → 0x20 ≤ b → b < 0x7F → AreNarrow (b ∷ []) (b ∷ [])
 narrow_byte b low high = record {
   read = read_ascii b low (omega arith);
@@ -78,7 +78,7 @@ pub coded_narrow : (bytes : List ℕ) (found : Option (ℕ × ℕ)) → IfSome f
 coded_narrow bytes None is = tt
 coded_narrow bytes (Some f) is = narrow_coded (take f.1 bytes) f.0 is
 
--- A slice up to the end is what is left.
+-- A slice of a list up to its end is the list without the items before the slice.
 pub all_left : (bytes : List ℕ) (k : ℕ) → take (length bytes - k) (drop k bytes) ≡ drop k bytes
 all_left bytes k = take_all (length bytes - k) (drop k bytes) (omega (arith, length-drop k bytes))
 

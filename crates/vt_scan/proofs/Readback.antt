@@ -18,7 +18,7 @@ use Rattle.vt_scan.proofs.Stepping.{gives, either, class_of-text, fresh_step-cha
 use Rattle.vt_scan.proofs.Stepping.{fresh_step-escape, fresh_step-begun, character_step-whole, character_step-further}
 use Rattle.vt_scan.proofs.Running.{events_then, run-append}
 
--- A run whose first step is known.
+-- A run whose first step is known is that step, followed by the run over the remaining bytes.
 pub run-known : (state : State) (b : ℕ) (bytes : List ℕ) (known : Step) →
     step_in state.kind state.collected b ≡ known → run state (b ∷ bytes) ≡ events_then known.events (run known.state bytes)
 run-known state b bytes known e = ap (λ (s : Step). events_then s.events (run s.state bytes)) e
@@ -135,7 +135,7 @@ read_character c scalar high =
     (cases_lt c 0x10000))
     (cases_lt c 0x800)
 
--- A character that is no control character is read as itself, whatever its length.
+-- A character that is no control character is read as itself, however many bytes it has.
 pub read_written : (c : ℕ) → IsScalar c → 0x20 ≤ c → run start (encode_utf8 c) ≡ back_with (Character c ∷ [])
 unfolding encode_utf8
 read_written c scalar low =

@@ -1,4 +1,4 @@
--- The numbers of parameters that grow at their end.
+-- The numbers of a parameter text that grows at its end.
 use Rattle.std.proofs.Common.{◌≡◌, ℕ, ◌+◌, ◌*◌, ◌<◌, ◌==◌, false, List, [], ◌∷◌}
 use Rattle.std.proofs.Common.{◌++◌, map, min, length, refl, ◌∙◌, ap, arith}
 use Rattle.std.proofs.lemmas.List.{map-append, length-map}
@@ -8,7 +8,7 @@ use Rattle.std.specs.List.{slice_split}
 use Rattle.vt_scan.specs.Parameters.{digit_of, number_of, numbers_of, groups_of}
 use Rattle.vt_scan.proofs.Lists.{on_last, map-on_last, slice_split-some, slice_split-push, slice_split-push_cut}
 
--- A number with one more digit.
+-- The value of a number after one more decimal digit is read.
 abbrev pub with_digit : ℕ → ℕ → ℕ
 with_digit b n = min 65535 (10 * n + digit_of b)
 
@@ -79,7 +79,7 @@ pub groups_of-empty : groups_of [] ≡ (0 ∷ []) ∷ []
 unfolding groups_of
 groups_of-empty = ap (λ g. g ∷ []) numbers_of-empty
 
--- Each group has a number.
+-- Each group has at least one number.
 abbrev pub AllSome : List (List ℕ) → Type 0
 AllSome [] = Unit {0}
 AllSome (group ∷ groups) = (0 < length group) × AllSome groups

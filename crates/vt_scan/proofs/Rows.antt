@@ -29,7 +29,8 @@ pub first_numbers-zero : (groups : List (List ℕ)) → first_numbers 0 groups �
 first_numbers-zero [] = refl
 first_numbers-zero (group ∷ groups) = refl
 
--- The first n numbers of a group and further groups, for n above 0.
+-- The first n numbers of a list of groups are taken from its first group, and then from the groups after it (n is not
+-- 0).
 first_numbers-step : (n : ℕ) (group : List ℕ) (groups : List (List ℕ)) → 0 < n →
     first_numbers n (group ∷ groups) ≡ take n group ∷ first_numbers (n - length group) groups
 first_numbers-step n group groups h = let e : (n == 0) ≡ false = grind (arith, nat_tests) in rw e refl
@@ -38,7 +39,7 @@ none_or_some : (n : ℕ) → (n ≡ 0) ⊎ (0 < n)
 none_or_some zero = inl refl
 none_or_some (suc n) = inr (omega arith)
 
--- If there are at most n numbers, all of them are kept.
+-- If a list of groups has at most n numbers, its first n numbers are all of them.
 pub first_numbers-all : (n : ℕ) (groups : List (List ℕ)) →
     AllSome groups → total groups ≤ n → first_numbers n groups ≡ groups
 first_numbers-all n [] s h = refl
@@ -61,7 +62,7 @@ first_numbers-at_zero n groups others e =
     ap (λ k. first_numbers k groups) e ∙ first_numbers-zero groups
     ∙ sym (ap (λ k. first_numbers k others) e ∙ first_numbers-zero others)
 
--- A digit after the kept numbers changes nothing.
+-- Adding a digit to a number after the first n numbers leaves those n numbers unchanged.
 pub first_numbers-digit : (f : ℕ → ℕ) (n : ℕ) (groups : List (List ℕ)) → n < total groups →
     first_numbers n (on_last (on_last f) groups) ≡ first_numbers n groups
 first_numbers-digit f n [] h = refl
@@ -83,7 +84,7 @@ first_numbers-digit f n (group ∷ other ∷ groups) h =
     ∙ sym (first_numbers-step n group (other ∷ groups) some))
     (none_or_some n)
 
--- A number after the kept ones changes nothing.
+-- Adding a number after the first n numbers leaves those n numbers unchanged.
 pub first_numbers-number : (n : ℕ) (groups : List (List ℕ)) → n ≤ total groups →
     first_numbers n (on_last with_number groups) ≡ first_numbers n groups
 first_numbers-number n [] h = refl
@@ -103,7 +104,7 @@ first_numbers-number n (group ∷ other ∷ groups) h =
     ∙ sym (first_numbers-step n group (other ∷ groups) some))
     (none_or_some n)
 
--- Groups after the kept numbers change nothing.
+-- Adding groups after the first n numbers leaves those n numbers unchanged.
 pub first_numbers-groups : (n : ℕ) (groups more : List (List ℕ)) →
     n ≤ total groups → first_numbers n (groups ++ more) ≡ first_numbers n groups
 first_numbers-groups n [] more h =
@@ -125,7 +126,7 @@ part-set from to i xs v h l =
     ∙ ap (take (to - from)) (drop-set-add from xs (i - from) v)
     ∙ take-set-le (to - from) (drop from xs) (i - from) v (omega arith)
 
--- A part of a list with one more item, which was just set.
+-- If the item directly after a slice of a list is set to v, extending the slice by one item appends v to it.
 part-more : (from to : ℕ) (xs : List ℕ) (v : ℕ) → from ≤ to → to < length xs →
     take (to + 1 - from) (drop from (set xs to v)) ≡ take (to - from) (drop from xs) ++ v ∷ []
 part-more from to xs v l h =
@@ -155,7 +156,7 @@ pub Ascends-below : (from : ℕ) (ends : List ℕ) (len : ℕ) → Ascends from 
 Ascends-below from [] len a = a
 Ascends-below from (to ∷ ends) len a = omega (arith, Ascends-below to ends len a.1)
 
--- There is one group more than ends.
+-- The number of groups is one more than the number of stored ends.
 pub length-groups_from : (from : ℕ) (ends : List ℕ) (len : ℕ) (numbers : List ℕ) →
     length (groups_from from ends len numbers) ≡ length ends + 1
 length-groups_from from [] len numbers = refl
@@ -215,7 +216,7 @@ groups_from-group from (to ∷ ends) len numbers a h =
     (part-set from to len numbers 0 (omega arith) (omega arith))
     ∙ ap (λ l. take (to - from) (drop from numbers) ∷ l) (groups_from-group to ends len numbers a.1 h)
 
--- There are as many numbers as the array has in use.
+-- The groups have as many numbers as the array has in use from their start.
 pub groups_from-total : (from : ℕ) (ends : List ℕ) (len : ℕ) (numbers : List ℕ) →
     Ascends from ends len → len ≤ length numbers → total (groups_from from ends len numbers) ≡ len - from
 groups_from-total from [] len numbers a h =
@@ -230,7 +231,7 @@ groups_from-total from (to ∷ ends) len numbers a h =
       groups_from-total to ends len numbers a.1 h,
     )
 
--- The ends are still ascending with one more number.
+-- The ends of groups stay ascending when a number is added to the last group.
 pub Ascends-number : (from : ℕ) (ends : List ℕ) (len : ℕ) → Ascends from ends len → Ascends from ends (len + 1)
 Ascends-number from [] len a = omega arith
 Ascends-number from (to ∷ ends) len a = (a.0, Ascends-number to ends len a.1)
@@ -240,7 +241,7 @@ pub Ascends-group : (from : ℕ) (ends : List ℕ) (len : ℕ) →
 Ascends-group from [] len a = (a, omega arith)
 Ascends-group from (to ∷ ends) len a = (a.0, Ascends-group to ends len a.1)
 
--- The end of group i, read from the array.
+-- The stored ends from group i on are the end of group i and the stored ends after it.
 next_place : (ends : List ℕ) (i closed : ℕ) → i < closed → closed ≤ length ends →
     drop i (take closed ends) ≡ get_or ends i 0 ∷ drop (i + 1) (take closed ends)
 next_place ends i closed below fits =

@@ -4,7 +4,7 @@ use Rattle.std.proofs.lemmas.List.{append_assoc}
 use Rattle.vt_scan.specs.Automaton.{State, Step, Event, step_in}
 use Rattle.vt_scan.specs.Run.{run}
 
--- A step with further events in front.
+-- The step with the given events issued before its own.
 abbrev pub events_then : List Event → Step → Step
 events_then events step = record { state = step.state; events = events ++ step.events }
 

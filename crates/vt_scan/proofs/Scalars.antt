@@ -19,7 +19,7 @@ use Rattle.vt_scan.specs.declared.table.Turn.{Turn}
 use Rattle.vt_scan.specs.declared.table.Turn.TheVariants.{Collect, Drop, Execute, End}
 use Rattle.vt_scan.proofs.Stepping.{step_in-table}
 
--- If the event is a character, it is a code point.
+-- If the event is a character, that character is a Unicode scalar value.
 abbrev pub IsCoded : Event → Type 0
 IsCoded (Character c) = IsScalar c
 IsCoded _ = Unit {0}
@@ -59,7 +59,7 @@ coded_character (a ∷ b ∷ c ∷ d ∷ x ∷ xs) e = low_scalar 0 (omega arith
 
 -- ---- One byte
 
--- A transition of the table prints a character only in the ground state.
+-- The transition prints a character only in the ground state.
 abbrev PrintsIn : Kind → Turn → Type 0
 PrintsIn kind (End next ends.Character) = kind ≡ Ground
 PrintsIn kind _ = Unit {0}

@@ -68,7 +68,8 @@ selector_bytes (a ∷ b ∷ c ∷ d ∷ x ∷ xs) e is = absurd (omega (arith, i
 
 -- ---- One byte
 
--- Neither the bytes to come, nor they after the bytes of an incomplete character, contain the encoding of U+FE0F.
+-- The encoding of U+FE0F occurs neither in the bytes to come, nor in the bytes of an incomplete character followed by
+-- them.
 record IsFree (state : State) (bytes : List ℕ) : Type 0 where
   pub rest : SpellsNoSelector bytes
   pub begun : state.kind ≡ Ground → SpellsNoSelector (state.collected ++ bytes)
@@ -79,11 +80,11 @@ behind b bytes h = λ i. h (suc i)
 free_start : (bytes : List ℕ) → SpellsNoSelector bytes → IsFree start bytes
 free_start bytes h = record { rest = h; begun = λ e. h }
 
--- The step yields no U+FE0F, and the bytes to come cannot yield one.
+-- The step yields no U+FE0F, and the bytes after it cannot yield one.
 abbrev GoesOn : Step → List ℕ → Type 0
 GoesOn step bytes = AreOthers step.events × IsFree step.state bytes
 
--- A transition of the table prints only in the ground state, and collects no bytes of a character.
+-- The transition prints only in the ground state, and collects no bytes of a character.
 abbrev TurnsIn : Kind → Turn → Type 0
 TurnsIn kind (End next ends.Character) = kind ≡ Ground
 TurnsIn kind (Collect next) = next ≢ Ground

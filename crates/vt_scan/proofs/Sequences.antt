@@ -31,7 +31,7 @@ class_of-final P b low high p q r s =
     (either P (b == 0x5B) _ _ p
     (either P (b == 0x5D) _ _ q (either P (b == 0x50 || (b == 0x58 || (b == 0x5E || b == 0x5F))) _ _ r s))))
 
--- The event of a collected text with this final byte.
+-- The event of a control sequence, given its collected bytes and its final byte.
 abbrev pub sequence : List ℕ → ℕ → List Event
 sequence text final = CsiDispatch (table_of (parameter_text text)).groups (intermediates_of text) final ∷ []
 
@@ -55,7 +55,7 @@ step_final_at_once b low high =
     class_of-final (λ k. step_after CsiEntry [] b (turn_of CsiEntry k) ≡ gives Ground [] (sequence [] b))
     b low high refl refl refl refl
 
--- The rest of a sequence after the bytes collected so far.
+-- Reading the remaining bytes of a control sequence dispatches the sequence with all of its bytes.
 read_rest : (before text : List ℕ) (final : ℕ) → IsParameterText text → 0x40 ≤ final → final ≤ 0x7E
     → run (record { kind = CsiParam; collected = before }) (text ++ final ∷ [])
     ≡ back_with (sequence (before ++ text) final)
@@ -94,7 +94,7 @@ intermediate_is text final is =
     ap (λ t. CsiDispatch (table_of t).groups (intermediates_of (0x3F ∷ text)) final ∷ []) (parameters_only text is)
     ∙ ap (λ m. CsiDispatch (table_of text).groups (take 2 (0x3F ∷ m)) final ∷ []) (no_intermediates text is)
 
--- CSI begins with nothing collected.
+-- After CSI, a control sequence begins with no collected bytes.
 read_csi_start : (bytes : List ℕ) →
     run start (0x1B ∷ 0x5B ∷ bytes) ≡ run (record { kind = CsiEntry; collected = [] }) bytes
 unfolding class_of

@@ -1,4 +1,4 @@
--- There is always a state that the scanner represents.
+-- There is always a state that the scanner stands for.
 use Rattle.std.proofs.Common.{◌≡◌, ◌≢◌, ℕ, List, [], ◌∷◌, ◌++◌, refl, sym, subst}
 use Rattle.std.proofs.Math.Logic.{∥∥₁_map}
 use Rattle.vt_scan.specs.Automaton.{State, step_in}
@@ -15,7 +15,7 @@ stands_at : (held : Held) (kind : Kind) (text : List ℕ) → held.kind ≡ kind
 stands_at held kind text is reads =
     record { kind = is; reads = subst (λ (k : Kind). Reads held k text) (sym is) reads }
 
--- A scanner that holds the reading of a text represents a state.
+-- A scanner that holds the data required for a kind of state and collected bytes stands for some state.
 pub stands_by : (held : Held) (kind : Kind) (text : List ℕ) → held.kind ≡ kind → Reads held kind text
     → ∥ ((state : State) × StandsFor held state) ∥₁
 stands_by held kind text is reads =
@@ -27,7 +27,7 @@ stands_plain held is = stands_by held Ground held.unfinished is refl
 pub stands_in_command : (held : Held) → held.kind ≡ OscString → ∥ ((state : State) × StandsFor held state) ∥₁
 stands_in_command held is = stands_by held OscString held.text is refl
 
--- A scanner represents a state after one more byte is collected.
+-- A scanner still stands for some state after one more byte is collected.
 pub stands_on : (old new : Held) (kind : Kind) (b : ℕ) → new.kind ≡ kind
     → ((text : List ℕ) → Reads old old.kind text → Reads new kind (text ++ b ∷ []))
     → ∥ ((state : State) × StandsFor old state) ∥₁ → ∥ ((state : State) × StandsFor new state) ∥₁
@@ -36,21 +36,21 @@ stands_on old new kind b is reads stands =
     let text = s.0.collected ++ b ∷ [] in
     (record { kind = kind; collected = text }, stands_at new kind text is (reads s.0.collected s.1.reads)))
 
--- A scanner represents a state after a byte is fed.
+-- A scanner still stands for some state after a byte is fed.
 pub stands_fed : (old new : Held) (b : ℕ) (answer : Events) → Feeds old b new answer
     → ∥ ((state : State) × StandsFor old state) ∥₁ → ∥ ((state : State) × StandsFor new state) ∥₁
 stands_fed old new b answer feeds stands =
     ∥∥₁_map {B = (state : State) × StandsFor new state} stands
     (λ (s : (state : State) × StandsFor old state). ((step_in s.0.kind s.0.collected b).state, (feeds s.0 s.1).stands))
 
--- A scanner represents a state after several bytes are fed.
+-- A scanner still stands for some state after several bytes are fed.
 pub stands_fed_all : (old new : Held) (bytes : List ℕ) (events : List automaton.Event) → FeedsAll old bytes new events
     → ∥ ((state : State) × StandsFor old state) ∥₁ → ∥ ((state : State) × StandsFor new state) ∥₁
 stands_fed_all old new bytes events feeds stands =
     ∥∥₁_map {B = (state : State) × StandsFor new state} stands
     (λ (s : (state : State) × StandsFor old state). ((run s.0 bytes).state, (feeds s.0 s.1).0))
 
--- outside of a command, nothing is read from its text
+-- Outside an operating system command, the data that a state requires doesn't include the command's text.
 reads_without_text : (kind : Kind) (held : Held) (kept text : List ℕ) → kind ≢ OscString
     → Reads held kind text → Reads (record held { text = kept }) kind text
 reads_without_text Ground held kept text other r = r

@@ -14,12 +14,12 @@ use Rattle.vt_scan.specs.declared.table.Class.TheVariants as class
 abbrev pub gives : Kind → List ℕ → List Event → Step
 gives kind collected events = record { state = record { kind = kind; collected = collected }; events = events }
 
--- What holds for two classes holds for either of them.
+-- A statement that holds for two classes holds for whichever of them a test selects.
 pub either : (P : Class → Type 0) (t : Bool) (x y : Class) → P x → P y → P (cond t x y)
 either P true x y p q = p
 either P false x y p q = q
 
--- The classes of bytes from 20 on, as the columns of the code table.
+-- A statement about the class of a byte from 20 on can be proved from the columns of ECMA-48's code table.
 pub class_of-text : (P : Class → Type 0) (b : ℕ) → 0x20 ≤ b
     → P (cond (nat_lt b 0x30) class.Intermediate
     (cond (nat_lt b 0x3C) class.Parameter (cond (nat_lt b 0x40) class.Marker (cond (nat_lt b 0x7F)
@@ -44,7 +44,7 @@ pub fresh_step-low : (b : ℕ) → b < 0x80 → fresh_step b ≡ step_after Grou
 unfolding fresh_step
 fresh_step-low b h = let test : nat_lt b 0x80 ≡ true = grind (arith, nat_tests) in rw test refl
 
--- The step for a character of one byte.
+-- If no character is incomplete, a byte from 20 to 7F is read as that character.
 pub fresh_step-character : (b : ℕ) → 0x20 ≤ b → b < 0x80 → fresh_step b ≡ gives Ground [] (Character b ∷ [])
 fresh_step-character b low high =
     let P : Class → Type 0 = λ k. step_after Ground [] b (turn_of Ground k) ≡ gives Ground [] (Character b ∷ []) in
@@ -56,7 +56,7 @@ fresh_step-character b low high =
     (either P (b == 0x5D) _ _ refl (either P (b == 0x50 || (b == 0x58 || (b == 0x5E || b == 0x5F))) _ _ refl refl)))
     (either P (b == 0x7F) _ _ refl refl)))))
 
--- The step for a control character.
+-- If no character is incomplete, a control character other than ESC is executed.
 pub fresh_step-control : (b : ℕ) → b < 0x20 → b ≢ 0x1B → fresh_step b ≡ gives Ground [] (Executed b ∷ [])
 fresh_step-control b high other =
     let P : Class → Type 0 = λ k. step_after Ground [] b (turn_of Ground k) ≡ gives Ground [] (Executed b ∷ []) in

@@ -1,4 +1,4 @@
--- The kept numbers of parameters that grow at their end.
+-- The kept numbers of a parameter text that grows at its end.
 use Rattle.std.proofs.Common.{◌≡◌, ℕ, ◌+◌, ◌-◌, ◌<◌, ◌≤◌, ◌≢◌, Bool, true, false, nat_lt, List, []}
 use Rattle.std.proofs.Common.{◌∷◌, ◌++◌, length, get_or, set, take, refl, sym, ◌∙◌, ap, arith}
 use Rattle.std.proofs.Common.{zero, suc}
@@ -158,7 +158,7 @@ set_twice [] i a b = refl
 set_twice (x ∷ xs) zero a b = refl
 set_twice (x ∷ xs) (suc i) a b = ap (λ l. x ∷ l) (set_twice xs i a b)
 
--- One more digit of a number that is not yet stored.
+-- After one more digit of a number that is not yet stored, the table is that of the bytes read so far.
 pub more_digits : (numbers ends : List ℕ) (len last n v : ℕ) (is_cut : Bool) (text bytes : List ℕ) (k : ℕ) →
     len ≡ last + 1 → len ≤ length numbers → Ascends 0 ends len → is_cut ≡ false →
     k < length bytes → get_or bytes k 0 < 0x3A → v ≡ with_digit (get_or bytes k 0) n →
@@ -177,7 +177,7 @@ more_digits numbers ends len last n v is_cut text bytes k at fits rises whole in
     ∙ ap table_of (append_assoc text (take k bytes) (get_or bytes k 0 ∷ [])
     ∙ ap (λ t. text ++ t) (sym (take_more bytes k 0 inside)))
 
--- A number that is not yet stored, before its first digit.
+-- Before its first digit is read, a number that is not yet stored is the one in the array.
 pub no_digits : (numbers ends : List ℕ) (len last n : ℕ) (is_cut : Bool) (text : List ℕ) →
     n ≡ get_or numbers last 0 → table (groups_from 0 ends len numbers) is_cut ≡ table_of text →
     table (groups_from 0 ends len (set numbers last n)) is_cut ≡ table_of (text ++ [])

@@ -62,7 +62,7 @@ groups_of-further n text small =
     ap (map numbers_of) (slice_split_at (λ b. b == 0x3B) (decimal n) 0x3B text (decimal_no_semicolon n small) refl)
     ∙ ap (λ g. g ∷ map numbers_of (slice_split (λ b. b == 0x3B) text)) (decimal_numbers n small)
 
--- A group for each number.
+-- The numbers, each in a group of its own.
 abbrev pub alone : List ℕ → List (List ℕ)
 alone ns = map (λ n. n ∷ []) ns
 
@@ -82,7 +82,7 @@ kept text groups e few =
     let fits : total (groups_of text) ≤ 32 = rw e few in
     ap (λ t. t.groups) (whole text fits) ∙ e
 
--- The empty text has the one number 0.
+-- An empty parameter text is read as the single number 0.
 pub empty_groups : (table_of []).groups ≡ (0 ∷ []) ∷ []
 empty_groups = kept [] ((0 ∷ []) ∷ []) groups_of-empty (omega arith)
 
@@ -101,7 +101,7 @@ two_groups n m small fits =
     kept (decimal n ++ 0x3B ∷ decimal m) ((n ∷ []) ∷ (m ∷ []) ∷ [])
     (groups_of-further n (decimal m) small ∙ ap (λ g. (n ∷ []) ∷ g) (groups_of-decimal m fits)) (omega arith)
 
--- The groups of CUP's parameters for a position on a screen.
+-- The parameters of CUP for a position on a screen are read as the groups for that position.
 pub place_groups_are : (row col : ℕ) → row < 65535 → col < 65535 →
     (table_of (place row col)).groups ≡ place_groups row col
 place_groups_are zero zero r c = empty_groups

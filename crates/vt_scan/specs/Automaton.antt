@@ -14,30 +14,30 @@ use Rattle.vt_scan.specs.declared.table.Turn.TheVariants.{Collect, Drop, Execute
 use Rattle.vt_scan.specs.declared.table.Ending as ending
 use Rattle.vt_scan.specs.declared.table.Ending.TheVariants as ends
 
--- A state of the automaton: its kind, and the bytes collected in it.
+-- A state of the automaton: the kind of state, and the bytes collected in this state.
 pub record State : Type 0 where
   pub kind : Kind
   pub collected : List ℕ
 
--- An event of the automaton.
+-- An event of the automaton: a character, a control, or a complete sequence or command.
 pub data Event : Type 0 where
   -- A character to print.
   Character : (code : ℕ) → Event
   -- A control character to execute.
   Executed : (byte : ℕ) → Event
-  -- An escape sequence: its intermediates and its last byte.
+  -- An escape sequence, with its intermediates and its last byte.
   EscDispatch : (intermediates : List ℕ) (byte : ℕ) → Event
-  -- A control sequence: its groups of numbers, its private marker and intermediates, and its final byte.
+  -- A control sequence, with its groups of numbers, its private marker and intermediates, and its final byte.
   CsiDispatch : (groups : List (List ℕ)) (intermediates : List ℕ) (byte : ℕ) → Event
-  -- An operating system command: its parts.
+  -- An operating system command, with its parts.
   OscDispatch : (parts : List (List ℕ)) → Event
 
--- The result of a step: the next state and the events.
+-- The result of a step of the automaton: the next state and the events issued.
 pub record Step : Type 0 where
   pub state : State
   pub events : List Event
 
--- The ground state with nothing collected.
+-- The ground state with no bytes collected.
 abbrev pub start : State
 start = record { kind = Ground; collected = [] }
 
@@ -57,7 +57,8 @@ intermediates_of text = take 2 (filter (λ b. not (is_parameter b)) text)
 abbrev pub parts_of : List ℕ → List (List ℕ)
 parts_of text = take 16 (slice_split (λ b. b == 0x3B) text)
 
--- The events that are issued when byte `b` ends the collected bytes.
+-- The events issued when a byte ends a collected sequence. The ending determines them: no event; the byte itself, as a
+-- character or a control; the complete sequence; or the complete command, possibly followed by the byte as a control.
 abbrev pub given : ending.Ending → List ℕ → ℕ → List Event
 given ends.Nothing text b = []
 given ends.Character text b = Character b ∷ []
@@ -67,24 +68,25 @@ given ends.CsiDispatch text b = CsiDispatch (table_of (parameter_text text)).gro
 given ends.OscDispatch text b = OscDispatch (parts_of text) ∷ []
 given ends.OscDispatchAndExecuted text b = OscDispatch (parts_of text) ∷ Executed b ∷ []
 
--- The step that performs a transition of the table.
+-- The automaton's step for a byte, given the kind of state, the bytes collected so far, the byte itself, and the
+-- transition to perform.
 abbrev pub step_after : Kind → List ℕ → ℕ → Turn → Step
 step_after kind text b (Collect next) = record { state = record { kind = next; collected = text ++ b ∷ [] }; events = [] }
 step_after kind text b Drop = record { state = record { kind = kind; collected = text }; events = [] }
 step_after kind text b Execute = record { state = record { kind = kind; collected = text }; events = Executed b ∷ [] }
 step_after kind text b (End next end) = record { state = record { kind = next; collected = [] }; events = given end text b }
 
--- The step in the ground state if no character is incomplete. A byte of 0x80 or above begins a character or becomes
--- U+FFFD.
+-- The automaton's step for a byte in the ground state when no character is incomplete. A byte of 0x80 or above begins a
+-- character or becomes U+FFFD.
 unfoldable pub fresh_step : ℕ → Step
 fresh_step b =
     if nat_lt b 0x80 then step_after Ground [] b (turn_of Ground (class_of b))
     else if is_beginning (b ∷ []) then record { state = record { kind = Ground; collected = b ∷ [] }; events = [] }
     else record { state = start; events = Character 0xFFFD ∷ [] }
 
--- The step in the ground state if a character is incomplete. A byte that cannot continue the character ends it as a
--- single U+FFFD and is then read as a new byte (Unicode 3.9: the longest prefix of a well-formed sequence is replaced
--- as one).
+-- The automaton's step for a byte in the ground state after the given bytes of an incomplete character. A byte that
+-- cannot continue the character ends it as a single U+FFFD and is then read as a new byte (Unicode 3.9: the longest
+-- prefix of a well-formed sequence is replaced as one).
 unfoldable pub character_step : List ℕ → ℕ → Step
 character_step text b =
     if is_character (text ++ b ∷ [])
@@ -93,7 +95,7 @@ character_step text b =
     then record { state = record { kind = Ground; collected = text ++ b ∷ [] }; events = [] }
     else record { state = (fresh_step b).state; events = Character 0xFFFD ∷ (fresh_step b).events }
 
--- The step of the automaton for one byte.
+-- The automaton's step for one byte, given the kind of state and the bytes collected so far.
 abbrev pub step_in : Kind → List ℕ → ℕ → Step
 step_in Ground [] b = fresh_step b
 step_in Ground (x ∷ xs) b = character_step (x ∷ xs) b

@@ -6,7 +6,8 @@ use Rattle.std.specs.Prelude.{ℕ, ◌+◌, ◌*◌, ◌%◌, Bool, false, ◌&&
 abbrev pub is_within : ℕ → ℕ → ℕ → Bool
 is_within low high byte = nat_le low byte && nat_le byte high
 
--- The byte can be the third or fourth byte of a character, and in most cases the second.
+-- The byte can continue a UTF-8 character: it can be the third or fourth byte, and after most first bytes also the
+-- second.
 abbrev pub continues : ℕ → Bool
 continues byte = is_within 0x80 0xBF byte
 
@@ -19,21 +20,21 @@ is_second first byte =
     else if first == 0xF4 then is_within 0x80 0x8F byte
     else continues byte
 
--- The bytes are exactly one character above U+007F.
+-- The bytes are the UTF-8 encoding of exactly one character above U+007F.
 unfoldable pub is_character : List ℕ → Bool
 is_character (a ∷ b ∷ []) = is_within 0xC2 0xDF a && continues b
 is_character (a ∷ b ∷ c ∷ []) = is_within 0xE0 0xEF a && (is_second a b && continues c)
 is_character (a ∷ b ∷ c ∷ d ∷ []) = is_within 0xF0 0xF4 a && (is_second a b && (continues c && continues d))
 is_character _ = false
 
--- The bytes are a nonempty proper prefix of a character.
+-- The bytes are a nonempty proper prefix of the UTF-8 encoding of a character above U+007F.
 unfoldable pub is_beginning : List ℕ → Bool
 is_beginning (a ∷ []) = is_within 0xC2 0xF4 a
 is_beginning (a ∷ b ∷ []) = is_within 0xE0 0xF4 a && is_second a b
 is_beginning (a ∷ b ∷ c ∷ []) = is_within 0xF0 0xF4 a && (is_second a b && continues c)
 is_beginning _ = false
 
--- The code point of a character of two to four bytes.
+-- The code point of a character, given its UTF-8 encoding of two to four bytes.
 abbrev pub character_of : List ℕ → ℕ
 character_of (a ∷ b ∷ []) = a % 32 * 64 + b % 64
 character_of (a ∷ b ∷ c ∷ []) = a % 16 * 4096 + b % 64 * 64 + c % 64

@@ -17,12 +17,12 @@ use Rattle.vt_scan.specs.declared.unfinished.Bytes.TheVariants.{Zero, One, Two, 
 use Rattle.vt_scan.specs.declared.unfinished.Extended.{Extended}
 use Rattle.vt_scan.specs.declared.unfinished.Extended.TheVariants.{Further, Character, Broken}
 
--- The value of a scanner with these fields.
+-- The value of a scanner with the given kind of state, incomplete character, numbers, intermediates and command text.
 abbrev pub held : Kind → List ℕ → GroupTable → List ℕ → List ℕ → Held
 held kind unfinished table intermediates text =
     record { kind = kind; unfinished = unfinished; table = table; intermediates = intermediates; text = text }
 
--- A state of this kind collects numbers and intermediates.
+-- A state of the given kind collects the numbers and intermediates of an escape or control sequence.
 abbrev pub InSequence : Kind → Type 0
 InSequence kinds.Ground = ⊥
 InSequence kinds.CsiIgnore = ⊥
@@ -30,7 +30,8 @@ InSequence kinds.OscString = ⊥
 InSequence kinds.Skip = ⊥
 InSequence _ = Unit {0}
 
--- The ending can occur in a transition between these two kinds of state.
+-- A transition from the first kind of state to the second can have the given ending, which determines the events
+-- issued.
 abbrev pub FitsEnding : Kind → Kind → Ending → Type 0
 FitsEnding old new ending.Nothing = Unit {0}
 FitsEnding old new ending.Character = (old ≡ kinds.Ground) × (new ≡ kinds.Ground)
@@ -40,8 +41,8 @@ FitsEnding old new ending.CsiDispatch = InSequence old × (new ≡ kinds.Ground)
 FitsEnding old new ending.OscDispatch = (old ≡ kinds.OscString) × ((new ≡ kinds.Ground) ⊎ (new ≡ kinds.Escape))
 FitsEnding old new ending.OscDispatchAndExecuted = (old ≡ kinds.OscString) × (new ≡ kinds.Ground)
 
--- The transition from a state of kind `old` is consistent. It collects bytes only within a sequence or within an
--- operating system command, and it dispatches one only if the old state is inside it and the new state is not.
+-- A transition from a state of the given kind is consistent: it collects bytes only within a sequence or within an
+-- operating system command, and it dispatches a sequence or command only if it leaves that sequence or command.
 abbrev pub Fits : Kind → Turn → Type 0
 Fits old (Collect new) = (InSequence old × InSequence new) ⊎ ((old ≡ kinds.OscString) × (new ≡ kinds.OscString))
 Fits old Drop = Unit {0}
@@ -55,12 +56,13 @@ bytes_in (One a) = a ∷ []
 bytes_in (Two a b) = a ∷ b ∷ []
 bytes_in (Three a b c) = a ∷ b ∷ c ∷ []
 
--- The bytes are empty or a proper prefix of a character.
+-- The list is empty or a proper prefix of a character's UTF-8 encoding.
 abbrev pub is_unfinished : List ℕ → Bool
 is_unfinished [] = true
 is_unfinished (x ∷ xs) = is_beginning (x ∷ xs)
 
--- The result of appending one byte to an incomplete character, and the bytes that are still incomplete afterward.
+-- Appending a byte to the bytes of an incomplete character has the given result. The last argument lists the bytes of
+-- the character that is still incomplete afterward, if any.
 abbrev pub Extends : List ℕ → ℕ → Extended → List ℕ → Type 0
 Extends old b Further new =
     (is_character (old ++ b ∷ []) ≡ false) × (is_beginning (old ++ b ∷ []) ≡ true) × (new ≡ old ++ b ∷ [])
@@ -72,7 +74,7 @@ Extends old b Broken new = (is_character (old ++ b ∷ []) ≡ false) × (is_beg
 abbrev pub is_digit : ℕ → Bool
 is_digit b = nat_le 0x30 b && nat_le b 0x39
 
--- The byte is not CAN, SUB or ESC, which end a skipped string.
+-- The byte does not end a skipped string: it is not CAN, SUB or ESC.
 abbrev pub IsUnended : ℕ → Type 0
 IsUnended b = (b ≢ 0x18) × (b ≢ 0x1A) × (b ≢ 0x1B)
 
@@ -82,18 +84,19 @@ pub record Opens (bytes : List ℕ) : Type 0 where
   pub first : slice_index_or bytes 0 0 ≡ 0x1B
   pub second : slice_index_or bytes 1 0 ≡ 0x5B
 
--- The numbers from index `from` up to `len`, divided into groups. Each group begins where the previous one ends. The
--- listed indices are the ends of all groups but the last, which ends at `len`.
+-- The numbers from index `from` up to index `len`, divided into consecutive groups. The list of indices says where each
+-- group ends, except for the last group, which ends at `len`.
 abbrev pub groups_from : ℕ → List ℕ → ℕ → List ℕ → List (List ℕ)
 groups_from from [] len numbers = take (len - from) (drop from numbers) ∷ []
 groups_from from (to ∷ ends) len numbers = take (to - from) (drop from numbers) ∷ groups_from to ends len numbers
 
--- The indices are strictly ascending, so every group, including the last, has at least one number.
+-- The first index, the listed indices at which groups end, and the total length are strictly ascending, so every group
+-- has at least one number.
 abbrev pub Ascends : ℕ → List ℕ → ℕ → Type 0
 Ascends from [] len = from < len
 Ascends from (to ∷ ends) len = (from < to) × Ascends to ends len
 
--- The events that the scanner returns when a byte ends the collected bytes.
+-- The events that the scanner returns when a byte ends the collected sequence with the given ending.
 abbrev pub answer_of : Ending → ℕ → Events
 answer_of ending.Nothing b = record { first = None; second = None }
 answer_of ending.Character b = record { first = Some (event.Character b); second = None }
@@ -103,7 +106,8 @@ answer_of ending.CsiDispatch b = record { first = Some (event.Csi b); second = N
 answer_of ending.OscDispatch b = record { first = Some event.Osc; second = None }
 answer_of ending.OscDispatchAndExecuted b = record { first = Some event.Osc; second = Some (event.Executed b) }
 
--- The scanner entered a state with nothing collected. Lists that an event may still refer to are unchanged.
+-- The scanner entered a state of kind `begun`, with no bytes collected. Lists that a returned event may still refer to
+-- are unchanged.
 pub record Begins (old : Held) (new : Held) (begun : Kind) : Type 0 where
   pub kind : new.kind ≡ begun
   pub reads : Reads new begun []

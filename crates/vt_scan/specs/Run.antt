@@ -2,7 +2,7 @@
 use Rattle.std.specs.Prelude.{ℕ, List, [], ◌∷◌, ◌++◌}
 use Rattle.vt_scan.specs.Automaton.{State, Step, step_in}
 
--- The state after the bytes, and the events of all steps.
+-- The result of reading the bytes one by one: the state after the last byte, and the events of all steps.
 abbrev pub run : State → List ℕ → Step
 run state [] = record { state = state; events = [] }
 run state (b ∷ bytes) =

@@ -15,7 +15,7 @@ use Rattle.vt_scan.specs.declared.event.Event as event
 use Rattle.vt_scan.specs.declared.event.Event.TheVariants as given
 use Rattle.vt_scan.specs.declared.event.Events.{Events}
 
--- The value of a scanner. Fields that its kind does not use have outdated values.
+-- The value of a scanner. A field that the scanner's current kind of state does not use may have an outdated value.
 pub record Held : Type 0 where
   pub kind : Kind
   -- The bytes of an incomplete character.
@@ -27,12 +27,12 @@ pub record Held : Type 0 where
   -- The text of an operating system command.
   pub text : List ℕ
 
--- The numbers and intermediates that are held are those of the collected bytes `text`.
+-- The numbers and intermediates that the scanner holds are those of the collected bytes `text`.
 pub record ReadsSequence (held : Held) (text : List ℕ) : Type 0 where
   pub table : held.table ≡ table_of (parameter_text text)
   pub intermediates : held.intermediates ≡ intermediates_of text
 
--- The scanner holds the data that a state of this kind with the collected bytes `text` requires.
+-- The scanner holds the data that a state of the given kind with the collected bytes `text` requires.
 abbrev pub Reads : Held → Kind → List ℕ → Type 0
 Reads held Ground text = held.unfinished ≡ text
 Reads held CsiIgnore text = Unit {0}
@@ -40,17 +40,19 @@ Reads held OscString text = held.text ≡ text
 Reads held Skip text = Unit {0}
 Reads held _ text = ReadsSequence held text
 
--- The scanner can be in this state: it holds all data that the state's future events depend on.
+-- The scanner can be in the given state: it holds all data that the state's future events depend on.
 pub record StandsFor (held : Held) (state : State) : Type 0 where
   pub kind : held.kind ≡ state.kind
   pub reads : Reads held held.kind state.collected
 
--- The bytes of an unfinished operating system command. No other sequence is kept byte by byte.
+-- The collected bytes if the state is inside an operating system command, and no bytes otherwise, because only the text
+-- of a command is stored byte by byte.
 abbrev pub unfinished_command : Kind → List ℕ → List ℕ
 unfinished_command OscString text = text
 unfinished_command _ text = []
 
--- The automaton's event that an event of the scanner stands for. Its lists are taken from the scanner.
+-- The automaton's event that an event of the scanner stands for. The lists in the automaton's event are taken from the
+-- data that the scanner holds.
 abbrev pub event_of : Held → event.Event → automaton.Event
 event_of held (given.Character c) = automaton.Character c
 event_of held (given.Executed b) = automaton.Executed b
@@ -62,7 +64,8 @@ event_of held given.Osc = automaton.OscDispatch (parts_of held.text)
 abbrev pub events_in : Held → Events → List automaton.Event
 events_in held events = map (event_of held) (option_to_list events.first ++ option_to_list events.second)
 
--- The scanner can be in the state after the step, and its events stand for exactly those of the step.
+-- The scanner can be in the state after the step, and the events that the scanner returned stand for exactly the events
+-- of the step.
 pub record Follows (new : Held) (answer : Events) (step : Step) : Type 0 where
   pub stands : StandsFor new step.state
   pub means : events_in new answer ≡ step.events
@@ -86,13 +89,13 @@ abbrev pub Feeds : Held → ℕ → Held → Events → Type 0
 Feeds old b new answer =
     (state : State) → StandsFor old state → Follows new answer (step_in state.kind state.collected b)
 
--- Feeding these bytes one by one performs the automaton's run from every state that the scanner can be in, with
--- exactly these events.
+-- Feeding the given bytes one by one performs the automaton's run from every state that the scanner can be in, and the
+-- run issues exactly the given events.
 abbrev pub FeedsAll : Held → List ℕ → Held → List automaton.Event → Type 0
 FeedsAll old bytes new events =
     (state : State) → StandsFor old state → StandsFor new (run state bytes).state × ((run state bytes).events ≡ events)
 
--- These bytes cause no event in any state that the scanner can be in.
+-- The given bytes issue no event, whatever state the scanner is in.
 abbrev pub HasNoEvent : Held → List ℕ → Type 0
 HasNoEvent held bytes = (state : State) → StandsFor held state → (run state bytes).events ≡ []
 

@@ -9,6 +9,6 @@ use Rattle.vt_scan.specs.Run.{run}
 abbrev pub SpellsNoSelector : List ℕ → Type 0
 SpellsNoSelector bytes = (i : ℕ) → take 3 (drop i bytes) ≢ 0xEF ∷ 0xB8 ∷ 0x8F ∷ []
 
--- No event of a run over these bytes is the character U+FE0F.
+-- No event of a run over the given bytes is the character U+FE0F.
 abbrev pub ReadsNoSelector : State → List ℕ → Type 0
 ReadsNoSelector state bytes = AllByRecursion (λ event. event ≢ Character 0xFE0F) (run state bytes).events

@@ -13,8 +13,8 @@ use Rattle.vt_scan.specs.declared.table.Turn.TheVariants.{Collect, Drop, Execute
 use Rattle.vt_scan.specs.declared.table.Ending.TheVariants.{Nothing, Character, Executed, EscDispatch}
 use Rattle.vt_scan.specs.declared.table.Ending.TheVariants.{CsiDispatch, OscDispatch, OscDispatchAndExecuted}
 
--- The class of a byte: its columns in ECMA-48's code table, with separate classes for bytes that have a special
--- meaning.
+-- The class of a byte: the columns of ECMA-48's code table that contain the byte, or a separate class if the byte has a
+-- special meaning.
 unfoldable pub class_of : ℕ → Class
 class_of b =
     if nat_lt b 0x20 then
@@ -33,7 +33,7 @@ class_of b =
     else if b == 0x7F then Delete
     else High
 
--- The transition for a kind of state and a class of bytes; the first matching line applies. In the ground state,
+-- The transition for a kind of state and a class of bytes; the first matching equation applies. In the ground state,
 -- bytes from 0x80 on are UTF-8 and don't use this table.
 abbrev pub turn_of : Kind → Class → Turn
 turn_of OscString Bell = End Ground OscDispatch

@@ -11,8 +11,8 @@ abbrev pub IsParameterText : List ℕ → Type 0
 IsParameterText [] = Unit {0}
 IsParameterText (b ∷ text) = (0x30 ≤ b) × (b ≤ 0x3B) × IsParameterText text
 
--- The groups of CUP's parameters for a 0-based row and column. The home position has no parameters, which are read as
--- one 0.
+-- The groups of numbers that the scanner reads from CUP's parameters for a 0-based row and column. For the home
+-- position, CUP has no parameters, which are read as a single 0.
 abbrev pub place_groups : ℕ → ℕ → List (List ℕ)
 place_groups zero zero = (0 ∷ []) ∷ []
 place_groups row col = ((row + 1) ∷ []) ∷ ((col + 1) ∷ []) ∷ []

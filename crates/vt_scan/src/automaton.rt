@@ -91,8 +91,8 @@ impl Scanner {
     /// # Errors
     ///
     /// Returns [`Error::OutOfMemory`] if the byte belongs to the text of an operating system
-    /// command and the allocation fails. The scanner is then unchanged, and the byte may be passed
-    /// again.
+    /// command and the allocation fails. On error, the scanner is unchanged, and the byte may be
+    /// passed again.
     #[inline]
     pub fn feed(&mut self, byte: u8) -> Result<Events, Error>
         ensures fed { IfOk result (Feeds self.old byte self.new) }
@@ -157,8 +157,8 @@ impl Scanner {
     }
 
     /// Frees the memory that holds the last operating system command if it takes more than 4096
-    /// bytes, unless another such command is incomplete. After memory is freed, `parts` returns one
-    /// empty part.
+    /// bytes, unless another operating system command is incomplete. After memory is freed, `parts`
+    /// returns one empty part.
     ///
     /// Call this method once the command's event has been handled. Otherwise the memory is kept for
     /// later commands.
@@ -221,7 +221,7 @@ impl Scanner {
     /// # Errors
     ///
     /// Returns [`Error::OutOfMemory`] if the byte belongs to the text of an operating system
-    /// command and the allocation fails. The scanner is then unchanged.
+    /// command and the allocation fails. On error, the scanner is unchanged.
     fn feed_sequence(&mut self, byte: u8) -> Result<Events, Error>
         requires { self.old.kind ≢ Kind.Ground }
         ensures fed { IfOk result (Feeds self.old byte self.new) }
@@ -248,7 +248,7 @@ impl Scanner {
     /// # Errors
     ///
     /// Returns [`Error::OutOfMemory`] if the byte belongs to the text of an operating system
-    /// command and the allocation fails. The scanner is then unchanged.
+    /// command and the allocation fails. On error, the scanner is unchanged.
     fn collect(&mut self, kind: Kind, byte: u8) -> Result<(), Error>
         requires { Fits self.old.kind (Turn.Collect kind) }
         ensures kind { OnOk result (self.new.kind ≡ kind) }
@@ -295,7 +295,7 @@ impl Scanner {
 /// between two commands.
 const KEPT_CAPACITY: usize = 4096;
 
-/// Empties `text` and frees its memory if its capacity exceeds [`KEPT_CAPACITY`].
+/// Empties `text`. Also frees its memory if its capacity exceeds [`KEPT_CAPACITY`].
 #[inline]
 fn release(text: &mut Vec<u8>)
     ensures bounded { vec_capacity text.new ≤ 4096 }
@@ -309,7 +309,7 @@ fn release(text: &mut Vec<u8>)
     text.shrink_to_fit();
 }
 
-/// Returns the events of `ending` when it is caused by `byte`.
+/// Returns the events of `ending`, where `byte` is the byte that caused it.
 #[inline]
 fn answer(ending: Ending, byte: u8) -> Events
     ensures { result ≡ answer_of ending byte }

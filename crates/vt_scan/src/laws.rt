@@ -1,8 +1,8 @@
 //! Theorems about the byte automaton. The functions do nothing; a proof may cite their clauses.
 //!
-//! `run` parses bytes from a given state and returns the state that is reached and all events.
-//! `start` is the ground state with no incomplete character. `back_with` is the result of a run
-//! that returns to `start` and causes the given events.
+//! In these clauses, `run` parses bytes from a given state and returns the state that is reached
+//! and all events. `start` is the ground state with no incomplete character. `back_with` is the
+//! result of a run that returns to `start` and causes the given events.
 
 ghost use Rattle.std.specs.Char.{IsScalar, encode_utf8};
 ghost use Rattle.std.specs.List.{All, AllByRecursion};
@@ -16,7 +16,7 @@ ghost use Rattle.vt_scan.specs.Selectors.{ReadsNoSelector, SpellsNoSelector};
 ghost use Rattle.vt_scan.specs.Texts.{IsParameterText, back_with, place_groups};
 
 /// States that input may be split anywhere: the second chunk is parsed from the state after the
-/// first one, and its events follow those of the first.
+/// first chunk, and its events follow the events of the first chunk.
 pub fn pieces()
     ensures state { (state : State) (a b : List ℕ) → (run state (a ++ b)).state ≡ (run (run state a).state b).state }
     ensures events { (state : State) (a b : List ℕ) →
@@ -26,8 +26,8 @@ pub fn pieces()
 /// States that the contents of a scanner determine how it parses all further input.
 ///
 /// All states that a scanner represents yield the same events for the same bytes. A scanner that
-/// represents the state reached from one of them also represents the states reached from the
-/// others.
+/// represents the state reached from one of them also represents the states reached from the other
+/// states.
 pub fn futures()
     ensures events { (held : Held) (s t : State) (bytes : List ℕ) → StandsFor held s →
         StandsFor held t → (run s bytes).events ≡ (run t bytes).events }

@@ -86,7 +86,8 @@ fn narrow_coded(bytes: &[u8]) -> Option<(char, usize)>
     Some((c, 3))
 }
 
-/// Decodes the two-byte character with the bytes `a` and `b` if it is valid and takes one column.
+/// Decodes the two-byte character with the bytes `a` and `b`. Returns `None` unless the character
+/// is valid and takes one column.
 #[inline(always)]
 fn narrow_two(a: u8, b: u8) -> Option<char>
     ensures { IfSome result (IsNarrowCoded (a ∷ b ∷ [])) }
@@ -98,8 +99,8 @@ fn narrow_two(a: u8, b: u8) -> Option<char>
     if is_narrow(found) { Some(found) } else { None }
 }
 
-/// Decodes the three-byte character with the bytes `a`, `b` and `c` if it is valid, is below U+3000
-/// and takes one column.
+/// Decodes the three-byte character with the bytes `a`, `b` and `c`. Returns `None` unless the
+/// character is valid, is below U+3000 and takes one column.
 #[inline(always)]
 fn narrow_three(a: u8, b: u8, c: u8) -> Option<char>
     ensures { IfSome result (IsNarrowCoded (a ∷ b ∷ c ∷ [])) }

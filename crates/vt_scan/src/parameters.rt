@@ -49,7 +49,7 @@ impl Parameters {
         }
     }
 
-    /// Resets to one group with the number 0.
+    /// Resets the parameters to one group with the number 0.
     #[inline]
     pub fn clear(&mut self)
         ensures { self.new ≡ table_of [] }
@@ -181,7 +181,7 @@ impl Parameters {
     }
 
     /// Appends the leading digits of `bytes` to the last number, and returns how many it appended.
-    /// The value is stored only once, after the last digit.
+    /// The number is stored only once, after the last digit.
     #[inline(always)]
     fn push_digits(&mut self, bytes: &[u8]) -> usize
         ensures inside { result ≤ length bytes.now }

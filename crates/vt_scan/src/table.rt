@@ -7,38 +7,38 @@ ghost use Rattle.vt_scan.specs.Table.{class_of, turn_of};
 /// A state of the automaton.
 #[derive(Clone, Copy, PartialEq, Eq, Debug)]
 pub enum Kind {
-    /// Outside any sequence.
+    /// The state outside any sequence.
     Ground,
 
-    /// After ESC.
+    /// The state after ESC.
     Escape,
 
-    /// In an escape sequence, after an intermediate.
+    /// The state in an escape sequence, after an intermediate.
     EscapeIntermediate,
 
-    /// After CSI.
+    /// The state after CSI.
     CsiEntry,
 
-    /// In a control sequence, after a private marker or a parameter byte.
+    /// The state in a control sequence, after a private marker or a parameter byte.
     CsiParam,
 
-    /// In a control sequence, after an intermediate.
+    /// The state in a control sequence, after an intermediate.
     CsiIntermediate,
 
-    /// In a malformed control sequence, which ends without an event.
+    /// The state in a malformed control sequence, which ends without an event.
     CsiIgnore,
 
-    /// In an operating system command.
+    /// The state in an operating system command.
     OscString,
 
-    /// In a string that is ignored: DCS, SOS, PM or APC.
+    /// The state in a string that is ignored: DCS, SOS, PM or APC.
     Skip,
 }
 
 /// A class of bytes that the transition table treats alike.
 #[derive(Clone, Copy, PartialEq, Eq, Debug)]
 pub enum Class {
-    /// 0x00 to 0x1F, except bytes with a class of their own.
+    /// The bytes 0x00 to 0x1F, except those with a class of their own.
     Control,
 
     /// BEL (0x07).
@@ -50,16 +50,16 @@ pub enum Class {
     /// ESC (0x1B).
     Introducer,
 
-    /// 0x20 to 0x2F: intermediates.
+    /// The bytes 0x20 to 0x2F: intermediates.
     Intermediate,
 
-    /// 0x30 to 0x3B: digits, `:` and `;`.
+    /// The bytes 0x30 to 0x3B: digits, `:` and `;`.
     Parameter,
 
-    /// 0x3C to 0x3F: private markers.
+    /// The bytes 0x3C to 0x3F: private markers.
     Marker,
 
-    /// 0x40 to 0x7E, except bytes with a class of their own.
+    /// The bytes 0x40 to 0x7E, except those with a class of their own.
     Final,
 
     /// `[`, which introduces a control sequence if it follows ESC.
@@ -75,7 +75,7 @@ pub enum Class {
     /// DEL (0x7F).
     Delete,
 
-    /// 0x80 to 0xFF.
+    /// The bytes 0x80 to 0xFF.
     High,
 }
 
@@ -85,10 +85,10 @@ pub enum Ending {
     /// No event.
     Nothing,
 
-    /// The byte as a character.
+    /// The byte itself as a character.
     Character,
 
-    /// The byte as a control character.
+    /// The byte itself as a control character.
     Executed,
 
     /// An escape sequence.
@@ -116,8 +116,7 @@ pub enum Turn {
     /// Executes the byte as a control character; the state is unchanged.
     Execute,
 
-    /// Ends what was collected, causing the given events, and enters the given
-    /// state with nothing collected.
+    /// Causes the given events, discards the bytes collected so far, and enters the given state.
     End(Kind, Ending),
 }
 

@@ -47,7 +47,7 @@ impl Model for Unfinished {
 }
 
 impl Unfinished {
-    /// Creates an empty value: no character is incomplete.
+    /// Creates a value without bytes: no character is incomplete.
     pub fn new() -> Self
         ensures { result ≡ [] }
     {
@@ -87,8 +87,8 @@ impl Unfinished {
         is_first
     }
 
-    /// Adds `byte` to the incomplete character. No bytes are left if the character is then
-    /// complete, or if `byte` cannot continue it.
+    /// Adds `byte` to the incomplete character. No bytes are left if `byte` completes the character
+    /// or cannot continue it.
     pub fn extend(&mut self, byte: u8) -> Extended
         requires { self.old ≢ [] }
         ensures { Extends self.old byte result self.new }
@@ -99,8 +99,8 @@ impl Unfinished {
     }
 }
 
-/// Returns the first character of `bytes` and its length in bytes, if it has more than one byte and
-/// all of them are present.
+/// Returns the first character of `bytes` and its length in bytes. Returns `None` unless the
+/// character has more than one byte and all its bytes are present.
 pub fn first_character(bytes: &[u8]) -> Option<(char, usize)>
     ensures inside { IfSome result (λ found. (1 < found.1) × (found.1 ≤ length bytes.now)) }
     ensures is { IfSome result (λ found. is_character (take found.1 bytes.now) ≡ true) }
@@ -149,7 +149,8 @@ pub fn wide_characters(bytes: &[u8], text: &mut [char]) -> usize
     done
 }
 
-/// Decodes a three-byte character if it is U+3000 or above and takes two columns.
+/// Decodes a three-byte character. Returns `None` unless the character is U+3000 or above and takes
+/// two columns.
 #[inline(always)]
 fn wide_character(a: u8, b: u8, c: u8) -> Option<char>
     ensures { IfSome result (IsWideThree (a ∷ b ∷ c ∷ [])) }

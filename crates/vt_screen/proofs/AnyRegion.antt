@@ -1,5 +1,5 @@
--- The redraw for terminals in any region, read by such a terminal: it makes the whole page the region, and then is a
--- plain redraw.
+-- The redraw for terminals with any scroll region: reading it first makes the whole page the region, and then has the
+-- effect of an ordinary redraw.
 use Rattle.std.proofs.Common.{◌≡◌, ℕ, ◌+◌, Bool, true, false, List, [], ◌∷◌, ◌++◌, length}
 use Rattle.std.proofs.Common.{min, Option, Some, None, refl, sym, ap, subst, ◌∙◌, arith}
 use Rattle.std.specs.Prelude.{IfSome, drop, if◌then◌else◌, nat_lt}
@@ -28,7 +28,7 @@ use Rattle.vt_screen.proofs.EqualTexts.{redraws_tell}
 
 -- ---- the two sequences
 
--- A page with origin mode off, the whole page as scroll region, and the cursor in the top left corner.
+-- The page with origin mode off, the whole page as scroll region, and the cursor in the top left corner.
 abbrev pub whole_page : Page → Page
 whole_page page = record page { top = 0; bottom = last_row page; origin = false; row = 0; column = 0 }
 
@@ -47,7 +47,7 @@ region_read screen =
     csi_read [] 0x72 ((0 ∷ []) ∷ []) screen (display_after (OnPage (SetRegion 0 (last_row screen.page))) screen)
     tt (omega arith, omega arith) empty_groups refl
 
--- Setting the region to the whole page, whether it has one row or more.
+-- Setting the scroll region to the whole page has the same result on a page of one row as on others.
 whole_when : (b : Bool) (page : Page) (end last : ℕ) → end ≡ last
     → (if b then record page { top = 0; bottom = end; row = 0; column = 0 }
     else record page { top = 0; bottom = last; row = 0; column = 0 })
@@ -104,13 +104,14 @@ plain_reader picture reader r = record {
 
 -- ---- the whole output
 
--- The rest of the output is read from the terminal that the first part leaves.
+-- If two texts are read in sequence, the second is read from the terminal that the first leaves.
 behind : (first rest : List ℕ) (reader middle after : ScreenValue) →
     ReadsTo first reader middle → ReadsTo (first ++ rest) reader after → ReadsTo rest middle after
 behind first rest reader middle after p q =
     sym (reads_append (terminal start reader) first rest ∙ ap (and_then (λ (u : Terminal). read u rest)) p) ∙ q
 
--- Output that redraws a picture on plain terminals redraws it on terminals in any region after the two sequences.
+-- Output that redraws a picture on plain terminals redraws it on terminals with any scroll region if it follows the two
+-- sequences that reset the region.
 resets : (picture : Picture) (text : List ℕ) → Redraws picture (IsReader picture) KeepsRest text →
     Redraws picture (IsReaderInAnyRegion picture) KeepsRestButRegion (whole_region_text ++ text)
 resets picture text d = record {
@@ -152,7 +153,7 @@ reset_redraws self text told is colored =
     (resets picture (bytes_of_all (redraw picture))
     (redraw_redraws self (bytes_of_all (redraw picture)) refl is colored))
 
--- Two redraws for terminals in any region are equal only if their screens display the same.
+-- If two redraws for terminals with any scroll region are equal, their screens display the same content.
 pub resets_tell : (a b : ScreenValue) → IsScreen a → IsColored a → IsSteady (shown a) →
     IsScreen b → IsColored b → IsSteady (shown b) → SamePictureSize (shown a) (shown b) →
     reset_text (shown a) ≡ reset_text (shown b) → shown a ≡ shown b

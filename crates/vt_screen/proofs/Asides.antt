@@ -1,4 +1,4 @@
--- What a screen has besides its active page keeps its invariant when that page changes, when rows are pushed into
+-- The parts of a screen besides its active page keep their invariant when that page changes, when rows are pushed into
 -- scrollback, and when the pages are exchanged.
 use Rattle.std.proofs.Common.{◌≡◌, ℕ, zero, suc, ◌+◌, ◌-◌, ◌<◌, ◌≤◌, ◌==◌, min, take, Bool, true, false}
 use Rattle.std.proofs.Common.{not, List, [], Option, Some, None, refl, sym, subst, ap, ◌∙◌, arith}
@@ -84,7 +84,7 @@ nothing_viewed height width n above k =
       offset = rw k.rows (omega arith);
     }
 
--- The scrollback above the active page is replaced.
+-- A screen keeps its invariant if a valid scrollback replaces the one above the active page.
 pub kept_above : (page : Page) (last : Option ℕ) (aside : Aside) (above : Scrollback)
     → (IsNothing aside.active → IsNothing above) → (IsAbove aside.active → IsAbove above)
     → IsKept page last aside → IsKept page last (record aside { active = above })
@@ -107,7 +107,7 @@ kept_above page last aside above f g k = record {
   is_above true active above idle g c = c
   is_above false active above idle g c = g c
 
--- Rows scrolled off the active page.
+-- A screen keeps its invariant when rows scroll off the active page.
 pub kept_sent : (height : ℕ) (gone : List RowValue) (page : Page) (last : Option ℕ) (aside : Aside) (width : ℕ)
     → All (IsRow width) gone → AreColored gone → IsKept page last aside
     → IsKept page last (record aside { active = pushed height width gone aside.active })
@@ -131,7 +131,7 @@ kept_cleared page last aside k =
     kept_above page last aside (cleared aside.active)
     (λ n. record { capacity = n.capacity; rows = refl; offset = refl }) (λ a. above_none aside.active.capacity) k
 
--- The display is scrolled back to different rows.
+-- A screen keeps its invariant when the display is scrolled back to different rows.
 pub kept_viewed : (height width n : ℕ) (page : Page) (last : Option ℕ) (aside : Aside) →
     IsKept page last aside → IsKept page last (record aside { active = with_view height width n aside.active })
 kept_viewed height width n page last aside k =
@@ -210,7 +210,7 @@ above_turned : (b : Bool) (active idle : Scrollback) →
 above_turned true active idle c = c
 above_turned false active idle c = c
 
--- The pages are exchanged.
+-- A screen keeps its invariant when its pages are exchanged.
 pub kept_exchanged : (page other : Page) (last : Option ℕ) (aside : Aside)
     → aside.other ≡ Some other → IsKept page last aside
     → IsKept other last
@@ -267,7 +267,7 @@ kept_fresh page last aside k =
 
 -- ---- the active page's scrollback as that of the screen
 
--- The screen's scrollback after rows scrolled off the active page: that of the main page has received them.
+-- After rows scroll off the active page, the screen's scrollback has received them if that page is the main page.
 pub sent_if : {X : Type 0} (b : Bool) (f : Scrollback → X) (height width : ℕ)
     (gone : List RowValue) (active idle above whole : Scrollback)
     → whole ≡ main_scrollback b active idle → above ≡ pushed height width gone active

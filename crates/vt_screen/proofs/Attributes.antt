@@ -10,7 +10,7 @@ use Rattle.vt_screen.specs.Shown.{SetsAttrs, attributes_text}
 use Rattle.vt_screen.proofs.Readback.{cleared_read, changed_read}
 use Rattle.vt_screen.proofs.ReadbackTexts.{reads_then}
 
--- Every terminal in ground state takes these attributes and is otherwise unchanged.
+-- The output sets the given attributes on every terminal in ground state and changes nothing else.
 pub attributes_set : (attrs : Attrs) (text : List ℕ) →
     text ≡ attributes_text attrs → FitsAttrs attrs → SetsAttrs attrs text
 attributes_set attrs text told fits reader =

@@ -1,4 +1,4 @@
--- The terminal that displays a picture after a redraw, part by part; and that equal output comes from equal pictures.
+-- The terminal that displays a picture after a redraw, part by part; also, equal output comes from equal pictures.
 use Rattle.std.proofs.Common.{◌≡◌, ℕ, List, Option, refl, sym, ap, subst, ◌∙◌, arith}
 use Rattle.std.proofs.lemmas.List.Elements.{recursion_from_All}
 use Rattle.vt_rows.specs.Row.{RowValue, IsRow}
@@ -12,7 +12,7 @@ use Rattle.vt_screen.specs.Shown.{HasCursor, KeepsRest, Redraws, RedrawsFrom, sh
 use Rattle.vt_screen.proofs.Redrawing.{Became, Becomes, became, redraw_read, difference_read}
 use Rattle.vt_screen.proofs.Shown.{none_above, shown_height, shown_is}
 
--- A plain screen whose rows are replaced displays the new rows.
+-- A plain screen whose rows, cursor and attributes are replaced by those of a picture displays that picture.
 shown_showing : (picture : Picture) (saved : Saved) (last : Option ℕ) (reader : ScreenValue) →
     IsPicture picture → IsReader picture reader → shown (showing picture saved last reader) ≡ picture
 shown_showing picture saved last reader is r =
@@ -67,7 +67,7 @@ keeps_rest picture reader after b =
       modes = refl;
     })
 
--- The redraw of a picture has all the parts of its contract.
+-- The output that draws a picture satisfies all parts of the contract of a redraw.
 pub redraws : (Reader : ScreenValue → Type 0) (picture : Picture) (text : List ℕ)
     → IsPicture picture → ((reader : ScreenValue) → Reader reader → IsReader picture reader)
     → (IsSteady picture → (reader : ScreenValue) → Reader reader → Becomes picture text reader)

@@ -1,5 +1,4 @@
--- The calls that callbacks receive in a run if they leave the screen alone: those of the model, one by one, while the
--- screen is that of the model.
+-- If callbacks leave the screen unchanged, the calls that they receive in a run are those of the model, one by one.
 use Rattle.std.proofs.Common.{◌≡◌, List, [], ◌∷◌, map, refl, sym, ap, subst}
 use Rattle.std.specs.List.{FoldsTo}
 use Rattle.vt_rows.specs.Row.{RowValue}
@@ -16,7 +15,7 @@ use Rattle.vt_screen.specs.Steps.{HideCursor, SetMode, CallBack, reports, screen
 use Rattle.vt_screen.specs.CallsOfRun.{CalledOnSomeScreen, LeavesScreen, calls_of, calls_of_all, screen_after_all, steps_of_all}
 use Rattle.vt_screen.proofs.Reporting.{called_rows}
 
--- A screen was reached, and callbacks received these calls on the way.
+-- The screen `screen` was reached, and the callbacks received the given calls on the way.
 pub record Calling {S : Type 0} (does : CallRelation S)
     (a : act.State S) (calls : List CallValue) (screen : ScreenValue) (b : act.State S) : Type 0 where
   pub shown : b.screen ≡ screen

@@ -1,4 +1,4 @@
--- Captured rows contain no controls but line ends and SGR sequences.
+-- Captured rows contain no control characters except line ends and SGR sequences.
 use Rattle.std.proofs.Common.{◌≡◌, inl, ℕ, zero, suc, Bool, true, false, List, [], ◌∷◌, ◌++◌}
 use Rattle.std.proofs.Common.{replicate, refl, ap, ◌∙◌, arith, if◌then◌else◌}
 use Rattle.std.specs.List.{AllByRecursion}

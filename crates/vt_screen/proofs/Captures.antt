@@ -1,4 +1,4 @@
--- The captures of rows that are written one by one.
+-- Captures of rows that are written one by one.
 use Rattle.std.proofs.Common.{◌≡◌, ℕ, zero, suc, ◌+◌, ◌-◌, ◌<◌, ◌≤◌, Bool, true, false, List}
 use Rattle.std.proofs.Common.{[], ◌∷◌, ◌++◌, length, take, drop, get_or, refl, sym, ap, ap₂}
 use Rattle.std.proofs.Common.{◌∙◌, append_assoc, append-nil, length-append, subst, arith, if◌then◌else◌}
@@ -60,7 +60,7 @@ visible_slice above rows le =
     let many : first + length rows - first ≡ length rows = omega arith in
     rw many (ap (take (length rows)) (drop-append-le first above.rows rows (omega arith)))
 
--- The scrollback above the active page.
+-- The rows of the screen's scrollback above the active page are those of the page's own scrollback.
 pub above_rows : (is_alternate : Bool) (active idle : Scrollback)
     → IsNothing (alternate_scrollback is_alternate active idle)
     → (if is_alternate then no_scrollback 0 else main_scrollback is_alternate active idle).rows ≡ active.rows
@@ -73,7 +73,7 @@ pub above_offset : (is_alternate : Bool) (active idle : Scrollback)
 above_offset true active idle nothing = sym nothing.offset
 above_offset false active idle nothing = refl
 
--- The text after one more row is written.
+-- After one more row is written, the text is that of all rows written so far.
 pub texts_step : (before state : Written) (start front text : List ℕ) (rows longer : List RowValue) (row : RowValue)
     → front ≡ start ++ basic_texts before rows
     → state ≡ written_after_all before rows → text ≡ front ++ basic_text state row
@@ -91,7 +91,7 @@ after_step before state after rows longer row behind wrote more =
     wrote ∙ ap (λ w. written_after w row) behind
     ∙ sym (after_more before rows row) ∙ ap (written_after_all before) (sym more)
 
--- A list split before one of its items: the items before it, the item, and the items after it.
+-- The first n items of a list are the items before index m, the item at m, and the items between m and n.
 take_split : {X : Type 0} (xs : List X) (m n : ℕ) (d : X) → m < n → m < length xs →
     take n xs ≡ take m xs ++ get_or xs m d ∷ take (n - suc m) (drop (suc m) xs)
 take_split [] m n d lt inside = let none : ⊥ = omega (arith, inside) in absurd none
@@ -103,7 +103,7 @@ take_split (x ∷ xs) (suc m) (suc n) d lt inside =
     let same : suc n - suc (suc m) ≡ n - suc m = omega arith in
     rw same (ap (λ ys. x ∷ ys) (take_split xs m n d (omega (arith, lt)) (omega (arith, inside))))
 
--- A sink stopped in the row after those that were written.
+-- If writing a row failed after the rows before it were written, writing all rows stopped within that row.
 pub stopped_behind : (refuses : List ℕ → List ℕ → List ℕ → Type 0) (start front text : List ℕ)
     (before state after : Written) (rows : List RowValue) (first k last : ℕ) (row : RowValue)
     → first ≤ k → k < last → last ≤ length rows → get_or rows k row ≡ row
@@ -140,7 +140,7 @@ texts_split before (first ∷ rows) more =
     ∙ sym (append_assoc (basic_text before first) (basic_texts (written_after before first) rows)
     (basic_texts (written_after_all (written_after before first) rows) more))
 
--- Rows have text if one of them has.
+-- If writing rows stopped within one of them, their text is not empty.
 pub some_texts : (refuses : List ℕ → List ℕ → List ℕ → Type 0) (start text : List ℕ) (before state : Written)
     (rows : List RowValue) → StopsBehind refuses start before rows text state → 0 < length (basic_texts before rows)
 some_texts refuses start text before state rows stops =
@@ -166,7 +166,7 @@ pub same_visible : (above active : Scrollback) (rows : List RowValue) → above.
     above.offset ≡ active.offset → visible above rows ≡ visible active rows
 same_visible above active rows e o = rw (e, o) refl
 
--- The displayed rows, by their indexes among all rows.
+-- The displayed rows are the slice of all rows from `start` to `end`.
 pub visible_part : (active : Scrollback) (rows all shown : List RowValue) (start end : ℕ)
     → active.offset ≤ length active.rows → all ≡ active.rows ++ rows → shown ≡ visible active rows
     → end ≡ length active.rows + length rows - active.offset

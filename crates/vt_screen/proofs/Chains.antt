@@ -82,7 +82,8 @@ chain_becomes self nexts reader is plain c cs =
     (subst (λ (t : List ℕ). Becomes (last_picture (shown self) (map shown nexts)) t reader) (chain_is self nexts)
     (drawing_read ops (last_picture (shown self) (map shown nexts)) reader fits draws))
 
--- The output of a chain is read and leaves a plain terminal that displays the last screen; the rest of it is unchanged.
+-- A plain terminal that reads the output of a chain displays the last screen and stays plain; its other parts are
+-- unchanged.
 pub record ChainRead (self : ScreenValue) (nexts : List ScreenValue) (reader : ScreenValue) : Type 0 where
   pub after : ScreenValue
   pub reads : ReadsTo (chain_text self nexts) reader after

@@ -1,4 +1,5 @@
--- Palette colours of at most 255: every step preserves them in each cell, if what is drawn has such colours.
+-- Every step preserves the property that all colour components in cells are at most 255, if the colours that it draws
+-- with have it.
 use Rattle.std.specs.Prelude.{ℕ, Bool}
 use Rattle.vt_cells.specs.Cell.{CellValue, blank, glyph, right_half, widened, marked}
 use Rattle.vt_cells.specs.Op.{FitsAttrs}

@@ -1,4 +1,4 @@
--- The text of a screen, row by row, without the line ends at its end.
+-- The text of a screen, row by row, without trailing line ends.
 use Rattle.std.proofs.Common.{◌≡◌, ℕ, suc, ◌+◌, ◌-◌, ◌<◌, ◌≤◌, Bool, false, List, [], ◌∷◌, ◌++◌}
 use Rattle.std.proofs.Common.{length, take, drop, min, slice_index, refl, sym, ap, ◌∙◌, arith}
 use Rattle.std.specs.Prelude.{◌==◌}
@@ -11,7 +11,7 @@ use Rattle.vt_grid.specs.Scrollback.{Scrollback, last_of, visible}
 use Rattle.vt_screen.specs.Contents.{before, gap_line, line_end, lines_of, row_texts, without_line_ends}
 use Rattle.vt_screen.specs.Screen.{ScreenValue, above_page, visible_row, visible_rows}
 
--- There are as many displayed rows as the page has rows.
+-- As many rows are displayed as the page has rows.
 length_visible : (above : Scrollback) (rows : List RowValue) → length (visible above rows) ≡ length rows
 length_visible above rows =
     let shown = last_of above.offset above.rows in
@@ -34,7 +34,7 @@ rows_done screen r h =
     let l = shown_rows screen in
     drop_all r (visible_rows screen) (omega arith)
 
--- The lines of the displayed rows from row r on are that row's line and the lines of the rest.
+-- The lines of the displayed rows from row r on are the line of row r and the lines of the rows after it.
 pub lines_more : (screen : ScreenValue) (width : ℕ) (goes_on : Bool) (r : ℕ) → r < length screen.page.rows
     → lines_of width goes_on (drop r (visible_rows screen))
     ≡ gap_line width goes_on (visible_row screen r)
@@ -47,7 +47,7 @@ pub lines_done : (screen : ScreenValue) (width : ℕ) (goes_on : Bool) (r : ℕ)
     length screen.page.rows ≤ r → lines_of width goes_on (drop r (visible_rows screen)) ≡ []
 lines_done screen width goes_on r h = ap (lines_of width goes_on) (rows_done screen r h)
 
--- The texts of the displayed rows from row r on are that row's text and the texts of the rest.
+-- The texts of the displayed rows from row r on are the text of row r and the texts of the rows after it.
 pub texts_more : (screen : ScreenValue) (start stop r : ℕ) → r < length screen.page.rows
     → row_texts start stop (drop r (visible_rows screen))
     ≡ plain_text start stop (visible_row screen r).cells ∷ row_texts start stop (drop (r + 1) (visible_rows screen))
@@ -57,7 +57,7 @@ pub texts_done : (screen : ScreenValue) (start stop r : ℕ) →
     length screen.page.rows ≤ r → row_texts start stop (drop r (visible_rows screen)) ≡ []
 texts_done screen start stop r h = ap (row_texts start stop) (rows_done screen r h)
 
--- Mapping over the numbers from r on is mapping r and then the rest.
+-- Mapping a function over the numbers from r on gives its value at r, followed by its values at the numbers after r.
 pub parts_more : (f : ℕ → List ℕ) (r past : ℕ) → r < past →
     flat_map f (range_with_len r (past - r)) ≡ f r ++ flat_map f (range_with_len (r + 1) (past - (r + 1)))
 parts_more f r past h =
@@ -69,7 +69,7 @@ parts_done f r past h =
     let n : past - r ≡ 0 = omega arith in
     ap (λ (m : ℕ). flat_map f (range_with_len r m)) n
 
--- Text isn't empty if a part of it isn't.
+-- A text is not empty if a part of it is not empty.
 pub part_some : (old now part rest whole : List ℕ) → now ++ (part ++ rest) ≡ old ++ whole → length old ≤ length now →
     0 < length part → 0 < length whole
 part_some old now part rest whole e le some =
@@ -79,7 +79,7 @@ part_some old now part rest whole e le some =
     let same : length (now ++ (part ++ rest)) ≡ length (old ++ whole) = ap (λ (xs : List ℕ). length xs) e in
     omega arith
 
--- Writing empty text cannot fail.
+-- A write that fails only if its text is not empty cannot fail for empty text.
 pub none_refused : (text : List ℕ) → text ≡ [] → 0 < length text → ⊥
 none_refused text e some =
     let none : length text ≡ 0 = ap (λ (xs : List ℕ). length xs) e in omega arith
@@ -105,7 +105,7 @@ last_split text h =
     sym (take_all (length text) text (omega arith))
     ∙ (ap (λ (m : ℕ). take m text) (sym n) ∙ take_more text (length text - 1) 0 (omega arith))
 
--- A line end at the end of text is dropped.
+-- Dropping a line end at the end of a text doesn't change the text without trailing line ends.
 pub trim_more : (text new : List ℕ) → 0 < length text → slice_index text (length text - 1) ≡ 0x0A →
     new ≡ take (length text - 1) text → without_line_ends new ≡ without_line_ends text
 trim_more text new h e is =
@@ -113,7 +113,7 @@ trim_more text new h e is =
     ∙ (sym (line_end_dropped (take (length text - 1) text))
     ∙ ap without_line_ends (ap (λ (c : ℕ). take (length text - 1) text ++ c ∷ []) (sym e) ∙ sym (last_split text h)))
 
--- Text that doesn't end with a line end is unchanged.
+-- An empty text has no line end to drop.
 pub trim_none : (text : List ℕ) → length text ≡ 0 → without_line_ends text ≡ text
 trim_none [] e = refl
 trim_none (c ∷ text) e = absurd (omega arith)

@@ -1,4 +1,4 @@
--- The output for the cursor, read by a plain terminal that displays the rows, sets the cursor.
+-- Reading the output for the cursor sets the cursor of a plain terminal that displays the rows of the picture.
 use Rattle.std.proofs.Common.{◌≡◌, ℕ, List, Option, Some, refl, sym, ap, subst, ◌∙◌}
 use Rattle.vt_cells.specs.Op.{bytes_of_all}
 use Rattle.vt_redraw.specs.Picture.{Picture, Saved, with_cursor_of, with_saved}
@@ -13,7 +13,7 @@ use Rattle.vt_screen.specs.Shown.{IsPlain, IsReaderOfRows, KeepsRest, ReadsTo, T
 use Rattle.vt_screen.proofs.Readback.{reads_all}
 use Rattle.vt_screen.proofs.Shown.{plain_shown, shown_colored, shown_is}
 
--- A terminal with the cursor of a picture.
+-- The terminal with the position and visibility of a picture's cursor.
 abbrev placed : Picture → Saved → Option ℕ → ScreenValue → ScreenValue
 placed picture saved last reader =
     record (with_canvas (with_saved saved (with_cursor_of picture (canvas_of reader))) reader) { last = last }

@@ -1,5 +1,5 @@
--- Redraws distinguish what is displayed: equal output comes from equal pictures, and the difference is empty only
--- between equal pictures.
+-- Redraws distinguish displays: equal output comes from equal pictures, and a difference is empty only between equal
+-- pictures.
 use Rattle.std.proofs.Common.{◌≡◌, ℕ, List, [], Some, refl, sym, ap, ◌∙◌}
 use Rattle.vt_cells.specs.Op.{bytes_of_all}
 use Rattle.vt_redraw.specs.Picture.{Picture, SamePictureSize, picture_of}
@@ -17,7 +17,7 @@ use Rattle.vt_screen.specs.Shown.{shown, showing}
 use Rattle.vt_screen.proofs.Redrawing.{Becomes, drawing_read}
 use Rattle.vt_screen.proofs.Shown.{shown_colored, shown_is}
 
--- A fresh terminal that displays a picture.
+-- A fresh terminal that displays the given picture.
 abbrev blank_reader : Picture → ScreenValue
 blank_reader picture = with_canvas (canvas.showing picture) (fresh_screen 1 1 0)
 
@@ -27,7 +27,7 @@ shows t = picture_of (canvas_of t.screen)
 same_some : {A : Type 0} (x y : A) → Some x ≡ Some y → x ≡ y
 same_some x y e = cc
 
--- One output read by one terminal displays one picture.
+-- If one terminal displays two pictures after reading equal output, the pictures are equal.
 one_picture : (a b : Picture) (text more : List ℕ) (reader : ScreenValue) → Becomes a text reader →
     Becomes b more reader → text ≡ more → SamePictureSize a b → b.width ≡ reader.page.width → a ≡ b
 unfolding shows
@@ -39,7 +39,7 @@ one_picture a b text more reader one two e size width =
     ap (λ (w : ℕ). record a { width = w }) (size.width ∙ width)
     ∙ (ap shows same ∙ ap (λ (w : ℕ). record b { width = w }) (sym width))
 
--- The redraws of two screens are equal only if both display the same.
+-- If the redraws of two screens are equal, both screens display the same content.
 pub redraws_tell : (a b : ScreenValue) → IsScreen a → IsColored a → IsSteady (shown a) →
     IsScreen b → IsColored b → IsSteady (shown b) → SamePictureSize (shown a) (shown b) →
     bytes_of_all (redraw (shown a)) ≡ bytes_of_all (redraw (shown b)) → shown a ≡ shown b
@@ -55,7 +55,7 @@ redraws_tell a b is colored steady other colored_other steady_other size e =
     (shown_is b other) plain (record { width = refl; height = refl })) in
     one_picture x y (bytes_of_all (redraw x)) (bytes_of_all (redraw y)) reader one two e size refl
 
--- A difference is empty only if both screens display the same.
+-- If the difference between two screens is empty, both screens display the same content.
 pub difference_tells : (a b : ScreenValue) → IsScreen a → IsColored a → IsSteady (shown a) → IsScreen b → IsColored b →
     SamePictureSize (shown a) (shown b) → bytes_of_all (difference (shown a) (shown b)) ≡ [] → shown a ≡ shown b
 difference_tells a b is colored steady other colored_other size e =

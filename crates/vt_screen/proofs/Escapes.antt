@@ -108,7 +108,7 @@ escapes_append nexts xs ys p q = record {
   only = only_append nexts p.characters q.characters p.only q.only;
 }
 
--- What follows ESC in a listed control.
+-- The bytes begin with one of `nexts`, and all of them are printable ASCII, so they may follow ESC.
 abbrev IsTail : List ℕ → List ℕ → Type 0
 IsTail nexts tail = BeginsWith nexts tail × (list_all is_low tail ≡ true)
 
@@ -224,7 +224,7 @@ state_nexts = codes "[78=>"
 scrolling_low : AllLow scrolling_finals
 scrolling_low = (refl, (refl, (refl, (refl, (refl, (refl, (refl, (refl, (refl, (refl, tt))))))))))
 
--- Output that draws and moves rows: only `[`, `7` and `8` follow ESC.
+-- In output that draws and moves rows, only `[`, `7` and `8` follow ESC.
 pub scrolling_only : (text : List ℕ) → IsMadeOf scrolling_finals drawing_controls text → HasOnlyEscapes drawing_nexts text
 scrolling_only text made =
     made_only drawing_nexts scrolling_finals drawing_controls
@@ -247,7 +247,7 @@ reset_only text made =
         tails_only drawing_nexts reset_tails ((inl refl, refl), ((inl refl, refl), tt)) bytes is
     by_kind bytes (inr is) = drawing_only drawing_nexts ((inr (inl refl), refl), ((inr (inr (inl refl)), refl), ((inl refl, refl), ((inl refl, refl), tt)))) bytes is
 
--- Output that also sets input modes: `=` and `>` follow ESC, too.
+-- In output that also sets input modes, `=` and `>` may follow ESC, too.
 pub state_only : (text : List ℕ) → IsMadeOf drawing_finals state_controls text → HasOnlyEscapes state_nexts text
 state_only text made =
     made_only state_nexts drawing_finals state_controls
@@ -260,7 +260,7 @@ state_only text made =
         tails_only state_nexts input_tails ((inr (inr (inr (inl refl))), refl), ((inr (inr (inr (inr (inl refl)))), refl), ((inl refl, refl), ((inl refl, refl), ((inl refl, refl), ((inl refl, refl), ((inl refl, refl), ((inl refl, refl), ((inl refl, refl), ((inl refl, refl), ((inl refl, refl), ((inl refl, refl), ((inl refl, refl), ((inl refl, refl), ((inl refl, refl), ((inl refl, refl), ((inl refl, refl), ((inl refl, refl), ((inl refl, refl), ((inl refl, refl), ((inl refl, refl), ((inl refl, refl), ((inl refl, refl), ((inl refl, refl), ((inl refl, refl), tt))))))))))))))))))))))))) bytes is
     by_kind bytes (inr is) = drawing_only state_nexts ((inr (inl refl), refl), ((inr (inr (inl refl)), refl), ((inl refl, refl), ((inl refl, refl), tt)))) bytes is
 
--- Captures: only `[` follows ESC; plain text contains no ESC.
+-- In captures, only `[` follows ESC; plain text contains no ESC.
 line_only : (nexts bytes : List ℕ) → IsOneOf bytes plain_controls → HasOnlyEscapes nexts bytes
 unfolding encode_utf8
 line_only nexts bytes (inl e) =

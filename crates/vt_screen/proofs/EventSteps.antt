@@ -1,4 +1,4 @@
--- The steps of each event: what they print, whether they reset the screen, and that they report no row themselves.
+-- The steps of each event: what they print, whether they reset the screen, and that they don't report rows directly.
 use Rattle.std.proofs.Common.{◌≡◌, ◌≢◌, ℕ, zero, suc, ◌==◌, Bool, true, false, List, [], ◌∷◌}
 use Rattle.std.proofs.Common.{◌++◌, Option, Some, None, refl, ap, replicate, arith}
 use Rattle.std.specs.Prelude.{◌||◌, IfSome, if◌then◌else◌}
@@ -27,11 +27,11 @@ use Rattle.vt_screen.specs.declared.sgr.Reading.TheVariants.{Silent, Set, Unhand
 use Rattle.vt_screen.specs.declared.sgr.Wanted.{Wanted}
 use Rattle.vt_screen.proofs.Streaming.{Held, IsAmong, Streamed, steps_stream}
 
--- All steps of a list are allowed: their characters satisfy Q, and they reset the screen only if R holds.
+-- All steps of the list are allowed: their characters satisfy Q, and they reset the screen only if R holds.
 pub record AllAmong (Q : ℕ → Type 0) (R : Type 0) (steps : List Step) : Type 0 where
   pub all : AllByRecursion (IsAmong Q R) steps
 
--- An event is allowed: the character that it prints satisfies Q, and it resets the screen only if R holds.
+-- The event is allowed: the character that it prints satisfies Q, and it resets the screen only if R holds.
 pub record Allows (Q : ℕ → Type 0) (R : Type 0) (event : Event) : Type 0 where
   pub prints : (c : ℕ) → event ≡ Character c → IsPrintable c → Q c
   pub resets : event ≡ ris → R
@@ -233,7 +233,7 @@ stream_events (event ∷ events) s coded others k =
     all_then steps (steps_of_all events (screen_after_all steps s)) now
     (stream_events events (screen_after_all steps s) coded.1 others.1 there.held)
 
--- What a run over bytes reports, keeps and scrolls off.
+-- The rows that a run without RIS reports, keeps in scrollback and scrolls off.
 pub run_streams : (scan : State) (s : ScreenValue) (bytes : List ℕ) → HasNoRis scan bytes → Held s
     → Streamed (calls_in scan s bytes) (sent_off_in scan s bytes) s (screen_in scan s bytes)
 run_streams scan s bytes others k =

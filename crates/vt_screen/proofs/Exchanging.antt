@@ -1,4 +1,4 @@
--- Switching pages and resetting, composed of the parts that the code performs.
+-- Switching pages and resetting the screen, composed of the steps that the code performs.
 use Rattle.std.proofs.Common.{◌≡◌, ℕ, Bool, true, false, length, Option, Some, None, refl, sym, ap, ◌∙◌}
 use Rattle.std.specs.Prelude.{IfSome, IsSome, option_map, unwrap_or}
 use Rattle.std.proofs.lemmas.Bool.{false≢true}
@@ -49,7 +49,7 @@ entered_if false s e h = rw e refl
 pub entered_with : (s : ScreenValue) → IsScreen s → entered (with_other s) ≡ entered s
 entered_with s i = entered_if s.is_alternate s refl i.entered
 
--- A screen whose alternate page is active, with that page itself left out.
+-- The screen whose alternate page is active, but with the page that was active before.
 abbrev entered_as : ScreenValue → ScreenValue
 entered_as s =
     record (saved s) { other = Some (cursor_saved s.page); is_alternate = true; scrollback = out_of_view s.scrollback }
@@ -69,7 +69,7 @@ entered_fresh_with s i = fresh_if s.is_alternate s refl i.entered i
 
 -- ---- resetting
 
--- A screen after switching to the main page.
+-- The screen `l` has the properties of the screen `s` after it switched to the main page.
 record IsLeft (s l : ScreenValue) : Type 0 where
   main : l.is_alternate ≡ false
   size : fresh_page l ≡ fresh_page s
@@ -90,7 +90,7 @@ left_if true s e h i = record {
 }
 left_if false s e h i = record { main = rw e refl; size = rw e refl; above = rw e refl; other = λ page. rw e refl }
 
--- A reset screen with these pages and this capacity.
+-- A reset screen with the given pages and scrollback capacity.
 abbrev renewed : (s : ScreenValue) (page : Page) (other : Option Page) (capacity : ℕ) → ScreenValue
 renewed s page other capacity = record {
   page = page;

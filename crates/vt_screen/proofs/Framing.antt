@@ -16,7 +16,7 @@ use Rattle.vt_grid.specs.Printing.{carries, lifted_page, left_row, goes_down, fl
 use Rattle.vt_grid.specs.Printing.{wrapped_page, lacks_room, room_made, glyph_put, mark_column, takes_mark, mark_put}
 use Rattle.vt_grid.specs.Printing.{carried, made_wide, made_narrow, width_followed, mark_printed, printed, printed_by}
 
--- Two pages have the same scroll region, origin mode and saved origin mode.
+-- The two pages have the same scroll region, origin mode and saved origin mode.
 pub record IsFramed (new page : Page) : Type 0 where
   pub top : new.top ≡ page.top
   pub bottom : new.bottom ≡ page.bottom

@@ -1,4 +1,4 @@
--- The output for input modes, read by any terminal in ground state, sets these modes and nothing else.
+-- Reading the output for input modes sets these modes on any terminal in ground state and changes nothing else.
 use Rattle.std.proofs.Common.{◌≡◌, ℕ, Bool, true, false, List, [], ◌++◌, Some, refl, sym, ap, subst, ◌∙◌}
 use Rattle.vt_cells.specs.InputModes.{keypad_text, application_cursor_text, bracketed_paste_text}
 use Rattle.vt_cells.specs.InputModes.{mouse_mode_change, mouse_encoding_change, cursor_style_change}
@@ -104,7 +104,7 @@ one_then a b was middle new p q reader =
     reads_then (terminal start (record reader { modes = was })) (terminal start (record reader { modes = middle }))
     (terminal start (record reader { modes = new })) a b (p reader) (q reader)
 
--- The mouse modes and cursor style of one value, and all other modes of another.
+-- The modes that have the mouse modes and cursor style of one value, and all other modes of another value.
 abbrev with_mouse_and_style : (mouse rest : Modes) → Modes
 with_mouse_and_style mouse rest = record rest
     { mouse_mode = mouse.mouse_mode; mouse_encoding = mouse.mouse_encoding; cursor_style = mouse.cursor_style }
@@ -124,8 +124,8 @@ mouse_and_style_set was new m =
     (mouse_encoding_sets was.mouse_encoding new.mouse_encoding second)
     (cursor_style_sets was.cursor_style new.cursor_style third))
 
--- The output for all modes sets them, whatever the keypad, cursor keys and bracketed paste were, if mouse modes and
--- cursor style are the defaults.
+-- If the mouse modes and cursor style are the defaults, the output for all modes sets every mode, whatever the other
+-- modes were.
 input_sets : (was new : Modes) → Sets (input_text new) (with_mouse_and_style no_modes was) new
 input_sets was new =
     let first : Modes = with_mouse_and_style no_modes was in
@@ -157,7 +157,7 @@ input_changes was new =
     (paste_changes was.bracketed_paste new.bracketed_paste third)
     (mouse_and_style_set was new new)))
 
--- Every terminal with the default mouse modes and cursor style takes all modes.
+-- The output for all modes sets them on every terminal with the default mouse modes and cursor style.
 pub modes_set : (new : Modes) (text : List ℕ) → text ≡ input_text new → SetsModes HasDefaultMouseAndStyle new text
 modes_set new text told reader had =
     let m = reader.modes in
@@ -172,7 +172,7 @@ modes_set new text told reader had =
     (subst (λ (x : Modes). ReadsTo (input_text new) (record reader { modes = x }) (record reader { modes = new }))
     same (input_sets m new reader))
 
--- Every terminal with the previous modes takes those that differ.
+-- The output for changed modes sets the new modes on every terminal that has the previous ones.
 pub modes_changed : (was new : Modes) (text : List ℕ) →
     text ≡ input_change was new → SetsModes (λ had. had ≡ was) new text
 modes_changed was new text told reader had =

@@ -29,7 +29,7 @@ use Rattle.vt_screen.proofs.Sizes.{same_scrolled_down, same_lines_inserted, same
 use Rattle.vt_screen.proofs.Sizes.{same_chars_deleted, same_erased_chars, same_erased_rest, same_erased_below}
 use Rattle.vt_screen.proofs.Sizes.{same_erased_start, same_erased_row, same_erased_page, same_printed}
 
--- Both cursors and the end of the scroll region are on the page.
+-- Both cursors and the bottom of the scroll region are on the page.
 pub record IsInside (page : Page) : Type 0 where
   pub row : page.row < length page.rows
   pub saved_row : page.saved_row < length page.rows
@@ -38,7 +38,7 @@ pub record IsInside (page : Page) : Type 0 where
 pub inside_page : (page : Page) → IsPage page → IsInside page
 inside_page page p = record { row = p.cursor_row; saved_row = p.saved_row; bottom = p.region_end }
 
--- Two pages agree in their cursor's row, saved row and region's end.
+-- The two pages have the same cursor row, saved cursor row and bottom of the scroll region.
 record SameRows (new page : Page) : Type 0 where
   pub row : new.row ≡ page.row
   pub saved_row : new.saved_row ≡ page.saved_row
@@ -300,7 +300,7 @@ inside_erased_page attrs page i =
 
 -- ---- printing
 
--- A page whose saved row and region's end are unchanged, and whose cursor stays on it.
+-- The new page has the same saved row and bottom of the scroll region, and its cursor is still on the page.
 record Stays (new page : Page) : Type 0 where
   pub saved_row : new.saved_row ≡ page.saved_row
   pub bottom : new.bottom ≡ page.bottom
@@ -360,7 +360,8 @@ stays_behind new mid page r s = record {
   row = λ i. omega (arith, r.row, s.row i);
 }
 
--- A page after two steps, the first of which kept all rows of the cursors.
+-- If a first step keeps the rows of both cursors and a second step keeps the cursor on the page, so do both steps
+-- together.
 stays_over : (new mid page : Page) → Stays new mid → SameSize mid page → SameRows mid page → Stays new page
 stays_over new mid page s same r = record {
   saved_row = s.saved_row ∙ r.saved_row;

@@ -22,7 +22,7 @@ use Rattle.vt_screen.proofs.Sizes.{same_printed}
 use Rattle.vt_screen.proofs.Stable.{stable_blank, stable_line_feed, stable_scrolled_up, stable_printed}
 use Rattle.vt_screen.proofs.Coloring.{coloring}
 
--- A fresh screen has the invariant.
+-- A fresh screen satisfies the invariant of screens.
 pub kept_blank : (height width capacity : ℕ) → 0 < height → height < 2 ^ 16 → 0 < width → width < 2 ^ 16
     → IsKept (blank_page height width) None
     (record { other = None; is_alternate = false; active = no_scrollback capacity; idle = no_scrollback 0 })
@@ -74,7 +74,7 @@ kept_restored page last aside k =
     kept_page page (cursor_restored page) last aside
     (page_cursor_restored page k.sound) k.colored (same_cursor_restored page) k
 
--- A screen of one page only has the invariant.
+-- A screen that has only one page satisfies the invariant of screens.
 pub kept_alone : (page : Page) (last : Option ℕ) (aside : Aside) → IsKept page last aside
     → IsKept page last
     (record { other = None; is_alternate = false; active = no_scrollback 0; idle = no_scrollback 0 })

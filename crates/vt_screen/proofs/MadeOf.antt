@@ -1,4 +1,4 @@
--- The output of operations that fit consists of controls that draw.
+-- The output of valid operations consists of characters and the controls used for drawing.
 use Rattle.std.proofs.Common.{◌≡◌, inl, inr, ℕ, zero, suc, ◌+◌, ◌-◌, ◌<◌, ◌≤◌, ◌==◌, Bool, true, false, List, [], ◌∷◌, ◌++◌}
 use Rattle.std.proofs.Common.{refl, sym, ap, ap₂, subst, ◌∙◌, append_assoc, append-nil, arith, if◌then◌else◌, length}
 use Rattle.std.specs.List.{AllByRecursion, flat_map}

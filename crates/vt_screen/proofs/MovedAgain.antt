@@ -1,4 +1,4 @@
--- A plain terminal that reads a difference that scrolls is plain again, whatever the difference draws.
+-- A plain terminal that reads a scrolling difference is plain again, whatever the difference draws.
 use Rattle.std.proofs.Common.{ℕ, zero, suc, ◌-◌, ◌<◌, ◌^◌, ◌==◌, inl, inr, Bool, true, false}
 use Rattle.std.proofs.Common.{List, [], ◌∷◌, ◌++◌, length, refl, sym, subst, arith}
 use Rattle.std.specs.Prelude.{if◌then◌else◌}
@@ -29,7 +29,7 @@ use Rattle.vt_screen.proofs.PlainAgain.{nothing_goes, op_goes, ops_go, plain_hol
 
 -- ---- bands that move first
 
--- The cursor moves to a row, and rows are deleted or inserted there.
+-- A terminal that moves its cursor to a row and deletes or inserts rows there stays plain.
 lines_go : (row n final : ℕ) (reader screen : ScreenValue) (new : ScreenValue → ScreenValue) → row < 65535 →
     ((s : ScreenValue) → ReadsTo (counted n final) s (new s)) →
     ((s : ScreenValue) → Holds false reader s → Holds false reader (new s)) → Holds false reader screen →

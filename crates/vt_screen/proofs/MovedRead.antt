@@ -1,4 +1,4 @@
--- A band of rows that moves, and the difference after it, read by a plain terminal.
+-- Reading a band's move, and the difference after it, on a plain terminal.
 use Rattle.std.proofs.Common.{◌≡◌, inl, inr, ℕ, zero, suc, ◌+◌, ◌-◌, ◌<◌, ◌≤◌, ◌==◌, ◌^◌, Bool, true, false, List, []}
 use Rattle.std.proofs.Common.{◌∷◌, ◌++◌, length, Option, Some, None, refl, sym, ap, subst, ◌∙◌, arith}
 use Rattle.std.specs.Prelude.{IfSome, if◌then◌else◌}
@@ -50,7 +50,7 @@ pub inserted_read : (n : ℕ) (screen : ScreenValue) → suc n < 2 ^ 16 →
 unfolding counted_step
 inserted_read n screen h = counted_read n 0x4C InsertLines screen h (omega arith, omega arith) (λ groups. refl)
 
--- A page with its rows replaced, and the cursor at the beginning of a row.
+-- The screen with its rows replaced, and the cursor at the beginning of a row.
 abbrev at_row : List RowValue → ℕ → ScreenValue → ScreenValue
 at_row rows row screen = with_page (page_at_row rows row screen.page) screen
 
@@ -89,7 +89,7 @@ plain_rows : (rows : List RowValue) (r : ℕ) (page : Page) → length rows ≡ 
 plain_rows rows r page size plain =
     record { whole = (plain.whole.0, plain.whole.1 ∙ sym size); origin = plain.origin }
 
--- Rows deleted at one row, and as many inserted at another.
+-- Deleting rows at one row and inserting as many at another row is read as these two moves of rows.
 both_read : (gone in_at n : ℕ) (screen : ScreenValue) → IsPlainPage screen.page
     → gone < length screen.page.rows → in_at < length screen.page.rows → length screen.page.rows < 2 ^ 16
     → 0 < n → n < 2 ^ 16
@@ -110,7 +110,7 @@ both_read gone in_at n screen plain first second tall some short =
     (omega (arith, size)) (omega arith) some short)
     ∙ ap (λ (k : ℕ). Some (terminal start (at_row (rows_down page.width in_at (k - 1) n up) in_at screen))) size
 
--- A band's output and its last row, case by case.
+-- The output that moves a band, in the four cases of its direction and of its end.
 text_when : (up at_end : Bool) (height : ℕ) (band : Band) → band.up ≡ up → (band.bottom == height) ≡ at_end
     → band_text height band
     ≡ (if up
@@ -125,7 +125,7 @@ last_when : (up at_end : Bool) (height : ℕ) (band : Band) → band.up ≡ up �
     last_moved height band ≡ (if at_end then band.top else if up then band.bottom - band.count else band.top)
 last_when up at_end height band u e = rw (u, e) refl
 
--- Reading output that equals known output.
+-- Reading output that equals known output has the known effect.
 told : (text known : List ℕ) (rows moved_to : List RowValue) (row last : ℕ) (screen : ScreenValue) →
     text ≡ known → last ≡ row → ReadsTo known screen (at_row rows row screen) → rows ≡ moved_to →
     ReadsTo text screen (at_row moved_to last screen)
@@ -197,7 +197,7 @@ band_when false false band screen u e plain tall is =
 
 -- ---- the terminal after the move
 
--- A terminal that displays a picture; the rest of it is unchanged.
+-- The terminal after it was changed to display a picture; its other parts are unchanged.
 abbrev with_shown : Picture → ScreenValue → ScreenValue
 with_shown picture reader = with_canvas (with_picture picture (canvas_of reader)) reader
 
@@ -220,7 +220,7 @@ moving_read band reader is plain inside =
     (bytes_of_all (attr_ops reader.attrs default_attrs)) (band_text (length reader.page.rows) band) (change_read reader)
     (band_when band.up (band.bottom == length reader.page.rows) band middle refl refl plain.page is.page.height inside)
 
--- The row of the last sequence that moves rows is one of the picture.
+-- The row to which the last sequence moves the cursor is a row of the picture.
 last_inside : (height : ℕ) (band : Band) → IsBand height band → last_moved height band < height
 last_inside height band is =
     let a = is.some in
@@ -305,7 +305,7 @@ scrolling_read self prev reader band is colored steady r inside =
     (moved_becomes self reader band is colored steady r.is
     (subst (λ (p : Picture). IsBand (length p.rows) band) (sym e) inside))
 
--- The premises about the two screens of a difference.
+-- The preconditions on the two screens of a difference.
 pub record AreDiffed (self prev : ScreenValue) : Type 0 where
   pub sound : IsScreen self
   pub colored : IsColored self
@@ -343,7 +343,7 @@ some_band true false height band u e = rw (u, e) (λ empty. cc)
 some_band false true height band u e = rw (u, e) (λ empty. cc)
 some_band false false height band u e = rw (u, e) (λ empty. cc)
 
--- A difference that scrolls is empty only between screens that display the same.
+-- If a scrolling difference is empty, both screens display the same content.
 pub scrolling_tells : (self prev : ScreenValue) (text : List ℕ) → AreDiffed self prev → IsSteady (shown self) →
     IsScrolling (shown self) (shown prev) text → text ≡ [] → shown self ≡ shown prev
 scrolling_tells self prev text d steady (inl told) empty =
@@ -359,7 +359,7 @@ no_length : (xs : List ℕ) → length xs ≤ 0 → xs ≡ []
 no_length [] h = refl
 no_length (x ∷ xs) h = absurd (omega arith)
 
--- A difference that scrolls is empty between equal pictures, since it is never longer than the difference.
+-- A scrolling difference between equal pictures is empty, because it is never longer than the ordinary difference.
 pub shorter_none : (a b : Picture) (text : List ℕ) → length text ≤ length (bytes_of_all (difference a b)) → a ≡ b →
     text ≡ []
 shorter_none a b text shorter e =

@@ -1,5 +1,5 @@
--- A run without callbacks calls only `on_scroll`, for the rows that scroll off and are not kept, whatever the callbacks
--- do.
+-- In a run whose steps invoke no callbacks directly, only `on_scroll` is called, for the rows that scroll off and are
+-- not kept.
 use Rattle.std.proofs.Common.{◌≡◌, Bool, List, [], ◌∷◌, ◌++◌, map, sym, ap, subst}
 use Rattle.std.specs.List.{AllByRecursion, FoldsTo}
 use Rattle.vt_rows.specs.Row.{RowValue}
@@ -17,7 +17,7 @@ use Rattle.vt_screen.specs.Steps.{EnterFresh, LeaveAlternate, LeaveRestoring, Re
 use Rattle.vt_screen.specs.Steps.{HideCursor, SetMode, CallBack, reports, screen_after, display_after}
 use Rattle.vt_screen.proofs.Reporting.{called_rows}
 
--- A screen was reached, and callbacks received these calls on the way.
+-- The screen `screen` was reached, and the callbacks received the given calls on the way.
 pub record Reported {S : Type 0} (does : CallRelation S)
     (a : act.State S) (calls : List CallValue) (screen : ScreenValue) (b : act.State S) : Type 0 where
   pub shown : b.screen ≡ screen

@@ -1,4 +1,5 @@
--- What every step of a page preserves: its size, its cursors on it, its invariant, and the properties of each cell.
+-- The properties that every step of a page preserves: its size, its cursors on it, its invariant, and the properties of
+-- each cell.
 use Rattle.std.proofs.Common.{ℕ}
 use Rattle.vt_cells.specs.Attrs.{Attrs}
 use Rattle.vt_cells.specs.Cell.{CellValue}

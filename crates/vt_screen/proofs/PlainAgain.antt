@@ -46,7 +46,7 @@ use Rattle.vt_screen.proofs.StepLists.{screen_in_then, steps_in_then}
 
 -- ---- the invariant while reading
 
--- The terminal is plain; and if the cursor was saved by the output, it was saved with origin mode off.
+-- The terminal is plain, and if the output has saved the cursor, it was saved with origin mode off.
 pub record Holds (saved : Bool) (reader screen : ScreenValue) : Type 0 where
   pub whole : IsWhole screen.page
   pub origin : screen.page.origin ≡ false
@@ -54,7 +54,7 @@ pub record Holds (saved : Bool) (reader screen : ScreenValue) : Type 0 where
   pub offset : (above_page screen).offset ≡ 0
   pub aside : KeepsAside reader screen
 
--- Everything but the active page of a screen is unchanged.
+-- All parts of the screen except its active page are unchanged.
 pub record SameAside (new screen : ScreenValue) : Type 0 where
   pub other : new.other ≡ screen.other
   pub is_alternate : new.is_alternate ≡ screen.is_alternate
@@ -70,7 +70,8 @@ aside_then reader screen new s k = record {
   size = same_through new.page screen.page reader.page s.size k.size;
 }
 
--- The invariant holds for a page with the same region and modes.
+-- The terminal stays plain after a change that keeps its page's scroll region and modes and all other parts of the
+-- screen.
 pub held : (saved : Bool) (reader screen new : ScreenValue) → IsFramed new.page screen.page → SameAside new screen →
     (above_page new).offset ≡ 0 → Holds saved reader screen → Holds saved reader new
 held saved reader screen new f s offset h = record {
@@ -99,7 +100,7 @@ hidden_by : (alternate : Bool) (above : Scrollback) → (if alternate then no_sc
 hidden_by true above h e = absurd (cc)
 hidden_by false above h e = h
 
--- The invariant holds after a step that may scroll rows off the page.
+-- The terminal stays plain after a step that may scroll rows off the page.
 sent_held : (saved : Bool) (reader screen after : ScreenValue) (gone : List RowValue) →
     IsFramed after.page screen.page → SameAside after screen → after.scrollback ≡ screen.scrollback →
     Holds saved reader screen →
@@ -144,7 +145,7 @@ fed_held saved reader screen h =
 
 -- ---- output
 
--- Output that a terminal has read, and the invariant after it.
+-- The terminal has read the output and is still plain.
 pub record Goes (saved : Bool) (reader screen : ScreenValue) (text : List ℕ) : Type 0 where
   pub ground : (run start text).state ≡ start
   pub steps : AllByRecursion IsNoCallback (steps_in start screen text)
@@ -178,7 +179,7 @@ goes_read saved reader screen after text e h =
       holds = subst (Holds saved reader) (sym r.steps.becomes) h;
     }
 
--- Output of one event with one step.
+-- A terminal that reads output of one event with one step stays plain if the step keeps it plain.
 goes_event : (saved : Bool) (reader screen : ScreenValue) (text : List ℕ) (event : Event) (step : Step) →
     run start text ≡ back_with (event ∷ []) → steps_of event (seen_of screen) ≡ step ∷ [] → IsNoCallback step →
     Holds saved reader (screen_after step screen) → Goes saved reader screen text
@@ -192,7 +193,7 @@ goes_event saved reader screen text event step gives is none h =
 
 -- ---- operations
 
--- An operation that draws within the same region and modes.
+-- A terminal that reads an operation stays plain if drawing it keeps the page's scroll region and modes.
 drawn_goes : (op : Op) (saved : Bool) (reader screen : ScreenValue) (d : Canvas) → Fits op →
     drawn op (canvas_of screen) ≡ Some d → IsFramed d.page screen.page → SameSize d.page screen.page →
     Holds saved reader screen → Goes saved reader screen (bytes_of op)

@@ -1,4 +1,4 @@
--- What is read without callbacks or allocations is what a run does, and invokes no callbacks.
+-- Reading bytes without callbacks or allocations has the effect of a run over these bytes, which invokes no callbacks.
 use Rattle.std.proofs.Common.{◌≡◌, ℕ, ◌+◌, ◌==◌, Bool, true, false, List, [], ◌∷◌, ◌++◌, Option, Some, None, min}
 use Rattle.std.proofs.Common.{length, refl, sym, subst, ap, ◌∙◌, take}
 use Rattle.std.specs.Prelude.{if◌then◌else◌, is_some}
@@ -38,7 +38,7 @@ some_where (Some x) o y e = e
 
 -- ---- steps
 
--- A step that scrolls no row off the page.
+-- If a step scrolls no row off the page, it leaves scrollback unchanged.
 unsent : (alternate : Bool) (gone : List RowValue) (screen after : ScreenValue) → gone ≡ [] →
     after.scrollback ≡ screen.scrollback →
     (if alternate then after
@@ -51,7 +51,7 @@ unsent false gone screen after none same =
     }) none
     ∙ ap (λ s. record after { scrollback = s }) (sym same)
 
--- The screen after a step that invokes no callbacks and allocates nothing.
+-- The screen `after` is the result of a step that invokes no callbacks and allocates nothing.
 abbrev IsTaken : Step → ScreenValue → ScreenValue → Type 0
 IsTaken step screen after = (screen_after step screen ≡ after) × IsNoCallback step
 
@@ -91,7 +91,7 @@ taken Reset screen after e = (same_some _ after e, tt)
 taken EnterAlternate screen after e = (same_some _ after (some_where screen.other _ after e), tt)
 taken EnterFresh screen after e = (same_some _ after (some_where screen.other _ after e), tt)
 
--- The screen after steps of which none is a callback.
+-- The screen `after` is the result of the steps, and none of them is a callback.
 pub record AreTaken (steps : List Step) (screen after : ScreenValue) : Type 0 where
   pub becomes : screen_after_all steps screen ≡ after
   pub none : AllByRecursion IsNoCallback steps
@@ -130,7 +130,7 @@ taken_events (event ∷ events) screen after e =
 
 -- ---- bytes
 
--- A run over bytes from one terminal to another.
+-- A run over the bytes takes the first terminal to the second, and none of its steps is a callback.
 pub record Runs (t : Terminal) (bytes : List ℕ) (u : Terminal) : Type 0 where
   pub state : (run t.scan bytes).state ≡ u.scan
   pub steps : AreTaken (steps_in t.scan t.screen bytes) t.screen u.screen

@@ -1,4 +1,4 @@
--- The bytes of a drawing operation, read by any screen, do what the operation draws.
+-- Reading the bytes of a drawing operation, on any screen, has the effect that the operation draws.
 use Rattle.std.proofs.Common.{◌≡◌, ◌≢◌, ℕ, zero, suc, ◌+◌, ◌-◌, ◌<◌, ◌≤◌, ◌^◌, ◌⊎◌, inl, inr, ⊎_elim, Bool, true}
 use Rattle.std.proofs.Common.{false, ◌==◌, List, [], ◌∷◌, Option, Some, None, refl, sym, ap, subst, ◌∙◌, arith}
 use Rattle.std.specs.Prelude.{decimal, if◌then◌else◌, chars, encode_utf8_all}
@@ -38,7 +38,7 @@ use Rattle.vt_screen.specs.Reading.{quiet_step, quiet_steps, terminal, read_byte
 use Rattle.vt_screen.proofs.ReadbackSgr.{sgr_change, sgr_clear, few_changes, some_changes}
 use Rattle.vt_screen.proofs.ReadbackTexts.{IsFinal, reads_then, event_read, csi_read}
 
--- Reading the output leaves this canvas on the screen; the last character may be any.
+-- Reading the output leaves the given canvas on the screen; the last character is unspecified.
 abbrev pub Reads : List ℕ → ScreenValue → Canvas → Type 0
 Reads text screen canvas =
     (last : Option ℕ)
@@ -52,7 +52,7 @@ known text screen e d h r =
     let same : e ≡ d = cc in
     subst (λ (c : Canvas). Reads text screen c) same (screen.last, r)
 
--- A step that takes place unless a row would scroll off the page.
+-- If an operation draws without scrolling a row off the page, so does the step that performs it.
 unless : (b : Bool) (e d : Canvas) (after : ScreenValue) (f : Canvas → ScreenValue) →
     (if b then None else Some e) ≡ Some d → after ≡ f e → (if b then None else Some after) ≡ Some (f d)
 unless true e d after f h same = absurd cc
@@ -72,7 +72,7 @@ hidden_read false screen = refl
 
 -- ---- control sequences
 
--- A control sequence without a number.
+-- Reading a control sequence without a number performs its step.
 final_alone : (final : ℕ) (screen after : ScreenValue) → IsFinal final
     → quiet_steps (unmarked_steps ((0 ∷ []) ∷ []) final (seen_of screen)) screen ≡ Some after
     → read (terminal start screen) (csi [] final) ≡ Some (terminal start after)
@@ -128,7 +128,7 @@ erased_chars_read : (n : ℕ) (screen : ScreenValue) → suc n < 2 ^ 16 →
 unfolding counted_step
 erased_chars_read n screen h = counted_read n 0x58 page.EraseChars screen h (omega arith, omega arith) (λ groups. refl)
 
--- A row or column that is written counting from 1.
+-- A 0-based row or column that is written 1-based is read as itself.
 ordinal_read : (n : ℕ) → (if (n + 1) == 0 then 1 else n + 1) - 1 ≡ n
 ordinal_read n = let t : ((n + 1) == 0) ≡ false = grind (arith, nat_tests) in rw t (omega arith)
 

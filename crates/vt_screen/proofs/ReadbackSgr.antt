@@ -1,4 +1,4 @@
--- SGR read back: the numbers of a change of attributes, each in its own group, make that change.
+-- Reading SGR back: the numbers of a change of attributes, each in its own group, make that change.
 use Rattle.std.proofs.Common.{◌≡◌, ℕ, zero, suc, ◌+◌, ◌-◌, ◌<◌, ◌≤◌, Bool, true, false, nat_lt}
 use Rattle.std.proofs.Common.{if◌then◌else◌, List, [], ◌∷◌, ◌++◌, Some, refl, sym, ap, ◌∙◌, arith}
 use Rattle.std.proofs.lemmas.Bool.{cond_both}
@@ -74,7 +74,7 @@ unfolding number_read
 background_bright =
     below_8 (λ j. number_read (100 + j) ≡ set (Background (Idx (8 + j)))) refl refl refl refl refl refl refl refl
 
--- The colours from 8 to 15.
+-- The numbers 90 to 97 set the foreground colours 8 to 15.
 foreground_high : (i : ℕ) → 8 ≤ i → i < 16 → number_read (82 + i) ≡ set (Foreground (Idx i))
 foreground_high i low high =
     let e : 82 + i ≡ 90 + (i - 8) = omega arith in
@@ -213,7 +213,7 @@ unfolding number_read
 renders_inverse true = renders_one 7 (Inverse true) refl
 renders_inverse false = renders_one 27 (Inverse false) refl
 
--- Each attribute; one that is equal in both keeps its value.
+-- The numbers for each attribute set it, unless it is equal in both sets of attributes.
 
 part_foreground : (same : Bool) (color : Color) → FitsColor color
     → Renders (part same (foreground_numbers color)) (λ a. record a { fgcolor = if same then a.fgcolor else color })
@@ -248,7 +248,7 @@ part_inverse false on = renders_inverse on
 
 -- ---- the whole change
 
--- The numbers of a change, one attribute after the other.
+-- Reading the numbers of a change applies each attribute that differs and leaves the others unchanged.
 renders_changes : (was new : Attrs) → FitsAttrs new → Renders (change_numbers was new) (λ a. record {
   fgcolor = if same_color was.fgcolor new.fgcolor then a.fgcolor else new.fgcolor;
   bgcolor = if same_color was.bgcolor new.bgcolor then a.bgcolor else new.bgcolor;
@@ -289,7 +289,7 @@ renders_changes was new fits =
     (part_underline (same_bool was.underline new.underline) new.underline)
     (part_inverse (same_bool was.inverse new.inverse) new.inverse)))))
 
--- The numbers of a change, read as a sequence, make that change.
+-- An SGR sequence with the numbers of a change makes that change.
 pub sgr_change : (was new : Attrs) → FitsAttrs new → same_attrs was new ≡ false → same_attrs new default_attrs ≡ false
     → (screen : ScreenValue)
     → quiet_steps (sgr_steps (alone (change_numbers was new))) screen
@@ -301,7 +301,7 @@ sgr_change was new fits differs plain screen =
     (sym (append-nil (alone (change_numbers was new))))
     ∙ renders_changes was new fits (alone (change_numbers was new)) [] screen)
 
--- A sequence without a number sets the default attributes.
+-- An SGR sequence without a number sets the default attributes.
 pub sgr_clear : (screen : ScreenValue) →
     quiet_steps (sgr_steps ((0 ∷ []) ∷ [])) screen ≡ Some (record screen { attrs = default_attrs })
 unfolding group_read setting_read number_read

@@ -29,7 +29,7 @@ reads_append t (x ∷ a) b =
     (λ (u : Terminal). reads_append u a b) (read_byte t x)
     ∙ and_then-assoc (λ (u : Terminal). read u a) (λ (v : Terminal). read v b) (read_byte t x)
 
--- Reading one output and then another is reading both concatenated.
+-- Reading one text and then another has the effect of reading their concatenation.
 pub reads_then : (t u v : Terminal) (a b : List ℕ) → read t a ≡ Some u → read u b ≡ Some v → read t (a ++ b) ≡ Some v
 reads_then t u v a b p q = reads_append t a b ∙ (ap (λ (r : Option Terminal). and_then (λ w. read w b) r) p ∙ q)
 
@@ -56,7 +56,7 @@ later : (a b : List Event) → NoCommands (a ++ b) → NoCommands b
 later [] b none = none
 later (event ∷ a) b none = later a b none.1
 
--- A run that ended in ground state and read no operating system command.
+-- The run ended in ground state and read no operating system command.
 pub record IsCalm (step : Step) : Type 0 where
   pub plain : step.state.kind ≡ Ground
   pub events : NoCommands step.events
@@ -67,7 +67,7 @@ in_command text = record { kind = OscString; collected = text }
 abbrev run_after : Step → List ℕ → Step
 run_after step bytes = events_then step.events (run step.state bytes)
 
--- An operating system command that has begun is read as one, or doesn't end.
+-- After an operating system command has begun, a run either reads one or doesn't end in ground state.
 unended_by : (c : Class) (text : List ℕ) (b : ℕ) (bytes : List ℕ)
     → ((more : List ℕ) → IsCalm (run (in_command more) bytes) → ⊥)
     → IsCalm (run_after (step_after OscString text b (turn_of OscString c)) bytes) → ⊥
@@ -117,7 +117,7 @@ run_read s (b ∷ bytes) screen calm =
     ∙ and_then-assoc (quiet_events rest.events) finish here
     ∙ ap (and_then finish) (sym (quiet_append step.events rest.events screen)))
 
--- Reading output of one event.
+-- Reading output that consists of one event performs the steps of that event.
 pub event_read : (text : List ℕ) (event : Event) (screen after : ScreenValue)
     → run start text ≡ back_with (event ∷ []) → is_command event ≡ false
     → quiet_steps (steps_of event (seen_of screen)) screen ≡ Some after
@@ -131,11 +131,11 @@ event_read text event screen after gives other quiet =
     (λ (r : Option ScreenValue). and_then (λ (x : ScreenValue). Some (terminal start x)) (and_then (quiet_events []) r))
     quiet
 
--- The final byte of a control sequence.
+-- The byte is a final byte of a control sequence.
 abbrev pub IsFinal : ℕ → Type 0
 IsFinal b = (0x40 ≤ b) × (b ≤ 0x7E)
 
--- Reading a control sequence that has only parameters.
+-- Reading a control sequence that has only parameters performs its steps.
 pub csi_read : (text : List ℕ) (final : ℕ) (groups : List (List ℕ)) (screen after : ScreenValue)
     → IsParameterText text → IsFinal final → (table_of text).groups ≡ groups
     → quiet_steps (unmarked_steps groups final (seen_of screen)) screen ≡ Some after

@@ -1,4 +1,4 @@
--- Redraws and differences, read by plain terminals, display the screen.
+-- A plain terminal that reads a redraw or a difference displays the screen.
 use Rattle.std.proofs.Common.{◌≡◌, ℕ, List, Option, Some, sym, ap, subst, ◌∙◌}
 use Rattle.std.specs.List.{AllByRecursion}
 use Rattle.vt_cells.specs.Op.{Op, bytes_of_all}
@@ -17,19 +17,19 @@ use Rattle.vt_screen.specs.Shown.{IsReader, IsReaderOf, ReadsTo, shown, showing}
 use Rattle.vt_screen.proofs.Readback.{reads_all}
 use Rattle.vt_screen.proofs.Shown.{plain_shown, shown_colored, shown_is}
 
--- A terminal after reading: it displays the picture, and only what is saved and the last character may be any.
+-- After reading, the terminal displays the picture; only the saved state and the last character are unspecified.
 pub record Became (picture : Picture) (reader after : ScreenValue) : Type 0 where
   pub saved : Saved
   pub last : Option ℕ
   pub is : after ≡ showing picture saved last reader
 
--- Output after which a terminal displays the picture.
+-- After reading the output, the terminal displays the picture.
 pub record Becomes (picture : Picture) (text : List ℕ) (reader : ScreenValue) : Type 0 where
   pub saved : Saved
   pub last : Option ℕ
   pub reads : ReadsTo text reader (showing picture saved last reader)
 
--- Reading operations that draw a picture on the canvas of a terminal.
+-- Reading operations that draw a picture on a terminal's canvas makes the terminal display it.
 pub drawing_read : (ops : List Op) (picture : Picture) (reader : ScreenValue) → AllByRecursion Fits ops
     → (saved : Saved)
     × (drawn_all ops (canvas_of reader) ≡ Some (with_saved saved (with_picture picture (canvas_of reader))))

@@ -1,4 +1,4 @@
--- The calls that a run of reports makes.
+-- The calls that a run makes to report rows.
 use Rattle.std.specs.Prelude.{if◌then◌else◌}
 use Rattle.std.proofs.Common.{◌≡◌, ℕ, Bool, true, false, List, [], ◌∷◌, map, length, Option, sym, subst, ap, ◌∙◌}
 use Rattle.std.specs.List.{FoldsTo}
@@ -39,7 +39,7 @@ record IsAbove (s : ScreenValue) (active idle : Scrollback) : Type 0 where
   whole : s.scrollback ≡ main_scrollback s.is_alternate active idle
   nothing : IsNothing (alternate_scrollback s.is_alternate active idle)
 
--- The calls that report the rows that scrolled off the active page.
+-- Reporting the rows that scrolled off the active page makes the calls that the screen's scrollback determines.
 called_above : {S : Type 0} (does : CallRelation S)
     (s : ScreenValue) (gone : List RowValue) (active idle : Scrollback) (old new : S)
     → IsAbove s active idle

@@ -47,7 +47,7 @@ fresh_is o p f s b e h k =
     let all : Some s ≡ Some b = sym k ∙ (e ∙ ap (option_map (λ _. b)) h) in
     cc
 
--- The alternate page has been resized.
+-- The alternate page was resized, its rows that scrolled off were reported, and its scrollback still keeps nothing.
 pub record AlternateDone {S : Type 0} (does : CallRelation S)
     (rows cols : ℕ) (o : Option Page) (new : Page) (after : Scrollback) (s t : S) : Type 0 where
   pub page : Some new ≡ option_map (page_resized rows cols (no_scrollback 0)) o
@@ -81,7 +81,7 @@ alternate_done {S} does rows cols o p new page_rows f above after s t e h k n pa
       nothing = subst IsNothing (sym beyond) (nothing_resized rows p);
     }
 
--- The main page has been resized.
+-- The calls that report rows while the main page is resized are those of the model.
 pub main_done : {S : Type 0} (does : CallRelation S)
     (rows cols : ℕ) (p : Page) (page_rows : Page) (above : Scrollback) (s t : S)
     → page_rows ≡ blank_page rows cols

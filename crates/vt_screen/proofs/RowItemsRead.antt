@@ -1,4 +1,4 @@
--- A row's output, read by a terminal that is ready for it, gives that terminal the cells of the row's range.
+-- A terminal that is ready for a row's output has the cells of the row's range after reading it.
 use Rattle.std.proofs.Common.{◌≡◌, ◌≢◌, ℕ, suc, ◌+◌, ◌<◌, ◌≤◌, Bool, true, false, List}
 use Rattle.std.proofs.Common.{length, Option, Some, refl, sym, ap, subst, ◌∙◌, arith}
 use Rattle.std.specs.Prelude.{slice_index_or, slice_set}
@@ -36,11 +36,11 @@ use Rattle.vt_screen.proofs.Shown.{plain_shown, shown_height}
 same_some : {A : Type 0} (x y : A) → Some x ≡ Some y → x ≡ y
 same_some x y e = cc
 
--- A terminal after reading output that leaves a canvas.
+-- The terminal after it has read output that leaves the given canvas.
 abbrev left_with : Canvas → Option ℕ → ScreenValue → ScreenValue
 left_with canvas last reader = record (with_canvas canvas reader) { last = last }
 
--- What holds whatever the last character is, holds for the terminal after reading.
+-- A statement that holds for every last character holds for the terminal after reading.
 makes : (text : List ℕ) (reader after : ScreenValue) (canvas : Canvas) (M : ScreenValue → Type 0) →
     Reads text reader canvas → ReadsTo text reader after →
     ((last : Option ℕ) → M (left_with canvas last reader)) → M after
@@ -49,7 +49,7 @@ makes text reader after canvas M reads e m =
     (same_some (terminal start (left_with canvas reads.0 reader)) (terminal start after) (sym reads.1 ∙ e)))
     (m reads.0)
 
--- The terminal is plain again, and everything outside of its page is unchanged.
+-- The terminal is plain again, and all parts of it outside the page are unchanged.
 kept_rest : (reader : ScreenValue) (r : ℕ) (row : RowValue) (pen : Pen) (last : Option ℕ) →
     KeepsRest reader (left_with (row_drawn r row pen (canvas_of reader)) last reader)
 kept_rest reader r row pen last = record {
@@ -130,7 +130,7 @@ range_drawn start_ stop r shows row pen reader last h e = record {
   height = length-set reader.page.rows r row;
 }
 
--- Output that draws a row on the canvas of every terminal ready for it.
+-- Output that draws a row on the canvas of every terminal that is ready for it gives the terminal that row.
 shows_row : (picture : Picture) (r c start_ stop : ℕ) (stood shows row : RowValue) (pen : Pen) (text : List ℕ) →
     ((reader : ScreenValue) → IsRowReader picture r c stood reader →
     Reads text reader (row_drawn r row pen (canvas_of reader))) →
@@ -190,7 +190,7 @@ formatted_read picture r start_ stop reader is colors steady low le inside cx at
     (redraw_item_draws picture r start_ stop on (canvas_of reader) is steady
     (item_awaited picture r start_ (blank_row default_attrs picture.width) reader at) le inside cx)
 
--- Everything that a redraw of a row makes of the terminals that read it.
+-- The effects of a row's redraw on the terminals that read it.
 pub record ShowsBlankRow (picture : Picture) (start_ stop r : ℕ) (text : List ℕ) : Type 0 where
   pub row : Turns (IsBlankReader picture r start_) text (HasRange start_ stop r (row_of_picture picture r))
   pub off : Makes (IsBlankReader picture r start_) text (IsOff r)
@@ -215,7 +215,7 @@ formatted_shows picture r start_ stop is colors steady low le inside cx =
 
 -- ---- output read with a wrap pending in the row above
 
--- A terminal whose row r is wrapped, and whose next row was drawn.
+-- The canvas of a terminal whose row r is wrapped, after its next row is drawn.
 abbrev wrap_canvas : (r : ℕ) → RowValue → Pen → ScreenValue → Canvas
 wrap_canvas r row pen reader = row_drawn (r + 1) row pen (going_on r (canvas_of reader))
 

@@ -1,4 +1,4 @@
--- What the output for a screen's rows makes of the terminals that read it.
+-- The effects of the output for a screen's rows on the terminals that read it.
 use Rattle.std.proofs.Common.{◌≡◌, ℕ, ◌+◌, ◌<◌, ◌↔◌, List}
 use Rattle.std.proofs.Common.{[], length, sym, ap, subst, ◌∙◌, arith}
 use Rattle.vt_cells.specs.Attrs.{default_attrs}
@@ -24,7 +24,7 @@ told_at texts text s r told low =
     let height = shown_height s in
     ap (λ (t : List (List ℕ)). text_at t r) told ∙ texts_at text r (length s.page.rows) (omega arith)
 
--- The outputs for blank rows.
+-- Each output of `formatted_rows` draws its row on a terminal whose row is blank.
 pub formatted_turns : (s : ScreenValue) (start width : ℕ) (texts : List (List ℕ)) →
     texts ≡ formatted_rows start width s → IsScreen s → IsColored s → start < s.page.width → IsSteady (shown s) →
     EachUncut start width s
@@ -46,7 +46,7 @@ formatted_off s start width texts told is colored some steady r low cuts =
     subst (λ (t : List ℕ). Makes (IsBlankReader (shown s) r start) t (IsOff r))
     (sym (told_at texts (formatted_text start stop (shown s)) s r told low)) shows.off
 
--- The end of a range over all columns.
+-- A range over all columns ends at the last column.
 whole_end : (start width columns : ℕ) → IsWholeRow start width columns → range_end start width columns ≡ columns
 whole_end start width columns whole = let a = whole.0 in let b = whole.1 in omega arith
 
@@ -69,7 +69,7 @@ formatted_linked s start width texts told is colored whole steady r low on =
     (r + 1) (whole_formatted s start width texts told whole) low))
     (linked_shows (shown s) r (shown_is s is) (shown_colored s is colored) steady low on)
 
--- The outputs for rows of another screen.
+-- Each output of `changed_rows` draws its row on a terminal that displays the row of the other screen.
 pub changed_turns : (s prev : ScreenValue) (start width : ℕ) (texts : List (List ℕ)) →
     texts ≡ changed_rows start width s prev → IsScreen s → IsColored s → start < s.page.width → IsSteady (shown s) →
     EachUncut start width s (λ r. CutsNone start (range_end start width s.page.width) (shown_row prev r).cells →

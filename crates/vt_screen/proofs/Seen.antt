@@ -1,5 +1,5 @@
--- What is displayed, cell by cell: without U+FE0F it is steady, and getters return the same values for two screens that
--- display the same.
+-- The displayed cells: without U+FE0F they are steady, and getters return the same values for two screens that display
+-- the same content.
 use Rattle.std.proofs.Common.{◌≡◌, ℕ, zero, suc, ◌+◌, ◌-◌, ◌<◌, ◌==◌, ◌&&◌, nat_lt, not, false, min}
 use Rattle.std.proofs.Common.{List, [], ◌∷◌, ◌++◌, length, inl, inr, refl, sym, ap, ◌∙◌, arith}
 use Rattle.std.specs.Prelude.{if◌then◌else◌, All, chars}
@@ -55,7 +55,7 @@ cut_row width cells none =
     let inside : col < width = omega (arith, length-resized width cells) in
     cut_cell width cells col inside (none col inside))
 
--- Cutting a row keeps all columns but the last, where a wide character may be cut in two.
+-- Truncating a row keeps all columns but the last, where a wide character may be split.
 inner : (n : ℕ) (cells : List CellValue) (k : ℕ) → IsPaired cells → k + 1 < n → at (resized n cells) k ≡ at cells k
 unfolding resized
 inner n cells k paired lt =
@@ -134,7 +134,7 @@ same_rows a b s =
     sym (shown_rows a s.sound s.own)
     ∙ (ap (λ (p : Picture). p.rows) s.same ∙ shown_rows b s.other_sound s.other_own)
 
--- A function of the width and the displayed rows has equal values on two screens that display the same.
+-- A function of the width and the displayed rows has equal values on two screens that display the same content.
 read_alike : {A : Type 0} (f : ℕ → List RowValue → A) (a b : ScreenValue) → ShowSamePage a b
     → f a.page.width (visible_rows a) ≡ f b.page.width (visible_rows b)
 read_alike f a b s =

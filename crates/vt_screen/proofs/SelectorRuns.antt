@@ -1,4 +1,4 @@
--- Bytes that read no U+FE0F put it into no cell, and neither does resizing or scrolling back.
+-- Bytes that are not parsed as U+FE0F put it into no cell, and neither does resizing or scrolling back.
 use Rattle.std.proofs.Common.{◌≡◌, ◌≢◌, ℕ, Bool, true, false, List, [], ◌∷◌, length, Option}
 use Rattle.std.proofs.Common.{Some, None, sym, ap, subst, ◌∙◌, inl, inr, arith}
 use Rattle.std.specs.Prelude.{if◌then◌else◌, All, IfSome, option_map, slice_index_or}

@@ -116,11 +116,11 @@ pub record IsFreeScreen (page : Page) (aside : Option Page) (back : List RowValu
 abbrev pub StaysFree : ScreenValue → Type 0
 StaysFree s = IsFreeScreen s.page s.other s.scrollback.rows s.last
 
--- The active page is replaced.
+-- If the page that replaces the active page contains no U+FE0F, the screen still contains none.
 on_page : (page : Page) (s : ScreenValue) → AreFree page.rows → StaysFree s → StaysFree (with_page page s)
 on_page page s rows k = record { rows = rows; other = k.other; above = k.above; last = k.last }
 
--- Rows scroll off the active page.
+-- If the rows that scroll off the active page contain no U+FE0F, the screen still contains none.
 sends : (b : Bool) (s after : ScreenValue) (gone : List RowValue) → AreFree gone
     → IsFreeScreen after.page after.other s.scrollback.rows after.last
     → after.scrollback ≡ s.scrollback

@@ -1,4 +1,4 @@
--- What a screen displays is a picture, and a plain screen displays its own page.
+-- A screen displays a valid picture, and a plain screen displays its own page.
 use Rattle.std.proofs.Common.{◌≡◌, ℕ, ◌-◌, ◌≤◌, Bool, true, false, List, [], ◌∷◌, ◌++◌}
 use Rattle.std.proofs.Common.{length, take, refl, sym, ap, ◌∙◌, subst, arith}
 use Rattle.std.specs.Prelude.{if◌then◌else◌, All}
@@ -52,7 +52,7 @@ any_visible s is =
     rows_visible IsAnyRow (above_page s) s.page.rows (above_by IsAnyRow s.is_alternate s.scrollback is.scrollback.sound)
     (All-weaker (IsRow s.page.width) IsAnyRow (any_row s.page.width) s.page.rows is.page.rows)
 
--- What a screen displays is a picture.
+-- The display of a screen is a valid picture.
 pub shown_is : (s : ScreenValue) → IsScreen s → IsPicture (shown s)
 shown_is s is =
     picture_over_is (visible_rows s) (canvas_of s) is.page

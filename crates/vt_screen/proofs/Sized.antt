@@ -18,13 +18,13 @@ use Rattle.vt_screen.proofs.Inside.{inside_line_feed, inside_scrolled_up, inside
 use Rattle.vt_screen.proofs.Sizes.{same_cursor_saved, same_cursor_restored, same_line_feed, same_scrolled_up}
 use Rattle.vt_screen.proofs.Sizes.{same_printed}
 
--- A page of this size, with its cursors on it.
+-- The page has the given size, and its cursors are on it.
 pub record IsSizedPage (height width : ℕ) (page : Page) : Type 0 where
   pub inside : IsInside page
   pub width_is : page.width ≡ width
   pub height_is : length page.rows ≡ height
 
--- A screen whose pages both have this size.
+-- Both pages of the screen have the given size.
 pub record IsSized (height width : ℕ) (screen : ScreenValue) : Type 0 where
   pub page : IsSizedPage height width screen.page
   pub other : IfSome screen.other (IsSizedPage height width)
@@ -157,7 +157,7 @@ sized_sent height width step screen z = by_page screen.is_alternate where
   by_page true = sized_stepped height width step screen z
   by_page false = let s = sized_stepped height width step screen z in record { page = s.page; other = s.other }
 
--- Every screen has its size.
+-- All pages of a valid screen have the same size.
 pub sized_screen : (screen : ScreenValue) → IsScreen screen → IsSized (length screen.page.rows) screen.page.width screen
 sized_screen screen is = record {
   page = of_page screen.page (is.page) refl refl;

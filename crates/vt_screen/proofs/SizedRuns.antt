@@ -1,4 +1,4 @@
--- A step keeps the size of a screen, whatever callbacks are called.
+-- A step keeps the size of a screen, whatever callbacks are invoked.
 use Rattle.std.proofs.Common.{◌≡◌, ℕ, sym, subst}
 use Rattle.std.proofs.lemmas.Bool.{cond_both}
 use Rattle.vt_grid.specs.Scrollback.{cleared}
@@ -20,7 +20,7 @@ module _ {S : Type 0} (does : CallRelation S) (leaves : LeavesScreen does) (heig
   steps step a b e z =
       subst (λ (s : act.State S). IsSized height width s.screen) (sym e) (sized_stepped height width step a.screen z)
 
-  -- Callbacks that leave the screen alone keep its size.
+  -- Callbacks that leave the screen unchanged keep its size.
   pub sized_taken : (step : Step) (a b : act.State S) → IsSized height width a.screen →
       Takes does a step b → IsSized height width b.screen
   sized_taken (Print c) a b z t = scrolls (Print c) a b t (sized_sent height width (Print c) a.screen z)

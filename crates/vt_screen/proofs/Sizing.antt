@@ -32,7 +32,7 @@ above_resized : (b : Bool) (above : Scrollback) → above.offset ≡ 0 → (if b
 above_resized true above e = refl
 above_resized false above e = e
 
--- The screen in a size other than its own.
+-- The screen after it is resized to a size other than its own.
 abbrev other_size : (rows cols : ℕ) → ScreenValue → ScreenValue
 other_size rows cols screen = record screen {
   page = page_resized rows cols (above_page screen) screen.page;
@@ -40,7 +40,7 @@ other_size rows cols screen = record screen {
   scrollback = scrollback_resized rows (main_page screen) screen.scrollback;
 }
 
--- The screen in a different size, or unchanged.
+-- A statement about a resized screen holds if it holds for the unchanged screen and for a screen of a different size.
 by_size : (P : ScreenValue → Type 0) (rows cols : ℕ) (screen : ScreenValue)
     → (length screen.page.rows ≡ rows → screen.page.width ≡ cols → P screen)
     → ((new : ScreenValue) → new.page ≡ page_resized rows cols (above_page screen) screen.page

@@ -1,4 +1,4 @@
--- Every step preserves a property of each cell of a page, if what is drawn has it.
+-- Every step preserves a property of each cell of a page, if the drawn cells have it.
 use Rattle.std.proofs.Common.{ℕ, zero, suc, ◌+◌, ◌-◌, ◌<◌, ◌==◌, ◌&&◌, nat_lt, min, not, Bool, true}
 use Rattle.std.proofs.Common.{false, List, [], ◌∷◌, length, take, drop, sym, subst, inl, inr, arith}
 use Rattle.std.specs.Prelude.{◌||◌, if◌then◌else◌, All, Option, Some, None, replicate}
@@ -23,18 +23,19 @@ use Rattle.vt_grid.specs.Printing.{wrapped_page, lacks_room, room_made, glyph_pu
 use Rattle.vt_grid.specs.Printing.{carried, made_wide, made_narrow, width_followed, mark_printed, printed, printed_by}
 use Rattle.vt_grid.proofs.Pages.{length-moved_rows, row_or-moved_rows}
 
--- A property of cells that every step preserves: P of cells, F of attributes to draw with, Q of characters to print.
+-- A property P of cells is preserved by every step that draws with attributes that satisfy F and prints characters that
+-- satisfy Q.
 pub record IsStable (P : CellValue → Type 0) (F : Attrs → Type 0) (Q : ℕ → Type 0) : Type 0 where
   pub plain : F default_attrs
   pub empty : (attrs : Attrs) → F attrs → P (blank attrs)
   pub half : P right_half
-  -- One column of a wide character without the other.
+  -- The blank that replaces one cell of a wide character whose other cell is lost.
   pub torn : (cell : CellValue) → P cell → P (blank (attrs_of cell))
   pub space : (attrs : Attrs) → F attrs → P (glyph (0x20 ∷ []) false attrs)
   pub wider : (wide : Bool) (cell : CellValue) → P cell → P (widened wide cell)
   pub marks : (mark : ℕ) (cell : CellValue) → Q mark → P cell → P (marked mark cell)
   pub prints : (c : ℕ) (wide : Bool) (attrs : Attrs) → Q c → F attrs → P (glyph (encode_utf8 c) wide attrs)
-  -- A glyph that is printed again.
+  -- The glyph of a cell after it is printed again as a wide glyph.
   pub again : (cell : CellValue) (attrs : Attrs) → P cell → F attrs → P (glyph (text_of cell) true attrs)
 
 abbrev pub EachCell : (CellValue → Type 0) → RowValue → Type 0

@@ -1,4 +1,4 @@
--- The output for a whole state, read by a terminal, makes it display the screen and have its input modes.
+-- A terminal that reads the output for a whole state displays the screen and has its input modes.
 use Rattle.std.proofs.Common.{◌≡◌, ℕ, List, [], ◌∷◌, ◌++◌, Option, Some, sym, refl, ap, subst, ◌∙◌}
 use Rattle.vt_redraw.specs.Picture.{SamePictureSize, Saved}
 use Rattle.vt_redraw.specs.Steady.{IsSteady}
@@ -17,7 +17,7 @@ use Rattle.vt_screen.proofs.Redrawing.{Becomes, difference_read, redraw_read}
 use Rattle.vt_screen.proofs.Shown.{shown_is}
 use Rattle.vt_screen.proofs.EqualTexts.{difference_none, difference_tells}
 
--- A terminal that displays a screen and has its modes.
+-- The terminal after it was changed to display a screen and have its input modes.
 abbrev restored : (screen : ScreenValue) → Saved → Option ℕ → ScreenValue → ScreenValue
 restored screen saved last reader = record (showing (shown screen) saved last reader) { modes = screen.modes }
 
@@ -26,7 +26,7 @@ record Restores (screen : ScreenValue) (text : List ℕ) (reader : ScreenValue) 
   last : Option ℕ
   reads : ReadsTo text reader (restored screen saved last reader)
 
--- Output that displays a screen, followed by output that sets its modes.
+-- Output that displays a screen, followed by output that sets its input modes, restores the whole state.
 restores : (Had : Modes → Type 0) (screen reader : ScreenValue) (picture modes : List ℕ) →
     Becomes (shown screen) picture reader → SetsModes Had screen.modes modes →
     Had reader.modes → Restores screen (picture ++ modes) reader
@@ -137,7 +137,7 @@ both_empty : (a b : List ℕ) → (a ++ b) ≡ [] → (a ≡ []) × (b ≡ [])
 both_empty [] b e = (refl, e)
 both_empty (x ∷ a) b e = absurd cc
 
--- The output is empty only if both screens display the same and have the same modes.
+-- If the output is empty, both screens display the same content and have the same modes.
 pub state_tells : (screen prev : ScreenValue) → IsScreen screen → IsColored screen → IsSteady (shown screen)
     → IsScreen prev → IsColored prev → SamePictureSize (shown screen) (shown prev) → state_change prev screen ≡ []
     → (shown screen ≡ shown prev) × (screen.modes ≡ prev.modes)
@@ -148,7 +148,7 @@ state_tells screen prev is colored steady other colored_other size empty =
       change_tells prev.modes screen.modes modes,
     )
 
--- The output is empty if both screens display the same and have the same modes.
+-- The output is empty if both screens display the same content and have the same modes.
 pub state_none : (screen prev : ScreenValue) → shown screen ≡ shown prev →
     screen.modes ≡ prev.modes → state_change prev screen ≡ []
 state_none screen prev picture modes =

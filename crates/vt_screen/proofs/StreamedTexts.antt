@@ -1,4 +1,4 @@
--- The text of what was reported, followed by a full capture, is the text of all rows that scrolled off and of the page.
+-- The text of the reported rows, followed by a full capture, is the text of all rows that scrolled off and of the page.
 use Rattle.std.proofs.Common.{◌≡◌, ℕ, Bool, false, List, [], ◌∷◌, ◌++◌, map, refl, sym, ap, ap₂, ◌∙◌, append_assoc}
 use Rattle.std.specs.Prelude.{if◌then◌else◌}
 use Rattle.vt_grid.specs.Scrollback.{Scrollback, no_scrollback}
@@ -52,7 +52,8 @@ after_then w (x ∷ xs) ys = after_then (written_after w x) xs ys
 above_main : (b : Bool) (z : Scrollback) → b ≡ false → (if b then no_scrollback 0 else z) ≡ z
 above_main b z e = rw e refl
 
--- The streamed text from a screen without scrollback to one on its main page.
+-- If the first screen has no scrollback and the last one has its main page active, the streamed text is the text of the
+-- rows that scrolled off and of the page.
 pub streamed_is : (calls : List CallValue) (gone : List RowValue) (s t : ScreenValue)
     → Streamed calls gone s t → s.scrollback.rows ≡ [] → t.is_alternate ≡ false
     → streamed_text calls t ≡ basic_texts unwritten (gone ++ t.page.rows)

@@ -1,5 +1,5 @@
--- Each step of a run except RIS: the main page's rows that it reports and keeps are those kept before and those it
--- scrolls off, up to default blanks at their ends.
+-- In each step of a run except RIS, the rows that the main page's scrollback reports and keeps are those kept before
+-- and those that scroll off, except for trailing default blanks.
 use Rattle.std.proofs.Common.{◌≡◌, ℕ, Bool, true, false, List, [], ◌∷◌, ◌++◌, length, map, Option, Some, None, refl}
 use Rattle.std.proofs.Common.{sym, ap, subst, ◌∙◌, append_assoc, arith}
 use Rattle.std.specs.Prelude.{All, IfSome, if◌then◌else◌}
@@ -34,14 +34,14 @@ use Rattle.vt_screen.proofs.Asides.{rows_fed_out, rows_printed_out, rows_scrolle
 use Rattle.vt_screen.proofs.Sizes.{same_back, same_itself, same_through, same_cursor_saved, same_cursor_restored}
 use Rattle.vt_screen.proofs.Sizes.{same_line_feed, same_printed, same_scrolled_up}
 
--- A step's characters satisfy Q, and it resets the screen only if R holds.
+-- The step's characters satisfy Q, and it resets the screen only if R holds.
 abbrev pub IsAmong : (ℕ → Type 0) → Type 0 → Step → Type 0
 IsAmong Q R (Print c) = Q c
 IsAmong Q R Reset = R
 IsAmong Q R (CallBack call) = row_of_call call ≡ []
 IsAmong Q R _ = Unit {0}
 
--- Any step but a reset, with printable characters.
+-- The step is no reset, and all its characters are printable.
 abbrev pub IsStreamed : Step → Type 0
 IsStreamed step = IsAmong IsPrintable ⊥ step
 
@@ -61,12 +61,12 @@ pub record IsHeld (page : Page) (aside : Option Page) (above : Scrollback) (newe
 abbrev pub Held : ScreenValue → Type 0
 Held s = IsHeld s.page s.other s.scrollback s.last
 
--- What was reported and what scrolled off between one screen and a later one.
+-- Between the screens `s` and `t`, the given calls reported rows, and the rows `gone` scrolled off.
 pub record Streamed (calls : List CallValue) (gone : List RowValue) (s t : ScreenValue) : Type 0 where
   pub held : Held t
   pub alike : AreSameTrimmed (rows_of_calls calls ++ t.scrollback.rows) (s.scrollback.rows ++ gone)
 
--- Nothing was reported, and nothing scrolled off.
+-- If scrollback is unchanged, nothing was reported, and nothing scrolled off.
 quietly : (s t : ScreenValue) → Held t → t.scrollback.rows ≡ s.scrollback.rows →
     Streamed [] (if s.is_alternate then [] else []) s t
 quietly s t k e = record { held = k; alike = ap (map trimmed_row) (e ∙ by s.is_alternate) } where
@@ -80,7 +80,7 @@ other_like page new (Some p) s k =
     record { sound = k.sound; same = same_through p page new k.same (same_back new page s) }
 other_like page new None s k = k
 
--- The active page is replaced.
+-- A screen keeps the invariant of streaming when a page of the same size replaces the active page.
 held_page : (page new : Page) (other : Option Page) (above : Scrollback) (last : Option ℕ) →
     IsPage new → SameSize new page → IsHeld page other above last → IsHeld new other above last
 held_page page new other above last sound same k = record {
@@ -157,7 +157,7 @@ gives_up false s k = record {
   alike = ap (λ (xs : List RowValue). map trimmed_row (xs ++ [])) (told_all s.scrollback.rows);
 }
 
--- The last printed character is printable.
+-- The last printed character is still printable after another character is printed.
 printed_last : (b : Bool) (c : ℕ) (last : Option ℕ) → IsPrintable c →
     IfSome last IsPrintable → IfSome (if b then Some c else last) IsPrintable
 printed_last true c last i k = i
@@ -165,7 +165,7 @@ printed_last false c last i k = k
 
 -- ---- exchanging the pages
 
--- The later screen has the same size, and the same rows in scrollback.
+-- The screen `t` has the same size and the same scrollback rows as `s`, and satisfies the invariant of streaming.
 record Turned (s t : ScreenValue) : Type 0 where
   held : Held t
   same : SameSize t.page s.page
@@ -183,7 +183,7 @@ like_aside s k = by s.other k.other where
   by (Some p) l = l
   by None l = like_fresh s.page k.sound
 
--- The other page is active, below the same rows of scrollback.
+-- A screen keeps the invariant of streaming when the other page becomes active and scrollback keeps its rows.
 exchanged : (page new : Page) (above now : Scrollback) (other : Option Page) (last : Option ℕ) →
     IsLike page new → now.rows ≡ above.rows → IsHeld page other above last → IsHeld new (Some page) now last
 exchanged page new above now other last l e k = record {
@@ -247,7 +247,7 @@ turned_then : (s t u : ScreenValue) → Turned s t → Turned t u → Turned s u
 turned_then s t u a b =
     record { held = b.held; same = same_through u.page t.page s.page b.same a.same; rows = b.rows ∙ a.rows }
 
--- A fresh page replaces the active one.
+-- A fresh page may replace the active page of a screen that has the same size and scrollback rows.
 turned_fresh : (s t : ScreenValue) → Held s → Turned s t → Turned s (record t { page = fresh_page s })
 turned_fresh s t k m =
     let l = like_fresh s.page k.sound in
@@ -366,7 +366,7 @@ view_streams n s k = by s.is_alternate where
 
 -- ---- a fresh screen
 
--- Every screen has the invariant if no wrapped row of its scrollback is shorter than the screen.
+-- A screen satisfies the invariant of streaming if no wrapped row of its scrollback is narrower than the screen.
 pub held_screen : (s : ScreenValue) → IsScreen s → HasWideFlags s → Held s
 held_screen s is wide = record {
   sound = is.page;

@@ -1,4 +1,4 @@
--- A run of narrow characters that fits on its row: the steps of its characters in order.
+-- Printing a run of narrow characters that fits on its row has the effect of the steps of its characters in order.
 use Rattle.std.proofs.Common.{◌≡◌, ℕ, suc, ◌-◌, ◌<◌, Bool, true, false, List, [], ◌∷◌}
 use Rattle.std.proofs.Common.{length, get_or, refl, sym, ap, subst, ◌∙◌, Option, arith}
 use Rattle.std.specs.Prelude.{Some, if◌then◌else◌}
@@ -30,7 +30,7 @@ last_printed : (c : ℕ) (screen : ScreenValue) → columns_of c ≡ Some 1 → 
     last_after c screen ≡ Some c
 last_printed c screen one some = rw one (grind (arith, nat_tests))
 
--- The screen after a run was printed.
+-- The screen after a run of narrow characters is printed.
 abbrev with_text : List ℕ → ScreenValue → ScreenValue
 with_text text screen =
     record screen { page = printed_text text screen.attrs screen.page; last = Some (get_or text (length text - 1) 0) }

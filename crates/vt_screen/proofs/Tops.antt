@@ -1,4 +1,4 @@
--- Printing leaves the top of the scroll region where it is.
+-- Printing keeps the top of the scroll region.
 use Rattle.std.proofs.Common.{◌≡◌, ℕ, zero, suc, ◌+◌, ◌-◌, min, ◌||◌, ◌==◌, ◌&&◌, nat_lt, not}
 use Rattle.std.proofs.Common.{Bool, true, false, List, Option, Some, None, refl, ◌∙◌}
 use Rattle.std.specs.Prelude.{if◌then◌else◌, length, encode_utf8}
@@ -13,7 +13,7 @@ use Rattle.vt_grid.specs.Printing.{carries, lifted_page, left_row, goes_down, fl
 use Rattle.vt_grid.specs.Printing.{room_made, glyph_put, mark_column, takes_mark, mark_put, carried, made_wide}
 use Rattle.vt_grid.specs.Printing.{made_narrow, width_followed, mark_printed, printed_by, printed}
 
--- Two pages have the same top of the scroll region.
+-- The two pages have the same top of the scroll region.
 abbrev SameTop : Page → Page → Type 0
 SameTop page other = page.top ≡ other.top
 

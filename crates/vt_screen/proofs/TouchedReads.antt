@@ -1,4 +1,5 @@
--- What operations touch, each on the canvas where it is drawn, is what reading their bytes touches.
+-- Reading the bytes of operations touches only the positions that the operations touch on the canvas on which each is
+-- drawn.
 use Rattle.std.proofs.Common.{◌≡◌, ℕ, zero, suc, ◌<◌, ◌≤◌, ◌^◌, ◌==◌, ◌&&◌, Bool, true, false, List}
 use Rattle.std.proofs.Common.{[], ◌∷◌, ◌++◌, Option, Some, None, refl, sym, ap, subst, ◌∙◌, arith}
 use Rattle.std.specs.Prelude.{decimal, if◌then◌else◌, chars, encode_utf8_all}
@@ -75,7 +76,7 @@ events_later M (event ∷ a) b screen next p e =
     and_then-some (quiet_events a) (quiet_steps (steps_of event (seen_of screen)) screen) next e in
     events_later M a b middle next (p.1 middle first) rest
 
--- Bytes without commands touch what their events touch.
+-- Reading bytes without operating system commands touches only the positions that their events touch.
 pub run_touches : (M : ℕ → ℕ → Type 0) (s : State) (bytes : List ℕ) (screen : ScreenValue) →
     IsCalm (run s bytes) → EventsTouch M (run s bytes).events screen → ReadTouches M (terminal s screen) bytes
 unfolding read_byte
@@ -99,7 +100,7 @@ run_touches M s (b ∷ bytes) screen calm p =
           (run_touches M step.state bytes next ends (events_later M step.events rest.events screen next p first)),
     )
 
--- Output of one event touches what the event's steps touch.
+-- Reading output that consists of one event touches only the positions that the event's steps touch.
 event_touches : (M : ℕ → ℕ → Type 0) (text : List ℕ) (event : Event) (screen : ScreenValue) →
     run start text ≡ back_with (event ∷ []) → is_command event ≡ false →
     StepsTouch M (steps_of event (seen_of screen)) screen → ReadTouches M (terminal start screen) text
@@ -161,7 +162,7 @@ right_touches : (M : ℕ → ℕ → Type 0) (groups : List (List ℕ)) (screen 
 unfolding counted_step
 right_touches M groups screen = (tt, λ next e. tt)
 
--- A control sequence with a count touches what its steps touch.
+-- Reading a control sequence with a count touches only the positions that its steps touch.
 counted_touches : (M : ℕ → ℕ → Type 0) (n final : ℕ) (screen : ScreenValue) → suc n < 2 ^ 16 → IsFinal final →
     ((groups : List (List ℕ)) → number_or 1 0 groups ≡ suc n →
     StepsTouch M (unmarked_steps groups final (seen_of screen)) screen) →

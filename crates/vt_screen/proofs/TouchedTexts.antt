@@ -1,4 +1,4 @@
--- What reading a difference, and the output for the cursor, touches.
+-- The positions that are touched by reading a difference or the output for the cursor.
 use Rattle.std.proofs.Common.{◌≡◌, ℕ, List, sym, ap, subst, ◌∙◌}
 use Rattle.vt_cells.specs.Op.{bytes_of_all}
 use Rattle.vt_redraw.specs.Locality.{IsLocal, MayPlace}

@@ -1,5 +1,5 @@
--- Rows that differ at most in the default blanks at their ends: trimming, extending and stacking preserves this, and
--- they have one text.
+-- Rows that are equal except for trailing default blanks: trimming, extending and appending preserves this relation,
+-- and such rows have the same text.
 use Rattle.std.proofs.Common.{◌≡◌, ℕ, suc, ◌+◌, ◌<◌, ◌≤◌, ◌==◌, ◌&&◌, nat_lt, Bool, true, false}
 use Rattle.std.proofs.Common.{List, [], ◌∷◌, length, refl, inl, inr, sym, ap, ap₂, ◌∙◌, arith}
 use Rattle.std.specs.Prelude.{if◌then◌else◌}
@@ -38,7 +38,7 @@ all-trimmed (x ∷ xs) = by (list_all is_default_blank (x ∷ xs)) refl (all-tri
   by true e ih = sym e
   by false e ih = ap (λ (b : Bool). is_default_blank x && b) ih
 
--- Cells that are equal column by column, where past the end are default blanks.
+-- Two lists of cells that are equal in each column, with default blanks past the end, are equal once trimmed.
 pub same_trimmed : (a b : List CellValue) → ((k : ℕ) → at a k ≡ at b k) → trimmed a ≡ trimmed b
 same_trimmed [] b f = sym (trimmed-nothing b (all_default b (λ k. sym (f k))))
 same_trimmed (x ∷ xs) [] f = trimmed-nothing (x ∷ xs) (all_default (x ∷ xs) (λ k. f k))
@@ -79,7 +79,7 @@ trimmed_twice row =
     ap (λ (cells : List CellValue). record { cells = cells; wrapped = row.wrapped })
     (same_trimmed (trimmed row.cells) row.cells (at-trimmed row.cells))
 
--- A wrapped row has at least this many columns.
+-- A row that is wrapped has at least the given number of columns.
 abbrev pub IsWide : ℕ → RowValue → Type 0
 IsWide width row = row.wrapped ≡ true → width ≤ length row.cells
 

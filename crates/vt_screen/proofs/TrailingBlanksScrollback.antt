@@ -1,5 +1,5 @@
--- Rows that are pushed into scrollback, or displayed again: those reported and kept are those from before, up to
--- default blanks at their ends.
+-- When rows are pushed into scrollback or displayed again, the rows reported and kept are the rows from before, except
+-- for trailing default blanks.
 use Rattle.std.proofs.Common.{◌≡◌, ℕ, ◌+◌, ◌-◌, ◌≤◌, nat_lt, List, [], ◌∷◌, ◌++◌, length, take}
 use Rattle.std.proofs.Common.{drop, map, refl, sym, ap, ap₂, subst, ◌∙◌, arith, min}
 use Rattle.std.specs.Prelude.{All}
@@ -31,13 +31,13 @@ alike_trimmed [] = refl
 alike_trimmed (row ∷ rows) =
     ap₂ (λ (x : RowValue) (xs : List RowValue). x ∷ xs) (trimmed_twice row) (alike_trimmed rows)
 
--- Rows of scrollback, each valid in its own width.
+-- The rows of scrollback are valid, each in its own width.
 abbrev pub AreSound : List RowValue → Type 0
 AreSound rows = All (λ row. IsRow (length row.cells) row) rows
 
 -- ---- displayed rows that are extended
 
--- A row with no wide character cut in two, which is as wide as the screen if it is wrapped.
+-- No wide character of the row is split, and the row is as wide as the screen if it is wrapped.
 abbrev IsFit : ℕ → RowValue → Type 0
 IsFit width row = IsRow (length row.cells) row × IsWide width row
 
@@ -70,7 +70,7 @@ alike_grown_in_view height width above all wide =
     (drop (first + height) above.rows) (alike_grown width seen fit) refl)
     ∙ ap (map trimmed_row) whole
 
--- An extended row is as wide as the screen.
+-- A wrapped row that is extended is at least as wide as the screen.
 wide_grown : (width : ℕ) (row : RowValue) → IsWide width row → IsWide width (grown_row width row)
 unfolding resized
 wide_grown width row w =
@@ -157,7 +157,7 @@ told_and_kept : (gone : List RowValue) (above : Scrollback) →
 unfolding kept_after
 told_and_kept gone above = take-append-drop (length (stacked gone above) - above.capacity) (stacked gone above)
 
--- What was reported and what is kept is what was kept before and what scrolled off.
+-- The rows reported and kept are those kept before and those that scrolled off, except for trailing default blanks.
 pub alike_pushed : (height width : ℕ) (gone : List RowValue) (above : Scrollback)
     → All (IsRow width) gone → AreSound above.rows → All (IsWide width) above.rows
     → AreSameTrimmed (reported gone above ++ (pushed height width gone above).rows) (above.rows ++ gone)

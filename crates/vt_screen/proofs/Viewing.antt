@@ -1,4 +1,5 @@
--- The view of a screen's fields is the picture that it displays; and the output that sets attributes.
+-- The view that the code builds from a screen's fields is the picture that the screen displays; also, the output that
+-- sets attributes.
 use Rattle.std.proofs.Common.{◌≡◌, Bool, true, false, List, length, sym, ap, subst, ◌∙◌, arith}
 use Rattle.std.specs.Prelude.{All}
 use Rattle.std.proofs.lemmas.List.Elements.{All-nil}
@@ -30,7 +31,7 @@ pub active_is : (b : Bool) (active idle : Scrollback) → IsNothing (alternate_s
 active_is true active idle n a = nothing_is active n
 active_is false active idle n a = a.sound
 
--- The picture with the scrollback above the active page.
+-- The picture built from the scrollback above the active page is the picture that the screen displays.
 pub with_view_is : (s : ScreenValue) (active idle : Scrollback) → s.scrollback ≡ main_scrollback s.is_alternate active idle
     → IsNothing (alternate_scrollback s.is_alternate active idle)
     → picture_over (visible active s.page.rows)
@@ -40,6 +41,6 @@ with_view_is s active idle w n =
     ap (λ (rows : List RowValue). picture_over rows (canvas_of s))
     (visible_if s.is_alternate s.page.rows active idle s.scrollback w n)
 
--- Screens whose pages have one size display pictures of one size.
+-- Screens with pages of the same size display pictures of the same size.
 pub same_shown : (a b : ScreenValue) → SameSize a.page b.page → SamePictureSize (shown a) (shown b)
 same_shown a b size = record { width = size.width; height = shown_height a ∙ (size.height ∙ sym (shown_height b)) }

@@ -1,4 +1,4 @@
--- What a step does outside of scrollback, and which rows it scrolls off, doesn't depend on scrollback.
+-- The effect of a step outside scrollback, and the rows that it scrolls off, don't depend on scrollback.
 use Rattle.std.proofs.Common.{◌≡◌, ℕ, Bool, true, false, List, length, [], ◌∷◌, ◌++◌, Some, refl, sym, ap, ap₂, ◌∙◌}
 use Rattle.std.specs.Prelude.{if◌then◌else◌}
 use Rattle.vt_rows.specs.Row.{RowValue}
@@ -15,7 +15,7 @@ use Rattle.vt_screen.specs.Steps.{HideCursor, SetMode, CallBack, screen_after, d
 use Rattle.vt_screen.specs.Streamed.{without_scrollback, sent_off, sent_off_all, sent_off_in}
 use Rattle.vt_screen.specs.CallsOfRun.{screen_in, screen_after_all, steps_in, steps_of_all}
 
--- Screens that differ only in their scrollback.
+-- The two screens differ only in their scrollback.
 abbrev pub SameBare : ScreenValue → ScreenValue → Type 0
 SameBare s t = without_scrollback s ≡ without_scrollback t
 
@@ -132,7 +132,7 @@ both_screen_in scan s t bytes e =
     both_stepped (steps_in scan s bytes) s t e
     ∙ ap (λ (steps : List Step). without_scrollback (screen_after_all steps t)) (both_steps_all (run scan bytes).events s t e)
 
--- Screens scrolled back by different numbers of rows.
+-- Scrolling back changes only the scrollback of a screen.
 pub bare_scrolled_back : (n : ℕ) (s : ScreenValue) → SameBare (scrolled_back n s) s
 bare_scrolled_back n s = by s.is_alternate where
   by : (b : Bool) →

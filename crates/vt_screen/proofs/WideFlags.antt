@@ -1,5 +1,5 @@
--- Wrapped rows of scrollback stay as wide as the screen: over any run, wherever it is scrolled back, and in a size of
--- no more columns.
+-- Wrapped scrollback rows stay at least as wide as the screen: during any run, when the view is scrolled back, and
+-- after a resize to a width that is not greater.
 use Rattle.std.proofs.Common.{◌≡◌, ◌≢◌, ℕ, ◌-◌, ◌≤◌, ◌==◌, Bool, true, false, List, [], ◌∷◌, length, take}
 use Rattle.std.proofs.Common.{Option, Some, None, sym, ap, subst, refl, ◌∙◌, arith}
 use Rattle.std.specs.Prelude.{All, IfSome, if◌then◌else◌, option_map}

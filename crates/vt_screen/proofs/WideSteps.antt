@@ -1,4 +1,4 @@
--- A run of wide characters that fits on its row: the steps of its characters in order.
+-- Printing a run of wide characters that fits on its row has the effect of the steps of its characters in order.
 use Rattle.std.proofs.Common.{◌≡◌, ℕ, suc, ◌+◌, ◌-◌, ◌<◌, ◌≤◌, nat_lt, Bool, true, false, List, [], ◌∷◌}
 use Rattle.std.proofs.Common.{length, get_or, refl, sym, ap, subst, ◌∙◌, Option, arith}
 use Rattle.std.specs.Prelude.{Some, if◌then◌else◌}
@@ -32,7 +32,7 @@ last_wide : (c : ℕ) (screen : ScreenValue) → columns_of c ≡ Some 2 → 2 �
     last_after c screen ≡ Some c
 last_wide c screen two some = rw two (grind (arith, nat_tests))
 
--- The screen after a run of wide characters was printed.
+-- The screen after a run of wide characters is printed.
 abbrev with_wide_text : List ℕ → ScreenValue → ScreenValue
 with_wide_text text screen =
     record screen { page = printed_text text screen.attrs screen.page; last = Some (get_or text (length text - 1) 0) }

@@ -15,7 +15,7 @@ abbrev pub IsNoCallback : Step → Type 0
 IsNoCallback (CallBack call) = ⊥
 IsNoCallback _ = Unit {0}
 
--- The call is a call to `on_scroll`.
+-- The call is an invocation of `on_scroll`.
 abbrev pub IsReport : CallValue → Type 0
 IsReport (OnScroll row alternate) = Unit {0}
 IsReport _ = ⊥
@@ -27,8 +27,8 @@ pub record KeepsAside (reader after : ScreenValue) : Type 0 where
   pub modes : after.modes ≡ reader.modes
   pub size : SameSize after.page reader.page
 
--- A terminal in ground state that reads the output is then in ground state again and plain. The only callback
--- invoked is `on_scroll`, and the inactive page, the choice of the active page, the modes and the size are
+-- The terminal, starting in ground state, reads the output and is then in ground state again and plain. No callback is
+-- invoked except `on_scroll`, and the inactive page, the choice of the active page, the modes and the size are
 -- unchanged.
 pub record LeavesPlain (text : List ℕ) (reader : ScreenValue) : Type 0 where
   pub ground : (run start text).state ≡ start

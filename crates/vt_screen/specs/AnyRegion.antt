@@ -11,18 +11,19 @@ use Rattle.vt_screen.specs.Shown.{shown}
 abbrev pub whole_region_text : List ℕ
 whole_region_text = csi (0x3F ∷ 0x36 ∷ []) 0x6C ++ csi [] 0x72
 
--- The sequences that reset the scroll region, followed by the redraw of a picture.
+-- The sequences that turn off origin mode and reset the scroll region, followed by the redraw of a picture.
 abbrev pub reset_text : Picture → List ℕ
 reset_text picture = whole_region_text ++ bytes_of_all (redraw picture)
 
--- The terminal has the picture's size and displays no scrollback. Its scroll region and origin mode are arbitrary.
+-- The terminal has the picture's size and displays no scrollback. The terminal's scroll region and origin mode are
+-- arbitrary.
 pub record IsReaderInAnyRegion (picture : Picture) (reader : ScreenValue) : Type 0 where
   pub sound : IsScreen reader
   pub offset : (above_page reader).offset ≡ 0
   pub size : SamePictureSize picture (shown reader)
 
 -- Scrollback and its offset, the inactive page and the modes are unchanged. Everything else may have changed: the
--- active page with its scroll region and origin mode, the saved state, and the last character.
+-- active page with its scroll region and origin mode, the saved state, and the last printed character.
 pub record KeepsRestButRegion (reader after : ScreenValue) : Type 0 where
   pub other : after.other ≡ reader.other
   pub is_alternate : after.is_alternate ≡ reader.is_alternate

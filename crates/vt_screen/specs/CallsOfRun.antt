@@ -10,7 +10,7 @@ use Rattle.vt_screen.specs.Controls.{seen_of, steps_of}
 use Rattle.vt_screen.specs.Steps.{Step, CallBack, reports, screen_after}
 use Rattle.vt_screen.specs.Run.{CallRelation, CalledOnAnyScreen}
 
--- The callbacks receive these calls in order, with any screen.
+-- The callbacks receive the given calls in order, and the effect of each call doesn't depend on the screen.
 abbrev pub TakesCalls : {S : Type 0} → CallRelation S → S → List CallValue → S → Type 0
 TakesCalls does old calls new = FoldsTo (CalledOnAnyScreen does) old calls new
 
@@ -19,16 +19,17 @@ abbrev pub LeavesScreen : {S : Type 0} → CallRelation S → Type 0
 LeavesScreen {S} does =
     (call : CallValue) → (old new : S) → (before after : ScreenValue) → does call old before new after → after ≡ before
 
--- The callbacks receive a call, with some screen that they leave unchanged.
+-- The callbacks receive a call together with some screen, which they leave unchanged.
 abbrev pub CalledOnSomeScreen : {S : Type 0} → CallRelation S → S → CallValue → S → Type 0
 CalledOnSomeScreen does old call new = (screen : ScreenValue) × does call old screen new screen
 
--- The calls that a step makes, in order: its own call, or a report of each row that scrolls off and isn't kept.
+-- The calls to callbacks that a step makes, in order: the step's own call if it has one, and otherwise a report of each
+-- row that scrolls off and isn't kept.
 abbrev pub calls_of : Step → ScreenValue → List CallValue
 calls_of (CallBack call) screen = call ∷ []
 calls_of step screen = map (λ row. OnScroll row screen.is_alternate) (reports step screen)
 
--- The calls that a list of steps makes, in order.
+-- The calls to callbacks that a list of steps makes, in order.
 abbrev pub calls_of_all : List Step → ScreenValue → List CallValue
 calls_of_all [] screen = []
 calls_of_all (step ∷ steps) screen = calls_of step screen ++ calls_of_all steps (screen_after step screen)
@@ -44,11 +45,11 @@ steps_of_all [] screen = []
 steps_of_all (event ∷ events) screen =
     let steps = steps_of event (seen_of screen) in steps ++ steps_of_all events (screen_after_all steps screen)
 
--- The steps of a run over bytes.
+-- The steps of a run over bytes, in order.
 abbrev pub steps_in : State → ScreenValue → List ℕ → List Step
 steps_in scan screen bytes = steps_of_all (run scan bytes).events screen
 
--- The calls that a run over bytes makes.
+-- The calls to callbacks that a run over bytes makes, in order.
 abbrev pub calls_in : State → ScreenValue → List ℕ → List CallValue
 calls_in scan screen bytes = calls_of_all (steps_in scan screen bytes) screen
 

@@ -22,31 +22,31 @@ written_after_all written rows = fold written_after written rows
 abbrev pub all_rows : ScreenValue → List RowValue
 all_rows screen = (above_page screen).rows ++ screen.page.rows
 
--- The rows included in a capture range.
+-- The rows that a capture of the given range includes.
 abbrev pub captured_rows : BasicFormattedCaptureRange → ScreenValue → List RowValue
 captured_rows (Full state) screen = all_rows screen
 captured_rows Visible screen = visible_rows screen
 
--- The capture state that a capture continues from.
+-- The capture state that a capture of the given range continues from.
 abbrev pub given_state : BasicFormattedCaptureRange → Written
 given_state (Full state) = state.now
 given_state Visible = unwritten
 
--- The text of a capture.
+-- The text of a capture of the given range of a screen.
 abbrev pub captured_text : BasicFormattedCaptureRange → ScreenValue → List ℕ
 captured_text range screen = basic_texts (given_state range) (captured_rows range screen)
 
--- What is left of a capture range after the call: the borrowed capture state, or nothing.
+-- What remains of a capture range after the call that used it: the borrowed capture state, or nothing.
 abbrev pub RangeLeft : Type 0
 RangeLeft = (MutBor Written × ⊤) ⊎ (⊤ ⊎ ⊥)
 
--- The predicate `P` holds for the caller's capture state, if there is one.
+-- The predicate `P` holds for the capture state that the caller passed, if any.
 abbrev pub IfGiven : RangeLeft → (Written → Type 0) → Type 0
 IfGiven (inl full) P = P full.0.now
 IfGiven (inr visible) P = ⊤
 
--- The sink accepted the complete text of some rows and failed within the nonempty text of the next row. The state is
--- the one after the complete rows.
+-- The sink accepted the complete text of some rows and failed within the nonempty text of the next row. `state` is the
+-- capture state after the complete rows.
 pub record StopsBehind (refuses : List ℕ → List ℕ → List ℕ → Type 0) (start : List ℕ) (before : Written)
     (rows : List RowValue) (text : List ℕ) (state : Written) : Type 0 where
   pub whole : List RowValue

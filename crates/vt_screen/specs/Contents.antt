@@ -11,17 +11,17 @@ use Rattle.vt_screen.specs.declared.rows.Rows.{Rows}
 abbrev pub line_end : RowValue → List ℕ
 line_end row = if row.wrapped then [] else 0x0A ∷ []
 
--- The line end before a row that contains no glyph, if the row before it is wrapped.
+-- The line end before a row without glyphs if the previous row is wrapped; empty otherwise.
 abbrev pub gap_line : ℕ → Bool → RowValue → List ℕ
 gap_line width goes_on row = if goes_on && not (has_glyph 0 width row.cells) then 0x0A ∷ [] else []
 
--- The text of consecutive rows of `width` columns; `goes_on` says whether the row before the first one is wrapped.
+-- The text of consecutive rows of `width` columns; the flag says whether the row before the first one is wrapped.
 abbrev pub lines_of : ℕ → Bool → List RowValue → List ℕ
 lines_of width goes_on [] = []
 lines_of width goes_on (row ∷ rows) =
     gap_line width goes_on row ++ (plain_text 0 width row.cells ++ (line_end row ++ lines_of width row.wrapped rows))
 
--- The text with a byte prepended. A line end is not prepended to an empty text.
+-- The text with a byte prepended, unless the text is empty and the byte is a line end.
 abbrev pub before : ℕ → List ℕ → List ℕ
 before byte [] = if byte == 0x0A then [] else byte ∷ []
 before byte (next ∷ text) = byte ∷ (next ∷ text)
@@ -37,15 +37,15 @@ contents_of screen = without_line_ends (lines_of screen.page.width false (visibl
 
 -- ---- text between two positions
 
--- The part of row `r` in the text between two positions. The first row begins at its column, the last one ends at its
--- column, and rows between them are included in full.
+-- The part of row `r` in the text between two positions. The first row begins at `start_col`, the last row ends at
+-- `end_col`, and the rows between them are included in full.
 abbrev pub part_of : (start_row start_col end_row end_col : ℕ) → ScreenValue → ℕ → List ℕ
 part_of start_row start_col end_row end_col screen r =
     plain_text (if r == start_row then start_col else 0)
     (if r == end_row then end_col else screen.page.width) (visible_row screen r).cells
     ++ (if r == end_row then [] else line_end (visible_row screen r))
 
--- The text between two positions, limited to the displayed rows.
+-- The text between two positions of a screen, limited to the displayed rows.
 abbrev pub between_of : (start_row start_col end_row end_col : ℕ) → ScreenValue → List ℕ
 between_of start_row start_col end_row end_col screen =
     flat_map (part_of start_row start_col end_row end_col screen)
@@ -53,10 +53,10 @@ between_of start_row start_col end_row end_col screen =
 
 -- ---- text row by row
 
--- The text of each row in the columns `start..stop`.
+-- The plain text of each row in the columns `start..stop`.
 abbrev pub row_texts : (start stop : ℕ) → List RowValue → List (List ℕ)
 row_texts start stop rows = map (λ row. plain_text start stop row.cells) rows
 
--- The strings that the iterator has yet to return.
+-- The strings that an iterator over rows has yet to return.
 abbrev pub rows_left : Rows → List (List ℕ)
 rows_left rows = row_texts rows.start rows.stop (drop rows.row (visible_rows rows.screen.now))

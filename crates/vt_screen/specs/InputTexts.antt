@@ -12,8 +12,8 @@ mouse_and_style_text was new =
     ++ (mouse_encoding_change was.mouse_encoding new.mouse_encoding
     ++ cursor_style_change was.cursor_style new.cursor_style)
 
--- The output that sets all input modes. The keypad mode, the cursor key mode and bracketed paste mode are always set,
--- and the others only if they aren't the default.
+-- The output that sets all input modes. The keypad mode, the cursor key mode and bracketed paste mode are always set;
+-- the mouse mode, the mouse encoding and the cursor style are set only if they aren't the default.
 abbrev pub input_text : Modes → List ℕ
 input_text new =
     keypad_text new.application_keypad
@@ -21,11 +21,11 @@ input_text new =
     ++ (bracketed_paste_text new.bracketed_paste
     ++ mouse_and_style_text no_modes new))
 
--- The output `text` if the two values differ, otherwise nothing.
+-- The given output if the two values differ, otherwise nothing.
 abbrev pub where_changed : (was new : Bool) → List ℕ → List ℕ
 where_changed was new text = if same_bool was new then [] else text
 
--- The output that changes the input modes that differ.
+-- The output that turns the input modes `was` into `new` by changing those that differ.
 abbrev pub input_change : (was new : Modes) → List ℕ
 input_change was new =
     where_changed was.application_keypad new.application_keypad (keypad_text new.application_keypad)

@@ -14,29 +14,31 @@ use Rattle.vt_screen.specs.Pages.{fresh_page, page_aside, reports_of}
 use Rattle.vt_screen.specs.Screen.{ScreenValue, IsPrintable}
 pub use Rattle.vt_screen.specs.Screen.{IsColoredCell, IsColoredRow, AreColored}
 
--- The parts of a screen besides its active page: the inactive page, which of the two is the alternate page, and the
--- scrollback of each.
+-- The parts of a screen besides its active page: the inactive page, whether the active page is the alternate one, the
+-- active page's scrollback, and the inactive page's scrollback.
 pub record Aside : Type 0 where
   pub other : Option Page
   pub is_alternate : Bool
   pub active : Scrollback
   pub idle : Scrollback
 
--- The scrollback of the main page, given the scrollback of the active and the inactive page.
+-- The scrollback of the main page, given whether the alternate page is active, the active page's scrollback, and the
+-- inactive page's scrollback.
 abbrev pub main_scrollback : Bool → Scrollback → Scrollback → Scrollback
 main_scrollback is_alternate active idle = if is_alternate then idle else active
 
--- The scrollback of the alternate page, given the scrollback of the active and the inactive page.
+-- The scrollback of the alternate page, given whether the alternate page is active, the active page's scrollback, and
+-- the inactive page's scrollback.
 abbrev pub alternate_scrollback : Bool → Scrollback → Scrollback → Scrollback
 alternate_scrollback is_alternate active idle = if is_alternate then active else idle
 
--- The scrollback keeps no rows: it is empty and has capacity 0.
+-- The scrollback is empty and has capacity 0, so it never keeps a row.
 pub record IsNothing (above : Scrollback) : Type 0 where
   pub capacity : above.capacity ≡ 0
   pub rows : above.rows ≡ []
   pub offset : above.offset ≡ 0
 
--- The scrollback is valid, so its rows may return to a page.
+-- The scrollback and the colors of its cells are valid, so its rows may return to a page.
 pub record IsAbove (above : Scrollback) : Type 0 where
   pub sound : IsScrollback above
   pub colored : AreColored above.rows
@@ -57,11 +59,11 @@ pub record IsKept (page : Page) (last : Option ℕ) (aside : Aside) : Type 0 whe
 
 -- ---- parts of page switches and resets
 
--- The screen with its inactive page created, if there was none.
+-- The screen after its inactive page is created, if there was none.
 abbrev pub with_other : ScreenValue → ScreenValue
 with_other screen = record screen { other = Some (page_aside screen) }
 
--- The screen with its two pages swapped, if there are two.
+-- The screen after the given inactive page, if any, is exchanged with the active page.
 abbrev pub exchanged_with : Option Page → ScreenValue → ScreenValue
 exchanged_with (Some page) screen =
     record screen { page = page; other = Some screen.page; is_alternate = not screen.is_alternate }
@@ -70,15 +72,15 @@ exchanged_with None screen = screen
 abbrev pub exchanged : ScreenValue → ScreenValue
 exchanged screen = exchanged_with screen.other screen
 
--- The screen with its active page reset.
+-- The screen after its active page is replaced with a blank page.
 abbrev pub with_fresh_page : ScreenValue → ScreenValue
 with_fresh_page screen = record screen { page = fresh_page screen }
 
--- The screen with its inactive page, if any, reset.
+-- The screen after its inactive page, if any, is replaced with a blank page.
 abbrev pub with_fresh_other : ScreenValue → ScreenValue
 with_fresh_other screen = record screen { other = option_map (λ _. fresh_page screen) screen.other }
 
--- The screen with both pages resized, while the main page is active.
+-- The screen after both of its pages are resized while the main page is active.
 abbrev pub pages_resized : (rows cols : ℕ) → ScreenValue → ScreenValue
 pages_resized rows cols screen = record screen {
   page = page_resized rows cols screen.scrollback screen.page;
@@ -86,7 +88,7 @@ pages_resized rows cols screen = record screen {
   scrollback = scrollback_resized rows screen.page screen.scrollback;
 }
 
--- The calls that report the rows dropped when both pages are resized.
+-- The calls to `on_scroll` that report the rows dropped when both pages are resized while the main page is active.
 abbrev pub reports_of_pages : (rows : ℕ) → ScreenValue → List CallValue
 reports_of_pages rows screen =
     reports_of false rows (Some screen.page) screen.scrollback ++ reports_of true rows screen.other (no_scrollback 0)
@@ -103,8 +105,8 @@ pub record IsColumns (start stop : ℕ) (screen : ScreenValue) : Type 0 where
   pub order : start ≤ stop
   pub inside : stop ≤ screen.page.width
 
--- The rows were written, continuing from the capture state `before`, and the state is now `after`. If the call
--- failed, the sink failed within one of the rows.
+-- The effect of writing rows, continuing from the capture state `before`. On success, all rows are written, and the
+-- capture state is now `after`. If the call failed, the sink failed within one of the rows.
 pub record WritesRows {A E : Type 0} (refuses : List ℕ → List ℕ → List ℕ → Type 0) (start : List ℕ) (before : Written)
     (rows : List RowValue) (result : Result A E) (bytes : List ℕ) (after : Written) : Type 0 where
   pub text : OnOk result (bytes ≡ start ++ basic_texts before rows)

@@ -5,7 +5,8 @@ use Rattle.std.specs.Char.{IsScalar}
 use Rattle.std.specs.List.{AllByRecursion, flat_map}
 use Rattle.vt_cells.specs.Op.{csi, joined}
 
--- An element of output: characters, a control sequence with decimal numbers separated by `;`, or a listed sequence.
+-- An element of output: characters, a control sequence with decimal numbers separated by `;`, or another sequence of
+-- bytes.
 pub data Piece : Type 0 where
   Characters : (characters : List ℕ) → Piece
   Numbered : (numbers : List ℕ) (final : ℕ) → Piece
@@ -24,14 +25,15 @@ abbrev pub IsOneOf : {A : Type 0} → A → List A → Type 0
 IsOneOf x [] = ⊥
 IsOneOf x (y ∷ ys) = (x ≡ y) ⊎ IsOneOf x ys
 
--- The element is valid: its characters are not control characters, its control sequence ends in one of `finals`, or
--- it is one of the sequences `controls`.
+-- The element is valid: it consists of characters that are not control characters, is a control sequence that ends in
+-- one of the bytes `finals`, or is one of the sequences `controls`.
 abbrev pub IsPiece : (finals : List ℕ) → (controls : List (List ℕ)) → Piece → Type 0
 IsPiece finals controls (Characters characters) = AllByRecursion IsCharacter characters
 IsPiece finals controls (Numbered numbers final) = IsOneOf final finals
 IsPiece finals controls (Control bytes) = IsOneOf bytes controls
 
--- The output consists of valid elements and nothing else.
+-- The output consists only of characters that are not control characters, control sequences that end in one of the
+-- bytes `finals`, and the sequences `controls`.
 pub record IsMadeOf (finals : List ℕ) (controls : List (List ℕ)) (text : List ℕ) : Type 0 where
   pub pieces : List Piece
   pub are_pieces : AllByRecursion (IsPiece finals controls) pieces
@@ -47,7 +49,7 @@ escapes texts = map (λ text. 0x1B ∷ text) texts
 abbrev pub drawing_finals : List ℕ
 drawing_finals = codes "HCXKJm"
 
--- The other sequences that may occur in drawing output: CR LF, LF, BS, DECSC, DECRC, and DECTCEM to show or hide the
+-- The fixed sequences that may occur in drawing output: CR LF, LF, BS, DECSC, DECRC, and DECTCEM to show or hide the
 -- cursor.
 abbrev pub drawing_controls : List (List ℕ)
 drawing_controls =
@@ -59,7 +61,7 @@ drawing_controls =
 abbrev pub scrolling_finals : List ℕ
 scrolling_finals = codes "@PLMHCXKJm"
 
--- The other sequences that may occur in drawing output that also resets the scroll region: the reset of origin mode,
+-- The fixed sequences that may occur in drawing output that also resets the scroll region: the reset of origin mode,
 -- DECSTBM without parameters, and those in `drawing_controls`.
 abbrev pub reset_controls : List (List ℕ)
 reset_controls = escapes (codes "[?6l" ∷ codes "[r" ∷ []) ++ drawing_controls
@@ -77,10 +79,10 @@ input_controls =
 abbrev pub state_controls : List (List ℕ)
 state_controls = input_controls ++ drawing_controls
 
--- The control characters in captures and plain text: line ends.
+-- The control characters that may occur in captures and plain text, namely line ends.
 abbrev pub plain_controls : List (List ℕ)
 plain_controls = (0x0A ∷ []) ∷ []
 
--- The final byte of control sequences in captures: SGR.
+-- The final byte of the control sequences that may occur in captures, namely that of SGR.
 abbrev pub capture_finals : List ℕ
 capture_finals = codes "m"

@@ -12,7 +12,7 @@ use Rattle.vt_screen.specs.Screen.{ScreenValue, above_page, fresh_screen}
 abbrev pub fresh_page : ScreenValue → Page
 fresh_page screen = blank_page (length screen.page.rows) screen.page.width
 
--- The inactive page, or a blank one if it was never created.
+-- The inactive page of a screen, or a blank page if the inactive page was never created.
 abbrev pub page_aside : ScreenValue → Page
 page_aside screen = unwrap_or screen.other (fresh_page screen)
 
@@ -24,7 +24,7 @@ saved screen = record screen { page = cursor_saved screen.page; saved_attrs = sc
 abbrev pub restored : ScreenValue → ScreenValue
 restored screen = record screen { page = cursor_restored screen.page; attrs = screen.saved_attrs }
 
--- The screen after it switches to its alternate page, with no scrollback displayed.
+-- The screen after a switch to its alternate page, which displays no scrollback.
 abbrev pub entered : ScreenValue → ScreenValue
 entered screen =
     if screen.is_alternate then screen
@@ -35,24 +35,24 @@ entered screen =
       scrollback = out_of_view screen.scrollback;
     }
 
--- The screen after its cursor, origin mode and attributes are saved and it switches to a blank alternate page. If the
--- alternate page was already active, the state saved on it is lost.
+-- The screen after its cursor, origin mode and attributes are saved and a blank alternate page becomes active. If the
+-- alternate page was already active, the state saved on that page is lost.
 abbrev pub entered_fresh : ScreenValue → ScreenValue
 entered_fresh screen = record (entered (saved screen)) { page = fresh_page screen }
 
--- The screen after it switches to its main page.
+-- The screen after a switch to its main page.
 abbrev pub left_alternate : ScreenValue → ScreenValue
 left_alternate screen =
     if screen.is_alternate
     then record screen { page = page_aside screen; other = Some screen.page; is_alternate = false } else screen
 
--- The screen after it switches to its main page and restores that page's saved cursor and origin mode, and the saved
--- attributes.
+-- The screen after a switch to its main page. The saved cursor and origin mode of that page and the saved attributes
+-- are restored.
 abbrev pub left_restored : ScreenValue → ScreenValue
 left_restored screen = restored (left_alternate screen)
 
--- The screen after a full reset (RIS): blank, with the same size and scrollback capacity. An alternate page that had
--- been created still exists and is blank.
+-- The screen after a full reset (RIS): blank, with its size and scrollback capacity unchanged. An alternate page that
+-- had been created still exists and is blank.
 abbrev pub reset : ScreenValue → ScreenValue
 reset screen = record (fresh_screen (length screen.page.rows) screen.page.width screen.scrollback.capacity) {
   other = option_map (λ _. fresh_page screen) screen.other;
@@ -64,7 +64,7 @@ reset screen = record (fresh_screen (length screen.page.rows) screen.page.width 
 abbrev pub main_page : ScreenValue → Page
 main_page screen = if screen.is_alternate then page_aside screen else screen.page
 
--- The alternate page of a screen, if it was created.
+-- The alternate page of a screen, or `None` if that page was never created.
 abbrev pub alternate_page : ScreenValue → Option Page
 alternate_page screen = if screen.is_alternate then Some screen.page else screen.other
 
@@ -75,7 +75,7 @@ above_aside screen = if screen.is_alternate then screen.scrollback else no_scrol
 abbrev pub has_size : (rows cols : ℕ) → ScreenValue → Bool
 has_size rows cols screen = (rows == length screen.page.rows) && (cols == screen.page.width)
 
--- The screen after it is resized: both pages and the scrollback of the main page. A resize to the same size changes
+-- The screen after a resize of both pages and of the main page's scrollback. A resize to the current size changes
 -- nothing.
 abbrev pub resized : (rows cols : ℕ) → ScreenValue → ScreenValue
 resized rows cols screen =
@@ -90,7 +90,8 @@ abbrev pub reports_of : (alternate : Bool) (rows : ℕ) → Option Page → Scro
 reports_of alternate rows (Some page) above = map (λ row. OnScroll row alternate) (resize_reports rows page above)
 reports_of alternate rows None above = []
 
--- The calls that report the rows dropped by a resize: first those of the main page, then those of the alternate page.
+-- The calls to `on_scroll` that report the rows dropped by a resize: first those of the main page, then those of the
+-- alternate page.
 abbrev pub calls_resized : (rows cols : ℕ) → ScreenValue → List CallValue
 calls_resized rows cols screen =
     if has_size rows cols screen then []

@@ -18,34 +18,34 @@ shown_row screen r = row_of_picture (shown screen) r
 
 -- ---- the output
 
--- The end of a range of `width` columns that starts at column `start`, limited to the number of columns.
+-- The end of a range of `width` columns that starts at column `start`, clamped to the number of columns of the screen.
 abbrev pub range_end : (start width columns : ℕ) → ℕ
 range_end start width columns = min (start + width) columns
 
--- The output that draws a range of columns of row `r` of a picture on a terminal whose row is blank.
+-- The output that draws a range of columns of row `r` of a picture on a terminal whose row `r` is blank.
 abbrev pub formatted_text : (start stop : ℕ) → Picture → ℕ → List ℕ
 formatted_text start stop picture r =
     bytes_of_all (item_of_redraw r start stop (is_linked picture.width picture.rows r) (row_of_picture picture r)).ops
 
--- The output that draws a range of columns of row `r` of a picture on a terminal that displays that row of the
--- picture `prev`.
+-- The output that draws a range of columns of row `r` of a picture on a terminal that displays row `r` of the picture
+-- `prev`.
 abbrev pub changed_text : (start stop : ℕ) → (picture prev : Picture) → ℕ → List ℕ
 changed_text start stop picture prev r =
     bytes_of_all (item_of_difference r start stop (row_of_picture picture r) (row_of_picture prev r)).ops
 
--- The output for each row, starting at row `r`.
+-- The outputs for the rows from row `r` to the last one, given a function from a row's index to the row's output.
 abbrev pub texts_from : (ℕ → List ℕ) → (r height : ℕ) → List (List ℕ)
 texts_from text r height = map text (range_with_len r (height - r))
 
--- For each row of a screen, the output that draws `width` columns, starting at `start`, on a terminal whose row is
--- blank.
+-- For each row of a screen, the output that draws `width` columns of the row, starting at column `start`, on a terminal
+-- whose corresponding row is blank.
 abbrev pub formatted_rows : (start width : ℕ) → ScreenValue → List (List ℕ)
 formatted_rows start width screen =
     texts_from (formatted_text start (range_end start width screen.page.width) (shown screen)) 0
     (length screen.page.rows)
 
--- For each row of a screen, the output that draws `width` columns, starting at `start`, on a terminal that displays
--- that row of the screen `prev`.
+-- For each row of a screen, the output that draws `width` columns of the row, starting at column `start`, on a terminal
+-- that displays the corresponding row of the screen `prev`.
 abbrev pub changed_rows : (start width : ℕ) → (screen prev : ScreenValue) → List (List ℕ)
 changed_rows start width screen prev =
     texts_from (changed_text start (range_end start width screen.page.width) (shown screen) (shown prev)) 0
@@ -57,8 +57,8 @@ text_at texts r = slice_index_or texts r []
 
 -- ---- the terminals that read a row's output
 
--- The terminal is plain, has the picture's size and default attributes, and its row `r` is `stood`. The cursor is in
--- column `c` of that row.
+-- The terminal is plain, has default attributes and the picture's size, and has `stood` as its row `r`. The cursor is
+-- in column `c` of that row.
 pub record IsRowReader (picture : Picture) (r c : ℕ) (stood : RowValue) (reader : ScreenValue) : Type 0 where
   pub is : IsReader picture reader
   pub row : reader.page.row ≡ r
@@ -66,7 +66,7 @@ pub record IsRowReader (picture : Picture) (r c : ℕ) (stood : RowValue) (reade
   pub attrs : reader.attrs ≡ default_attrs
   pub stands : row_at reader.page r ≡ stood
 
--- The terminal is plain, has the picture's size and default attributes, and its row `r` is blank. The cursor is in
+-- The terminal is plain, has default attributes and the picture's size, and its row `r` is blank. The cursor is in
 -- column `c` of that row.
 abbrev pub IsBlankReader : Picture → (r c : ℕ) → ScreenValue → Type 0
 IsBlankReader picture r c reader = IsRowReader picture r c (blank_row default_attrs picture.width) reader
@@ -82,14 +82,14 @@ pub record IsWrapReader (picture : Picture) (r : ℕ) (reader : ScreenValue) : T
 
 -- ---- the effect of a row's output on them
 
--- Row `r` has the cells of the row `shows` in the range. No other cell has changed, and neither has the wrapped flag
--- of any other row.
+-- In the columns `start..stop`, row `r` has the cells of the row `shows`. No other cell has changed, and neither has
+-- the wrapped flag of any other row.
 pub record HasRange (start stop r : ℕ) (shows : RowValue) (reader after : ScreenValue) : Type 0 where
   pub cells : (row_at after.page r).cells ≡ with_range start stop shows.cells (row_at reader.page r).cells
   pub others : (k : ℕ) → k ≢ r → row_at after.page k ≡ row_at reader.page k
   pub height : length after.page.rows ≡ length reader.page.rows
 
--- Row `r` is not wrapped after the output.
+-- Row `r` of the terminal is not wrapped after the terminal has read the output.
 abbrev pub IsOff : ℕ → (reader after : ScreenValue) → Type 0
 IsOff r reader after = (row_at after.page r).wrapped ≡ false
 
@@ -113,7 +113,8 @@ DrawsRow start width screen r stood text =
 abbrev pub IsWholeRow : (start width columns : ℕ) → Type 0
 IsWholeRow start width columns = (start ≡ 0) × (columns ≤ width)
 
--- `P` holds for each row of a screen's picture in which the range splits no wide character.
+-- `P` holds for each row of a screen's picture in which the range of `width` columns starting at `start` splits no wide
+-- character.
 abbrev pub EachUncut : (start width : ℕ) → ScreenValue → (ℕ → Type 0) → Type 0
 EachUncut start width screen P =
     (r : ℕ) → r < length (shown screen).rows

@@ -39,7 +39,7 @@ no_modes = record {
   cursor_style = style.Default;
 }
 
--- A blank screen of this size and scrollback capacity.
+-- A blank screen of the given size and scrollback capacity.
 abbrev pub fresh_screen : (rows cols capacity : ℕ) → ScreenValue
 fresh_screen rows cols capacity = record {
   page = blank_page rows cols;
@@ -56,7 +56,8 @@ fresh_screen rows cols capacity = record {
 abbrev pub with_page : Page → ScreenValue → ScreenValue
 with_page page screen = record screen { page = page }
 
--- The part of a screen that a redraw changes.
+-- The parts of a screen that a redraw changes: the active page, the current and saved attributes, and the cursor's
+-- visibility.
 abbrev pub canvas_of : ScreenValue → Canvas
 canvas_of screen =
     record { page = screen.page; attrs = screen.attrs; saved_attrs = screen.saved_attrs; hidden = screen.hidden }
@@ -73,22 +74,22 @@ above_page screen = if screen.is_alternate then no_scrollback 0 else screen.scro
 abbrev pub visible_rows : ScreenValue → List RowValue
 visible_rows screen = visible (above_page screen) screen.page.rows
 
--- The displayed row at an index; a blank row past the end.
+-- The displayed row at an index, or a blank row if the index is past the end.
 abbrev pub visible_row : ScreenValue → ℕ → RowValue
 visible_row screen r = row_or screen.page.width (visible_rows screen) r
 
--- The screen with its scrollback offset set to `n`, or to the number of scrollback rows if that is less. The
--- alternate page has no scrollback.
+-- The screen after its scrollback offset is set to `n`, clamped to the number of scrollback rows. The screen is
+-- unchanged while its alternate page is active, because that page has no scrollback.
 abbrev pub scrolled_back : ℕ → ScreenValue → ScreenValue
 scrolled_back n screen =
     if screen.is_alternate then screen
     else record screen { scrollback = with_view (length screen.page.rows) screen.page.width n screen.scrollback }
 
--- The character can be printed: it is a Unicode scalar value other than U+FFFD, which is reported instead.
+-- The character can be printed: it is a Unicode scalar value other than U+FFFD. (U+FFFD is reported instead.)
 abbrev pub IsPrintable : ℕ → Type 0
 IsPrintable c = IsScalar c × (c ≢ 0xFFFD)
 
--- The invariant of every screen.
+-- The invariant of every screen: valid pages of the same size, valid scrollback, and a valid last printed character.
 pub record IsScreen (screen : ScreenValue) : Type 0 where
   pub page : IsPage screen.page
   pub other : IfSome screen.other (λ page. IsPage page × SameSize page screen.page)
@@ -96,7 +97,7 @@ pub record IsScreen (screen : ScreenValue) : Type 0 where
   pub scrollback : IsScrollback screen.scrollback
   pub last : IfSome screen.last IsPrintable
 
--- The components of the cell's colours are at most 255.
+-- The palette indices and RGB components of the cell's colors are at most 255.
 abbrev pub IsColoredCell : CellValue → Type 0
 IsColoredCell cell = FitsAttrs (attrs_of cell)
 
@@ -106,7 +107,8 @@ IsColoredRow row = All IsColoredCell row.cells
 abbrev pub AreColored : List RowValue → Type 0
 AreColored rows = All IsColoredRow rows
 
--- The components of all colours of the screen are at most 255. This holds for every screen.
+-- Palette indices and RGB components are at most 255 in the cells of the active page and of scrollback, and in the
+-- current attributes. Every screen has this property.
 pub record IsColored (screen : ScreenValue) : Type 0 where
   pub rows : AreColored screen.page.rows
   pub above : AreColored screen.scrollback.rows

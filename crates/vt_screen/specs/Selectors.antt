@@ -13,7 +13,7 @@ CellHasNoSelector cell = list_any is_selector (chars (text_of cell)) ≡ false
 abbrev pub RowsHaveNoSelector : List RowValue → Type 0
 RowsHaveNoSelector rows = All (λ row. All CellHasNoSelector row.cells) rows
 
--- No cell of either page or of scrollback contains U+FE0F, and the last character is not U+FE0F.
+-- No cell of either page or of scrollback contains U+FE0F, and the last printed character is not U+FE0F.
 pub record HasNoSelectors (screen : ScreenValue) : Type 0 where
   pub rows : RowsHaveNoSelector screen.page.rows
   pub other : IfSome screen.other (λ page. RowsHaveNoSelector page.rows)

@@ -14,16 +14,16 @@ use Rattle.vt_scan.specs.Automaton.{start}
 use Rattle.vt_screen.specs.Reading.{read, terminal}
 use Rattle.vt_screen.specs.Screen.{ScreenValue, IsScreen, above_page, canvas_of, visible_row, visible_rows, with_canvas}
 
--- The picture of a screen: the displayed rows, truncated or extended to its width, the position and visibility of
--- its cursor, and its attributes.
+-- The picture of a screen: the displayed rows, truncated or extended to the screen's width; the position and visibility
+-- of the cursor; and the current attributes.
 abbrev pub shown : ScreenValue → Picture
 shown screen = picture_over (visible_rows screen) (canvas_of screen)
 
--- The redraw of a screen's picture.
+-- The output that redraws a screen's picture.
 abbrev pub shown_text : ScreenValue → List ℕ
 shown_text screen = bytes_of_all (redraw (shown screen))
 
--- The difference between the pictures of two screens.
+-- The output that turns the picture of the screen `was` into the picture of `new`.
 abbrev pub shown_change : (was new : ScreenValue) → List ℕ
 shown_change was new = bytes_of_all (difference (shown new) (shown was))
 
@@ -31,7 +31,7 @@ shown_change was new = bytes_of_all (difference (shown new) (shown was))
 abbrev pub ShowsOwnPage : ScreenValue → Type 0
 ShowsOwnPage screen = (above_page screen).offset ≡ 0
 
--- No displayed cell in the columns of the screen contains U+FE0F.
+-- No displayed cell within the screen's width contains U+FE0F.
 abbrev pub ShowsNoSelector : ScreenValue → Type 0
 ShowsNoSelector screen = (r col : ℕ) → r < length screen.page.rows → col < screen.page.width
     → list_any is_selector (chars (text_of (at (visible_row screen r).cells col))) ≡ false
@@ -41,8 +41,8 @@ pub record IsPlain (screen : ScreenValue) : Type 0 where
   pub page : IsPlainPage screen.page
   pub offset : (above_page screen).offset ≡ 0
 
--- The terminal `reader` changed to display a picture. Apart from the saved state and the last character, the rest is
--- unchanged.
+-- The terminal `reader` after it was changed to display a picture. Its saved state and its last printed character may
+-- have changed, too; all other parts are unchanged.
 abbrev pub showing : Picture → Saved → Option ℕ → ScreenValue → ScreenValue
 showing picture saved last reader =
     record (with_canvas (with_saved saved (with_picture picture (canvas_of reader))) reader) { last = last }
@@ -76,8 +76,8 @@ pub record IsReaderOfRows (picture : Picture) (reader : ScreenValue) : Type 0 wh
 
 -- ---- the effect of output on terminals
 
--- A terminal in ground state that reads the output invokes no callbacks, allocates nothing and scrolls no rows off
--- the page. It is then in ground state again, with the screen `after`.
+-- A terminal in ground state that reads the output invokes no callbacks, allocates nothing and scrolls no rows off the
+-- page. Afterward, the terminal is in ground state again and has the screen `after`.
 abbrev pub ReadsTo : List ℕ → (reader after : ScreenValue) → Type 0
 ReadsTo text reader after = read (terminal start reader) text ≡ Some (terminal start after)
 
@@ -106,7 +106,7 @@ pub record HasCursor (picture : Picture) (reader after : ScreenValue) : Type 0 w
   pub hidden : after.hidden ≡ picture.hidden
 
 -- Scrollback and its offset, the inactive page and the scroll region are unchanged. Only the display, the modes, the
--- saved state and the last character may have changed.
+-- saved state and the last printed character may have changed.
 pub record KeepsRestButModes (reader after : ScreenValue) : Type 0 where
   pub other : after.other ≡ reader.other
   pub is_alternate : after.is_alternate ≡ reader.is_alternate
@@ -117,13 +117,13 @@ pub record KeepsRestButModes (reader after : ScreenValue) : Type 0 where
   pub origin : after.page.origin ≡ reader.page.origin
 
 -- Scrollback and its offset, the inactive page, the scroll region and the modes are unchanged. Only the display, the
--- saved state and the last character may have changed.
+-- saved state and the last printed character may have changed.
 pub record KeepsRest (reader after : ScreenValue) : Type 0 where
   pub but_modes : KeepsRestButModes reader after
   pub modes : after.modes ≡ reader.modes
 
--- The output redraws the picture, if it is steady, on every terminal with the property `Reader`. `Kept` describes the
--- other parts of the terminal that are unchanged.
+-- On every terminal with the property `Reader`, the output redraws the picture, if the picture is steady. `Kept` says
+-- what else in the terminal stays unchanged.
 pub record Redraws (picture : Picture) (Reader : ScreenValue → Type 0)
     (Kept : (reader after : ScreenValue) → Type 0) (text : List ℕ) : Type 0 where
   pub quiet : IsSteady picture → IsReadBy Reader text
@@ -132,15 +132,16 @@ pub record Redraws (picture : Picture) (Reader : ScreenValue → Type 0)
   pub cursor : IsSteady picture → Makes Reader text (HasCursor picture)
   pub rest : IsSteady picture → Makes Reader text Kept
 
--- The output redraws the picture of `new` on every plain terminal that displays the picture of `was`.
+-- If the picture of `new` is steady, the output redraws it on every plain terminal that displays the picture of `was`.
 abbrev pub RedrawsFrom : (was new : ScreenValue) → List ℕ → Type 0
 RedrawsFrom was new text = Redraws (shown new) (IsReaderOf (shown new) (shown was)) KeepsRest text
 
--- If the text is empty and the picture of the newer screen is steady, both screens look the same.
+-- If the text is empty and the picture of the newer screen is steady, both screens display the same picture.
 abbrev pub IsSameIfEmpty : (was new : ScreenValue) → List ℕ → Type 0
 IsSameIfEmpty was new text = IsSteady (shown new) → text ≡ [] → shown new ≡ shown was
 
--- The terminal has the cursor position and visibility of the picture. Its rows and attributes are unchanged.
+-- The terminal takes over the picture's cursor position and cursor visibility. The terminal's rows and attributes are
+-- unchanged.
 pub record TakesCursor (picture : Picture) (reader after : ScreenValue) : Type 0 where
   pub rows : after.page.rows ≡ reader.page.rows
   pub attrs : after.attrs ≡ reader.attrs
@@ -152,8 +153,8 @@ pub record TakesCursor (picture : Picture) (reader after : ScreenValue) : Type 0
 abbrev pub StaysPlain : (reader after : ScreenValue) → Type 0
 StaysPlain reader after = IsPlain after
 
--- Every terminal with the property `Reader` reads the output without invoking callbacks or allocating. `Made` then
--- holds for it, and it is plain again. Scrollback and its offset, the inactive page and the modes are unchanged.
+-- Every terminal with the property `Reader` reads the output without invoking callbacks or allocating. Afterward,
+-- `Made` holds, and the terminal is plain. Scrollback and its offset, the inactive page and the modes are unchanged.
 pub record Turns (Reader : ScreenValue → Type 0) (text : List ℕ)
     (Made : (reader after : ScreenValue) → Type 0) : Type 0 where
   pub quiet : IsReadBy Reader text
@@ -161,10 +162,10 @@ pub record Turns (Reader : ScreenValue → Type 0) (text : List ℕ)
   pub plain : Makes Reader text StaysPlain
   pub rest : Makes Reader text KeepsRest
 
--- SGR without parameters, followed by the change from the default attributes to these attributes.
+-- The output that resets the attributes with SGR and then changes the default attributes to the given ones.
 abbrev pub attributes_text : Attrs → List ℕ
 attributes_text attrs = bytes_of_all (ClearAttrs ∷ ChangeAttrs default_attrs attrs ∷ [])
 
--- The output sets these attributes on every terminal in ground state and changes nothing else.
+-- The output sets the given attributes on every terminal in ground state and changes nothing else.
 abbrev pub SetsAttrs : Attrs → List ℕ → Type 0
 SetsAttrs attrs text = (reader : ScreenValue) → ReadsTo text reader (record reader { attrs = attrs })

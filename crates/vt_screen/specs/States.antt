@@ -15,18 +15,20 @@ pub record HasDefaultMouseAndStyle (modes : Modes) : Type 0 where
   pub mouse_encoding : modes.mouse_encoding ≡ no_modes.mouse_encoding
   pub cursor_style : modes.cursor_style ≡ no_modes.cursor_style
 
--- The output sets these modes on every terminal in ground state whose modes satisfy `Had`, and changes nothing else.
+-- The output sets the given modes on every terminal in ground state whose modes satisfy `Had`, and changes nothing
+-- else.
 abbrev pub SetsModes : (Modes → Type 0) → Modes → List ℕ → Type 0
 SetsModes Had modes text =
     (reader : ScreenValue) → Had reader.modes → ReadsTo text reader (record reader { modes = modes })
 
 -- ---- whole states
 
--- The redraw of a screen, followed by the output that sets all its input modes.
+-- The output that redraws a screen, followed by the output that sets all of the screen's input modes.
 abbrev pub state_text : ScreenValue → List ℕ
 state_text screen = shown_text screen ++ input_text screen.modes
 
--- The difference between two screens, followed by the output that changes the input modes that differ.
+-- The output for the difference between the displays of two screens, followed by the output that changes the input
+-- modes that differ.
 abbrev pub state_change : (was new : ScreenValue) → List ℕ
 state_change was new = shown_change was new ++ input_change was.modes new.modes
 
@@ -36,17 +38,17 @@ pub record IsStateReader (screen reader : ScreenValue) : Type 0 where
   pub is : IsReader (shown screen) reader
   pub modes : HasDefaultMouseAndStyle reader.modes
 
--- The terminal is plain, displays the screen `prev` and has its input modes.
+-- The terminal is plain, displays the picture of the screen `prev`, and has the input modes of `prev`.
 pub record IsStateReaderOf (screen prev reader : ScreenValue) : Type 0 where
   pub is : IsReaderOf (shown screen) (shown prev) reader
   pub modes : reader.modes ≡ prev.modes
 
--- The terminal has these input modes.
+-- The terminal has the given input modes after it has read the output.
 abbrev pub HasModes : Modes → (reader after : ScreenValue) → Type 0
 HasModes modes reader after = after.modes ≡ modes
 
--- The output redraws a screen on every terminal with the property `Reader` and sets the screen's input modes.
--- Scrollback and its offset, the inactive page and the scroll region are unchanged.
+-- If the screen is steady, the output redraws it on every terminal with the property `Reader` and sets the screen's
+-- input modes. Scrollback and its offset, the inactive page and the scroll region are unchanged.
 pub record GivesState (Reader : ScreenValue → Type 0) (screen : ScreenValue) (text : List ℕ) : Type 0 where
   pub redraws : Redraws (shown screen) Reader KeepsRestButModes text
   pub modes : IsSteady (shown screen) → Makes Reader text (HasModes screen.modes)

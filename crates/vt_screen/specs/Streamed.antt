@@ -19,7 +19,7 @@ AreSameTrimmed rows others = map trimmed_row rows ≡ map trimmed_row others
 
 -- ---- the rows that calls report
 
--- The row of the main page that a call reports, if any.
+-- The row of the main page that a call to a callback reports, if any.
 abbrev pub row_of_call : CallValue → List RowValue
 row_of_call (OnScroll row false) = row ∷ []
 row_of_call _ = []

@@ -30,7 +30,8 @@ TouchesAll May page = (r c : ℕ) → r < length page.rows → c < page.width �
 abbrev pub TouchesRows : (ℕ → ℕ → Type 0) → (first behind : ℕ) → Page → Type 0
 TouchesRows May first behind page = (r c : ℕ) → first ≤ r → r < behind → c < page.width → May r c
 
--- `May` holds for every position that a line feed touches: none, unless it scrolls.
+-- `May` holds for every position that a line feed touches: every position of the page if the line feed scrolls, and
+-- none otherwise.
 abbrev pub FeedTouches : (ℕ → ℕ → Type 0) → Page → Type 0
 FeedTouches May page = at_bottom page ≡ true → TouchesAll May page
 
@@ -39,8 +40,8 @@ abbrev pub PrintTouches : (ℕ → ℕ → Type 0) → ℕ → Attrs → Page �
 PrintTouches May c attrs page =
     CharTouches May (columns_of c) c attrs page × (wraps c page ≡ true → FeedTouches May page)
 
--- `May` holds for every position touched by erasing from the cursor to the end of its row; none is touched if a wrap
--- is pending.
+-- `May` holds for every position touched by erasing from the cursor to the end of the cursor's row; none is touched if
+-- a wrap is pending.
 abbrev pub RestTouches : (ℕ → ℕ → Type 0) → Page → Type 0
 RestTouches May page = (page.column == page.width) ≡ false → Changes May page.column (page.width - page.column) page
 
@@ -48,8 +49,8 @@ RestTouches May page = (page.column == page.width) ≡ false → Changes May pag
 abbrev pub StartTouches : (ℕ → ℕ → Type 0) → Page → Type 0
 StartTouches May page = Changes May 0 (min (page.column + 1) page.width) page
 
--- `May` holds for every position that a step of the page touches. If the step moves cells or rows, these are all
--- positions; if it moves the cursor or changes a setting, there are none.
+-- `May` holds for every position that a step of the page touches. A step that moves cells or rows touches all
+-- positions; a step that only moves the cursor or changes a setting touches none.
 abbrev pub PageStepTouches : (ℕ → ℕ → Type 0) → PageStep → Page → Type 0
 PageStepTouches May EraseBelow page =
     RestTouches May page × TouchesRows May (page.row + 1) (length page.rows) page
@@ -83,7 +84,7 @@ StepTouches May LeaveRestoring screen = TouchesAll May screen.page
 StepTouches May Reset screen = TouchesAll May screen.page
 StepTouches May step screen = Unit {0}
 
--- `May` holds for every position that a list of steps touches, each on the screen before that step.
+-- `May` holds for every position touched by a list of steps, each taken on the screen that the steps before it leave.
 abbrev pub StepsTouch : (ℕ → ℕ → Type 0) → List Step → ScreenValue → Type 0
 StepsTouch May [] screen = Unit {0}
 StepsTouch May (step ∷ steps) screen =
@@ -97,7 +98,7 @@ EventsTouch May (event ∷ events) screen =
     × ((next : ScreenValue) → quiet_steps (steps_of event (seen_of screen)) screen ≡ Some next →
     EventsTouch May events next)
 
--- `May` holds for every position touched by reading the bytes, if reading them invokes no callbacks and allocates
+-- `May` holds for every position touched by reading the bytes, provided that reading invokes no callbacks and allocates
 -- nothing.
 abbrev pub ReadTouches : (ℕ → ℕ → Type 0) → Terminal → List ℕ → Type 0
 ReadTouches May t [] = Unit {0}
@@ -105,13 +106,13 @@ ReadTouches May t (b ∷ bytes) =
     EventsTouch May (step_in t.scan.kind t.scan.collected b).events t.screen
     × ((u : Terminal) → read_byte t b ≡ Some u → ReadTouches May u bytes)
 
--- When a terminal in ground state with the property `Reader` reads the output, it touches only positions for which
--- `May` holds.
+-- A terminal in ground state with the property `Reader` that reads the output touches only positions for which `May`
+-- holds.
 abbrev pub TouchesOnly : (ScreenValue → Type 0) → List ℕ → (ℕ → ℕ → Type 0) → Type 0
 TouchesOnly Reader text May = (reader : ScreenValue) → Reader reader → ReadTouches May (terminal start reader) text
 
--- If the picture of the newer screen is steady, a plain terminal that displays the older one and reads the text
--- touches only positions near a difference between the two screens.
+-- If the picture of the newer screen is steady, a plain terminal that displays the older screen and reads the text
+-- touches only positions near a difference between the two screens, as `IsLocal` defines.
 abbrev pub TouchesNear : (was new : ScreenValue) → List ℕ → Type 0
 TouchesNear was new text =
     IsSteady (shown new) → TouchesOnly (IsReaderOf (shown new) (shown was)) text (IsLocal (shown new) (shown was))

@@ -174,9 +174,8 @@ pub trait Callbacks {
 
     /// Called when a program writes to one or more clipboards (xterm, OSC 52).
     ///
-    /// Each byte of `kind` names a clipboard: `c`, `p`, `q`, `s` or a digit
-    /// from 0 to 7. `text` holds the Base64 characters as sent, not decoded.
-    /// Both may be empty.
+    /// Each byte of `kind` names a clipboard: `c`, `p`, `q`, `s` or a digit from 0 to 7. `text`
+    /// holds the Base64 characters as sent, not decoded. Either may be empty.
     fn copy_to_clipboard(&mut self, screen: &mut Screen, kind: &[u8], text: &[u8])
         ensures { does (calls.CopyToClipboard kind.now text.now) self.old screen.old self.new screen.new }
     {

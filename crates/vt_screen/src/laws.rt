@@ -24,14 +24,14 @@ ghost use Rattle.vt_screen.specs.Streamed.{AreSameTrimmed, HasNoRis, HasWideFlag
 ghost use Rattle.vt_screen.specs.CallsOfRun.{calls_in, screen_in};
 
 /// States that the picture that a screen displays has the screen's size, and
-/// that two screens have the same size if and only if their pictures do
-/// (`sizes`).
+/// that two screens have the same size if and only if their pictures do (clause
+/// `sizes`).
 ///
 /// If no scrollback is displayed, the rows of the picture are the rows that the
-/// getters return (`own`). Displayed rows of scrollback are cut to the screen's
-/// width. Even then, all cells left of the last column are the cells that the
-/// getters return (`inner`). A wide character that is cut in two at the last
-/// column is displayed as a blank.
+/// getters return (clause `own`). Displayed rows of scrollback are cut to the
+/// screen's width. Even then, all cells left of the last column are the cells
+/// that the getters return (clause `inner`). A wide character that is cut in
+/// two at the last column is displayed as a blank.
 pub fn shown_is()
     ensures picture { (screen : ScreenValue) → IsScreen screen → IsPicture (shown screen) }
     ensures rows { (screen : ScreenValue) → length (shown screen).rows ≡ length screen.page.rows }
@@ -44,7 +44,7 @@ pub fn shown_is()
 {}
 
 /// States that the getters of two screens with the same display return the same
-/// values.
+/// values, as far as the display determines them.
 ///
 /// The screens agree on the size, the cursor, the attributes, whether the
 /// cursor is hidden, and the cells left of the last column. If neither screen
@@ -77,13 +77,15 @@ pub fn steady_without_selectors()
 {}
 
 /// States that a screen contains no U+FE0F if no character that was read is
-/// U+FE0F.
+/// U+FE0F. The clauses are:
 ///
-/// - `fresh`: a fresh screen contains none on either page or in scrollback.
-/// - `ran`, `sized`, `scrolled_back`: this property is preserved by a run whose
-///   callbacks leave the screen alone, by a resize, and by scrolling back.
-/// - `shown`: on such a screen, no displayed cell contains U+FE0F, so the
-///   screen is steady by `steady_without_selectors`.
+/// - `fresh`: a fresh screen contains no U+FE0F on either page or in
+///   scrollback.
+/// - `ran`, `sized`, `scrolled_back`: a screen without U+FE0F still contains
+///   none after a resize, after scrolling back, and after a run that reads no
+///   U+FE0F and whose callbacks leave the screen alone.
+/// - `shown`: a screen without U+FE0F displays no cell that contains U+FE0F, so
+///   the screen is steady by `steady_without_selectors`.
 ///
 /// By `vt_scan::laws::selectors`, input without the bytes EF B8 8F contains no
 /// U+FE0F.
@@ -106,10 +108,11 @@ pub fn fresh_capture()
 {}
 
 /// States which rows scroll off the main page during a run whose callbacks
-/// leave the screen alone.
+/// leave the screen alone. The clauses are:
 ///
-/// - `kept`: the rows that are reported to `on_scroll` with `false`, followed
-///   by the scrollback after the run, match the scrollback before the run
+/// - `kept`: two lists of rows match. The first list consists of the rows that
+///   are reported to `on_scroll` with `false`, followed by the scrollback after
+///   the run. The second list consists of the scrollback before the run,
 ///   followed by the rows that scrolled off the top of the main page. Matching
 ///   rows have the same cells, apart from trailing default blanks, and are
 ///   either both wrapped or both not wrapped. The premises are that the run
@@ -132,15 +135,15 @@ pub fn streams()
 /// States when every wrapped row of scrollback is at least as wide as the
 /// screen, which is a premise of `streams`.
 ///
-/// This holds for a fresh screen. It is preserved by any run whose callbacks
-/// leave the screen alone (even one that contains RIS), by scrolling back, by
-/// erasing scrollback, and by a resize that adds no columns.
+/// The property holds for a fresh screen. It is preserved by any run whose
+/// callbacks leave the screen alone (even one that contains RIS), by scrolling
+/// back, by erasing scrollback, and by a resize that adds no columns.
 ///
-/// A resize to more columns may break it, because a wrapped row of scrollback
-/// keeps its old width. For example, print `abc` on a screen with two rows, one
-/// column and a scrollback of one row. The row of `a` is then in scrollback,
-/// one column wide and wrapped, and it stays that way when the screen gets more
-/// columns.
+/// A resize to more columns may break the property, because a wrapped row of
+/// scrollback keeps its old width. For example, print `abc` on a screen with
+/// two rows, one column and a scrollback of one row. The row of `a` is then in
+/// scrollback, one column wide and wrapped, and it stays that way when the
+/// screen gets more columns.
 pub fn wide_flags()
     ensures fresh { (rows cols capacity : ℕ) → HasWideFlags (fresh_screen rows cols capacity) }
     ensures run { (scan : State) (screen : ScreenValue) (bytes : List ℕ) → IsScreen screen →
@@ -155,10 +158,10 @@ pub fn wide_flags()
 /// function, based on the function's clause `controls`.
 ///
 /// Once decoded, the output contains no controls (C0, C1 or DEL) except BS, LF,
-/// CR and ESC. In output that draws (`drawing`, `scrolling`, `reset`), each ESC
-/// is followed by `[`, `7` or `8`. In output that also sets modes (`state`), an
-/// ESC may also be followed by `=` or `>`. In captures, each ESC is followed by
-/// `[`. Plain text contains no ESC.
+/// CR and ESC. In output that draws (clauses `drawing`, `scrolling`, `reset`),
+/// each ESC is followed by `[`, `7` or `8`. In output that also sets modes
+/// (clause `state`), an ESC may also be followed by `=` or `>`. In captures,
+/// each ESC is followed by `[`. Plain text contains no ESC.
 pub fn escapes()
     ensures drawing { (text : List ℕ) → IsMadeOf drawing_finals drawing_controls text →
         HasOnlyEscapes (codes "[78") text }

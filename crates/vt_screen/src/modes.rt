@@ -45,7 +45,7 @@ impl Modes {
 }
 
 /// Returns the mouse mode after `mode` is reset: `None` if `mode` is the active
-/// one, otherwise the active one.
+/// mode `was`, otherwise `was`.
 pub fn clear_mode(was: MouseProtocolMode, mode: MouseProtocolMode) -> MouseProtocolMode
     ensures { result ≡ mouse_mode_without was mode }
 {
@@ -56,7 +56,7 @@ pub fn clear_mode(was: MouseProtocolMode, mode: MouseProtocolMode) -> MouseProto
 }
 
 /// Returns the mouse encoding after `encoding` is reset: `Default` if
-/// `encoding` is the active one, otherwise the active one.
+/// `encoding` is the active encoding `was`, otherwise `was`.
 pub fn clear_encoding(
     was: MouseProtocolEncoding,
     encoding: MouseProtocolEncoding,

@@ -28,7 +28,7 @@ pub struct Rows<'a> {
 
 impl<'a> Rows<'a> {
     /// Creates an iterator over the rows from top to bottom that reads `width`
-    /// columns of each, beginning at column `start`.
+    /// columns of each row, beginning at column `start`.
     pub(crate) fn new(screen: &'a Screen, start: u16, width: u16) -> Rows<'a>
         ensures { rows_left result ≡ row_texts start (start + width) (visible_rows screen.now) }
     {

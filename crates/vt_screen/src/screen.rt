@@ -172,10 +172,9 @@ impl Screen {
         (non_zero(size.rows), non_zero(size.cols))
     }
 
-    /// Returns whether two screens have the same number of rows and the same
-    /// number of columns. [`Screen::contents_diff`],
-    /// [`Screen::contents_diff_scrolling`], [`Screen::state_diff`] and
-    /// [`Screen::rows_diff`] require this.
+    /// Returns whether two screens have the same number of rows and the same number of columns.
+    /// [`Screen::contents_diff`], [`Screen::contents_diff_scrolling`], [`Screen::state_diff`] and
+    /// [`Screen::rows_diff`] require screens of the same size.
     ///
     /// # Examples
     ///
@@ -297,14 +296,14 @@ impl Screen {
         self.modes.cursor_style
     }
 
-    /// Returns the foreground colour of newly printed text (ECMA-48, SGR).
+    /// Returns the foreground color of newly printed text (ECMA-48, SGR).
     pub fn fgcolor(&self) -> Color
         ensures { result ≡ self.now.attrs.fgcolor }
     {
         self.attrs.fgcolor()
     }
 
-    /// Returns the background colour of newly printed text (ECMA-48, SGR).
+    /// Returns the background color of newly printed text (ECMA-48, SGR).
     pub fn bgcolor(&self) -> Color
         ensures { result ≡ self.now.attrs.bgcolor }
     {
@@ -357,7 +356,7 @@ impl Screen {
     }
 }
 
-/// Returns a copy of a page, if there is one.
+/// Returns a copy of `page`, or `None` if `page` is `None`.
 ///
 /// # Errors
 ///

@@ -15,10 +15,10 @@ pub enum Setting {
     /// Resets all attributes to their defaults.
     Reset,
 
-    /// The foreground colour.
+    /// The foreground color.
     Foreground(Color),
 
-    /// The background colour.
+    /// The background color.
     Background(Color),
 
     /// The intensity: normal, bold or dim.
@@ -34,14 +34,14 @@ pub enum Setting {
     Inverse(bool),
 }
 
-/// The colour that an extended colour sequence (SGR 38 or 48) sets: foreground
+/// The color that an extended color sequence (SGR 38 or 48) sets: foreground
 /// or background.
 #[derive(Clone, Copy, PartialEq, Eq, Debug)]
 pub enum Layer {
-    /// The foreground colour (SGR 38).
+    /// The foreground color (SGR 38).
     Front,
 
-    /// The background colour (SGR 48).
+    /// The background color (SGR 48).
     Back,
 }
 
@@ -51,21 +51,21 @@ pub enum Wanted {
     /// The next group is a setting.
     Any,
 
-    /// The next group is the format of an extended colour: 2 (RGB) or 5
+    /// The next group is the format of an extended color: 2 (RGB) or 5
     /// (palette).
     Form(Layer),
 
-    /// The next group is the palette index of a colour.
+    /// The next group is the palette index of a color.
     Index(Layer),
 
-    /// The next group is the red component of a colour.
+    /// The next group is the red component of a color.
     Red(Layer),
 
-    /// The next group is the green component of a colour whose red component
+    /// The next group is the green component of a color whose red component
     /// has been read.
     Green(Layer, u8),
 
-    /// The next group is the blue component of a colour whose red and green
+    /// The next group is the blue component of a color whose red and green
     /// components have been read.
     Blue(Layer, u8, u8),
 
@@ -117,7 +117,7 @@ impl Setting {
 }
 
 impl Layer {
-    /// Returns the setting that changes the colour of this layer to `color`.
+    /// Returns the setting that changes the color of the layer to `color`.
     fn colored(self, color: Color) -> Setting
         ensures { result ≡ colored self color }
     {
@@ -165,13 +165,13 @@ impl GroupRead {
 
 impl Wanted {
     /// Interprets one group of an SGR sequence as `self` specifies (ECMA-48,
-    /// with xterm's extended colours). For the first group of a sequence,
+    /// with xterm's extended colors). For the first group of a sequence,
     /// `self` is [`Wanted::Any`].
     ///
-    /// The rest of the sequence is ignored after an extended colour with a
-    /// component above 255. It is also ignored after an extended colour that
+    /// The rest of the sequence is ignored after an extended color with a
+    /// component above 255. It is also ignored after an extended color that
     /// spans several groups and is incomplete or has a format other than 2 and
-    /// 5. If such a colour is in a single group, that group is unknown and the
+    /// 5. If such a color is in a single group, that group is unknown and the
     /// next group is interpreted as a setting.
     #[inline(always)]
     #[tactic(auto, unfolding(crate::specs::Sgr::group_read))]
@@ -235,7 +235,7 @@ fn read_number(number: u16) -> GroupRead
     }
 }
 
-/// Interprets a three-number group as an extended colour with a palette index.
+/// Interprets a three-number group as an extended color with a palette index.
 fn read_three(layer: Layer, form: u16, index: u16) -> GroupRead
     ensures { result ≡ three_read layer form index }
 {
@@ -245,7 +245,7 @@ fn read_three(layer: Layer, form: u16, index: u16) -> GroupRead
     index_colored(layer, index)
 }
 
-/// Interprets a five-number group as an extended colour with RGB components.
+/// Interprets a five-number group as an extended color with RGB components.
 fn read_five(layer: Layer, form: u16, red: u16, green: u16, blue: u16) -> GroupRead
     ensures { result ≡ five_read layer form red green blue }
 {
@@ -255,7 +255,7 @@ fn read_five(layer: Layer, form: u16, red: u16, green: u16, blue: u16) -> GroupR
     rgb_colored(layer, red, green, blue)
 }
 
-/// Returns the result that sets a palette colour. If `index` is above 255,
+/// Returns the result that sets a palette color. If `index` is above 255,
 /// nothing is set and the rest of the sequence is ignored.
 #[tactic(auto, using(std::proofs::lemmas::Bool::Decides::nat_tests), unfolding(crate::specs::Sgr::index_read))]
 fn index_colored(layer: Layer, index: u16) -> GroupRead
@@ -267,7 +267,7 @@ fn index_colored(layer: Layer, index: u16) -> GroupRead
     GroupRead::set(layer.colored(Color::Idx(index as u8)))
 }
 
-/// Returns the result that sets an RGB colour. If a component is above 255,
+/// Returns the result that sets an RGB color. If a component is above 255,
 /// nothing is set and the rest of the sequence is ignored.
 #[tactic(auto, using(std::proofs::lemmas::Bool::Decides::nat_tests), unfolding(crate::specs::Sgr::rgb_read))]
 fn rgb_colored(layer: Layer, red: u16, green: u16, blue: u16) -> GroupRead
@@ -279,7 +279,7 @@ fn rgb_colored(layer: Layer, red: u16, green: u16, blue: u16) -> GroupRead
     GroupRead::set(layer.colored(Color::Rgb(red as u8, green as u8, blue as u8)))
 }
 
-/// Interprets a group as the format of an extended colour.
+/// Interprets a group as the format of an extended color.
 #[tactic(auto, using(std::proofs::lemmas::Bool::Decides::nat_tests), unfolding(crate::specs::Sgr::form_read))]
 fn read_form(layer: Layer, group: &[u16]) -> GroupRead
     ensures { result ≡ form_read layer group.now }
@@ -294,7 +294,7 @@ fn read_form(layer: Layer, group: &[u16]) -> GroupRead
     }
 }
 
-/// Returns the colour component or palette index that a group holds, if the
+/// Returns the color component or palette index that a group holds, if the
 /// group is a single number of at most 255.
 #[tactic(auto, using(std::proofs::lemmas::Bool::Decides::nat_tests))]
 fn part_of(group: &[u16]) -> Option<u8>
@@ -307,7 +307,7 @@ fn part_of(group: &[u16]) -> Option<u8>
     }
 }
 
-/// Interprets a group as the palette index of a colour.
+/// Interprets a group as the palette index of a color.
 fn read_index(layer: Layer, group: &[u16]) -> GroupRead
     ensures { result ≡ part_read group.now (λ i. set (colored layer (Color.Idx i))) }
 {
@@ -317,7 +317,7 @@ fn read_index(layer: Layer, group: &[u16]) -> GroupRead
     }
 }
 
-/// Interprets a group as the red component of a colour.
+/// Interprets a group as the red component of a color.
 fn read_red(layer: Layer, group: &[u16]) -> GroupRead
     ensures { result ≡ part_read group.now (λ r. silent (Wanted.Green layer r)) }
 {
@@ -327,7 +327,7 @@ fn read_red(layer: Layer, group: &[u16]) -> GroupRead
     }
 }
 
-/// Interprets a group as the green component of a colour.
+/// Interprets a group as the green component of a color.
 fn read_green(layer: Layer, red: u8, group: &[u16]) -> GroupRead
     ensures { result ≡ part_read group.now (λ g. silent (Wanted.Blue layer red g)) }
 {
@@ -337,7 +337,7 @@ fn read_green(layer: Layer, red: u8, group: &[u16]) -> GroupRead
     }
 }
 
-/// Interprets a group as the blue component of a colour.
+/// Interprets a group as the blue component of a color.
 fn read_blue(layer: Layer, red: u8, green: u8, group: &[u16]) -> GroupRead
     ensures { result ≡ part_read group.now (λ b. set (colored layer (Color.Rgb red green b))) }
 {

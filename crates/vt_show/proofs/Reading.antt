@@ -41,7 +41,7 @@ pub ok_ran : {E : Type 0} (r : Result (Unit {0}) E) (P : Type 0) → is_err r �
 ok_ran (Ok x) P e h = h
 ok_ran (Err x) P e h = cc
 
--- What holds for the output of a mode holds for that of the screen after the bytes that were read.
+-- A statement about the output for the bytes that were read holds for the text of the screen after these bytes.
 pub for_text : (mode : Mode) (rows cols : ℕ) (left rest : Option (List ℕ)) (p q : Parsing (Unit {0}))
     (screen : ScreenValue) (text : List ℕ) (Holds : List ℕ → Type 0)
     → StandsFor p.scanner start → p ≡ parsing p.scanner (fresh_screen rows cols 0) p.callbacks

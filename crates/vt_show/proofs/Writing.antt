@@ -42,7 +42,7 @@ written_part all rest old mid new so keeps = record {
   appends = Appends-kept old mid new so.taken so.appends keeps;
 }
 
--- Writing a whole text is writing a part of it.
+-- Output that grew by a whole text grew by a part of it.
 pub whole_part : (all : List ℕ) (old mid new : Option (List ℕ)) → Appends old mid all → Keeps mid new →
     AppendsPart old new all
 whole_part all old mid new appends keeps = record {

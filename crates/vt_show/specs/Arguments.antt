@@ -8,13 +8,13 @@ use Rattle.vt_show.specs.declared.mode.Mode.TheVariants.{Plain, Formatted, Basic
 abbrev pub IsSize : List ℕ → ℕ → Type 0
 IsSize word n = IsNumeral 10 word × (digits_value 10 word ≡ n) × (0 < n) × (n < 2 ^ 16)
 
--- The name of a mode on the command line.
+-- The name of an output mode on the command line.
 abbrev pub name_of : Mode → List ℕ
 name_of Plain = codes "plain"
 name_of Formatted = codes "formatted"
 name_of Basic = codes "basic"
 
--- There are exactly three arguments, and they specify `rows`, `cols` and `mode`.
+-- There are exactly three arguments, which specify `rows`, `cols` and `mode`.
 abbrev pub AsksToShow : List (List ℕ) → ℕ → ℕ → Mode → Type 0
 AsksToShow (first ∷ second ∷ third ∷ []) rows cols mode =
     IsSize first rows × IsSize second cols × (third ≡ name_of mode)

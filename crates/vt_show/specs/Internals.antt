@@ -4,13 +4,13 @@ use Rattle.std.specs.Io.KnownBytes.{Appends, Consumes}
 use Rattle.std.specs.declared.option.Option.{Option}
 use Rattle.vt100.specs.Parser.{Parsing, Ran, quietly}
 
--- Bytes were read from the input, and the parser has parsed them.
+-- Some bytes were read from the input, and the parser has parsed them.
 pub record HasReadBytes (left rest : Option (List ℕ)) (old new : Parsing (Unit {0})) : Type 0 where
   pub bytes : List ℕ
   pub reads : Consumes left rest bytes
   pub ran : Ran quietly old bytes new
 
--- A prefix of the bytes to write has been written, and `rest` is left to write.
+-- A prefix of the bytes `all` has been written, and the bytes `rest` remain to be written.
 pub record HasWrittenTo (all rest : List ℕ) (old new : Option (List ℕ)) : Type 0 where
   pub taken : List ℕ
   pub parts : all ≡ taken ++ rest

@@ -19,35 +19,35 @@ use Rattle.vt_show.specs.declared.faults.Fault.TheVariants.{Write}
 use Rattle.vt_show.specs.declared.mode.Mode.{Mode}
 use Rattle.vt_show.specs.declared.mode.Mode.TheVariants.{Plain, Formatted, Basic}
 
--- The screen is that of a new terminal, with `rows` rows, `cols` columns and no scrollback, after it has parsed the
--- input.
+-- The screen is that of a new terminal with `rows` rows, `cols` columns and no scrollback, after the terminal has
+-- parsed the input.
 abbrev pub ShowsAfter : ℕ → ℕ → List ℕ → ScreenValue → Type 0
 ShowsAfter rows cols input screen =
     FoldsTo (Performs quietly) (state tt (fresh_screen rows cols 0)) (scan.run start input).events (state tt screen)
 
--- The output for a mode: the string that `Screen::contents`, `Screen::contents_formatted` or
+-- The output of `vtshow` for a mode and a screen: the string that `Screen::contents`, `Screen::contents_formatted` or
 -- `Screen::contents_formatted_basic` returns.
 abbrev pub screen_text : Mode → ScreenValue → List ℕ
 screen_text Plain screen = contents_of screen
 screen_text Formatted screen = shown_text screen
 screen_text Basic screen = basic_texts unwritten (visible_rows screen)
 
--- The output contains only the control characters of its mode: line ends for `Plain`, sequences that draw for
--- `Formatted`, and line ends and SGR for `Basic`.
+-- The output has only the control characters and sequences that the given mode allows: line ends for `Plain`, drawing
+-- sequences for `Formatted`, and line ends and SGR for `Basic`.
 abbrev pub IsOfMode : Mode → List ℕ → Type 0
 IsOfMode Plain text = IsMadeOf [] plain_controls text
 IsOfMode Formatted text = IsMadeOf drawing_finals drawing_controls text
 IsOfMode Basic text = IsMadeOf capture_finals plain_controls text
 
--- The output grew by `text` or by a prefix of it.
+-- The output grew by `text` or by a prefix of `text`.
 pub record AppendsPart (old new : Option (List ℕ)) (text : List ℕ) : Type 0 where
   pub taken : List ℕ
   pub lost : List ℕ
   pub parts : text ≡ taken ++ lost
   pub appends : Appends old new taken
 
--- The input was `left` before and is `rest` now, and `Holds` holds for the output that the bytes read in between
--- produce.
+-- The input was `left` before and is `rest` now, and `Holds` holds for the output produced by the bytes read in
+-- between.
 pub record ReadsForText (mode : Mode) (rows cols : ℕ) (left rest : Option (List ℕ))
     (Holds : List ℕ → Type 0) : Type 0 where
   pub input : List ℕ
@@ -57,9 +57,9 @@ pub record ReadsForText (mode : Mode) (rows cols : ℕ) (left rest : Option (Lis
   pub text : Holds (screen_text mode screen)
   pub controls : IsOfMode mode (screen_text mode screen)
 
--- The effect of a run. On success, the input was read to its end, and exactly the output for it was written. If
--- writing fails, the input was read to its end, and a prefix of the output was written. After any other fault,
--- nothing was written. The function `error` converts a fault to the error that is returned.
+-- The effect of a run of `vtshow`. On success, the input was read to its end, and exactly the output for it was
+-- written. If writing fails, the input was read to its end, and a prefix of the output was written. After any other
+-- fault, nothing was written. The function `error` converts a fault to the error that is returned.
 pub record ShowsOrFails {E : Type 0} (error : Fault → E) (mode : Mode) (rows cols : ℕ)
     (left rest written grown : Option (List ℕ)) (result : Result (Unit {0}) E) : Type 0 where
   pub end : OnOk result (IsAtEnd rest)

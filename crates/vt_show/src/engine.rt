@@ -77,7 +77,7 @@ pub fn run_words<R: Read, W: Write>(
     }
 }
 
-/// Reads all input into the parser. Fails with [`Fault::Memory`] only if the parser has failed.
+/// Reads all input into the parser. Returns [`Fault::Memory`] only if the parser has failed.
 fn read_all<R: Read>(parser: &mut Parser, reader: &mut R) -> Result<(), Fault>
     ensures end { OnOk result (IsAtEnd (R.remaining reader.new)) }
     ensures ran { OnOk result (HasReadBytes (R.remaining reader.old) (R.remaining reader.new) parser.old parser.new) }
@@ -131,8 +131,8 @@ pub fn write_text<W: Write>(writer: &mut W, text: &str) -> Result<(), Fault>
     Ok(())
 }
 
-/// Writes all of `bytes`. It is used instead of `Write::write_all`, whose contract does not say
-/// what a writer holds after an error.
+/// Writes all of `bytes`. This function is used instead of `Write::write_all`, whose contract does
+/// not say what a writer holds after an error.
 fn write_bytes<W: Write>(writer: &mut W, bytes: &[u8]) -> Result<(), Fault>
     ensures all { OnOk result (Appends (W.contents writer.old) (W.contents writer.new) bytes.now) }
     ensures part { OnErr result (AppendsPart (W.contents writer.old) (W.contents writer.new) bytes.now) }

@@ -38,7 +38,7 @@ pub fn given_words<R: Env + AllocGlobal>(rt: &R) -> Result<Vec<String>, Option<F
 /// Parses the number of rows, the number of columns and the mode from exactly three arguments.
 /// Returns `None` if the arguments are invalid.
 ///
-/// The numbers consist of decimal digits with a value from 1 to 65535; leading zeros are allowed.
+/// Each number must consist of decimal digits and be from 1 to 65535; leading zeros are allowed.
 /// The modes are `plain`, `formatted` and `basic`.
 ///
 /// ```text
@@ -70,8 +70,8 @@ pub(crate) fn asked(words: &[String]) -> Option<(NonZeroU16, NonZeroU16, Mode)>
     arguments(&[rows.as_str(), cols.as_str(), mode.as_str()])
 }
 
-/// Parses a number of rows or columns. It must consist of decimal digits with a value from 1 to
-/// 65535; leading zeros are allowed. Returns `None` for any other string.
+/// Parses a number of rows or columns. The string must consist of decimal digits, and the number
+/// must be from 1 to 65535; leading zeros are allowed. Returns `None` for any other string.
 ///
 /// ```text
 /// assert_eq!(size("080"), NonZeroU16::new(80));
@@ -100,7 +100,7 @@ fn has_sign(word: &str) -> bool
     }
 }
 
-/// Returns the mode with this name, if there is one.
+/// Returns the mode named `word`, or `None` if there is no such mode.
 fn mode_named(word: &str) -> Option<Mode>
     ensures some { IfSome result (λ mode. word.now ≡ name_of mode) }
     ensures none { IfNone result ((mode : Mode) → word.now ≡ name_of mode → ⊥) }

@@ -1,10 +1,10 @@
-//! Random input: plain text, characters of two columns and of none, control characters, sequences
-//! of all kinds, and bytes that are none of these.
+//! Random input: plain text, characters that take two columns or none, control characters,
+//! sequences of all kinds, and arbitrary bytes.
 
 use crate::dice::Dice;
 use std::alloc::AllocError;
 
-/// Characters of one column and of two, combining characters, and characters that draw nothing.
+/// Characters that take one or two columns, combining characters, and characters that draw nothing.
 const CHARACTERS: [&str; 28] = [
     "é",
     "中",
@@ -38,10 +38,11 @@ const CHARACTERS: [&str; 28] = [
 
 const CONTROLS: [u8; 10] = [b'\r', b'\n', b'\r', b'\n', 8, 9, 7, 11, 14, 5];
 
-/// Final bytes of control sequences; those that move, erase and shift occur more than once.
+/// Final bytes of control sequences. Those of sequences that move the cursor, erase or shift cells
+/// occur more than once, so that they are chosen more often.
 const ENDS: &[u8] = b"ABCDEFGHIJKLMPSTX@`abdefghlmnqrstuABCDHJKLMPSTX@";
 
-/// Bytes after an ESC. RIS is among them, once.
+/// Bytes that follow an ESC. The byte of RIS occurs only once.
 const ESCAPES: &[u8] = b"7878=>MMMcgDEHZ(#\\";
 
 const RENDITIONS: [&str; 24] = [
@@ -101,7 +102,7 @@ const COMMANDS: [&str; 8] = [
     "",
 ];
 
-/// Appends some random input.
+/// Appends a random number of random characters, control characters and sequences.
 pub fn push_some(bytes: &mut Vec<u8>, dice: &mut Dice) -> Result<(), AllocError> {
     let most = if dice.is_one_in(8) { 160 } else { 12 };
     for _ in 0..dice.up_to(most) {
@@ -139,8 +140,8 @@ fn push_word(bytes: &mut Vec<u8>, word: Option<&str>) -> Result<(), AllocError> 
     bytes.extend_from_slice(word.unwrap_or("").as_bytes())
 }
 
-/// Appends a control sequence: seldom with a private marker or an intermediate, and with up to
-/// three numbers.
+/// Appends a control sequence with up to three numbers, and sometimes with a private marker or an
+/// intermediate.
 fn push_sequence(bytes: &mut Vec<u8>, dice: &mut Dice) -> Result<(), AllocError> {
     push_word(bytes, Some("\x1b["))?;
     if dice.is_one_in(8) {
@@ -158,7 +159,7 @@ fn push_sequence(bytes: &mut Vec<u8>, dice: &mut Dice) -> Result<(), AllocError>
     push_byte(bytes, dice.pick(ENDS))
 }
 
-/// Appends a number: mostly of one digit, sometimes of none or of more.
+/// Appends a number, mostly with one digit, sometimes with none or with more than one.
 fn push_number(bytes: &mut Vec<u8>, dice: &mut Dice) -> Result<(), AllocError> {
     let digits = match dice.below(16) {
         0 => 0,
@@ -194,7 +195,7 @@ fn push_modes(bytes: &mut Vec<u8>, dice: &mut Dice) -> Result<(), AllocError> {
     push_byte(bytes, dice.pick(b"hl"))
 }
 
-/// Appends an escape sequence, an operating system command or another string.
+/// Appends an escape sequence, an operating system command or a different kind of control string.
 fn push_escape(bytes: &mut Vec<u8>, dice: &mut Dice) -> Result<(), AllocError> {
     push_byte(bytes, Some(0x1b))?;
     match dice.below(8) {

@@ -1,9 +1,9 @@
-//! Callbacks that reduce all calls to one number.
+//! Callbacks that compute a hash of all calls.
 
 use vt100::capture::RowContents;
 use vt100::{Call, Callbacks, Screen};
 
-/// A hash of all calls so far, and their number.
+/// Callbacks that maintain a hash of all calls so far and the number of calls.
 #[derive(Clone, Copy, Default, PartialEq, Eq)]
 pub struct Digest {
     calls: u64,

@@ -1,11 +1,12 @@
 //! `vt_soak SEED STEPS`: a long random run. Two terminals parse the same random bytes, split
-//! differently, and get the same calls in between. A third terminal is kept equal to them by
-//! differences, and a fourth one by redraws. Both also parse the output of screens that are not
-//! steady; nothing is expected of their display until the next steady screen.
+//! differently, and receive the same calls in between. A third terminal is kept equal to them by
+//! diffs, and a fourth terminal by redraws. The third and the fourth terminal also parse the output
+//! of screens that are not steady; the displays of these two terminals are not checked again until
+//! the next steady screen.
 //!
-//! At the end a line with the counts is printed, or one with the first difference and its step. The
-//! status is 1 if something differs. If standard error is a terminal, the progress is printed there
-//! from time to time.
+//! Finally prints a line with the counts, or a line with the first difference and its step. The
+//! exit status is 1 if something differs. If standard error is a terminal, the progress is printed
+//! there from time to time.
 #![tactic(auto)]
 
 mod bytes;
@@ -30,7 +31,7 @@ use std::process::ExitCode;
 use std::rt::Env;
 use tally::Tally;
 
-/// The number of steps between two lines of progress.
+/// The number of steps between two lines that report the progress.
 const PACE: u64 = 100_000;
 
 /// The number of steps after which all terminals are replaced, with a different size and scrollback

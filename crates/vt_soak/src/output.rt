@@ -1,4 +1,4 @@
-//! The sequences that output for terminals may contain.
+//! A check of the sequences in output for other terminals.
 
 use std::str::Chars;
 
@@ -6,7 +6,7 @@ use std::str::Chars;
 /// and ICH, DCH, IL and DL in differences that move rows or columns.
 const FINALS: &str = "HCXKJm@PLM";
 
-/// Returns whether a text contains no control characters other than line ends, backspaces, and the
+/// Returns whether the only control characters in a text are CR, LF, backspaces, and those of the
 /// escape sequences that draw.
 pub fn is_drawn(text: &str) -> bool {
     let mut chars = text.chars();
@@ -26,7 +26,7 @@ pub fn is_drawn(text: &str) -> bool {
     true
 }
 
-/// Returns whether the characters after an ESC are one of the sequences that draw.
+/// Returns whether the characters after an ESC form a sequence that draws.
 fn is_sequence(chars: &mut Chars<'_>) -> bool {
     match chars.next() {
         Some('7' | '8') => true,
@@ -35,8 +35,8 @@ fn is_sequence(chars: &mut Chars<'_>) -> bool {
     }
 }
 
-/// Returns whether the characters after CSI are decimal numbers and one of the final bytes, or show
-/// or hide the cursor.
+/// Returns whether the characters after CSI are decimal numbers followed by one of the final bytes
+/// in [`FINALS`], or form the sequence that shows or hides the cursor.
 fn is_control_sequence(chars: &mut Chars<'_>) -> bool {
     match chars.next() {
         Some('?') => is_cursor_mode(chars),
@@ -46,14 +46,14 @@ fn is_control_sequence(chars: &mut Chars<'_>) -> bool {
     }
 }
 
-/// Returns whether the characters after `CSI ?` are mode 25, set or reset.
+/// Returns whether the characters after `CSI ?` set or reset mode 25.
 fn is_cursor_mode(chars: &mut Chars<'_>) -> bool {
     let mode = (chars.next(), chars.next(), chars.next());
     matches!(mode, (Some('2'), Some('5'), Some('h' | 'l')))
 }
 
-/// Returns whether the rest of a control sequence consists of decimal numbers and one of the final
-/// bytes.
+/// Returns whether the remaining characters of a control sequence are decimal numbers followed by
+/// one of the final bytes in [`FINALS`].
 fn ends_listed(chars: &mut Chars<'_>) -> bool {
     for c in chars {
         if !is_parameter(c) {

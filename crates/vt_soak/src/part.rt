@@ -3,10 +3,10 @@
 use std::fmt;
 use vt100::{Color, Screen};
 
-/// A part in which screens or terminals may differ.
+/// A part of the state in which screens or terminals may differ.
 #[derive(Clone, Copy)]
 pub enum Part {
-    /// The number of rows or of columns.
+    /// The number of rows or the number of columns.
     Size,
 
     /// A cell or its attributes.
@@ -24,28 +24,30 @@ pub enum Part {
     /// The input modes, the cursor style, or which page is active.
     Modes,
 
-    /// The number of rows in scrollback, of those displayed, or its capacity.
+    /// The number of rows in scrollback, the number of rows by which the display is scrolled back,
+    /// or the scrollback capacity.
     Counts,
 
-    /// The rows of scrollback, or those of the page that displayed scrollback hides.
+    /// The rows of scrollback, or the rows of the page that are not visible while scrollback is
+    /// displayed.
     Rows,
 
-    /// The calls of callbacks.
+    /// The callbacks that were invoked.
     Calls,
 
-    /// An invariant of every screen.
+    /// An invariant that every screen must satisfy.
     Soundness,
 
-    /// The display of a terminal that parsed differences.
+    /// The display of a terminal that parsed diffs.
     Difference,
 
     /// The display of a terminal that parsed a redraw.
     Redraw,
 
-    /// The redraw of a terminal with the same display.
+    /// The redraw of a terminal that has the same display.
     Text,
 
-    /// A control character in output for terminals.
+    /// A control character that output for other terminals must not contain.
     Output,
 
     /// Whether the screen is steady.
@@ -101,7 +103,8 @@ pub fn differing(one: &Screen, other: &Screen) -> Option<Part> {
     None
 }
 
-/// Returns the number of displayed rows of scrollback, of rows in scrollback, and its capacity.
+/// Returns the number of rows by which the display is scrolled back, the number of rows in
+/// scrollback, and the scrollback capacity.
 pub fn counts(screen: &Screen) -> (usize, usize, usize) {
     (
         screen.scrollback(),

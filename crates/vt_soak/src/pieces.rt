@@ -1,4 +1,4 @@
-//! Bytes that are split at random.
+//! Feeding bytes to a parser in random chunks.
 
 use crate::dice::Dice;
 use vt100::{Callbacks, Error, Parser};

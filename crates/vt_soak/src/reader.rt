@@ -1,4 +1,4 @@
-//! Terminals that are kept equal to another one by escape sequences alone.
+//! Terminals that are kept equal to a different terminal by escape sequences alone.
 
 use crate::dice::Dice;
 use crate::output::is_drawn;
@@ -9,11 +9,11 @@ use crate::tally::Tally;
 use anyhow::{Result, bail};
 use vt100::{Parser, Screen};
 
-/// Feeds the difference from `prev` to `screen`, of either kind, to a terminal, and returns what
-/// then differs from the screen.
+/// Feeds the terminal `reader` a diff from `prev` to `screen`, either plain or scrolling. Returns
+/// what differs between the terminal and `screen` afterward.
 ///
-/// If the terminal does not display `prev`, because it skipped a step, or has a different size, it
-/// gets a redraw instead.
+/// If the terminal has a different size, or does not display `prev` because it skipped a step, it
+/// receives a redraw instead.
 pub fn read_difference(
     dice: &mut Dice,
     tally: &mut Tally,
@@ -32,8 +32,8 @@ pub fn read_difference(
     Ok(missing(reader.screen(), screen, Part::Difference))
 }
 
-/// Feeds the redraw of a screen to a terminal, whatever it displays, and returns what then differs
-/// from the screen.
+/// Feeds the redraw of `screen` to the terminal `reader`, whatever the terminal displays. Returns
+/// what differs between the terminal and `screen` afterward.
 pub fn read_redraw(
     dice: &mut Dice,
     tally: &mut Tally,
@@ -51,9 +51,9 @@ pub fn read_redraw(
     Ok(missing(reader.screen(), screen, Part::Redraw))
 }
 
-/// Feeds a difference and a redraw of a screen that is not steady to two terminals, after which
-/// they may display anything. They are plain nevertheless, so that later redraws have the expected
-/// effect.
+/// Feeds the terminal `mirror` a diff from `prev` to `screen`, which is not steady, and feeds the
+/// terminal `painter` a redraw of `screen`. Afterward, the displays of both terminals are
+/// unspecified, but both terminals are still plain, so later redraws have the expected effect.
 pub fn read_unsteady(
     dice: &mut Dice,
     tally: &mut Tally,
@@ -77,8 +77,9 @@ pub fn read_unsteady(
     Ok(None)
 }
 
-/// Feeds the difference of the modes to a terminal that has those of `prev`, and returns what then
-/// differs from those of the screen.
+/// Feeds the diff from the input modes of `prev` to those of `screen` to a terminal that has the
+/// modes of `prev`. Returns [`Part::Modes`] if the terminal does not have the modes of `screen`
+/// afterward.
 pub fn read_modes(
     dice: &mut Dice,
     reader: &mut Parser,
@@ -93,14 +94,14 @@ pub fn read_modes(
     Ok(None)
 }
 
-/// Returns whether the terminal and both screens have the same size, and the terminal displays
-/// `prev`.
+/// Returns whether the terminal `reader` and both screens have the same size, and the terminal
+/// displays `prev`.
 fn is_at(reader: &Screen, screen: &Screen, prev: &Screen) -> bool {
     reader.is_sized_as(screen) && prev.is_sized_as(screen) && shows(reader, prev)
 }
 
-/// Returns the difference between two screens. Two differences that only draw alternate with two
-/// that may move rows first, so that each kind follows each.
+/// Returns a diff from `prev` to `screen`. Two diffs that never move rows alternate with two diffs
+/// that may do so; each kind is therefore tested after itself and after the other kind.
 fn difference(tally: &mut Tally, screen: &Screen, prev: &Screen) -> Result<String> {
     if !screen.is_sized_as(prev) {
         bail!("screens of two sizes");

@@ -1,4 +1,4 @@
-//! A round: new terminals, and a number of steps.
+//! A round of the test: new terminals, and a number of steps.
 
 use crate::dice::Dice;
 use crate::digest::Digest;
@@ -17,7 +17,7 @@ use vt100::{Parser, Screen};
 /// The scrollback capacities, one of which is chosen for each round.
 const CAPACITIES: [usize; 6] = [0, 1, 3, 20, 1000, usize::MAX];
 
-/// All rows of scrollback are compared once in this many steps.
+/// The average number of steps between two comparisons of all rows of scrollback.
 const WHOLE: u32 = 16;
 
 /// The terminals of a round, and the bytes that two of them parsed last.
@@ -30,7 +30,7 @@ struct Round {
     bytes: Vec<u8>,
 }
 
-/// Creates all terminals, and takes this many steps, or fewer if something differs.
+/// Creates all terminals and takes `steps` steps, stopping early if something differs.
 pub fn run(alloc: Global, dice: &mut Dice, tally: &mut Tally, steps: u64) -> Result<()> {
     let mut round = Round::new(alloc, dice)?;
     for _ in 0..steps {
@@ -43,8 +43,8 @@ pub fn run(alloc: Global, dice: &mut Dice, tally: &mut Tally, steps: u64) -> Res
 }
 
 impl Round {
-    /// Creates two equal terminals, a third one, which may be on its alternate page, and a fourth
-    /// one.
+    /// Creates two equal terminals, a third terminal, which may be on its alternate page, and a
+    /// fourth terminal.
     fn new(alloc: Global, dice: &mut Dice) -> Result<Round> {
         let (rows, cols) = size(dice);
         let capacity = dice.pick(&CAPACITIES).unwrap_or(0);
@@ -66,7 +66,8 @@ impl Round {
         })
     }
 
-    /// Takes one step, and returns what differs after it.
+    /// Takes one step. Returns the first difference or broken invariant that is found after the
+    /// step, if any.
     fn step(&mut self, alloc: Global, dice: &mut Dice, tally: &mut Tally) -> Result<Option<Part>> {
         let prev = self.one.screen().clone()?;
         take_step(dice, tally, &mut self.bytes, &mut self.one, &mut self.other)?;
@@ -83,8 +84,8 @@ impl Round {
     }
 }
 
-/// Returns what differs between two terminals that parsed the same, or an invariant of every screen
-/// that one of them breaks.
+/// Returns the part in which two terminals that parsed the same bytes differ, or
+/// [`Part::Soundness`] if a screen breaks an invariant.
 fn twins_part(
     alloc: Global,
     dice: &mut Dice,
@@ -108,7 +109,7 @@ fn twins_part(
     Ok(None)
 }
 
-/// Returns the basic text of all rows.
+/// Returns the basic text of all rows of a screen, including scrollback.
 fn all_rows(alloc: Global, screen: &Screen) -> Result<String> {
     let mut text = String::new(alloc);
     let mut state = BasicFormattedCaptureState::new();
@@ -117,8 +118,8 @@ fn all_rows(alloc: Global, screen: &Screen) -> Result<String> {
     Ok(text)
 }
 
-/// Returns what is wrong with the redraw of a screen, or with its own statement whether it is
-/// steady.
+/// Checks the redraw of a screen and the result of `is_steady`. Returns the part that is wrong, if
+/// any.
 fn screen_part(alloc: Global, screen: &Screen) -> Result<Option<Part>> {
     if !is_drawn(screen.contents_formatted()?.as_str()) {
         return Ok(Some(Part::Output));
@@ -129,7 +130,8 @@ fn screen_part(alloc: Global, screen: &Screen) -> Result<Option<Part>> {
     Ok(None)
 }
 
-/// Returns what differs between the screen and terminals that parsed its output.
+/// Feeds the output of `screen` to the terminals `mirror` and `painter`. Returns what differs
+/// between the screen and these terminals afterward.
 fn readers_part(
     dice: &mut Dice,
     tally: &mut Tally,

@@ -1,14 +1,14 @@
-//! Comparison of a terminal with the display of a screen.
+//! Comparison of what a terminal displays with what a screen displays.
 
 use crate::part::{attributes, cursor};
 use vt100::{Cell, Color, Screen};
 
-/// Returns whether the page of a terminal, which displays no scrollback, has the cells, wrapped
-/// flags, cursor and attributes that a screen of its size displays.
+/// Returns whether the terminal `reader` displays no scrollback and its page has the cells, wrapped
+/// flags, cursor and attributes that `screen` displays. Both screens must have the same size.
 ///
-/// A row of scrollback that is longer than the screen is cut to its columns: a wide glyph that is
-/// cut becomes a blank, and a wrapped flag counts only if the last column is not blank, and never
-/// in the last row.
+/// A row of scrollback that is wider than the screen is cut to the screen's columns: a wide glyph
+/// that is cut becomes a blank, and the row counts as wrapped only if its last column is not blank
+/// and it is not the last row.
 pub fn shows(reader: &Screen, screen: &Screen) -> bool {
     let (rows, _cols) = screen.size();
     if !reader.is_sized_as(screen) || reader.scrollback() != 0 {
@@ -38,8 +38,8 @@ fn shows_row(reader: &Screen, screen: &Screen, row: u16) -> bool {
     shows_last(read, cell) && reader.row_wrapped(row) == goes_on
 }
 
-/// Returns whether a cell in the last column is displayed; the first cell of a wide glyph must
-/// appear as a blank with its attributes.
+/// Returns whether `read` is what a terminal displays in the last column for `cell`: a blank with
+/// the same attributes if `cell` is the first cell of a wide glyph, otherwise an equal cell.
 fn shows_last(read: &Cell, cell: &Cell) -> bool {
     if cell.is_wide() {
         return !read.has_contents()

@@ -1,14 +1,15 @@
-//! The observable invariants of every screen.
+//! A check of the observable invariants of every screen.
 
 use crate::part::counts;
 use vt100::{Cell, Screen};
 
 /// Returns whether the observable invariants of a screen hold.
 ///
-/// The cursor is on the screen or has a pending wrap. Each displayed row is as long as the screen
-/// is wide, a row of scrollback at least as long. A wide glyph is followed by its continuation
-/// cell. No row with a blank last column is wrapped, nor is the last row. The number of displayed
-/// rows of scrollback is at most that of the rows kept, and that is at most the capacity.
+/// The cursor is on the screen or has a pending wrap. Each displayed row of the page is as wide as
+/// the screen, and each displayed row of scrollback at least as wide. A wide glyph is followed by
+/// its continuation cell. No row with a blank last column is wrapped, and neither is the last row
+/// of the page. The display is scrolled back by at most as many rows as scrollback has, and
+/// scrollback has at most as many rows as its capacity.
 pub fn is_sound(screen: &Screen) -> bool {
     let (rows, cols) = screen.size();
     let (row, col) = screen.cursor_position();
@@ -39,8 +40,8 @@ fn are_rows_sound(screen: &Screen) -> bool {
     true
 }
 
-/// Returns the number of cells of a row, or `None` if a wide glyph lacks its continuation cell, a
-/// continuation cell its wide glyph, or a cell is not valid.
+/// Returns the number of cells of a row. Returns `None` if a wide glyph has no continuation cell, a
+/// continuation cell has no wide glyph, or a cell is not valid.
 fn sound_length(screen: &Screen, row: u16) -> Option<u16> {
     let mut is_due = false;
     for col in 0..u16::MAX {
@@ -56,7 +57,7 @@ fn sound_length(screen: &Screen, row: u16) -> Option<u16> {
 }
 
 /// Returns whether a cell is valid: a glyph has at most 29 bytes of text, and a continuation cell
-/// has none.
+/// has no text.
 fn is_sound_cell(cell: &Cell) -> bool {
     let length = cell.contents().len();
     let is_right_half = cell.is_wide_continuation();

@@ -1,4 +1,4 @@
-//! Whether a screen is steady, found by printing each of its glyphs again.
+//! A test that determines whether a screen is steady by printing each of its glyphs again.
 
 use anyhow::Result;
 use std::alloc::Global;
@@ -6,7 +6,8 @@ use std::num::NonZeroU16;
 use vt100::{Cell, Parser, Screen};
 
 /// Returns whether every visible glyph reproduces itself when printed on a blank row of the
-/// screen's width. Only glyphs with U+FE0F are printed; all others do.
+/// screen's width. Only glyphs with U+FE0F are tested, because all other glyphs reproduce
+/// themselves.
 pub fn prints_itself(alloc: Global, screen: &Screen) -> Result<bool> {
     let (rows, cols) = screen.size();
     for row in 0..rows.get() {

@@ -1,4 +1,4 @@
-//! The actions on both terminals in a step.
+//! The actions that a step performs on both terminals.
 
 use crate::bytes::push_some;
 use crate::dice::Dice;
@@ -10,10 +10,11 @@ use std::mem;
 use std::num::NonZeroU16;
 use vt100::Parser;
 
-/// A terminal whose callbacks hash its calls.
+/// A terminal whose callbacks compute a hash of all calls.
 pub type Terminal = Parser<Digest>;
 
-/// Performs one random action on both terminals. Mostly they parse bytes, each split differently.
+/// Performs one random action on both terminals. In most steps, both terminals parse the same
+/// bytes, split differently.
 pub fn take_step(
     dice: &mut Dice,
     tally: &mut Tally,
@@ -54,7 +55,7 @@ fn read(
     Ok(())
 }
 
-/// Gives the first terminal a copy of the second one's screen.
+/// Replaces the screen of the first terminal with a copy of the second terminal's screen.
 fn copy(one: &mut Terminal, other: &Terminal) -> Result<()> {
     *one.screen_mut() = other.screen().clone()?;
     Ok(())

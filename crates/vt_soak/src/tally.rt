@@ -3,7 +3,7 @@
 use crate::part::Part;
 use std::fmt;
 
-/// The counts of a run with this seed, and the first difference.
+/// The counts of a run, its seed, and the first difference, if any.
 #[derive(Clone, Copy)]
 pub struct Tally {
     pub seed: u64,
@@ -12,25 +12,25 @@ pub struct Tally {
     /// The number of bytes that each of the first two terminals parsed.
     pub bytes: u64,
 
-    /// The number of redraws that were read back.
+    /// The number of redraws that a terminal parsed and that were compared with the screen.
     pub redraws: u64,
 
-    /// The number of differences that were read back.
+    /// The number of diffs that a terminal parsed.
     pub differences: u64,
 
-    /// The number of differences that moved rows first.
+    /// The number of diffs that moved rows first.
     pub moved: u64,
 
-    /// The number of screens that were not steady: a glyph on them changes when it is printed
-    /// again.
+    /// The number of unsteady screens, on which some glyph does not reproduce itself when it is
+    /// printed again.
     pub unsteady: u64,
 
-    /// The first part that differs, if any.
+    /// The first part of the state that differs, if any.
     pub differs: Option<Part>,
 }
 
 impl Tally {
-    /// Creates the counts of a run that has not begun.
+    /// Creates the counts of a run that has not begun, with the seed `seed`.
     pub fn new(seed: u64) -> Self {
         Tally {
             seed,

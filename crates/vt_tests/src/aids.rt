@@ -1,5 +1,5 @@
-//! Helpers that the tests share: actions on a parser as values, its observable state as one string,
-//! and the check that each screen on the way can be read back.
+//! Helpers that the tests share: actions on a parser as values, the observable state of a parser as
+//! one string, and a check that a screen's output reproduces the screen on a terminal.
 
 pub mod cuts;
 pub mod picture;

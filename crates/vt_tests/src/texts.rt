@@ -1,5 +1,5 @@
-//! Tests of the output of a screen: plain text, redraws, differences, rows, states and captures,
-//! each of which another terminal reads back.
+//! Tests of the output of a screen: plain text, redraws, diffs, rows, states and captures, each of
+//! which a second terminal parses.
 
 mod capture_tests;
 mod difference_tests;

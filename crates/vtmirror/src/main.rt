@@ -1,6 +1,6 @@
 //! `vtmirror ROWS COLS EVERY`: reads what a program wrote to its terminal, and writes the escape
-//! sequences that keep another terminal of that size equal to it: one update at the start, one
-//! after every EVERY bytes, and one at the end.
+//! sequences that keep a second terminal of the same size equal to that terminal: one update at the
+//! start, one after every EVERY bytes, and one at the end.
 #![tactic(auto)]
 
 use std::env::Env;
@@ -9,8 +9,8 @@ use std::process::ExitCode;
 use vt_mirror::{ending, run_words};
 use vt_show::{Fault, given_words};
 
-/// Reads standard input to its end and writes the updates to standard output, as the arguments ask.
-/// `Err(None)` means that the arguments are wrong.
+/// Reads standard input to its end and writes the updates to standard output, as the command-line
+/// arguments specify. Returns `Err(None)` if the arguments are invalid.
 fn mirror<R: Env + AllocGlobal + Input + Print>(rt: &R) -> Result<(), Option<Fault>> {
     let words = given_words(rt)?;
     run_words(

@@ -1,5 +1,5 @@
 //! `vtshow ROWS COLS plain|formatted|basic`: reads what a program wrote to its terminal, and writes
-//! the resulting screen: its text, the escape sequences that display it on any terminal of that
+//! the resulting screen: its text, the escape sequences that display it on any terminal of the same
 //! size, or its text with SGR sequences.
 #![tactic(auto)]
 
@@ -8,8 +8,8 @@ use std::io;
 use std::process::ExitCode;
 use vt_show::{Fault, ending, given_words, run_words};
 
-/// Reads standard input to its end and writes the screen to standard output, as the arguments ask.
-/// `Err(None)` means that the arguments are wrong.
+/// Reads standard input to its end and writes the screen to standard output, as the command-line
+/// arguments specify. Returns `Err(None)` if the arguments are invalid.
 fn show<R: Env + AllocGlobal + Input + Print>(rt: &R) -> Result<(), Option<Fault>> {
     let words = given_words(rt)?;
     run_words(

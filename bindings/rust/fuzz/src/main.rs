@@ -1,13 +1,13 @@
-//! `fuzz COUNT [FIRST]`: makes the calls of so many random scripts of this crate and of another
-//! build, and looks that both show and call the same.
+//! `fuzz COUNT [FIRST]`: makes the calls of COUNT random scripts on this crate and on another build
+//! of it, and checks that both have the same display and invoke the same callbacks.
 
 mod script;
 
 use script::{Random, Step};
 use std::num::NonZeroU16;
 
-/// Defines, for one of the two crates, callbacks that write a line for each call, and what a parser
-/// shows as a text.
+/// Defines, for one of the two crates, callbacks that write a line for each call, and functions
+/// that return the state of a screen as text.
 macro_rules! side {
     ($side:ident) => {
         mod $side {
@@ -20,10 +20,10 @@ macro_rules! side {
             pub struct Calls {
                 pub lines: Vec<String>,
 
-                /// Whether a size that is asked for is given.
+                /// Whether the screen is resized when the program requests a size.
                 pub resizes: bool,
 
-                /// Rows that left, one behind the other.
+                /// The capture of the rows that scrolled off, in order.
                 pub capture: String,
                 state: BasicFormattedCaptureState,
             }
@@ -102,7 +102,8 @@ macro_rules! side {
                 Parser::new_with_callbacks(size(rows), size(cols), capacity, calls)
             }
 
-            /// Takes a step; `kept` is a screen to be exchanged for.
+            /// Performs a step of a script; `kept` is the screen that [`Step::Exchange`] swaps with
+            /// the parser's screen.
             pub fn take(parser: &mut Parser<Calls>, kept: &mut Screen, step: &Step) {
                 match step {
                     Step::Process(bytes) => parser.process(bytes),
@@ -116,8 +117,9 @@ macro_rules! side {
                 }
             }
 
-            /// All that is shown, with plain and basic texts; those of rows and of a range from one
-            /// place up to another are of these rows and columns.
+            /// Returns the state of a screen, including its plain and basic text. The four numbers
+            /// give the range of the text between two positions; the second and the fourth one also
+            /// give the first column and the width of the text of rows.
             pub fn shown(screen: &Screen, [row, col, end_row, end_col]: [u16; 4]) -> String {
                 let mut text = format!(
                     "{:?} {:?} {} {} {}\n",
@@ -140,7 +142,7 @@ macro_rules! side {
                 text + &cells(screen)
             }
 
-            /// The input modes.
+            /// Returns the input modes and the cursor style of a screen.
             pub fn modes(screen: &Screen) -> String {
                 format!(
                     "{} {} {} {:?} {:?} {:?}",
@@ -153,7 +155,7 @@ macro_rules! side {
                 )
             }
 
-            /// What the next character is drawn with.
+            /// Returns the attributes of the next character.
             pub fn attributes(screen: &Screen) -> String {
                 let (fg, bg) = (screen.fgcolor(), screen.bgcolor());
                 let attrs = [
@@ -166,7 +168,7 @@ macro_rules! side {
                 format!("{fg:?} {bg:?} {attrs:?}")
             }
 
-            /// Cells and flags of the rows that are shown.
+            /// Returns the cells and the wrapped flags of the displayed rows.
             pub fn cells(screen: &Screen) -> String {
                 let mut text = String::new();
                 let (rows, cols) = screen.size();
@@ -202,7 +204,7 @@ fn size(number: u16) -> NonZeroU16 {
     NonZeroU16::new(number).unwrap()
 }
 
-/// What was compared.
+/// The counts of what was compared.
 #[derive(Default)]
 struct Counts {
     steps: usize,
@@ -211,7 +213,7 @@ struct Counts {
     differences: usize,
 }
 
-/// A terminal of the other build that read these texts.
+/// Returns a terminal of the other build that has parsed these texts.
 fn reader(screen: &::mine::Screen, texts: &[&str]) -> ::other::Parser {
     let (rows, cols) = screen.size();
     let mut reader = ::other::Parser::new(rows, cols, 0);
@@ -221,7 +223,8 @@ fn reader(screen: &::mine::Screen, texts: &[&str]) -> ::other::Parser {
     reader
 }
 
-/// Whether a terminal of the other build that reads these texts shows something else.
+/// Returns whether a terminal of the other build that parses these texts has a different display
+/// than `screen`.
 fn draws_another(screen: &::mine::Screen, texts: &[&str]) -> bool {
     let reader = reader(screen, texts);
     let again = reader.screen();
@@ -235,13 +238,15 @@ fn has_another_cursor(screen: &::mine::Screen, again: &::other::Screen) -> bool 
         || again.hide_cursor() != screen.hide_cursor()
 }
 
-/// The same, or has other input modes.
+/// Returns whether a terminal of the other build that parses these texts has a different display or
+/// different input modes than `screen`.
 fn states_another(screen: &::mine::Screen, texts: &[&str]) -> bool {
     draws_another(screen, texts)
         || other::modes(reader(screen, texts).screen()) != mine::modes(screen)
 }
 
-/// Whether the texts of cursor and attributes set other ones.
+/// Returns whether the output for the cursor or for the attributes sets a different cursor or
+/// different attributes than those of `screen`.
 fn sets_another(screen: &::mine::Screen, redraw: &str) -> bool {
     let cursor = reader(
         screen,
@@ -253,8 +258,9 @@ fn sets_another(screen: &::mine::Screen, redraw: &str) -> bool {
         || other::attributes(attributes.screen()) != mine::attributes(screen)
 }
 
-/// Whether the texts of whole rows, read behind these, make other cells. Which rows go on is not
-/// looked at, since they leave that to the text of the row below.
+/// Returns whether the output for whole rows, parsed after `begun`, produces different cells than
+/// those of `screen`. Wrapped flags are not compared, because the output for the row below sets
+/// them.
 fn rows_are_others(
     screen: &::mine::Screen,
     begun: &str,
@@ -273,8 +279,8 @@ fn rows_are_others(
     cells(&other::cells(again.screen())) != cells(&mine::cells(screen))
 }
 
-/// The first text of a screen that draws something else than the screen: the redraw, and one of the
-/// others in turn.
+/// Returns the name of the first output that does not reproduce the screen, if any. The redraw is
+/// tested in each turn, and each of the other kinds of output in some turns.
 fn wrong_redraw(screen: &::mine::Screen, turn: usize) -> Option<&'static str> {
     let redraw = screen.contents_formatted();
     let is_wrong = match turn % 4 {
@@ -289,7 +295,9 @@ fn wrong_redraw(screen: &::mine::Screen, turn: usize) -> Option<&'static str> {
     is_wrong.then(|| ["state", "cursor and attributes", "rows"][turn % 4])
 }
 
-/// The same from another screen of its size.
+/// Returns the name of the first difference from `prev` that does not produce the screen, if any.
+/// The difference of the contents is tested in each turn, and each of the other kinds in some
+/// turns.
 fn wrong_difference(
     screen: &::mine::Screen,
     prev: &::mine::Screen,
@@ -307,7 +315,8 @@ fn wrong_difference(
     is_wrong.then(|| ["difference of rows", "difference of states"][turn % 4])
 }
 
-/// The first thing that differs in a script, and the steps up to it.
+/// Runs the script with the given seed. Returns the first difference between the two crates, and
+/// the steps up to that difference, as the error.
 fn run(seed: u64, counts: &mut Counts) -> Result<(), String> {
     let mut random = Random::new(seed);
     let (rows, cols) = (random.size(8), 1 + random.size(20));

@@ -1,6 +1,6 @@
-//! Random scripts: calls, and the bytes that programs write.
+//! Random scripts, which consist of calls and of the bytes that programs write.
 
-/// Numbers that look random; the same for the same seed.
+/// A generator of pseudorandom numbers, which depend only on the seed.
 pub struct Random(u64);
 
 impl Random {
@@ -23,13 +23,13 @@ impl Random {
         items[self.below(items.len() as u64) as usize]
     }
 
-    /// A number of rows or columns.
+    /// Returns a random number of rows or columns, from 1 to `bound`.
     pub fn size(&mut self, bound: u64) -> u16 {
         1 + self.below(bound) as u16
     }
 }
 
-/// A call that both parsers take.
+/// A call that is made on both parsers.
 #[derive(Debug)]
 pub enum Step {
     Process(Vec<u8>),
@@ -38,7 +38,7 @@ pub enum Step {
     SetScrollback(usize),
     ClearScrollback,
 
-    /// The screen is exchanged for a copy of an earlier one.
+    /// Swaps the screen with a copy of an earlier screen.
     Exchange,
 }
 
@@ -55,7 +55,8 @@ impl Step {
     }
 }
 
-/// What a program may write; a sequence may be cut at the end.
+/// Returns random output of a program, in which the last sequence may be
+/// incomplete.
 fn bytes(random: &mut Random) -> Vec<u8> {
     let mut out = Vec::new();
     for _ in 0..random.below(40) {
@@ -135,7 +136,8 @@ fn resize(random: &mut Random, out: &mut Vec<u8>) {
     out.extend(format!("\x1b[8;{rows};{cols}t").bytes());
 }
 
-/// A control sequence with numbers, a marker, an intermediate.
+/// Appends a control sequence with numbers and possibly a private marker and an
+/// intermediate.
 fn control(random: &mut Random, out: &mut Vec<u8>) {
     let number = |random: &mut Random| match random.below(8) {
         0 => String::new(),

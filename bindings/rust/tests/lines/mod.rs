@@ -1,10 +1,11 @@
-//! The lines that case files have about a screen and its calls.
+//! The lines with which case files describe a screen and the callbacks invoked.
 
 use std::fmt::Write;
 use vt100::capture::{BasicFormattedCaptureState, RowContents};
 use vt100::{Callbacks, Cell, Color, Screen};
 
-/// The bytes of a word: hexadecimal, or a dot for none.
+/// Returns the bytes that a word encodes in hexadecimal, or no bytes if the
+/// word is a dot.
 pub fn bytes_of(word: &str) -> Vec<u8> {
     if word == "." {
         return Vec::new();
@@ -104,7 +105,8 @@ impl Callbacks for Lines {
     }
 }
 
-/// The lines about size and scrollback, each with its line end.
+/// Returns the lines that describe the size and the scrollback, each with its
+/// newline.
 pub fn size_lines(screen: &Screen) -> String {
     let (rows, cols) = screen.size();
     let (offset, length) = (screen.scrollback(), screen.scrollback_len());
@@ -116,7 +118,8 @@ pub fn size_lines(screen: &Screen) -> String {
     lines + "\n"
 }
 
-/// The lines about cursor, flags and cells, each with its line end.
+/// Returns the lines that describe the cursor, the wrapped flags and the cells,
+/// each with its newline.
 pub fn picture_lines(screen: &Screen) -> String {
     let (rows, _) = screen.size();
     let (row, col) = screen.cursor_position();
@@ -137,7 +140,8 @@ fn row_of(screen: &Screen, row: u16) -> impl Iterator<Item = &Cell> {
     (0..=u16::MAX).map_while(move |col| screen.cell(row, col))
 }
 
-/// What a line says of a cell that isn't a blank in default attributes.
+/// Returns the words that describe a cell, or `None` for a blank with default
+/// attributes.
 fn cell_words(cell: &Cell) -> Option<String> {
     let attrs = attrs_word([
         cell.bold(),
@@ -158,7 +162,7 @@ fn cell_words(cell: &Cell) -> Option<String> {
     Some(words).filter(|words| words != ". n default default -")
 }
 
-/// The line about modes, with its line end.
+/// Returns the line that describes the modes, with its newline.
 pub fn mode_line(screen: &Screen) -> String {
     let modes = [
         screen.hide_cursor(),

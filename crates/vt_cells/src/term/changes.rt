@@ -24,7 +24,7 @@ impl BufWrite for ClearAttrs {
     }
 }
 
-/// The sequence that changes the attributes from one set to another (SGR); empty if the two are
+/// The sequence that changes the attributes from one set to another (SGR); empty if both sets are
 /// equal.
 #[derive(Clone, Copy, Debug)]
 pub struct ChangeAttrs {

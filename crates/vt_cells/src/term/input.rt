@@ -58,8 +58,8 @@ impl BufWrite for BracketedPaste {
 
 /// The sequence that changes which mouse events are reported.
 ///
-/// It is empty if the mode does not change. It resets the old mode if the new one is `None`;
-/// otherwise it sets the new mode.
+/// The sequence is empty if the mode does not change. If the new mode is `None`, the sequence
+/// resets the old mode; otherwise it sets the new mode.
 #[derive(Clone, Copy, Debug)]
 pub struct MouseProtocolMode {
     /// The mode before the change.
@@ -95,8 +95,8 @@ impl BufWrite for MouseProtocolMode {
 
 /// The sequence that changes the encoding of mouse events.
 ///
-/// It is empty if the encoding does not change. It resets the old encoding if the new one is the
-/// default; otherwise it sets the new encoding.
+/// The sequence is empty if the encoding does not change. If the new encoding is the default, the
+/// sequence resets the old encoding; otherwise it sets the new encoding.
 #[derive(Clone, Copy, Debug)]
 pub struct MouseProtocolEncoding {
     /// The encoding before the change.

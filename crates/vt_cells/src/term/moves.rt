@@ -58,8 +58,8 @@ impl BufWrite for MoveRight {
 
 /// The sequence that moves the cursor from one position to another.
 ///
-/// It is CR and LF if the target is the first column of the next row, CUF if the target is further
-/// right in the same row, empty if the two positions are equal, and CUP otherwise.
+/// The sequence is CR and LF if the target is the first column of the next row, CUF if the target
+/// is further right in the same row, empty if the two positions are equal, and CUP otherwise.
 #[derive(Clone, Copy, Debug)]
 pub struct MoveFromTo {
     /// The position of the cursor before the move.

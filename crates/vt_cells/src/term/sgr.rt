@@ -95,7 +95,7 @@ impl ChangeText {
         }
     }
 
-    /// Prepends the parameters of the foreground colour, if it differs.
+    /// Prepends the parameters of the foreground color if it differs between `was` and `new`.
     #[inline]
     #[tactic(auto, using(crate::proofs::ChangeTexts::numbers_put), unfolding(crate::specs::Op::foreground_numbers))]
     fn put_foreground(&mut self, was: &Attrs, new: &Attrs)
@@ -117,7 +117,7 @@ impl ChangeText {
         }
     }
 
-    /// Prepends the parameters of the background colour, if it differs.
+    /// Prepends the parameters of the background color if it differs between `was` and `new`.
     #[inline]
     #[tactic(auto, using(crate::proofs::ChangeTexts::numbers_put), unfolding(crate::specs::Op::background_numbers))]
     fn put_background(&mut self, was: &Attrs, new: &Attrs)
@@ -139,7 +139,8 @@ impl ChangeText {
         }
     }
 
-    /// Prepends the parameters of the style, which is everything except the colours, if it differs.
+    /// Prepends the parameters of the style (everything except the colors) if it differs between
+    /// `was` and `new`.
     #[inline]
     #[tactic(auto, using(crate::proofs::ChangeTexts::no_style_put))]
     fn put_style(&mut self, was: &Attrs, new: &Attrs)
@@ -152,7 +153,8 @@ impl ChangeText {
         }
     }
 
-    /// Prepends a parameter for each of intensity, italics, underline and inverse that differs.
+    /// Prepends a parameter for each of intensity, italics, underline and inverse that differs
+    /// between `was` and `new`.
     #[inline(never)]
     fn put_switches(&mut self, was: &Attrs, new: &Attrs)
         requires { length self.old + 16 ≤ 64 }
@@ -165,7 +167,7 @@ impl ChangeText {
         self.put_intensity(was.intensity(), new.intensity());
     }
 
-    /// Prepends the parameter of the intensity, if it differs.
+    /// Prepends the parameter of the intensity if `was` and `new` differ.
     #[inline]
     fn put_intensity(&mut self, was: Intensity, new: Intensity)
         requires { length self.old + 4 ≤ 64 }
@@ -196,7 +198,7 @@ impl ChangeText {
         }
     }
 
-    /// Prepends the parameters of a palette colour: the layer (38 or 48), 5 and the index.
+    /// Prepends the parameters of a palette color: the layer (38 or 48), 5 and the index.
     #[inline(never)]
     fn put_indexed(&mut self, layer: u8, index: u8)
         requires { length self.old + 12 ≤ 64 }
@@ -208,7 +210,7 @@ impl ChangeText {
         self.put_number(layer);
     }
 
-    /// Prepends the parameters of an RGB colour: the layer (38 or 48), 2 and the three components.
+    /// Prepends the parameters of an RGB color: the layer (38 or 48), 2 and the three components.
     #[inline(never)]
     fn put_parts(&mut self, layer: u8, red: u8, green: u8, blue: u8)
         requires { length self.old + 20 ≤ 64 }

@@ -26,7 +26,8 @@ impl Grid {
     /// character is added to the glyph before the cursor. U+FE0F may change the width of that
     /// glyph. A control character prints nothing.
     ///
-    /// A wrap at the bottom of the scroll region scrolls it, as [`Grid::scroll_up`] does.
+    /// A wrap at the bottom of the scroll region scrolls the region up, as [`Grid::scroll_up`]
+    /// does.
     ///
     /// # Errors
     ///
@@ -175,8 +176,9 @@ impl Grid {
         cell::is_wide_text(&cell)
     }
 
-    /// Adds a combining character to the glyph before the cursor if the glyph has room for it. If
-    /// the character is U+FE0F, the glyph is then given the width of its text.
+    /// Adds a combining character to the glyph before the cursor and, if the character is U+FE0F,
+    /// gives the glyph the width of its text. Does nothing if the glyph has no room for the
+    /// character.
     #[tactic(auto, unfolding(crate::specs::Printing::mark_printed))]
     fn mark_cell(&mut self, mark: char, attrs: Attrs)
         requires mark { columns_of mark ≡ Some 0 }
@@ -193,7 +195,7 @@ impl Grid {
         }
     }
 
-    /// Returns the column of the glyph before the cursor. For a wide glyph, this is the first of
+    /// Returns the column of the glyph before the cursor. For a wide glyph, returns the first of
     /// its two columns.
     fn mark_col(&self) -> u16
         requires { 0 < self.now.column }
@@ -267,8 +269,8 @@ impl Grid {
         }
     }
 
-    /// Moves the glyph in the last column, where a wrap is pending, to the start of the next row.
-    /// There, adding the combining character `mark` (U+FE0F) makes it a wide glyph.
+    /// Moves the glyph in the last column to the start of the next row, where it becomes a wide
+    /// glyph with the combining character `mark` (U+FE0F) added. A wrap must be pending.
     ///
     /// The glyph is removed before the wrap: on a page of one row, the row scrolls off during the
     /// wrap and must not contain the glyph. If the wrap fails, the glyph is put back.

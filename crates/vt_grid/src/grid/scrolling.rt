@@ -125,9 +125,9 @@ impl Grid {
     }
 }
 
-/// Returns the index that `row`, the row from which the cursor wraps, has after the wrap. If the
-/// scroll region (rows `top..=bottom`) scrolls, the index is one less than before, or `None` if the
-/// region consists of this row alone, which then scrolls off.
+/// Returns the new index of the row from which the cursor wraps; its index before the wrap is
+/// `row`. If the scroll region (rows `top..=bottom`) scrolls, the new index is `row - 1`. If the
+/// region consists of that row alone, the row scrolls off, and the result is `None`.
 fn left_row(row: u16, top: u16, bottom: u16) -> Option<u16>
     requires { top ≤ bottom }
     ensures { result ≡ (if row == bottom then (if row == top then None else Some (row - 1)) else Some row) }

@@ -13,8 +13,8 @@ use vt_cells::Error;
 use vt_rows::Leaving;
 
 impl Scrollback {
-    /// Appends a copy of the first row of a page. [`Scrollback::push`] calls this for a single row
-    /// if the offset is 0.
+    /// Appends a copy of the first row of a page. [`Scrollback::push`] calls this function for a
+    /// single row if the offset is 0.
     ///
     /// # Errors
     ///

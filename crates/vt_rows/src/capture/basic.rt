@@ -17,10 +17,10 @@ use vt_cells::{Attrs, Buffer, Cell, Sink, cell};
 impl RowContents<'_> {
     /// Writes the row's basic text: its text with SGR sequences, and no other escape sequences.
     ///
-    /// The text begins with `\n` unless this is the first row or the row before it is wrapped.
-    /// Default blanks at the end of the row are dropped. Any other default blank is written as a
-    /// space with the attributes of the text before it. A blank with other attributes is written as
-    /// a space with its own attributes.
+    /// The text begins with `\n` unless the row is the first one or follows a wrapped row. Default
+    /// blanks at the end of the row are dropped. Any other default blank is written as a space with
+    /// the attributes of the text before it. A blank with other attributes is written as a space
+    /// with its own attributes.
     ///
     /// `state` carries two things from one row to the next: the attributes written last, and
     /// whether a newline is pending. Pass the same state for each row of a capture.
@@ -29,7 +29,7 @@ impl RowContents<'_> {
     ///
     /// Returns the sink's error, and leaves `state` unchanged. The sink has then accepted a prefix
     /// of the text and failed to write the next string; each sink specifies the effect of a failed
-    /// write. Nothing is written after a failure. Writing an empty text never fails.
+    /// write. Nothing is written after a failure. The call never fails if the text is empty.
     pub fn write_formatted_basic<S: Sink>(
         &self,
         sink: &mut S,

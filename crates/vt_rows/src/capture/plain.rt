@@ -94,7 +94,7 @@ fn split_at_sgr(text: &str) -> (&str, &str)
     }
 }
 
-/// Returns the part of `text` after an SGR sequence, where `text` begins inside that sequence.
+/// Returns the part of `text` after the SGR sequence inside which `text` begins.
 fn behind_sgr(text: &str) -> &str
     ensures pieces { (at : ℕ) →
         pieces_within at text.now ≡ pieces_from (at + (length text.now - length result.now)) result.now }

@@ -39,12 +39,13 @@ impl<'a> Model for BasicFormattedRows<'a> {
 /// A row ends at a `\n` that is outside SGR sequences, or before a character that would make the
 /// row wider than `screen_width`. The `\n` is dropped. A row always has room for its first
 /// character of nonzero width, even if that character is wider than `screen_width`. The text after
-/// the end of the last such row is a row, too, even if it is empty.
+/// the end of the last row found in this way is also a row, even if it is empty.
 ///
 /// An SGR sequence extends from ESC through the next `m`, or to the end of the capture if there is
-/// none. It takes no columns. Between two rows, it belongs to the earlier one. A character takes as
-/// many columns as [`UnicodeWidthChar`] returns, but at most two, and one column if that returns
-/// `None`. A zero-width character begins a row only at the start of the capture or after a `\n`.
+/// none. An SGR sequence takes no columns; between two rows, it belongs to the earlier row. A
+/// character takes as many columns as [`UnicodeWidthChar`] returns, but at most two. If
+/// [`UnicodeWidthChar`] returns `None` for a character, the character takes one column. A
+/// zero-width character begins a row only at the start of the capture or after a `\n`.
 ///
 /// ```
 /// use vt100::capture::basic_formatted_rows;
@@ -81,8 +82,8 @@ impl<'a> Iterator for BasicFormattedRows<'a> {
 
 impl<'a> FusedIterator for BasicFormattedRows<'a> {}
 
-/// Splits off the first row of a text. Returns the row, and the text of the remaining rows, which
-/// is `None` if there are no more rows.
+/// Splits off the first row of `text`. Returns that row and the text of the remaining rows, or
+/// `None` for the latter if no rows remain.
 fn split_row(text: &str, width: u16) -> (&str, Option<&str>)
     ensures { rows_of width text.now ≡ result.0.now ∷ option_map_or (λ rest. rows_of width rest.now) result.1 [] }
 {
@@ -163,7 +164,7 @@ impl Reach {
 }
 
 /// Returns whether a text that ends with the character `c` ends inside an SGR sequence. `within`
-/// says whether the text before `c` does.
+/// says whether the text before `c` ends inside an SGR sequence.
 fn is_within_after(within: bool, c: char) -> bool
     ensures { result ≡ is_within_after within c }
 {

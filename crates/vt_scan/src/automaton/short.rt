@@ -34,7 +34,7 @@ impl Scanner {
     }
 
     /// Returns the number of leading bytes that are printable ASCII and would each be parsed as
-    /// that character. It is 0 if a sequence or a character is incomplete. Feeding these bytes
+    /// that character. Returns 0 if a sequence or a character is incomplete. Feeding these bytes
     /// leaves the scanner unchanged, so the caller can skip them.
     #[inline]
     pub fn text_len(&self, bytes: &[u8]) -> usize
@@ -83,8 +83,8 @@ impl Scanner {
     ///
     /// # Errors
     ///
-    /// Returns [`Error::OutOfMemory`] if the bytes cannot be stored. The scanner is then unchanged,
-    /// and the bytes may be passed again.
+    /// Returns [`Error::OutOfMemory`] if the bytes cannot be stored. On error, the scanner is
+    /// unchanged, and the bytes may be passed again.
     #[inline]
     pub fn command_text(&mut self, bytes: &[u8]) -> Result<usize, Error>
         ensures inside { IfOk result (λ count. count ≤ length bytes.now) }
@@ -103,10 +103,10 @@ impl Scanner {
         }
     }
 
-    /// Returns the first character of `bytes` and its length if it is complete and has more than
-    /// one byte (Unicode 3.9, Table 3-7). Returns `None` if a sequence or a character is already
-    /// incomplete. Feeding the bytes of the character causes one event and leaves the scanner
-    /// unchanged, so the caller can skip them.
+    /// Returns the first character of `bytes` and its length in bytes. Returns `None` unless the
+    /// character is complete and has more than one byte (Unicode 3.9, Table 3-7). Also returns
+    /// `None` if a sequence or a character is already incomplete. Feeding the bytes of the
+    /// character causes one event and leaves the scanner unchanged, so the caller can skip them.
     #[inline(always)]
     pub fn whole_character(&self, bytes: &[u8]) -> Option<(char, usize)>
         ensures inside { IfSome result (λ found. (1 < found.1) × (found.1 ≤ length bytes.now)) }
@@ -135,7 +135,7 @@ impl Scanner {
     }
 
     /// Collects the leading bytes of the text of an operating system command, and returns how many
-    /// it collected. Returns `OutOfMemory` and changes nothing if they cannot be stored.
+    /// it collected. If the bytes cannot be stored, changes nothing and returns `OutOfMemory`.
     fn collect_text(&mut self, bytes: &[u8]) -> Result<usize, Error>
         requires { self.old.kind ≡ Kind.OscString }
         ensures inside { IfOk result (λ count. count ≤ length bytes.now) }

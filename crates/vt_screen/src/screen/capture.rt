@@ -17,9 +17,8 @@ use vt_cells::{Error, Sink};
 use vt_rows::{BasicFormattedCaptureRange, BasicFormattedCaptureState};
 
 impl Screen {
-    /// Returns the displayed rows as text with SGR as the only escape
-    /// sequences. Its only controls are newlines and the ESC that begins each
-    /// SGR sequence.
+    /// Returns the displayed rows as text with SGR as the only escape sequences. The only controls
+    /// in the text are newlines and the ESC that begins each SGR sequence.
     ///
     /// Rows are separated by `\n`, except after a wrapped row. Trailing default
     /// blanks of a row are dropped (see

@@ -57,7 +57,7 @@ impl Screen {
     ///
     /// Rows that aren't displayed have no text, and a range whose end is before
     /// its start is empty. Columns to the right of the screen are read only in
-    /// the last row, if it is a wider row of scrollback.
+    /// the last row, and only if that row is a wider row of scrollback.
     ///
     /// # Errors
     ///

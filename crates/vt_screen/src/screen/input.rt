@@ -26,9 +26,9 @@ impl Screen {
     /// also set the mouse mode, the mouse encoding and the cursor style
     /// (DECSCUSR) unless these are at their defaults.
     ///
-    /// By `sets`, if such a terminal is in ground state, it has the modes of
-    /// this screen after reading the output. Reading it invokes no callbacks,
-    /// allocates nothing and changes nothing else.
+    /// If such a terminal is in ground state, it has the modes of this screen
+    /// after reading the output (clause `sets`). Reading the output invokes no
+    /// callbacks, allocates nothing and changes nothing else.
     ///
     /// # Errors
     ///
@@ -54,18 +54,19 @@ impl Screen {
     }
 
     /// Returns the escape sequences that change the input modes of `prev` to
-    /// those of this screen. They contain only the modes that differ.
+    /// those of this screen. They set only the modes that differ.
     ///
-    /// If the mouse mode or the mouse encoding is back at its default, the
-    /// output resets the one that `prev` has. By `sets`, a terminal in ground
-    /// state with the modes of `prev` has the modes of this screen after
-    /// reading the output, and nothing else changes. By `empty` and `none`, the
-    /// output is empty if and only if both screens have the same modes.
+    /// If the mouse mode of this screen is the default but that of `prev` is
+    /// not, the output resets the mouse mode of `prev`; the same applies to the
+    /// mouse encoding. A terminal in ground state with the modes of `prev` has
+    /// the modes of this screen after reading the output, and nothing else
+    /// changes (clause `sets`). The output is empty if and only if both screens
+    /// have the same modes (clauses `empty` and `none`).
     ///
     /// # Errors
     ///
-    /// Returns `Error::OutOfMemory` if the output cannot be allocated. By
-    /// `never`, there is no error if both screens have the same modes.
+    /// Returns `Error::OutOfMemory` if the output cannot be allocated. There is
+    /// no error if both screens have the same modes (clause `never`).
     pub fn input_mode_diff(&self, prev: &Screen) -> Result<String, Error>
         ensures text { IfText result (λ text. text ≡ input_change prev.now.modes self.now.modes) }
         ensures controls { IfText result (IsMadeOf [] input_controls) }
@@ -118,7 +119,8 @@ impl Screen {
 }
 
 /// Writes the escape sequences that change the mouse mode, the mouse encoding
-/// and the cursor style, each only if it differs.
+/// and the cursor style from those of `was` to those of `new`. Writes nothing
+/// for a setting that does not change.
 fn write_mouse_and_style<S: Sink>(sink: &mut S, was: Modes, new: Modes) -> Result<(), S::Error>
     ensures text { OnOk result (S.text sink.new ≡ S.text sink.old ++ mouse_and_style_text was new) }
     ensures some { RefusedOnlyIfSome result (mouse_and_style_text was new) }
@@ -140,7 +142,8 @@ fn write_mouse_and_style<S: Sink>(sink: &mut S, was: Modes, new: Modes) -> Resul
     style.write_buf(sink)
 }
 
-/// Writes the escape sequence that changes the keypad mode, if it differs.
+/// Writes the escape sequence that changes the keypad mode from `was` to `new`.
+/// Writes nothing if `was` equals `new`.
 fn write_keypad<S: Sink>(sink: &mut S, was: bool, new: bool) -> Result<(), S::Error>
     ensures text { OnOk result (S.text sink.new ≡ S.text sink.old ++ where_changed was new (keypad_text new)) }
     ensures some { RefusedOnlyIfSome result (where_changed was new (keypad_text new)) }
@@ -151,7 +154,8 @@ fn write_keypad<S: Sink>(sink: &mut S, was: bool, new: bool) -> Result<(), S::Er
     ApplicationKeypad { state: new }.write_buf(sink)
 }
 
-/// Writes the escape sequence that changes the cursor key mode, if it differs.
+/// Writes the escape sequence that changes the cursor key mode from `was` to
+/// `new`. Writes nothing if `was` equals `new`.
 fn write_cursor_keys<S: Sink>(sink: &mut S, was: bool, new: bool) -> Result<(), S::Error>
     ensures text { OnOk result
         (S.text sink.new ≡ S.text sink.old ++ where_changed was new (application_cursor_text new)) }
@@ -163,8 +167,8 @@ fn write_cursor_keys<S: Sink>(sink: &mut S, was: bool, new: bool) -> Result<(), 
     ApplicationCursor { state: new }.write_buf(sink)
 }
 
-/// Writes the escape sequence that changes the bracketed paste mode, if it
-/// differs.
+/// Writes the escape sequence that changes bracketed paste mode from `was` to
+/// `new`. Writes nothing if `was` equals `new`.
 fn write_paste<S: Sink>(sink: &mut S, was: bool, new: bool) -> Result<(), S::Error>
     ensures text { OnOk result (S.text sink.new ≡ S.text sink.old ++ where_changed was new (bracketed_paste_text new)) }
     ensures some { RefusedOnlyIfSome result (where_changed was new (bracketed_paste_text new)) }

@@ -43,18 +43,17 @@ impl Screen {
     /// region, origin mode off and no scrollback displayed. A screen is steady
     /// if each glyph reproduces itself when printed.
     ///
-    /// By `redraws`, if this screen is steady, a plain terminal that displays
-    /// `prev` displays this screen after reading the output, as with
-    /// [`Screen::contents_formatted`]. The output is empty if both screens have
-    /// the same display; by `empty`, a steady screen has empty output only in
-    /// that case. By `again`, a plain terminal that has read the output is
-    /// plain again, even if this screen is not steady.
+    /// If this screen is steady, a plain terminal that displays `prev` displays this screen after
+    /// reading the output (clause `redraws`), as with [`Screen::contents_formatted`]. The output is
+    /// empty if both screens have the same display; if this screen is steady, it is empty only in
+    /// that case (clause `empty`). A plain terminal that has read the output is plain again, even
+    /// if this screen is not steady (clause `again`).
     ///
     /// # Errors
     ///
-    /// Returns `Error::OutOfMemory` if the output, or the plain difference that
-    /// it is compared with, cannot be allocated. By `never`, there is no error
-    /// if both screens have the same display.
+    /// Returns `Error::OutOfMemory` if the output, or the plain diff that it is compared with,
+    /// cannot be allocated. There is no error if both screens have the same display (clause
+    /// `never`).
     ///
     /// # Examples
     ///
@@ -107,8 +106,8 @@ impl Screen {
         }
     }
 
-    /// Returns the shorter of the plain difference `text` and the output that
-    /// moves the rows of `band` first.
+    /// Returns the shorter of the plain diff `text` and the output that moves the rows of `band`
+    /// first.
     ///
     /// # Errors
     ///
@@ -130,8 +129,8 @@ impl Screen {
         }
     }
 
-    /// Writes the escape sequences that move the rows of `band`, followed by
-    /// those that turn the resulting display into that of this screen.
+    /// Writes the escape sequences that move the rows of `band`, followed by the sequences that
+    /// turn the resulting display into that of this screen.
     fn write_moved_diff<S: Sink>(
         &self,
         sink: &mut S,

@@ -89,8 +89,8 @@ pub fn leave_and_restore(screen: &mut Screen)
     decrc(screen);
 }
 
-/// Resets the screen to a fresh one of the same size and scrollback capacity
-/// (RIS). It allocates nothing.
+/// Resets the screen to the state of a fresh screen with the same size and
+/// scrollback capacity (RIS). Allocates nothing.
 ///
 /// No callbacks are invoked for the rows of scrollback. If the alternate page
 /// has been created, it stays allocated and becomes blank.
@@ -141,7 +141,7 @@ fn show_alternate(screen: &mut Screen)
     exchange(screen);
 }
 
-/// Swaps the active and the inactive page, if there are two.
+/// Swaps the active and the inactive page, if the inactive page exists.
 pub(super) fn exchange(screen: &mut Screen)
     ensures { screen.new ≡ exchanged screen.old }
 {
@@ -153,14 +153,15 @@ pub(super) fn exchange(screen: &mut Screen)
     screen.is_alternate = !screen.is_alternate;
 }
 
-/// Resets the active page to a fresh one.
+/// Resets the active page to the state of a fresh page.
 fn clear_active(screen: &mut Screen)
     ensures { screen.new ≡ with_fresh_page screen.old }
 {
     screen.grid.clear();
 }
 
-/// Resets the inactive page to a fresh one, if there is one.
+/// Resets the inactive page to the state of a fresh page, if the inactive page
+/// exists.
 fn clear_other(screen: &mut Screen)
     ensures { screen.new ≡ with_fresh_other screen.old }
 {

@@ -23,8 +23,8 @@ use vt_cells::{Error, columns};
 /// character wider than the screen, draws nothing. U+FFFD, which stands for
 /// malformed UTF-8, must not be printed.
 ///
-/// A wrap on the bottom row may scroll a row off the page, as
-/// [`super::scrolling::lf`] does.
+/// A wrap on the bottom row may scroll a row off the page, as a line feed does (see
+/// [`super::scrolling::lf`]).
 ///
 /// # Errors
 ///
@@ -126,9 +126,9 @@ pub fn print_wide_text(screen: &mut Screen, text: &[char])
     screen.last = Some(last);
 }
 
-/// Returns the last printed character that took up columns, which is the one
-/// that REP (ECMA-48) repeats. Returns `None` if there has been none since the
-/// screen was created or reset (RIS).
+/// Returns the last printed character that took up columns, which is the character that REP
+/// (ECMA-48) repeats. Returns `None` if no such character has been printed since the screen was
+/// created or reset (RIS).
 pub fn last_char(screen: &Screen) -> Option<char>
     ensures value { result ≡ screen.now.last }
     ensures reported { result ≢ Some 0xFFFD }

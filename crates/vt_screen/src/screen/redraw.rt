@@ -93,9 +93,10 @@ impl Screen {
     /// printed character by character on a blank row of the screen's width,
     /// reproduces itself.
     ///
-    /// A terminal that reads the redraw of a steady screen, or a difference to
-    /// one, displays exactly that screen. A glyph can fail to reproduce itself
-    /// only if its text contains U+FE0F, which may make it wide or narrow.
+    /// A terminal that reads the redraw of a steady screen, or a diff to a
+    /// steady screen, displays exactly that screen. A glyph can fail to
+    /// reproduce itself only if its text contains U+FE0F, which may make it
+    /// wide or narrow.
     ///
     /// Only cells whose text contains U+FE0F are examined closely. If the text
     /// of every cell in a row is shorter than four bytes, only the lengths are
@@ -123,18 +124,19 @@ impl Screen {
     /// *steady* if each displayed glyph, printed on a blank row, reproduces
     /// itself; see [`Screen::is_steady`].
     ///
-    /// By `redraws`, if this screen is steady, a plain terminal of its size
-    /// that has read the output is plain and displays this screen. Reading it
-    /// invokes no callbacks and allocates nothing. Scrollback, the other page
-    /// and the modes are unchanged; only the saved cursor, saved origin mode,
-    /// saved attributes and last character may change. Screens with the same
-    /// display return the same output. By `same`, screens with different
-    /// displays return different output.
+    /// If this screen is steady, a plain terminal of its size that has read the
+    /// output is plain and displays this screen (clause `redraws`). Reading the
+    /// output invokes no callbacks and allocates nothing. Scrollback, the other
+    /// page and the modes are unchanged; only the saved cursor, saved origin
+    /// mode, saved attributes and last character may change. Screens with the
+    /// same display return the same output, and steady screens of the same size
+    /// with different displays return different output (clause `same`).
     ///
     /// Even if the screen is not steady, the output contains only controls that
-    /// draw (`controls`). By `again`, a plain terminal that has read it is
-    /// plain again: no callback except `on_scroll` was invoked, and the other
-    /// page, the input modes, the cursor style and the size are unchanged.
+    /// draw (clause `controls`). A plain terminal that has read the output is
+    /// plain again (clause `again`): no callback except `on_scroll` was
+    /// invoked, and the other page, the input modes, the cursor style and the
+    /// size are unchanged.
     ///
     /// # Errors
     ///
@@ -168,22 +170,23 @@ impl Screen {
     /// same size, whatever its scroll region and origin mode are and whatever
     /// it displayed before.
     ///
-    /// They turn off origin mode (DECOM), reset the scroll region to the whole
-    /// page (DECSTBM), and then redraw as [`Screen::contents_formatted`] does.
+    /// The sequences turn off origin mode (DECOM), reset the scroll region to
+    /// the whole page (DECSTBM), and then redraw as
+    /// [`Screen::contents_formatted`] does.
     ///
     /// The terminal must be in ground state and display no scrollback; it may
-    /// be on the main or the alternate page. By `redraws`, if this screen is
-    /// steady (each glyph reproduces itself when printed), such a terminal is
-    /// plain and displays this screen after reading the output. Reading it
-    /// invokes no callbacks and allocates nothing. Scrollback, the other page
-    /// and the modes are unchanged; besides the scroll region and origin mode,
-    /// only the saved cursor, saved origin mode, saved attributes and last
-    /// character may change. Screens with the same display return the same
-    /// output. By `same`, screens with different displays return different
-    /// output.
+    /// be on the main or the alternate page. If this screen is steady (each
+    /// glyph reproduces itself when printed), such a terminal is plain and
+    /// displays this screen after reading the output (clause `redraws`).
+    /// Reading the output invokes no callbacks and allocates nothing.
+    /// Scrollback, the other page and the modes are unchanged; besides the
+    /// scroll region and origin mode, only the saved cursor, saved origin mode,
+    /// saved attributes and last character may change. Screens with the same
+    /// display return the same output, and steady screens of the same size with
+    /// different displays return different output (clause `same`).
     ///
-    /// By `again`, such a terminal is plain after reading the output even if
-    /// this screen is not steady: no callback except `on_scroll` was invoked,
+    /// Such a terminal is plain after reading the output even if this screen is
+    /// not steady (clause `again`): no callback except `on_scroll` was invoked,
     /// and the other page, the input modes, the cursor style and the size are
     /// unchanged.
     ///
@@ -226,27 +229,27 @@ impl Screen {
     /// region, origin mode off and no scrollback displayed. A screen is steady
     /// if each glyph reproduces itself when printed.
     ///
-    /// By `redraws`, if this screen is steady, a plain terminal that displays
-    /// `prev` displays this screen after reading the output, as with
+    /// If this screen is steady, a plain terminal that displays `prev` displays
+    /// this screen after reading the output (clause `redraws`), as with
     /// [`Screen::contents_formatted`]. The output is empty if both screens have
-    /// the same display; by `empty`, a steady screen has empty output only in
-    /// that case.
+    /// the same display (clause `none`); if this screen is steady, it is empty
+    /// only in that case (clause `empty`).
     ///
-    /// By `touches`, if this screen is steady, the output touches only rows
-    /// that differ and the rows directly below them. In these rows, glyphs that
-    /// are equal on both screens are not touched, except in the first and the
-    /// last column. The output may also touch the end of one row to make a wrap
-    /// pending.
+    /// If this screen is steady, the output touches only rows that differ and
+    /// the rows directly below them (clause `touches`). In these rows, glyphs
+    /// that are equal on both screens are not touched, except in the first and
+    /// the last column. The output may also touch the end of one row to make a
+    /// wrap pending.
     ///
-    /// By `again`, a plain terminal that has read the output is plain again
-    /// even if this screen is not steady, as with
+    /// A plain terminal that has read the output is plain again even if this
+    /// screen is not steady (clause `again`), as with
     /// [`Screen::contents_formatted`].
     ///
     /// # Errors
     ///
-    /// Returns `Error::OutOfMemory` if the output cannot be allocated. By
-    /// `never`, there is no error if both screens have the same display,
-    /// because empty output needs no allocation.
+    /// Returns `Error::OutOfMemory` if the output cannot be allocated. There is
+    /// no error if both screens have the same display, because empty output
+    /// needs no allocation (clause `never`).
     ///
     /// # Examples
     ///
@@ -278,16 +281,16 @@ impl Screen {
     /// this screen and hide or show it.
     ///
     /// The output is for a plain terminal (in ground state, with the full
-    /// scroll region, origin mode off and no scrollback displayed) of this size
-    /// that displays the rows of this screen and has default attributes.
+    /// scroll region, origin mode off and no scrollback displayed) that has the
+    /// same size as this screen, displays its rows, and has default attributes.
     ///
-    /// By `turns`, if this screen is steady (each glyph reproduces itself when
-    /// printed), such a terminal has this screen's cursor after reading the
-    /// output, and it is plain again. Reading it invokes no callbacks and
-    /// allocates nothing, and the rows and attributes are unchanged. By
-    /// `touches`, nothing is touched except the end of one row if a wrap is
-    /// pending. By `again`, a plain terminal that has read the output is plain
-    /// again, even if this screen is not steady.
+    /// If this screen is steady (each glyph reproduces itself when printed),
+    /// such a terminal has this screen's cursor after reading the output, and
+    /// is plain again (clause `turns`). Reading the output invokes no callbacks
+    /// and allocates nothing, and the rows and attributes are unchanged.
+    /// Nothing is touched except the end of one row if a wrap is pending
+    /// (clause `touches`). A plain terminal that has read the output is plain
+    /// again even if this screen is not steady (clause `again`).
     ///
     /// # Errors
     ///
@@ -312,8 +315,8 @@ impl Screen {
     /// Returns the escape sequences that set the current attributes: a reset
     /// (SGR 0) and the change from the defaults.
     ///
-    /// By `sets`, any terminal in ground state has these attributes after
-    /// reading the output, and nothing else changes.
+    /// Any terminal in ground state has this screen's current attributes after
+    /// reading the output, and nothing else changes (clause `sets`).
     ///
     /// # Errors
     ///

@@ -28,12 +28,12 @@ impl Screen {
     ///   enough, rows scroll off the top into scrollback.
     /// - More rows: rows that scrolled off come back at the top, as blank rows
     ///   if scrollback did not keep them. Blank rows at the bottom fill the
-    ///   rest.
+    ///   rest of the page.
     /// - Columns: each row of the page is cut or extended; text is not
     ///   rewrapped.
     ///
     /// On both pages, the scroll region becomes the whole page and a pending
-    /// wrap is cancelled. Scrollback is no longer displayed. No callbacks are
+    /// wrap is canceled. Scrollback is no longer displayed. No callbacks are
     /// invoked for the rows that scroll off; `Parser::set_size` invokes them.
     ///
     /// # Errors
@@ -83,7 +83,7 @@ pub fn set_size_with_cb<CB: Callbacks>(
     Ok(())
 }
 
-/// Returns whether the screen has this size.
+/// Returns whether the size of the screen is `size`.
 fn has_size(screen: &Screen, size: Size) -> bool
     ensures { result ≡ pages.has_size size.rows size.cols screen.now }
 {
@@ -282,7 +282,8 @@ fn refit_pages<CB: Callbacks>(
     Ok(())
 }
 
-/// Creates a blank page of the new size to replace `page`, if there is one.
+/// Creates a blank page of the new size to replace `page`, or returns `None` if
+/// `page` is `None`.
 ///
 /// # Errors
 ///

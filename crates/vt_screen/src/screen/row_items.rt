@@ -24,23 +24,21 @@ impl Screen {
     /// Returns an iterator over the escape sequences that draw each displayed
     /// row, from top to bottom, on a blank row of another terminal.
     ///
-    /// Each item draws `width` columns, or as many as there are, beginning at
-    /// column `start`. `start` must be less than the number of columns.
+    /// Each item draws the `width` columns that begin at column `start`, or all columns from
+    /// `start` on if there are fewer. `start` must be less than the number of columns.
     ///
     /// The iterator yields one item for each row of the screen. An item is an
     /// error if its output cannot be allocated; iteration then continues with
     /// the next row.
     ///
-    /// The clause `draws` applies if this screen is steady (each glyph
-    /// reproduces itself when printed) and the range does not cut a wide
-    /// character of the row in two. The row's output is then for a plain
-    /// terminal of this size on which that row is blank, with the cursor at the
-    /// beginning of the range and default attributes. After reading it, the
-    /// terminal has the row's cells in the range, and none of its other cells
-    /// has changed. Its cursor and attributes may have changed. By `off`, the
-    /// row is then not wrapped. By `linked`, the output of a whole row that
-    /// follows a wrapped row may also be read while a wrap is pending in the
-    /// row above, which then becomes wrapped.
+    /// The output of a row is for a plain terminal of the same size on which that row is blank,
+    /// with the cursor at the beginning of the range and default attributes. The screen must be
+    /// steady (each glyph reproduces itself when printed), and the range must not cut a wide
+    /// character of the row in two. After reading the output, the terminal has the row's cells in
+    /// the range, and none of its other cells has changed (clause `draws`). Its cursor and
+    /// attributes may have changed. The terminal's row is not wrapped after the output has been
+    /// read (clause `off`). The output of a whole row that follows a wrapped row may also be read
+    /// while a wrap is pending in the row above, which then becomes wrapped (clause `linked`).
     ///
     /// # Examples
     ///
@@ -71,22 +69,21 @@ impl Screen {
     /// Returns an iterator over the escape sequences that turn each displayed
     /// row of `prev`, from top to bottom, into the same row of this screen.
     ///
-    /// Each item covers `width` columns, or as many as there are, beginning at
-    /// column `start`. `start` must be less than the number of columns, and
-    /// both screens must have the same size.
+    /// Each item covers the `width` columns that begin at column `start`, or all columns from
+    /// `start` on if there are fewer. `start` must be less than the number of columns, and both
+    /// screens must have the same size.
     ///
     /// The iterator yields one item for each row of the screen. An item is an
     /// error if its output cannot be allocated; iteration then continues with
     /// the next row.
     ///
-    /// By `draws`, the output of a row has the effect described for
-    /// [`Screen::rows_formatted`], but on a terminal that displays the row of
-    /// `prev`; the range must not cut a wide character of that row in two
-    /// either. By `empty`, the output of a whole row is empty if and only if
-    /// both screens display the same row. By `off`, a row that isn't wrapped on
-    /// this screen is then not wrapped on the terminal. A row that is wrapped
-    /// on this screen becomes wrapped when the output of the next row is read
-    /// or something is printed there.
+    /// The output of a row has the effect described for [`Screen::rows_formatted`], but on a
+    /// terminal that displays the row of `prev` (clause `draws`). The range must not cut a wide
+    /// character of either row in two. The output of a whole row is empty if and only if both
+    /// screens display the same row (clause `empty`). A row that isn't wrapped on this screen is
+    /// not wrapped on the terminal after the output of the whole row has been read (clause `off`).
+    /// A row that is wrapped on this screen becomes wrapped on the terminal when the output of the
+    /// next row is read or something is printed in the next row.
     ///
     /// # Examples
     ///
@@ -119,13 +116,13 @@ impl Screen {
         RowsDiff::new(self, prev, start, self.range_end(start, width))
     }
 
-    /// Does nothing; its clauses state the invariant of every screen.
+    /// Does nothing; the clauses of this function state the invariant of every screen.
     #[inline]
     pub(super) fn sound(&self)
         ensures whole { IsScreen self.now }
         ensures colored { IsColored self.now }
     {
-        // Only for the proof: reading a field makes the invariant available.
+        // Only for the proof: reading a field makes the screen's invariant available.
         let _ = &self.alloc;
         let _ = self.attrs();
     }

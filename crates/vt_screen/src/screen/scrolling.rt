@@ -83,13 +83,14 @@ impl Screen {
     /// Scrolls the display back by `rows` rows, limited to the number of rows
     /// in scrollback. If `rows` is 0, only the page is displayed.
     ///
-    /// `rows` may exceed the height of the screen, which then displays as many
-    /// rows as it has room for, starting that far back. On the alternate page,
-    /// which has no scrollback, nothing happens.
+    /// `rows` may exceed the height of the screen. In that case, the screen
+    /// displays as many rows as it has room for, starting that many rows above
+    /// the page. On the alternate page, which has no scrollback, nothing
+    /// happens.
     ///
     /// Displayed rows of scrollback that are narrower than the screen are
-    /// extended to its width and are then no longer wrapped. They stay that way
-    /// when the display returns to the page.
+    /// extended to its width and are then no longer wrapped. The rows stay that
+    /// way when the display returns to the page.
     ///
     /// # Errors
     ///
@@ -122,7 +123,7 @@ impl Screen {
     }
 
     /// Returns the number of rows by which the display is scrolled back, which
-    /// may exceed the height of the screen. It is 0 on the alternate page.
+    /// may exceed the height of the screen. Returns 0 on the alternate page.
     pub fn scrollback(&self) -> usize
         ensures { result ≡ (above_page self.now).offset }
     {

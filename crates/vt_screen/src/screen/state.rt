@@ -1,8 +1,8 @@
 //! Output that reproduces the whole state of a screen: its display and its
 //! input modes.
 //!
-//! The module `redraw` defines what a screen displays, when a terminal is
-//! plain, and when a screen is steady.
+//! The documentation of the module `redraw` defines what a screen displays,
+//! when a terminal is plain, and when a screen is steady.
 
 ghost use Rattle.std.specs.Prelude.{◌≡◌, ◌++◌, [], IsOk, OnOk};
 ghost use Rattle.vt_cells.specs.Refusals.{OnlyOutOfMemory};
@@ -28,12 +28,12 @@ impl Screen {
     /// region, origin mode off and no scrollback displayed) and have the
     /// default mouse mode, mouse encoding and cursor style.
     ///
-    /// By `gives`, if this screen is steady (each glyph reproduces itself when
-    /// printed), such a terminal is plain after reading the output, displays
-    /// this screen and has its modes. Reading it invokes no callbacks and
-    /// allocates nothing. Scrollback and the other page are unchanged; only the
-    /// saved cursor, saved origin mode, saved attributes and last character may
-    /// change.
+    /// If this screen is steady (each glyph reproduces itself when printed),
+    /// such a terminal is plain after reading the output, displays this screen
+    /// and has its modes (clause `gives`). Reading the output invokes no
+    /// callbacks and allocates nothing. Scrollback and the other page are
+    /// unchanged; only the saved cursor, saved origin mode, saved attributes
+    /// and last character may change.
     ///
     /// # Errors
     ///
@@ -70,17 +70,17 @@ impl Screen {
     /// region, origin mode off and no scrollback displayed. A screen is steady
     /// if each glyph reproduces itself when printed.
     ///
-    /// By `gives`, if this screen is steady, a plain terminal with the display
-    /// and modes of `prev` has the display and modes of this screen after
-    /// reading the output, as with [`Screen::state_formatted`]. The output is
-    /// empty if both screens have the same display and modes; by `empty`, a
-    /// steady screen has empty output only in that case.
+    /// If this screen is steady, a plain terminal with the display and modes of
+    /// `prev` has the display and modes of this screen after reading the output
+    /// (clause `gives`), as with [`Screen::state_formatted`]. The output is
+    /// empty if both screens have the same display and modes; if this screen is
+    /// steady, it is empty only in that case (clause `empty`).
     ///
     /// # Errors
     ///
-    /// Returns `Error::OutOfMemory` if the output cannot be allocated. By
-    /// `never`, there is no error if both screens have the same display and
-    /// modes, because empty output needs no allocation.
+    /// Returns `Error::OutOfMemory` if the output cannot be allocated. There is
+    /// no error if both screens have the same display and modes, because empty
+    /// output needs no allocation (clause `never`).
     ///
     /// # Examples
     ///

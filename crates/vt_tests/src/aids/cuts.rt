@@ -1,4 +1,4 @@
-//! The screens after each prefix of an input.
+//! Checks of the screens after each prefix of an input.
 
 use super::readback::{Asked, Change};
 use super::seen::read_keeping;
@@ -8,8 +8,9 @@ use std::test::Fail;
 use vt_notes::Notes;
 use vt100::{Parser, Screen};
 
-/// Checks the screen after each byte of the steps. Fails if a terminal that parses the redraw of
-/// the screen with its modes, or the differences since the byte before, does not display the same.
+/// Checks the screen after each byte of the steps. Fails if a terminal that parses the output of
+/// `state_formatted`, or that of `state_diff` from the screen before the byte, does not have the
+/// display and modes of the screen.
 pub fn expect_read_back_at_each_byte(
     alloc: Global,
     size: (u16, u16),
@@ -53,10 +54,10 @@ fn expect_screen_read_back(alloc: Global, screen: &Screen, prev: &Screen) -> Res
     Change::State.expect_read(alloc, screen, prev, text.as_str())
 }
 
-/// Returns `true` only if every displayed glyph, printed again on a blank row, reproduces itself.
+/// Returns whether no narrow glyph on the screen contains U+FE0F.
 ///
-/// That holds for glyphs without U+FE0F, and for those that it made wide. For a narrow glyph with
-/// U+FE0F the function returns `false`, although it may hold.
+/// If so, the screen is steady: every displayed glyph reproduces itself when printed on a blank
+/// row. A screen for which the function returns `false` may still be steady.
 fn is_surely_steady(screen: &Screen) -> bool {
     let (rows, cols) = screen.size();
     for row in 0..rows.get() {

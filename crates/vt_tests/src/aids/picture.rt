@@ -21,10 +21,10 @@ pub enum Part {
     Modes,
 }
 
-/// The parts that make up the display.
+/// The parts of the state that make up the display.
 pub const PICTURE: [Part; 4] = [Part::Cells, Part::Flags, Part::Cursor, Part::Attributes];
 
-/// The parts that make up the display, and the modes.
+/// The parts of the state that make up the display, followed by the modes.
 pub const PARTS: [Part; 5] = [
     Part::Cells,
     Part::Flags,
@@ -34,7 +34,7 @@ pub const PARTS: [Part; 5] = [
 ];
 
 impl Part {
-    /// Returns whether two screens of the same size agree in this part.
+    /// Returns whether two screens of the same size agree in this part of the state.
     pub fn is_same(self, one: &Screen, other: &Screen) -> bool {
         match self {
             Part::Cells => have_same_cells(one, other, one.size().0.get()),
@@ -63,7 +63,7 @@ pub fn have_same_cells(one: &Screen, other: &Screen, rows: u16) -> bool {
 }
 
 /// Returns whether two screens have the same wrapped flags, except for the last row. The flag of
-/// that row matters only if scrollback is displayed, and is not part of the display.
+/// the last row matters only while scrollback is displayed, and is not part of the display.
 fn have_same_flags(one: &Screen, other: &Screen) -> bool {
     let (rows, _cols) = one.size();
     for row in 0..rows.get().saturating_sub(1) {

@@ -1,4 +1,4 @@
-//! Output of screens, parsed by a terminal that displays something else.
+//! Checks of a screen's output on a terminal that displays something else.
 
 use super::picture::{PARTS, PICTURE, Part, have_same_cells};
 use super::seen::read_keeping;
@@ -7,13 +7,14 @@ use std::alloc::Global;
 use std::test::Fail;
 use vt100::{Error, Screen};
 
-/// Input that makes a terminal busy: wide glyphs in colour everywhere, rows in scrollback, a hidden
+/// Input that makes a terminal busy: wide glyphs in color everywhere, rows in scrollback, a hidden
 /// cursor, attributes other than the defaults, application keypad, application cursor keys, and
-/// bracketed paste. The output of a screen must not depend on any of this.
+/// bracketed paste. The effect of a screen's output must not depend on any of this state.
 const BUSY: &[u8] =
     b"\x1b[7;32mfgh\xe4\xb8\xadij\x1b[2S\x1b[1mklm\xe4\xb8\xadnopqr\x1b[?25l\x1b=\x1b[?1;2004h";
 
-/// The ways in which output is parsed here: as a whole, and byte by byte.
+/// The ways in which the output is split when a terminal parses it: not at all, and into single
+/// bytes.
 const READ: [Pieces; 2] = [Pieces::Two(usize::MAX), Pieces::Single];
 
 /// A kind of output of a screen.
@@ -34,12 +35,12 @@ pub enum Asked {
     /// The output of `input_mode_formatted`.
     Modes,
 
-    /// The output of `contents_formatted_reset`, for a terminal with a scroll region and origin
-    /// mode.
+    /// The output of `contents_formatted_reset`, for a terminal that has a scroll region and is in
+    /// origin mode.
     Reset,
 
-    /// The output of `contents_formatted_reset`, for a terminal with a scroll region and origin
-    /// mode on its alternate page.
+    /// The output of `contents_formatted_reset`, for a terminal that displays its alternate page,
+    /// has a scroll region and is in origin mode.
     ResetOnAlternate,
 }
 
@@ -55,7 +56,7 @@ pub const ASKED: [Asked; 7] = [
 ];
 
 impl Asked {
-    /// Returns this kind of output of a screen.
+    /// Returns the output of this kind for `screen`.
     pub fn text(self, screen: &Screen) -> Result<String, Error> {
         match self {
             Asked::Redraw => screen.contents_formatted(),
@@ -67,8 +68,9 @@ impl Asked {
         }
     }
 
-    /// Fails if a terminal that parses this output of a screen does not take over what the output
-    /// is for, changes in any other part, or invokes a callback.
+    /// Feeds the output of this kind for `screen` to a terminal. Fails if, afterward, the terminal
+    /// does not agree with the screen in the parts that the output sets, has changed in a different
+    /// part, or has invoked a callback.
     pub fn expect_read(self, alloc: Global, screen: &Screen) -> Result<(), Fail> {
         let text = self.text(screen)?;
         let before = self.read_before(alloc, screen)?;
@@ -79,9 +81,9 @@ impl Asked {
         Ok(())
     }
 
-    /// Returns what the terminal parses first: the cells and wrapped flags if the output is for the
-    /// cursor only, and a scroll region of two rows with origin mode if the output is for any
-    /// region.
+    /// Returns the input that the terminal parses before the output. If the output only sets the
+    /// cursor, the input is a redraw. If the output is for terminals with any scroll region, the
+    /// input sets a scroll region of two rows and origin mode.
     fn read_before(self, alloc: Global, screen: &Screen) -> Result<String, Error> {
         let mut text = String::new(alloc);
         match self {
@@ -96,8 +98,8 @@ impl Asked {
         Ok(text)
     }
 
-    /// Returns the parts in which the terminal agrees with the screen afterward. All other parts
-    /// are unchanged.
+    /// Returns the parts of the state that this kind of output sets. A terminal that parses the
+    /// output agrees with the screen in these parts, and is unchanged in all others.
     fn taken(self) -> &'static [Part] {
         match self {
             Asked::Redraw | Asked::Reset | Asked::ResetOnAlternate => &PICTURE,
@@ -109,7 +111,7 @@ impl Asked {
     }
 }
 
-/// A kind of output with the difference between two screens.
+/// A kind of diff between two screens.
 #[derive(Clone, Copy, Debug)]
 pub enum Change {
     /// The output of `contents_diff`.
@@ -126,7 +128,8 @@ pub enum Change {
 }
 
 impl Change {
-    /// Returns this kind of difference from `prev` to `screen`. Fails if they differ in size.
+    /// Returns the diff of this kind from `prev` to `screen`. Fails if the two screens differ in
+    /// size.
     pub fn text(self, screen: &Screen, prev: &Screen) -> Result<String, Fail> {
         let (rows, cols) = screen.size();
         let (other_rows, other_cols) = prev.size();
@@ -142,8 +145,9 @@ impl Change {
         Ok(text?)
     }
 
-    /// Fails if a terminal that displays what `prev` displays, with its modes, does not take over
-    /// from `screen` what this output is for, changes in any other part, or invokes a callback.
+    /// Feeds the diff `text` to a terminal with the display and modes of `prev`. Fails if,
+    /// afterward, the terminal does not agree with `screen` in the parts that the diff sets, has
+    /// changed in a different part, or has invoked a callback.
     pub fn expect_read(
         self,
         alloc: Global,
@@ -159,8 +163,8 @@ impl Change {
         Ok(())
     }
 
-    /// Returns the parts in which the terminal agrees with the screen afterward. All other parts
-    /// are unchanged.
+    /// Returns the parts of the state that this kind of output sets. A terminal that parses the
+    /// output agrees with the screen in these parts, and is unchanged in all others.
     fn taken(self) -> &'static [Part] {
         match self {
             Change::Picture | Change::Scrolling => &PICTURE,
@@ -170,9 +174,9 @@ impl Change {
     }
 }
 
-/// Feeds `before` to a busy terminal, and then `text` in chunks. Fails if `text` invokes a
-/// callback, or if the terminal then differs from the screen in one of these parts, or from its
-/// earlier state in any other, including scrollback.
+/// Feeds [`BUSY`] and `before` to a terminal, and then `text` in chunks. Fails if `text` invokes a
+/// callback, or if the terminal afterward differs from the screen in one of the parts `parts` or
+/// has changed in any other part, including scrollback.
 fn expect_taken(
     alloc: Global,
     screen: &Screen,
@@ -192,8 +196,8 @@ fn expect_taken(
     expect_same_scrollback(reader.screen_mut(), &mut before, text)
 }
 
-/// Fails if a terminal differs from the screen in one of these parts, or from its earlier state in
-/// any other.
+/// Fails if the terminal `reader` differs from `screen` in one of the parts `parts`, or from its
+/// earlier state `before` in any other part.
 fn expect_parts(
     reader: &Screen,
     screen: &Screen,
@@ -210,7 +214,8 @@ fn expect_parts(
     Ok(())
 }
 
-/// Fails if a terminal's scrollback differs from what it was before.
+/// Fails if the scrollback of the terminal `reader` differs from that of its earlier state
+/// `before`.
 fn expect_same_scrollback(
     reader: &mut Screen,
     before: &mut Screen,

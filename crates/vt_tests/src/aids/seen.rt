@@ -1,4 +1,4 @@
-//! The observable state of a parser as one string, and the checks of it.
+//! The observable state of a parser as one string, and checks of that state.
 
 use super::cuts::expect_read_back_at_each_byte;
 use super::steps::{Pieces, Step, longest, size_of, taken};
@@ -7,12 +7,13 @@ use std::test::Fail;
 use vt_notes::Notes;
 use vt100::{Cell, Color, CursorStyle, MouseProtocolEncoding, MouseProtocolMode, Parser, Screen};
 
-/// An example: the size of a new parser, its scrollback capacity, the steps, and the observable
-/// state after them.
+/// An example: the size of a new parser, its scrollback capacity, the steps, and the expected
+/// observable state after the steps.
 pub type Example = ((u16, u16), usize, &'static [Step], &'static str);
 
-/// Checks examples with their bytes in two chunks and one by one. Fails if a state differs, or if
-/// the screen after one of the bytes cannot be read back from its output.
+/// Checks examples with their bytes in two chunks and one by one. Fails if a state is not the
+/// expected one. Also fails if, after some prefix of the bytes, a terminal that parses the screen's
+/// output does not display the screen.
 pub fn expect_each(alloc: Global, examples: &[Example]) -> Result<(), Fail> {
     for (size, capacity, steps, wanted) in examples {
         expect_at_each_cut(alloc, *size, *capacity, steps, wanted)?;
@@ -20,8 +21,9 @@ pub fn expect_each(alloc: Global, examples: &[Example]) -> Result<(), Fail> {
     Ok(())
 }
 
-/// Checks steps with their bytes in two chunks and one by one. Fails if the state differs, or if
-/// the screen after one of the bytes cannot be read back from its output.
+/// Checks steps with their bytes in two chunks and one by one. Fails if the state after the steps
+/// is not `wanted`. Also fails if, after some prefix of the bytes, a terminal that parses the
+/// screen's output does not display the screen.
 pub fn expect_at_each_cut(
     alloc: Global,
     size: (u16, u16),
@@ -36,7 +38,7 @@ pub fn expect_at_each_cut(
     expect_read_back_at_each_byte(alloc, size, capacity, steps)
 }
 
-/// Fails if the state after these steps, with their bytes split like this, is not `wanted`.
+/// Fails if the state after the steps, with their bytes split as `pieces` says, is not `wanted`.
 fn expect_after(
     alloc: Global,
     size: (u16, u16),
@@ -49,7 +51,7 @@ fn expect_after(
     expect(alloc, &parser, steps, wanted)
 }
 
-/// Fails if the state of a parser after these steps is not `wanted`.
+/// Fails if the state of `parser`, which has taken the steps, is not `wanted`.
 pub fn expect(
     alloc: Global,
     parser: &Parser<Notes>,
@@ -72,7 +74,8 @@ pub fn expect_text(text: String, wanted: &str) -> Result<(), Fail> {
     }
 }
 
-/// Returns the observable state of a parser: the display as a line, and the lines of its calls.
+/// Returns the observable state of a parser: a line for the display, and a line for each callback
+/// that was invoked.
 fn seen(alloc: Global, parser: &Parser<Notes>) -> Result<String, Fail> {
     let mut text = shown(alloc, parser.screen())?;
     text.push_str(parser.callbacks().lines(alloc)?.as_str())?;
@@ -81,11 +84,11 @@ fn seen(alloc: Global, parser: &Parser<Notes>) -> Result<String, Fail> {
 
 /// Returns the display of a screen as a line.
 ///
-/// Each row that displays something is given by its number, a colon and its cells: a dot for a
-/// blank, brackets around a wide glyph, and a slash at the end of a wrapped row; blanks at the end
-/// are left out. The cursor follows. The rest appears only if it is not the default: whether the
-/// alternate page is active, the number of rows in scrollback and of those displayed, attributes,
-/// and modes.
+/// Each row that is not blank is given by its number, a colon and its cells: a dot for a blank,
+/// brackets around a wide glyph, and a slash at the end of a wrapped row; trailing blanks are left
+/// out. The cursor position follows. All other state appears only if it is not the default: whether
+/// the alternate page is active, the number of rows in scrollback and how many of them are
+/// displayed, attributes, and modes.
 pub fn shown(alloc: Global, screen: &Screen) -> Result<String, Fail> {
     let (rows, _cols) = screen.size();
     let mut text = String::new(alloc);
@@ -101,12 +104,13 @@ pub fn shown(alloc: Global, screen: &Screen) -> Result<String, Fail> {
     Ok(text)
 }
 
-/// Creates a parser of this size, and feeds the chunks to it.
+/// Creates a parser of the given size, and feeds the chunks to it.
 pub fn read(alloc: Global, size: (u16, u16), pieces: &[&[u8]]) -> Result<Parser<Notes>, Fail> {
     read_keeping(alloc, size, 0, pieces)
 }
 
-/// Creates a parser of this size with a scrollback of `capacity` rows, and feeds the chunks to it.
+/// Creates a parser of the given size with a scrollback of `capacity` rows, and feeds the chunks to
+/// it.
 pub fn read_keeping(
     alloc: Global,
     size: (u16, u16),
@@ -216,7 +220,7 @@ fn write_modes(text: &mut String, screen: &Screen) -> Result<(), AllocError> {
     Ok(())
 }
 
-/// Appends the words whose flag is set.
+/// Appends each word whose flag is `true`.
 fn write_words(text: &mut String, words: &[(bool, &str)]) -> Result<(), AllocError> {
     for (on, word) in words {
         if *on {

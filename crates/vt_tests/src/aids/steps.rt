@@ -1,4 +1,4 @@
-//! Actions on a parser, as values.
+//! Actions on a parser, represented as values.
 
 use super::seen::read_keeping;
 use std::alloc::Global;
@@ -16,21 +16,21 @@ pub enum Step {
     /// Parses bytes.
     Bytes(&'static [u8]),
 
-    /// Resizes the screen, by rows and columns.
+    /// Resizes the screen to the given number of rows and columns.
     Resize(u16, u16),
 
-    /// Resizes the parser, by rows and columns.
+    /// Resizes the parser to the given number of rows and columns.
     ResizeParser(u16, u16),
 
-    /// Displays this number of rows of scrollback.
+    /// Scrolls the display back by the given number of rows.
     View(usize),
 
-    /// Clears scrollback.
+    /// Erases scrollback.
     GiveUp,
 }
 
-/// The way in which bytes are split: into two chunks, of which the first has at most this many
-/// bytes, or one by one.
+/// The way in which bytes are split: into two chunks, of which the first has at most the given
+/// number of bytes, or into single bytes.
 #[derive(Clone, Copy)]
 pub enum Pieces {
     Two(usize),
@@ -66,14 +66,14 @@ impl Step {
     }
 }
 
-/// Converts a number of rows and of columns; fails if one is 0.
+/// Converts a row count and a column count to nonzero integers. Fails if either count is 0.
 pub fn size_of((rows, cols): (u16, u16)) -> Result<(NonZeroU16, NonZeroU16), Fail> {
     let rows = NonZeroU16::new(rows).ok_or("no rows")?;
     let cols = NonZeroU16::new(cols).ok_or("no columns")?;
     Ok((rows, cols))
 }
 
-/// Creates a parser of this size with a scrollback of `capacity` rows, and applies the steps.
+/// Creates a parser of the given size with a scrollback of `capacity` rows, and applies the steps.
 pub fn taken(
     alloc: Global,
     size: (u16, u16),
@@ -97,7 +97,7 @@ pub fn longest(steps: &[Step]) -> usize {
     longest
 }
 
-/// Feeds bytes to a parser, split like this.
+/// Feeds bytes to a parser, split as `pieces` says.
 pub fn feed<CB: Callbacks>(
     parser: &mut Parser<CB>,
     bytes: &[u8],

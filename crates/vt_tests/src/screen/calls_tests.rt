@@ -1,4 +1,4 @@
-//! The effect of each sequence, and the callbacks that it invokes.
+//! Tests of the effect of each sequence, and of the callbacks that it invokes.
 
 use crate::aids::seen::expect_at_each_cut;
 use crate::aids::steps::Step::Bytes;
@@ -41,12 +41,12 @@ const REPORTED: [(&[u8], &str); 66] = [
     (b"\x1b[8;65535;65535t", "@0,0\nresize(65535, 65535)\n"),
     (b"\x1b[8;99999999999;70000;1t", "@0,0\nresize(65535, 65535)\n"),
 
-    // Inside a sequence: a control character, ignored bytes, and another sequence.
+    // Inside a sequence: a control character, ignored bytes, and a new sequence.
     (b"ab\x1b[2\r\x80\x7fC", "0:ab @0,2\n"),
     (b"\x1b[1\r;2\x80\x7fH", "@0,1\n"),
     (b"\x1b[1\x1b[2C", "@0,2\n"),
 
-    // Numbers are limited, and so is their count.
+    // The value and the count of numbers are limited.
     (b"\x1b[99999;1H\x1b[99999999999999999999C", "@23,79\n"),
     (b"\x1b[99999;99999999999999999999z", "@0,0\nunhandled_csi(None, None, [[65535], [65535]], 'z')\n"),
     (

@@ -1,4 +1,4 @@
-//! Callbacks that change the screen, each with its relation.
+//! Callbacks that change the screen, each with the relation that describes the change.
 
 ghost use Rattle.std.specs.Prelude.{IfOk};
 ghost use Rattle.vt_tests.specs.Changing.{Becomes, Exchanges, LooksBack, Resizes};
@@ -66,7 +66,7 @@ impl Callbacks for Resizer {
     fn on_scroll(&mut self, _row: RowContents<'_>, _alternate: bool) {}
 }
 
-/// Callbacks that keep another screen, and exchange both at each bell.
+/// Callbacks that hold a second screen, and swap it with the parser's screen at each bell.
 #[derive(Drop)]
 pub(crate) struct Exchanger {
     kept: Screen,
@@ -81,12 +81,12 @@ impl Model for Exchanger {
 }
 
 impl Exchanger {
-    /// Creates callbacks that keep this screen.
+    /// Creates callbacks that hold the screen `kept`.
     pub(crate) fn new(kept: Screen) -> Self {
         Exchanger { kept }
     }
 
-    /// Returns the screen that is kept.
+    /// Returns the screen that the callbacks hold.
     pub(crate) fn kept(&self) -> &Screen {
         &self.kept
     }
@@ -106,7 +106,7 @@ impl Callbacks for Exchanger {
     fn on_scroll(&mut self, _row: RowContents<'_>, _alternate: bool) {}
 }
 
-/// Callbacks that display a row of scrollback at each bell.
+/// Callbacks that, at each bell, scroll the display back so that one row of scrollback is visible.
 #[derive(Drop)]
 pub(crate) struct Viewer {
     is_refused: bool,
@@ -161,14 +161,15 @@ pub(crate) fn run_resizing(parser: &mut Parser<Resizer>, bytes: &[u8]) -> Result
     parser.process(bytes)
 }
 
-/// Parses bytes with callbacks that exchange the screen at each bell.
+/// Parses bytes with callbacks that swap the screen with a second screen at each bell.
 pub(crate) fn run_exchanging(parser: &mut Parser<Exchanger>, bytes: &[u8]) -> Result<(), Error>
     ensures ran { IfOk result (λ _. Ran Exchanges parser.old bytes.now parser.new) }
 {
     parser.process(bytes)
 }
 
-/// Parses bytes with callbacks that display a row of scrollback at each bell.
+/// Parses bytes with callbacks that, at each bell, scroll the display back so that one row of
+/// scrollback is visible.
 pub(crate) fn run_looking_back(parser: &mut Parser<Viewer>, bytes: &[u8]) -> Result<(), Error>
     ensures ran { IfOk result (λ _. Ran LooksBack parser.old bytes.now parser.new) }
 {

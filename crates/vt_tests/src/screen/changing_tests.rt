@@ -1,4 +1,5 @@
-//! Callbacks that resize the screen, exchange it or scroll it back, in the middle of the input.
+//! Tests of callbacks that resize the screen, swap it or scroll it back, in the middle of the
+//! input.
 
 use super::changing::{Exchanger, Resizer, Viewer, run_exchanging, run_looking_back, run_resizing};
 use crate::aids::seen::{expect_text, shown};
@@ -7,7 +8,7 @@ use std::alloc::Global;
 use std::test::Fail;
 use vt100::{Parser, Screen};
 
-/// Fails if a screen has a different size or display.
+/// Fails if the size or the display of a screen is not the expected one.
 fn expect_screen(
     alloc: Global,
     screen: &Screen,
@@ -20,7 +21,8 @@ fn expect_screen(
     expect_text(shown(alloc, screen)?, wanted)
 }
 
-/// Input on two rows of four columns, the size after it, and the display.
+/// Test cases: input on a screen of two rows and four columns, and the size and display of the
+/// screen after the input.
 #[rattlefmt::skip]
 const SIZED: [(&str, (u16, u16), &str); 7] = [
     ("ab\x1b[8;3;2tcd", (3, 2), "0:ac/ 1:d @1,1\n"),
@@ -60,8 +62,8 @@ fn expect_resized(
     expect_screen(alloc, parser.screen(), size, wanted)
 }
 
-/// Input on two rows of four columns; the size and the display of the screen after it, and of the
-/// screen that is kept.
+/// Test cases: input on a screen of two rows and four columns; the size and display of the screen
+/// after the input; and the size and display of the screen that the callbacks hold after the input.
 #[rattlefmt::skip]
 const EXCHANGED: [(&str, (u16, u16), &str, (u16, u16), &str); 4] = [
     ("ab\x07c", (1, 1), "0:c @0,1\n", (2, 4), "0:ab @0,2\n"),
@@ -85,8 +87,8 @@ fn exchanges_the_screen(rt: HostRuntime) -> Result<(), Fail> {
     Ok(())
 }
 
-/// Creates a parser whose callbacks keep a new screen of one row and one column, and feeds these
-/// bytes to it.
+/// Creates a parser whose callbacks hold a new screen of one row and one column, and feeds the
+/// bytes to the parser in two chunks, of which the first has at most `cut` bytes.
 fn exchanged(alloc: Global, bytes: &[u8], cut: usize) -> Result<Parser<Exchanger>, Fail> {
     let (row, col) = size_of((1, 1))?;
     let small = Parser::new(alloc, row, col, 0)?;
@@ -99,8 +101,8 @@ fn exchanged(alloc: Global, bytes: &[u8], cut: usize) -> Result<Parser<Exchanger
     Ok(parser)
 }
 
-/// Input on two rows of four columns with a scrollback of ten rows, the display after it, and the
-/// display after scrolling down again.
+/// Test cases: input on a screen of two rows and four columns with a scrollback of ten rows, the
+/// display after the input, and the display after scrolling back to the page.
 #[rattlefmt::skip]
 const LOOKED_BACK: [(&str, &str, &str); 2] = [
     ("a\r\nb\r\nc\x07x", "0:a 1:b @1,2 kept 1 in view 1\n", "0:b 1:cx @1,2 kept 1\n"),

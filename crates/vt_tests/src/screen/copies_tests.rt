@@ -1,4 +1,4 @@
-//! Copies of screens: equal at first, then independent.
+//! Tests that the copy of a screen is equal to the original at first and independent of it.
 
 use crate::aids::seen::{read_keeping, shown};
 use crate::aids::steps::Step::{Text, View};
@@ -8,7 +8,8 @@ use std::test::Fail;
 use vt_notes::Notes;
 use vt100::{Parser, Screen};
 
-/// Returns the number of rows in scrollback, of those displayed, and its capacity.
+/// Returns the number of rows in scrollback, the number of rows by which the display is scrolled
+/// back, and the scrollback capacity.
 pub(crate) fn counts(screen: &Screen) -> (usize, usize, usize) {
     (
         screen.scrollback_len(),
@@ -42,7 +43,8 @@ fn expect_alike(alloc: Global, one: &Screen, other: &Screen) -> Result<(), Fail>
     Err(Fail::new(format_args!("{one}is not like {other}")))
 }
 
-/// Fails if two screens differ with any number of rows of scrollback displayed.
+/// Fails if two screens display different contents at any scrollback position (the same position in
+/// each).
 fn expect_alike_in_view(alloc: Global, one: &mut Screen, other: &mut Screen) -> Result<(), Fail> {
     for rows in 0..=one.scrollback_len() {
         one.set_scrollback(rows)?;
@@ -52,14 +54,15 @@ fn expect_alike_in_view(alloc: Global, one: &mut Screen, other: &mut Screen) -> 
     Ok(())
 }
 
-/// Creates a parser with a copy of this screen.
+/// Creates a parser with a copy of `screen`.
 fn with_copy(alloc: Global, screen: &Screen) -> Result<Parser<Notes>, Fail> {
     let mut parser = read_keeping(alloc, (1, 1), 0, &[])?;
     *parser.screen_mut() = screen.clone()?;
     Ok(parser)
 }
 
-/// Fails if input to the second parser changes the screen of the first, or does not change its own.
+/// Fails if input to the second parser changes the screen of the first parser, or does not change
+/// the second parser's own screen.
 fn expect_own_way(
     alloc: Global,
     one: &Parser<Notes>,
@@ -90,10 +93,10 @@ const CLONED: [((u16, u16), usize, &[Step]); 12] = [
     ((2, 4), 10, &[Text("a\r\nb\r\nc\x1b[?1049hxyz\x1b[?47l"), View(1)]),
 ];
 
-/// The input for a screen, or its copy, after it was copied.
+/// Input that a screen and its copy parse after the copy has been made.
 const MORE: &[u8] = b"x\x1b[2b\x1b[?47hyz\x1b8q\x1b[?47l\r\nu\r\nv\r\nw\x1b[Hs\x1b8\x1b[7mt";
 
-/// Fails if the screen after these steps has a copy that is not equal to it, or not independent of
+/// Fails if a copy of the screen after the steps is not equal to the screen or not independent of
 /// it.
 fn expect_copied(
     alloc: Global,
@@ -117,8 +120,8 @@ fn a_copy_is_alike_and_goes_its_own_way(rt: HostRuntime) -> Result<(), Fail> {
     Ok(())
 }
 
-/// Fails if the copy of a screen's display has a different display or size, or keeps rows although
-/// none are displayed.
+/// Fails if a copy made by `shown_copy` has a different display or size than the screen `one`, or
+/// has scrollback although `one` displays none.
 fn expect_displayed(one: &Screen, copy: &Screen) -> Result<(), Fail> {
     let (text, copied) = (one.contents_formatted()?, copy.contents_formatted()?);
     let is_like = copy.size() == one.size() && copied.as_str() == text.as_str();

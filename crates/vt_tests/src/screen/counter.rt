@@ -33,7 +33,7 @@ impl Counter {
         self.counts.as_slice()
     }
 
-    /// Returns the number of calls that went to `otherwise`.
+    /// Returns the number of calls of `otherwise`.
     pub(crate) fn otherwise(&self) -> u8 {
         self.otherwise
     }

@@ -1,4 +1,4 @@
-//! Callbacks that implement each method: each of their methods is called.
+//! Tests of callbacks that implement all methods: each method must be called.
 
 use super::counter::Counter;
 use super::counter::Function::{self, *};
@@ -7,7 +7,7 @@ use std::alloc::Global;
 use std::test::Fail;
 use vt100::Parser;
 
-/// A sequence for each method.
+/// For each method of `Callbacks`, a sequence that invokes the method.
 const CALLED: [(&[u8], Function); 12] = [
     (b"\x07", AudibleBell),
     (b"\x1bg", VisualBell),
@@ -23,7 +23,8 @@ const CALLED: [(&[u8], Function); 12] = [
     (b"\x1b]9;x\x07", UnhandledOsc),
 ];
 
-/// Fails if these bytes do not call this method exactly once, or call any other method.
+/// Fails if parsing `bytes` does not call the method `function` exactly once, or calls any other
+/// method.
 fn expect_one_call(alloc: Global, bytes: &[u8], function: Function) -> Result<(), Fail> {
     let (rows, cols) = size_of((24, 80))?;
     let mut parser = Parser::new_with_callbacks(alloc, rows, cols, 0, Counter::default())?;

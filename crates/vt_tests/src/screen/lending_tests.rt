@@ -1,4 +1,4 @@
-//! Access to the screen and the callbacks of a parser in the middle of a sequence.
+//! Tests of access to the screen and the callbacks of a parser in the middle of a sequence.
 
 use crate::aids::seen::{expect, read};
 use crate::aids::steps::size_of;

@@ -1,11 +1,11 @@
-//! Very long inputs and very large capacities.
+//! Tests of very long inputs and very large scrollback capacities.
 
 use crate::aids::seen::{expect_at_each_cut, read, read_keeping};
 use crate::aids::steps::Step::{self, Resize, ResizeParser, Text, View};
 use std::test::Fail;
 use vt_notes::Note;
 
-/// The largest scrollback capacities. There is not enough memory for any of them.
+/// The largest scrollback capacities, each too large for all its rows to fit in memory.
 const CAPACITIES: [usize; 4] = [
     usize::MAX,
     usize::MAX - 1,
@@ -13,8 +13,8 @@ const CAPACITIES: [usize; 4] = [
     usize::MAX / 2,
 ];
 
-/// A size, the steps, and the display after them, which is the same for each of these capacities:
-/// every row is kept.
+/// Test cases: a size, the steps, and the display after the steps. The display is the same for all
+/// of [`CAPACITIES`], because every row is kept.
 #[rattlefmt::skip]
 const KEPT: [((u16, u16), &[Step], &str); 8] = [
     ((2, 4), &[Text("a\r\nb\r\nc")], "0:b 1:c @1,1 kept 1\n"),
@@ -62,7 +62,7 @@ fn takes_a_title_of_a_mebibyte(rt: HostRuntime) -> Result<(), Fail> {
     Ok(())
 }
 
-/// Returns whether the calls are one call with a title of 2^20 letters `x`.
+/// Returns whether `calls` consists of one call, with a title of 2^20 letters `x`.
 fn is_long_title(calls: &[Note]) -> bool {
     match calls {
         [Note::SetWindowTitle(title)] => {

@@ -1,10 +1,11 @@
-//! Modes, and RIS, which resets all of them.
+//! Tests of modes, and of RIS, which resets all of them.
 
 use crate::aids::seen::{Example, expect_at_each_cut, expect_each, read_keeping, shown};
 use crate::aids::steps::Step::{Resize, Text, View};
 use std::test::Fail;
 
-/// Modes after some input, on a screen of two rows and four columns.
+/// Test cases: input on a screen of two rows and four columns, and the modes
+/// after the input.
 #[rattlefmt::skip]
 const MODES: [(&str, &str); 35] = [
     ("", "@0,0\n"),
@@ -68,7 +69,7 @@ fn ris_takes_back_each_mode(rt: HostRuntime) -> Result<(), Fail> {
     Ok(())
 }
 
-/// Input that ends in RIS or continues after it.
+/// Examples whose input ends in RIS or continues after RIS.
 #[rattlefmt::skip]
 const RESET: [Example; 11] = [
     ((2, 4), 10, &[Text("a\r\nb\r\nc\x1bc")], "@0,0\n"),

@@ -1,4 +1,4 @@
-//! Notes of calls with all their arguments.
+//! Tests of the notes of callbacks, which contain all arguments.
 
 use crate::aids::seen::read;
 use std::test::Fail;
@@ -25,7 +25,7 @@ fn notes_a_sequence_with_its_groups(rt: HostRuntime) -> Result<(), Fail> {
     Ok(())
 }
 
-/// Returns whether the calls are one call with this title.
+/// Returns whether `calls` consists of one call, with the title `wanted`.
 fn is_title(calls: &[Note], wanted: &[u8]) -> bool {
     match calls {
         [Note::SetWindowTitle(title)] => title.as_slice() == wanted,
@@ -33,7 +33,8 @@ fn is_title(calls: &[Note], wanted: &[u8]) -> bool {
     }
 }
 
-/// Returns whether the calls are two calls, with this icon name and then with this title.
+/// Returns whether `calls` consists of two calls: one with the icon name `wanted` and then one with
+/// the title `wanted`.
 fn is_name_and_title(calls: &[Note], wanted: &[u8]) -> bool {
     match calls {
         [Note::SetWindowIconName(name), Note::SetWindowTitle(title)] => {
@@ -43,8 +44,8 @@ fn is_name_and_title(calls: &[Note], wanted: &[u8]) -> bool {
     }
 }
 
-/// Returns whether the calls are one call with this private marker, these parameters, one in each
-/// group, and this final byte.
+/// Returns whether `calls` consists of one call for an unknown control sequence with the private
+/// marker `marker`, the numbers `numbers` (one in each group) and the final byte `byte`.
 fn is_sequence(calls: &[Note], marker: u8, numbers: &[u16], byte: char) -> bool {
     match calls {
         [Note::UnhandledCsi(first, second, groups, last)] => {
@@ -57,7 +58,7 @@ fn is_sequence(calls: &[Note], marker: u8, numbers: &[u16], byte: char) -> bool 
     }
 }
 
-/// Returns whether each group consists of one number, and the numbers are these.
+/// Returns whether each group consists of one number, and these numbers equal `numbers`.
 fn are_single(groups: &[Vec<u16>], numbers: &[u16]) -> bool {
     if groups.len() != numbers.len() {
         return false;

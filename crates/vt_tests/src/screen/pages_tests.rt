@@ -1,4 +1,4 @@
-//! The two pages: entering, leaving, and what each keeps.
+//! Tests of the two pages: entering and leaving the alternate page, and what each page keeps.
 
 use super::copies_tests::counts;
 use crate::aids::seen::{Example, expect_each, read_keeping};
@@ -83,8 +83,8 @@ fn changes_pages_at_every_cut(rt: HostRuntime) -> Result<(), Fail> {
     expect_each(rt.alloc(), &PAGES)
 }
 
-/// Steps in turn, and the number of rows in scrollback, of those displayed, and its capacity after
-/// each.
+/// Consecutive steps, each with three counts after the step: the number of rows in scrollback, the
+/// number of rows by which the display is scrolled back, and the scrollback capacity.
 const COUNTED: [(Step, (usize, usize, usize)); 5] = [
     (View(1), (1, 1, 10)),
     (Text("\x1b[?47h"), (0, 0, 0)),

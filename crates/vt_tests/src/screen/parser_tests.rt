@@ -1,4 +1,4 @@
-//! The parser itself: its default size, the cells of its screen, and its use as a writer.
+//! Tests of the parser itself: its default size, the cells of its screen, and its use as a writer.
 
 use crate::aids::seen::read;
 use crate::aids::steps::size_of;
@@ -38,7 +38,8 @@ fn is_a_writer(rt: HostRuntime) -> Result<(), Fail> {
     Ok(())
 }
 
-/// What is read after the introducer `\e]`, and how many bytes are then pending.
+/// Test cases: input after the introducer `\e]`, and the number of bytes that are pending after the
+/// input.
 const COMMANDS: &[(&[u8], usize)] = &[
     (b"", 0),
     (b"2;title", 7),
@@ -64,8 +65,8 @@ fn counts_the_bytes_of_an_unfinished_command(rt: HostRuntime) -> Result<(), Fail
     Ok(())
 }
 
-/// Titles, and how many bytes are pending after `2;` and one of them. The buffer of
-/// the second is not kept.
+/// Test cases: a title, and the number of bytes that are pending after `2;` and the title. The
+/// buffer of the second title is freed after the command.
 const TITLES: &[(&[u8], usize)] = &[(&[b'a'; 1000], 1002), (&[b'a'; 5000], 5002)];
 
 #[test]

@@ -1,4 +1,4 @@
-//! Printing: wraps, wide characters, combining characters, and changes of width by U+FE0F.
+//! Tests of printing: wraps, wide characters, combining characters, and changes of width by U+FE0F.
 
 use crate::aids::seen::expect_at_each_cut;
 use crate::aids::steps::Step::Text;

@@ -1,10 +1,10 @@
-//! SGR: attributes and calls after each sequence.
+//! Tests of SGR: the attributes after each sequence, and the callbacks that it invokes.
 
 use crate::aids::seen::expect_at_each_cut;
 use crate::aids::steps::Step::Text;
 use std::test::Fail;
 
-/// SGR sequences, and the attributes and calls after them.
+/// SGR sequences, each with the attributes after it and the callbacks that it invokes.
 #[rattlefmt::skip]
 const RENDERED: [(&str, &str); 41] = [
     // Single parameters.
@@ -27,7 +27,7 @@ const RENDERED: [(&str, &str); 41] = [
     ("\x1b[31;42;49m", "@0,0 foreground Idx(1)\n"),
     ("\x1b[100m", "@0,0 background Idx(8)\n"),
 
-    // Long forms of colours, with colons and with semicolons.
+    // Long forms of colors, with colons and with semicolons.
     ("\x1b[38:5:9m", "@0,0 foreground Idx(9)\n"),
     ("\x1b[48:5:255m", "@0,0 background Idx(255)\n"),
     ("\x1b[38:2:1:2:3m", "@0,0 foreground Rgb(1, 2, 3)\n"),
@@ -37,7 +37,7 @@ const RENDERED: [(&str, &str); 41] = [
     ("\x1b[48;2;1;2;3m", "@0,0 background Rgb(1, 2, 3)\n"),
     ("\x1b[38;5;1;38;5;2m", "@0,0 foreground Idx(2)\n"),
 
-    // A colour that does not exist or is cut short silently ends the sequence.
+    // A color that does not exist or is cut short silently ends the sequence.
     ("\x1b[31;38:5:256;1m", "@0,0 foreground Idx(1)\n"),
     ("\x1b[38:2:0:256:0;1m", "@0,0\n"),
     ("\x1b[38;2;1;2m", "@0,0\n"),

@@ -1,4 +1,4 @@
-//! Scrolling, scrollback and its display, and the rows that scroll off.
+//! Tests of scrolling, scrollback and its display, and the rows that scroll off.
 
 use crate::aids::seen::{Example, expect, expect_at_each_cut, expect_each, read_keeping};
 use crate::aids::steps::Step::{GiveUp, Resize, Text, View};
@@ -169,7 +169,8 @@ fn notes_rows_that_leave(rt: HostRuntime) -> Result<(), Fail> {
     Ok(())
 }
 
-/// Returns whether the call reports a wrapped row of two columns of the main page with this text.
+/// Returns whether the call reports a wrapped row of the main page that has two columns and the
+/// text `text`.
 fn is_wrapped_row(call: &Note, text: &str) -> bool {
     match call {
         Note::OnScroll(row, false) => {
@@ -179,7 +180,7 @@ fn is_wrapped_row(call: &Note, text: &str) -> bool {
     }
 }
 
-/// Rows that move down: the last row of the region is no longer wrapped.
+/// Examples in which rows move down. Afterward, the last row of the scroll region is not wrapped.
 #[rattlefmt::skip]
 const MOVED_DOWN: [((u16, u16), &str, &str); 9] = [
     ((2, 2), "abc\x1b[H\x1b[L", "1:ab @0,0\n"),

@@ -1,4 +1,4 @@
-//! Resizing: what is cut, what scrolls off, and what comes back.
+//! Tests of resizing: what is cut, what scrolls off, and what comes back.
 
 use crate::aids::seen::{Example, expect_each};
 use crate::aids::steps::Step::{Resize, ResizeParser, Text, View};

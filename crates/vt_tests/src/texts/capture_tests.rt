@@ -1,4 +1,5 @@
-//! Captures: of displayed rows or of all rows, streamed, and into sinks that fail.
+//! Tests of captures: of the displayed rows, of all rows, of rows as they scroll off, and into
+//! sinks that fail.
 
 use crate::aids::cuts::expect_read_back_at_each_byte;
 use crate::aids::seen::{expect_text, read_keeping};
@@ -14,8 +15,8 @@ use vt100::capture::{
 };
 use vt100::{Error, Parser, Screen, Sink};
 
-/// A size, a scrollback capacity, the steps, and the captures after them: of the displayed rows,
-/// and of all rows.
+/// Test cases: a size, a scrollback capacity, the steps, and two captures after the steps: of the
+/// displayed rows, and of all rows.
 #[rattlefmt::skip]
 const CAPTURES: [((u16, u16), usize, &[Step], &str, &str); 14] = [
     ((3, 4), 0, &[], "\n\n", "\n\n"),
@@ -68,7 +69,8 @@ fn all_rows(
     Ok(text)
 }
 
-/// A size, the input, and the capture of the rows that scrolled off and of those that are left.
+/// Test cases: a size, the input, and the capture of the rows that scrolled off followed by the
+/// remaining rows.
 #[rattlefmt::skip]
 const STREAMED: [((u16, u16), &str, &str); 8] = [
     ((2, 4), "a\r\nb\r\nc", "a\nb\nc"),
@@ -120,7 +122,8 @@ fn expect_streamed(
     Ok(())
 }
 
-/// A size, the input, the rows of its capture at the width of the screen, and its plain text.
+/// Test cases: a size, the input, the rows of the capture at the width of the screen, and the plain
+/// text of the capture.
 #[rattlefmt::skip]
 const READ: [((u16, u16), &str, &[&str], &str); 4] = [
     ((2, 4), "abcdx", &["abcd", "x"], "abcdx"),
@@ -179,7 +182,7 @@ impl Sink for Limited {
     }
 }
 
-/// A sink that keeps what fits into a total number of bytes, and fails for the rest.
+/// A sink that keeps the bytes that fit into a limited space, and fails for further bytes.
 #[derive(Drop)]
 struct Filled {
     bytes: Vec<u8>,
@@ -252,8 +255,8 @@ fn goes_on_behind_the_last_whole_row(rt: HostRuntime) -> Result<(), Fail> {
     expect_text(rest, "\na\nb\n")
 }
 
-/// The number of bytes that a sink keeps, its contents after a capture, and the capture of all rows
-/// that continues in a string.
+/// Test cases: the number of bytes that a sink keeps, its contents after a capture of all rows, and
+/// the text of a second capture of all rows, which continues from the same capture state.
 const FILLED: [(usize, &str, &str); 4] = [
     (0, "", "a\nb\n"),
     (1, "a", "\na\nb\n"),

@@ -1,4 +1,4 @@
-//! Differences: their escape sequences, and the display of a terminal that parses them.
+//! Tests of diffs: their escape sequences, and the display of a terminal that parses them.
 
 use crate::aids::cuts::expect_read_back_at_each_byte;
 use crate::aids::readback::Change;
@@ -8,8 +8,8 @@ use std::alloc::Global;
 use std::test::Fail;
 use vt100::Screen;
 
-/// A size, a scrollback capacity, the steps of two new parsers, and the escape sequences that turn
-/// the display of the first into that of the second.
+/// An example: a size, a scrollback capacity, the steps of two new parsers, and the escape
+/// sequences that turn the display of the first parser into that of the second.
 pub(crate) type Example = (
     (u16, u16),
     usize,
@@ -20,7 +20,7 @@ pub(crate) type Example = (
 
 #[rattlefmt::skip]
 const DIFFERENCES: [Example; 14] = [
-    // Cells in a different colour, and erased cells.
+    // Cells in a different color, and erased cells.
     (
         (24, 80), 0,
         &[Text("this text is \x1b[31mRED\x1b[m")],
@@ -29,7 +29,7 @@ const DIFFERENCES: [Example; 14] = [
     ),
     ((1, 6), 0, &[Text("abcdef")], &[Text("abcdef\x1b[1;2H\x1b[2X")], "\x1b[1;2H\x1b[2X"),
 
-    // Only the cursor, the attributes or its visibility differ.
+    // Only the cursor, its visibility or the attributes differ.
     ((2, 4), 0, &[Text("ab")], &[Text("ab\x1b[2;1H")], "\r\n"),
     ((2, 4), 0, &[Text("ab")], &[Text("ab\x1b[1m")], "\x1b[1m"),
     ((2, 4), 0, &[Text("ab")], &[Text("ab\x1b[?25l")], "\x1b[?25l"),
@@ -72,10 +72,10 @@ const DIFFERENCES: [Example; 14] = [
     ),
 ];
 
-/// Checks an example with the bytes in two chunks and one by one. Fails if the difference is not
-/// the expected one, if a terminal that parses it does not take it over, if a screen has a
-/// difference from itself, or if the screen after one of the bytes cannot be read back from its
-/// output.
+/// Checks an example with the bytes in two chunks and one by one. Fails if the diff is not the
+/// expected one, if a terminal that parses the diff does not display the second screen, or if the
+/// diff from a screen to itself is not empty. Also fails if, after some prefix of the bytes, a
+/// terminal that parses the screen's output does not display the screen.
 pub(crate) fn expect_at_each_cut(
     alloc: Global,
     change: Change,
@@ -132,9 +132,10 @@ fn differs(rt: HostRuntime) -> Result<(), Fail> {
     Ok(())
 }
 
-/// Screens that differ from themselves in nothing, each with a size, a scrollback capacity and
-/// steps: with one and two columns and a glyph that U+FE0F follows, a wrapped row, a pending wrap
-/// after an erased row, displayed scrollback, and modes.
+/// Test cases: a size, a scrollback capacity, and the steps that produce a screen. The diff from
+/// each of these screens to itself must be empty. Among them are screens of one and two columns
+/// with a glyph that contains U+FE0F, a wrapped row, a pending wrap after an erased row, displayed
+/// scrollback, and modes.
 const ALONE: [((u16, u16), usize, &[Step]); 9] = [
     ((2, 1), 0, &[Text("\u{2764}\u{fe0f}")]),
     ((2, 2), 0, &[Text("\u{2764}\u{fe0f}")]),

@@ -6,10 +6,11 @@ use crate::aids::readback::Change;
 use crate::aids::steps::Step::Text;
 use std::test::Fail;
 
-/// Input with four rows.
+/// Input that fills four rows.
 const FOUR: &str = "aaaaaaaaa\r\nbbbbbbbbb\r\nccccccccc\r\nddddddddd";
 
-/// Input with a fifth row, which stays; the cursor ends after the fourth.
+/// Input that adds a fifth row, which does not move, and leaves the cursor at the end of the fourth
+/// row.
 const FIFTH: &str = "\r\nsssssssss\x1b[4;10H";
 
 /// Input with a row of words.
@@ -36,7 +37,7 @@ const MOVED: [Example; 7] = [
         "\x1b[H\x1b[M\x1b[4;1H\x1b[Leeeeeeeee",
     ),
 
-    // All rows move down, and then those above the last one.
+    // All rows move down, and then only the rows above the last one.
     (
         (4, 10), 0,
         &[Text(FOUR), Text("\x1b[H")],

@@ -1,4 +1,4 @@
-//! Plain text: of the screen, of ranges, and of rows.
+//! Tests of the plain text of the screen, of ranges and of rows.
 
 use crate::aids::cuts::expect_read_back_at_each_byte;
 use crate::aids::seen::{expect_text, read_keeping};
@@ -8,7 +8,7 @@ use std::alloc::Global;
 use std::test::Fail;
 use vt100::{Error, Screen};
 
-/// A size, a scrollback capacity, the steps, and the plain text after them.
+/// Test cases: a size, a scrollback capacity, the steps, and the plain text after the steps.
 #[rattlefmt::skip]
 const CONTENTS: [((u16, u16), usize, &[Step], &str); 24] = [
     ((2, 4), 0, &[], ""),
@@ -76,7 +76,8 @@ fn expect_contents(
     expect_text(parser.screen().contents()?, wanted)
 }
 
-/// The input, a range from one row and column to another, and its text.
+/// Test cases: the input, a range given by the row and column of its start and of its end, and the
+/// text of the range.
 #[rattlefmt::skip]
 const RANGES: [(&str, (u16, u16), (u16, u16), &str); 8] = [
     ("abcdx", (0, 2), (1, 1), "cdx"),
@@ -127,8 +128,8 @@ fn range(screen: &Screen, start: (u16, u16), end: (u16, u16)) -> Result<String, 
     Ok(screen.contents_between(start.0, start.1, end.0, end.1)?)
 }
 
-/// Steps that leave two rows of scrollback with more columns than the screen, of which the newer
-/// one is displayed.
+/// Steps that leave two rows in scrollback, both with more columns than the screen. The newer row
+/// is displayed.
 const LONGER: [Step; 3] = [Text("abcdef\r\nghi\r\nj"), Resize(2, 3), View(1)];
 
 #[test]
@@ -175,7 +176,7 @@ fn rows(rt: HostRuntime) -> Result<(), Fail> {
     Ok(())
 }
 
-/// Fails if the texts are not exactly these.
+/// Fails if `texts` does not equal `wanted`.
 pub(crate) fn expect_texts(texts: Vec<String>, wanted: &[&str]) -> Result<(), Fail> {
     if texts.len() != wanted.len() {
         return Err(Fail::new("more texts, or fewer"));

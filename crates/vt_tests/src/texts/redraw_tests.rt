@@ -1,4 +1,4 @@
-//! Redraws: their escape sequences, and the display of a terminal that parses them.
+//! Tests of redraws: their escape sequences, and the display of a terminal that parses them.
 
 use crate::aids::cuts::expect_read_back_at_each_byte;
 use crate::aids::readback::ASKED;
@@ -18,13 +18,13 @@ const CLEAR: &str = "\x1b[?25h\x1b[m\x1b[H\x1b[J";
 /// region.
 const WHOLE_REGION: &str = "\x1b[?6l\x1b[r";
 
-/// A size, a scrollback capacity, the steps, the kind of output, and the output. For a redraw, only
-/// the part after `CLEAR` is given.
+/// An example: a size, a scrollback capacity, the steps, the kind of output, and the expected
+/// output. For a redraw, only the part after [`CLEAR`] is given.
 pub(crate) type Example = ((u16, u16), usize, &'static [Step], Asked, &'static str);
 
 #[rattlefmt::skip]
 const REDRAWN: [Example; 19] = [
-    // A screen with colours, and a new one.
+    // A screen with colors, and a new one.
     (
         (24, 80), 0, &[Text("this text is \x1b[31mRED\x1b[m"), Text("\x1b[3D\x1b[32mGREEN")],
         Redraw, "this text is \x1b[32mGREEN",
@@ -82,8 +82,9 @@ fn wanted_text(alloc: Global, asked: Asked, text: &str) -> Result<String, Fail> 
     Ok(wanted)
 }
 
-/// Checks steps with their bytes in two chunks and one by one. Fails if the output is not `wanted`,
-/// or if the screen after one of the bytes cannot be read back from its output.
+/// Checks an example with the bytes in two chunks and one by one. Fails if the output is not
+/// `wanted`. Also fails if, after some prefix of the bytes, a terminal that parses the screen's
+/// output does not display the screen.
 pub(crate) fn expect_at_each_cut(
     alloc: Global,
     example: &Example,
@@ -119,7 +120,8 @@ fn expect_text(screen: &Screen, asked: Asked, wanted: &str) -> Result<(), Fail> 
     Ok(())
 }
 
-/// Fails if a terminal that parses any kind of output of this screen does not take it over.
+/// Fails if, for some kind of output of the screen after the steps, a terminal that parses the
+/// output does not agree with the screen in what the output sets.
 pub(crate) fn expect_read_back(
     alloc: Global,
     (size, capacity, steps, _asked, _text): &Example,
@@ -148,12 +150,13 @@ fn redraws_are_read_back(rt: HostRuntime) -> Result<(), Fail> {
     Ok(())
 }
 
-/// Input for a new terminal of three rows and two columns, and its state after it has also parsed
-/// the redraw of a screen that displays `a`, then the one for any region, and then `AT_ENDS`.
+/// Input for a new terminal of three rows and two columns, and three expected states: after the
+/// terminal has parsed the redraw of a screen that displays `a`, then the redraw for any region,
+/// and then [`AT_ENDS`].
 type InRegion = (&'static str, [&'static str; 3]);
 
-/// Input that prints a letter at the top left and one at the bottom, and a line feed, which scrolls
-/// the whole page only if that is the region.
+/// Input that prints a letter at the top left, a letter at the bottom, and a line feed, which
+/// scrolls the whole page only if the whole page is the scroll region.
 const AT_ENDS: &[u8] = b"\x1b[Hb\x1b[3;1Hz\n";
 
 const IN_REGION: [InRegion; 5] = [
@@ -181,7 +184,7 @@ const IN_REGION: [InRegion; 5] = [
     ("", ["0:a @0,1\n", "0:a @0,1\n", "1:z @2,1\nscroll 62 0\n"]),
 ];
 
-/// Fails if the display of a terminal with one of these regions is not the expected one.
+/// Fails if a state of a terminal with the region that the example sets is not the expected one.
 fn expect_redrawn(
     alloc: Global,
     screen: &Screen,
@@ -196,7 +199,7 @@ fn expect_redrawn(
     expect_seen(alloc, &mut reader, AT_ENDS, pieces, at_ends)
 }
 
-/// Fails if the state after these bytes is not `wanted`.
+/// Feeds bytes to the terminal `reader`. Fails if its state after the bytes is not `wanted`.
 fn expect_seen(
     alloc: Global,
     reader: &mut Parser<Notes>,
@@ -219,7 +222,8 @@ fn redraws_in_any_region(rt: HostRuntime) -> Result<(), Fail> {
     Ok(())
 }
 
-/// Complete redraws: each begins by showing or hiding the cursor, and clears the screen.
+/// Test cases: a size, the input, and the complete redraw, which begins by showing or hiding the
+/// cursor and clearing the screen.
 #[rattlefmt::skip]
 const WHOLE: [((u16, u16), &str, &str); 10] = [
     ((24, 80), "", "\x1b[?25h\x1b[m\x1b[H\x1b[J"),

@@ -1,4 +1,4 @@
-//! Redraws and differences of single rows, and the display of a terminal that parses them.
+//! Tests of redraws and diffs of single rows, and of the display of a terminal that parses them.
 
 use super::plain_tests::expect_texts;
 use crate::aids::cuts::expect_read_back_at_each_byte;
@@ -11,7 +11,8 @@ use std::test::Fail;
 use vt_notes::Notes;
 use vt100::{Error, Parser, Screen};
 
-/// A size, the input, a first column and a number of columns, and the output for each row.
+/// Test cases: a size, the input, a range given by its first column and its number of columns, and
+/// the output for each row.
 #[rattlefmt::skip]
 const FORMATTED: [((u16, u16), &str, (u16, u16), &[&str]); 9] = [
     ((2, 4), "abcdx", (0, 4), &["abcd", "x"]),
@@ -29,8 +30,8 @@ const FORMATTED: [((u16, u16), &str, (u16, u16), &[&str]); 9] = [
     ((1, 4), "ab中", (1, 2), &["b中"]),
 ];
 
-/// A size, two inputs, a first column and a number of columns, and the differences of each row from
-/// the first input to the second.
+/// Test cases: a size, two inputs, a range given by its first column and its number of columns, and
+/// the diff of each row from the screen after the first input to the screen after the second input.
 #[rattlefmt::skip]
 const CHANGED: [((u16, u16), &str, &str, (u16, u16), &[&str]); 9] = [
     ((2, 4), "ab中x", "ab中x\x1b[1;4Hd", (0, 4), &["\x1b[2C\x1b[X\x1b[Cd", ""]),
@@ -73,7 +74,8 @@ fn rows_diff(rt: HostRuntime) -> Result<(), Fail> {
     Ok(())
 }
 
-/// Returns the redraws of all rows in a range; fails if it begins past the last column.
+/// Returns, for each row, the redraw within a range of columns. Fails if the range begins past the
+/// last column.
 fn formatted(
     alloc: Global,
     screen: &Screen,
@@ -87,7 +89,8 @@ fn formatted(
     Ok(texts?)
 }
 
-/// Returns the differences of all rows in a range, between screens of the same size.
+/// Returns, for each row, the diff from `prev` to `screen` within a range of columns. Fails if the
+/// screens differ in size or the range begins past the last column.
 fn changed(
     alloc: Global,
     screen: &Screen,
@@ -103,8 +106,7 @@ fn changed(
     Ok(texts?)
 }
 
-/// Input with wrapped rows, wide glyphs and colours, and different input for a screen of the same
-/// size.
+/// Input with wrapped rows, wide glyphs and colors.
 const ONE: &[u8] = b"ab\xe4\xb8\xadcd\x1b[31mxy\x1b[4;2H\x1b[44m\x1b[K";
 
 const OTHER: &[u8] = b"\x1b[32mfgh\xe4\xb8\xadij\x1b[1mklm\xe4\xb8\xadnopqr";
@@ -130,8 +132,8 @@ fn changed_rows_are_read(rt: HostRuntime) -> Result<(), Fail> {
     Ok(())
 }
 
-/// Feeds the output of each row to a terminal, starting at its first column with default
-/// attributes.
+/// Feeds the output of each row to a terminal, with the cursor at the first column of the row and
+/// default attributes.
 fn read_rows(alloc: Global, reader: &mut Parser<Notes>, texts: Vec<String>) -> Result<(), Fail> {
     for (row, text) in (1..=4).zip(texts) {
         let mut bytes = String::new(alloc);

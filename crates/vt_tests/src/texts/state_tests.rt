@@ -1,4 +1,5 @@
-//! Output of whole states and of input modes, and what a terminal that parses it takes over.
+//! Tests of the output of `state_formatted`, `state_diff`, `input_mode_formatted` and
+//! `input_mode_diff`, and of its effect on a terminal that parses it.
 
 use super::redraw_tests::{expect_at_each_cut, expect_read_back};
 use super::{difference_tests, redraw_tests};
@@ -128,7 +129,8 @@ const SETTINGS: [&[&str]; 3] = [
     ],
 ];
 
-/// Fails if a terminal does not follow from one setting to another by each kind of difference.
+/// Fails if, for any kind of diff, a terminal in the setting `was` is not in the setting `new`
+/// after it has parsed the diff.
 fn expect_followed(alloc: Global, was: &str, new: &str) -> Result<(), Fail> {
     let prev = read_keeping(alloc, (1, 2), 0, &[was.as_bytes()])?;
     let parser = read_keeping(alloc, (1, 2), 0, &[new.as_bytes()])?;

@@ -1,4 +1,5 @@
-//! Steady screens: those whose visible glyphs reproduce themselves when printed on a blank row.
+//! Tests of which screens are steady. A screen is steady if each of its visible glyphs reproduces
+//! itself when printed on a blank row.
 
 use crate::aids::steps::Step::{self, Resize, Text, View};
 use crate::aids::steps::{Pieces, taken};
@@ -6,16 +7,18 @@ use std::alloc::Global;
 use std::test::Fail;
 use vt100::Screen;
 
-/// A size, a scrollback capacity, the steps, and whether the screen is steady after them.
+/// An example: a size, a scrollback capacity, the steps, and whether the screen is steady after the
+/// steps.
 type Example = ((u16, u16), usize, &'static [Step], bool);
 
-/// A wide character that U+FE0E and U+FE0F make narrow, leaving a space after it. Printed on a
-/// blank row, its text leaves that space as well.
+/// A wide character that U+FE0E and U+FE0F make narrow. Narrowing the character leaves a space
+/// after it. Printed on a blank row, its text leaves a space as well, so a glyph with this text is
+/// not steady.
 const NARROWED: &str = "\u{231a}\u{fe0e}\u{fe0f}";
 
 #[rattlefmt::skip]
 const EXAMPLES: [Example; 24] = [
-    // No U+FE0F: nothing, ASCII, wide characters, combining characters.
+    // Without U+FE0F: nothing, ASCII, wide characters, combining characters.
     ((24, 80), 0, &[], true),
     ((2, 4), 0, &[Text("abcd\x1b[31mef")], true),
     ((2, 4), 0, &[Text("\u{4e2d}\u{6587}\u{231a}")], true),
@@ -23,7 +26,7 @@ const EXAMPLES: [Example; 24] = [
     ((2, 4), 0, &[Text("\u{1f600}\u{fe0e}")], true),
     ((2, 4), 0, &[Text("\u{231a}\u{fe0e}")], true),
 
-    // U+FE0F that makes a glyph wide, keeps one wide, or keeps one narrow.
+    // U+FE0F makes a glyph wide, or keeps it wide or narrow.
     ((2, 4), 0, &[Text("\u{2764}\u{fe0f}")], true),
     ((2, 4), 0, &[Text("a\u{2764}\u{fe0f}b")], true),
     ((2, 2), 0, &[Text("a\u{2764}\u{fe0f}")], true),
@@ -56,7 +59,7 @@ const EXAMPLES: [Example; 24] = [
     ((2, 4), 0, &[Text("\x1b[1;3H"), Text(NARROWED), Resize(2, 2)], true),
 ];
 
-/// Fails if whether the screen is steady after these steps is not as expected.
+/// Fails if `is_steady` does not return the expected value for the screen after the steps.
 fn expect_steady(
     alloc: Global,
     (size, capacity, steps, wanted): &Example,
@@ -78,11 +81,11 @@ fn tells_steady_screens(rt: HostRuntime) -> Result<(), Fail> {
     Ok(())
 }
 
-/// A heart that U+FE0F makes wide if there are two columns.
+/// A heart that U+FE0F makes wide on a screen of at least two columns.
 const HEART: &str = "\u{2764}\u{fe0f}";
 
-/// Checks that a narrow heart from a page of one column is not steady with more columns: printed
-/// there, it is wide.
+/// Checks that a narrow heart printed on a page of one column is not steady after a resize to more
+/// columns: printed again, it is wide.
 #[test]
 fn tells_by_the_width_of_the_screen(rt: HostRuntime) -> Result<(), Fail> {
     expect_steady(
@@ -94,8 +97,8 @@ fn tells_by_the_width_of_the_screen(rt: HostRuntime) -> Result<(), Fail> {
     expect_steady(rt.alloc(), &((2, 1), 0, wider, false), Pieces::Single)
 }
 
-/// Steps that leave a glyph made narrow in the last column of the last row: printed there again, it
-/// is wide, wraps and scrolls.
+/// Steps that leave a narrowed glyph in the last column of the last row. Printed again in that
+/// column, the glyph is wide, so it wraps and scrolls the page.
 const IN_CORNER: &[Step] = &[
     Text("one\x1b[2;2H"),
     Text(NARROWED),
@@ -118,8 +121,8 @@ fn expect_healed(alloc: Global, first: &str, second: &str, last: &Screen) -> Res
     Ok(())
 }
 
-/// Checks that the difference to a screen that is not steady scrolls a viewer, and that a later
-/// redraw of a steady screen restores the display.
+/// Checks that the diff to a screen that is not steady scrolls a viewer, and that a later redraw of
+/// a steady screen restores the display.
 #[test]
 fn redraws_heal_a_viewer(rt: HostRuntime) -> Result<(), Fail> {
     let alloc = rt.alloc();

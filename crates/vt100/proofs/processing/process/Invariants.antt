@@ -1,4 +1,4 @@
--- The bytes before the current one have been read.
+-- The loop invariant: the bytes before the current one have been read.
 use Rattle.std.proofs.Common.{◌-◌, ◌≤◌, length, take}
 use Rattle.vt100.specs.Parser.{Ran, parsing}
 use Rattle.vt100.proofs.processing.process.Given as goal

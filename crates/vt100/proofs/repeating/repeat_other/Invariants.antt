@@ -1,4 +1,4 @@
--- The prints that are left to do.
+-- The loop invariant: `left` prints of the character are still to be done.
 use Rattle.std.proofs.Common.{◌-◌, replicate}
 use Rattle.vt_screen.specs.Steps.{Print}
 use Rattle.vt100.proofs.Stepping.{Left}

@@ -1,4 +1,4 @@
--- The steps of the groups from the current one on are left.
+-- The loop invariant: the steps of the groups from the current one on are left to take.
 use Rattle.std.proofs.Common.{drop}
 use Rattle.vt_screen.specs.Controls.{sgr_from, sgr_steps}
 use Rattle.vt100.proofs.Stepping.{Rest}

@@ -1,4 +1,4 @@
--- The bytes so far have been read, and left no event.
+-- The loop invariant: the bytes before the current one have been read, and none of them recorded an event.
 use Rattle.std.proofs.Common.{◌-◌, ◌≤◌, length}
 use Rattle.vt100_c.proofs.Answering.{HasReadQuietly}
 use Rattle.vt100_c.proofs.reading.read_from.Given as goal

@@ -1,4 +1,4 @@
--- The groups so far are written after the character.
+-- The loop invariant: the groups before the current one are written after the character.
 use Rattle.std.proofs.Common.{◌≡◌, ◌++◌, map, take}
 use Rattle.std.specs.Int.{w32, to_le_bytes}
 use Rattle.std.specs.List.{flat_map}

@@ -1,4 +1,4 @@
--- The texts so far are written, each after its length.
+-- The loop invariant: the strings before the current one are written, each after its length.
 use Rattle.std.proofs.Common.{◌≡◌, map, take}
 use Rattle.std.specs.List.{flat_map}
 use Rattle.vt100_c.specs.Records.{part_of}

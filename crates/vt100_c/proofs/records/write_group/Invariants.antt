@@ -1,4 +1,4 @@
--- The numbers so far are written after the bytes that were there.
+-- The loop invariant: the numbers before the current one are written after the initial bytes.
 use Rattle.std.proofs.Common.{◌≡◌, ◌++◌, take}
 use Rattle.std.specs.Int.{w16, to_le_bytes}
 use Rattle.std.specs.List.{flat_map}

@@ -1,4 +1,4 @@
--- The outputs of the rows so far are joined.
+-- The loop invariant: the outputs of the rows before the current one are joined.
 use Rattle.std.proofs.Common.{◌≤◌, length}
 use Rattle.std.specs.Prelude.{string_bytes}
 use Rattle.vt100_c.specs.Rows.{IsJoined}

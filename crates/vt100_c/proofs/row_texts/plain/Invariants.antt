@@ -1,4 +1,4 @@
--- The texts of the rows so far are joined.
+-- The loop invariant: the texts of the rows before the current one are joined.
 use Rattle.std.proofs.Common.{◌≤◌, length}
 use Rattle.std.specs.Prelude.{string_bytes}
 use Rattle.vt_screen.specs.Contents.{rows_left}

@@ -1,4 +1,4 @@
--- The cells so far are those of the row.
+-- The loop invariant: the cells before the current one are those of the row.
 use Rattle.std.proofs.Common.{◌≡◌, ◌<◌, ℕ}
 use Rattle.vt100_c.specs.Shown.{cell_for_c, cell_in, shown_cell}
 use Rattle.vt100_c.proofs.shown.fill_row.Given as goal

@@ -1,4 +1,4 @@
--- The differences so far were taken.
+-- The loop invariant: the terminal has received the differences sent so far.
 use Rattle.std.proofs.Common.{take}
 use Rattle.vt_callers.specs.Remote.{HasFollowed}
 use Rattle.vt_callers.proofs.multiplexer.follow.Given as goal

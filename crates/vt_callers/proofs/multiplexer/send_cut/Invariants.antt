@@ -1,4 +1,4 @@
--- What was sent so far was taken.
+-- The loop invariant: the terminal has received the part of the text that was sent so far.
 use Rattle.vt_callers.specs.Remote.{IsCut}
 use Rattle.vt_callers.proofs.multiplexer.send_cut.Given as goal
 

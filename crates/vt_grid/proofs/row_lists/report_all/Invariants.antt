@@ -4,7 +4,7 @@ use Rattle.std.specs.List.{FoldsTo}
 use Rattle.vt_rows.specs.Row.{IsRow}
 use Rattle.vt_grid.proofs.row_lists.report_all.Given as goal
 
--- What follows from the state here follows from the state at the start.
+-- The loop invariant: reporting the remaining rows leads to the same result as reporting all rows from the start.
 abbrev pub invariant-loop-row : goal.invariant-loop-row
 invariant-loop-row g l = record {
   told : (z : _) → FoldsTo g.L.Leaving.leaves l.leaving l.rows.items z →

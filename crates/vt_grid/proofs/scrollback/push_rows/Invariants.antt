@@ -7,7 +7,7 @@ use Rattle.vt_rows.specs.Row.{IsRow}
 use Rattle.vt_grid.specs.Scrollback.{before_last, last_of}
 use Rattle.vt_grid.proofs.scrollback.push_rows.Given as goal
 
--- What follows from the state here follows from the state at the start.
+-- The loop invariant: pushing the remaining rows leads to the same result as pushing all rows from the start.
 abbrev pub invariant-loop-row : goal.invariant-loop-row
 invariant-loop-row g l =
     (goal.iterator-loop-row g).can_next l.row-iterator ×

@@ -1,4 +1,4 @@
--- Bytes are left to read before the next update.
+-- The loop invariant: some bytes remain to be read before the next update.
 use Rattle.vt_mirror.specs.Internals.{InStretch}
 use Rattle.vt_mirror.proofs.engine.read_stretch.Given as goal
 

@@ -1,4 +1,4 @@
--- All updates that were due have been written.
+-- The loop invariant: all updates that were due so far have been written.
 use Rattle.vt_mirror.specs.Internals.{IsWritten}
 use Rattle.vt_mirror.proofs.engine.run_viewer.Given as goal
 

@@ -1,4 +1,4 @@
--- The slices so far were copied.
+-- The loop invariant: the slices before the current one were copied.
 use Rattle.std.proofs.Common.{◌≡◌, map, take}
 use Rattle.vt_notes.proofs.note.owned.Given as goal
 

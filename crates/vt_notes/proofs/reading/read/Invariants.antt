@@ -1,4 +1,4 @@
--- The chunks so far were parsed.
+-- The loop invariant: the chunks before the current one were parsed.
 use Rattle.std.proofs.Common.{map, take}
 use Rattle.std.specs.List.{FoldsTo}
 use Rattle.vt100.specs.Parser.{Ran}

@@ -5,7 +5,8 @@ use Rattle.vt_redraw.specs.Internals.{Leads, rows_under}
 use Rattle.vt_redraw.specs.Redraw.{rows_written}
 use Rattle.vt_redraw.proofs.script.write_rows.Given as goal
 
--- The output so far and what the rows below the current one need make up the whole output.
+-- The loop invariant: the output written so far and the output for the rows below the current one make up the whole
+-- output.
 abbrev pub invariant-loop-row : goal.invariant-loop-row
 invariant-loop-row g l = record {
   leads : Leads (g.S.Sink.text l.sink) (rows_under l.row l.view.width l.pen l.on l.view.rows l.prev.rows)

@@ -1,4 +1,4 @@
--- The cells so far are glyphs of the text.
+-- The loop invariant: the cells written so far are glyphs of the text.
 use Rattle.std.proofs.Common.{◌≡◌, ℕ, ◌<◌, get_or}
 use Rattle.vt_rows.specs.Cells.{at}
 use Rattle.vt_rows.specs.Texts.{narrow_glyph}

@@ -1,4 +1,4 @@
--- The cells so far are glyphs of the text.
+-- The loop invariant: the cells written so far are glyphs of the text.
 use Rattle.std.proofs.Common.{◌≡◌, ◌-◌, ◌≤◌, length, take}
 use Rattle.vt_rows.specs.Texts.{glyphs_of}
 use Rattle.vt_rows.proofs.cells.write_text.Given as goal

@@ -2,7 +2,7 @@ use Rattle.std.proofs.Common.{◌≡◌, ◌≤◌, ◌++◌, length, replicate}
 use Rattle.vt_cells.specs.BufferInternals.{gathered}
 use Rattle.vt_rows.proofs.plain.add_gap.Given as goal
 
--- What was written, followed by the spaces that are left, is the whole text.
+-- The loop invariant: the text written so far and the spaces that are left make up the whole text.
 abbrev pub invariant-loop-left : goal.invariant-loop-left
 invariant-loop-left g l = record {
   bytes : gathered (g.S.Sink.text l.sink) l.buffer ++ replicate l.left 0x20

@@ -3,7 +3,7 @@ use Rattle.vt_cells.specs.BufferInternals.{gathered}
 use Rattle.vt_rows.specs.Internals.{plain_behind}
 use Rattle.vt_rows.proofs.plain.write_behind.Given as goal
 
--- What was written, followed by the rest, is the whole text.
+-- The loop invariant: the text written so far and the text of the remaining cells make up the whole text.
 abbrev pub invariant-loop-cell : goal.invariant-loop-cell
 invariant-loop-cell g l = record {
   bytes : gathered (g.S.Sink.text l.sink) l.buffer ++ plain_behind l.gap (drop l.cell-index l.cells)

@@ -1,4 +1,4 @@
--- The characters so far are decoded.
+-- The loop invariant: the characters before the current one are decoded.
 use Rattle.std.proofs.Common.{◌-◌, ◌≤◌}
 use Rattle.vt_scan.specs.WideTexts.{AreWideThrees}
 use Rattle.vt_scan.proofs.unfinished.wide_characters.Given as goal

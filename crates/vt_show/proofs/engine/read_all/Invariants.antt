@@ -1,4 +1,4 @@
--- What was read so far was parsed.
+-- The loop invariant: all bytes read so far were parsed.
 use Rattle.vt_show.specs.Internals.{HasReadBytes}
 use Rattle.vt_show.proofs.engine.read_all.Given as goal
 

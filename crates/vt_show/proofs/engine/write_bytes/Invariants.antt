@@ -1,4 +1,4 @@
--- What is no longer left to write was written.
+-- The loop invariant: the bytes that are no longer left to write were written.
 use Rattle.vt_show.specs.Internals.{HasWrittenTo}
 use Rattle.vt_show.proofs.engine.write_bytes.Given as goal
 

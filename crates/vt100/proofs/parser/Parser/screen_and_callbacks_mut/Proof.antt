@@ -1,5 +1,5 @@
--- The screen and the callbacks are borrowed at once, and the parser follows both. Its other two fields stay inside the
--- borrow, with the way back from all four. Assumes `Logic`.
+-- Both the screen and the callbacks are mutably borrowed, and the parser changes with them. Its other two fields stay
+-- inside the borrow, together with the way back from all four. Assumes `Logic`.
 use mathlib.Core.Path.{◌≡◌, refl, sym, ap, subst}
 use Prim.Native.Nat.{ℕ, ◌+◌}
 use mathlib.Core.List.{List, [], ◌∷◌, ◌++◌}

@@ -31,7 +31,7 @@ ruleset object_crosses = (
   mirror_send,
 )
 
--- An object may be sent because its fields may; for a mirror that is proved by hand, too.
+-- An object may be sent to another thread because its fields may; for a mirror, this is proved by hand.
 object : IsSend Object.the_row
 object =
     let all : AllSend (declared.fields Object.the_type) = (search object_crosses depth 20, (search object_crosses depth 20, tt)) in

@@ -1,4 +1,4 @@
--- `into_box` passes what the parts own to the library's call that makes a box.
+-- `into_box` passes what the parts own to the library function that makes a box.
 use mathlib.Core.Path.{◌≡◌, refl, sym, subst, ap}
 use mathlib.Core.List.{List, [], ◌∷◌, ◌++◌}
 use lib.Dec.{T}

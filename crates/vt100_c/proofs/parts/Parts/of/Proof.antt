@@ -1,4 +1,4 @@
--- `of` takes a box apart by the library's call, and the parts own what the box owned.
+-- `of` takes a box apart with the library function for this, and the parts own what the box owned.
 use mathlib.Core.Path.{◌≡◌, refl, sym, subst, ap, ◌∙◌}
 use mathlib.Core.List.{List, [], ◌∷◌, ◌++◌}
 use base.Logic.{SProp, ent, id⊢, never, fst∗}

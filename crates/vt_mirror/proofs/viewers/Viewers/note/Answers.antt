@@ -81,7 +81,7 @@ returns-clause-ok c =
     (note_put old c.args.viewer c.in_ok-note.note c.self.inside.notes c.insert.new.self refl updates
     (ap (λ (k : KeptValue). is_viewer k.viewers c.args.viewer) c.self.view_is ∙ c.requires.viewer)))
 
--- no copy could be made, or it could not be noted: who is current stays
+-- If no copy could be made, or the copy could not be recorded, the same viewers are current as before.
 pub returns-in_err-note-clause-unnoted : goal.returns-in_err-note-clause-unnoted
 returns-in_err-note-clause-unnoted c =
     on_err c.from_residual.result _ (

@@ -4,7 +4,7 @@ use Rattle.vt_rows.specs.Stretches.{columns_in, ends_within}
 use Rattle.vt_rows.proofs.CaptureRows.{IsRead}
 use Rattle.vt_rows.proofs.capture.rows.split_row.Given as goal
 
--- The characters that were read are the current row.
+-- The loop invariant: the characters read so far are the current row.
 abbrev pub invariant-loop-at : goal.invariant-loop-at
 invariant-loop-at l =
     (goal.iterator-loop-at).can_next l.at-iterator

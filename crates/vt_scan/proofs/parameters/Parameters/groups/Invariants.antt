@@ -1,4 +1,4 @@
--- The groups so far, followed by those from `start` on, are all groups.
+-- The loop invariant: the groups found so far, followed by those from index `start` on, are all groups.
 use Rattle.std.proofs.Common.{◌≡◌, ◌++◌, length, take, drop}
 use Rattle.vt_scan.specs.Internals.{Ascends, groups_from}
 use Rattle.vt_scan.proofs.parameters.Parameters.groups.Given as goal

@@ -1,4 +1,4 @@
--- The bytes so far are read.
+-- The loop invariant: the bytes before the current one are read.
 use Rattle.std.proofs.Common.{◌≡◌, ◌-◌, ◌≤◌, ◌++◌, List, ℕ, length, take}
 use Rattle.vt_scan.specs.Parameters.{table_of}
 use Rattle.vt_scan.specs.Texts.{IsParameterText}

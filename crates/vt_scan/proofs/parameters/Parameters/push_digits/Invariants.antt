@@ -1,4 +1,4 @@
--- The digits so far are read, with their number as the last one.
+-- The loop invariant: the digits before the current one are read, and the last number is theirs.
 use Rattle.std.proofs.Common.{◌≡◌, ◌+◌, ◌-◌, ◌≤◌, ◌++◌, List, ℕ, length, set, take}
 use Rattle.vt_scan.specs.Internals.{groups_from}
 use Rattle.vt_scan.specs.Parameters.{table_of}

@@ -1,4 +1,4 @@
--- The digits so far are read, with their number as that of a new group.
+-- The loop invariant: the digits before the current one are read, and the number of a new group is theirs.
 use Rattle.std.proofs.Common.{◌≡◌, ◌+◌, ◌-◌, ◌≤◌, ◌++◌, ◌∷◌, [], List, ℕ, length, set, take}
 use Rattle.vt_scan.specs.Internals.{groups_from}
 use Rattle.vt_scan.specs.Parameters.{table_of}

@@ -3,7 +3,7 @@ use Rattle.std.specs.List.{flat_map, range_with_len}
 use Rattle.vt_screen.specs.Contents.{between_of, part_of}
 use Rattle.vt_screen.proofs.screen.Screen.write_between.Given as goal
 
--- The text written so far and the parts of the remaining rows make up the whole text.
+-- The loop invariant: the text written so far and the parts of the remaining rows make up the whole text.
 abbrev pub invariant-loop-row : goal.invariant-loop-row
 invariant-loop-row g l =
     (g.S.Sink.text l.sink

@@ -3,7 +3,7 @@ use Rattle.std.specs.List.{slice_range}
 use Rattle.vt_screen.specs.Capture.{all_rows, basic_texts, written_after_all}
 use Rattle.vt_screen.proofs.screen.Screen.write_rows.Given as goal
 
--- The rows before the index have been written.
+-- The loop invariant: the rows before the index have been written.
 abbrev pub invariant-loop-index : goal.invariant-loop-index
 invariant-loop-index g l = record {
   low : l.start ≤ l.index;

@@ -2,7 +2,7 @@ use Rattle.std.proofs.Common.{◌≡◌, ◌-◌, ◌≤◌, length}
 use Rattle.vt_rows.specs.Internals.{pieces_from}
 use Rattle.vt_rows.proofs.capture.plain.BasicFormattedToPlainIndexedIterator.next.Given as goal
 
--- What was skipped contains no piece.
+-- The loop invariant: the text skipped so far contains no piece.
 abbrev pub invariant-loop-self : goal.invariant-loop-self
 invariant-loop-self l =
     (length l.self-inside.rest.now ≤ l.self-inside.len)
