@@ -4,7 +4,7 @@ ghost use Rattle.std.specs.Prelude.{◌≡◌, ◌≢◌, ◌++◌, ◌+◌, ◌
 ghost use Rattle.vt_cells.specs.Attrs.{default_attrs};
 ghost use Rattle.vt_cells.specs.Refusals.{OnlyOutOfMemory};
 ghost use Rattle.vt_rows.specs.Cells.{blanks};
-ghost use Rattle.vt_grid.specs.Flat.{IsTable, line_at, lines_from};
+ghost use Rattle.vt_grid.specs.Flat.{line_at, lines_from};
 
 use super::{Flat, Line};
 use vt_cells::{Error, cell};
