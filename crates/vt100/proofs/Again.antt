@@ -8,10 +8,10 @@ use Rattle.vt_screen.specs.CallsOfRun.{calls_in, steps_in}
 use Rattle.vt_screen.specs.Run.{CallRelation}
 use Rattle.vt_screen.specs.Shown.{IsPlain}
 use Rattle.vt_screen.proofs.NoCallbacks.{only_reports, reported_events}
-use Rattle.vt100.specs.Parser.{Parsing, Ran, stage}
+use Rattle.vt100.specs.Parser.{ParserValue, Ran, stage}
 use Rattle.vt100.specs.Pieces.{IsPlainAgain}
 
-pub leaves_plain : {S : Type 0} (does : CallRelation S) (p q : Parsing S) (text : List ℕ) → StandsFor p.scanner start →
+pub leaves_plain : {S : Type 0} (does : CallRelation S) (p q : ParserValue S) (text : List ℕ) → StandsFor p.scanner start →
     LeavesPlain text p.screen → Ran does p text q → q.is_failed ≡ false → IsPlainAgain does p q
 leaves_plain does p q text stands leaves ran fine =
     let (scanner, folds) = ran start stands in

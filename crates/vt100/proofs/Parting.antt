@@ -9,20 +9,20 @@ use Rattle.vt_scan.specs.Scanner.{StandsFor}
 use Rattle.vt_scan.proofs.Alike.{held_of, itself, both_stand, other_stands, runs_alike}
 use Rattle.vt_scan.proofs.Running.{run-append}
 use Rattle.vt_screen.specs.Run.{CallRelation, Performs}
-use Rattle.vt100.specs.Parser.{Parsing, Ran, pieces_joined, parsing, stage}
+use Rattle.vt100.specs.Parser.{ParserValue, Ran, pieces_joined, parser_value, stage}
 use Rattle.vt100.proofs.Running.{folds_parted}
 
 -- A run over two chunks passes through a parser `middle` that has not failed.
 pub record Between {S : Type 0} (does : CallRelation S)
-    (p : Parsing S) (a b : List ℕ) (r : Parsing S) (there : State) : Type 0 where
-  pub middle : Parsing S
+    (p : ParserValue S) (a b : List ℕ) (r : ParserValue S) (there : State) : Type 0 where
+  pub middle : ParserValue S
   pub stands : StandsFor middle.scanner there
   pub whole : middle.is_failed ≡ false
   pub first : Ran does p a middle
   pub then : Ran does middle b r
 
 -- A run over two chunks that is known for one state of the scanner passes through a parser between the chunks.
-pub ran_parted : {S : Type 0} (does : CallRelation S) (p r : Parsing S) (a b : List ℕ) (s : State) →
+pub ran_parted : {S : Type 0} (does : CallRelation S) (p r : ParserValue S) (a b : List ℕ) (s : State) →
     StandsFor p.scanner s → Ran does p (a ++ b) r → Between does p a b r (run s a).state
 ran_parted {S} does p r a b s stands ran =
     let there = (run s a).state in
@@ -31,7 +31,7 @@ ran_parted {S} does p r a b s stands ran =
     let ends = subst Ends (run-append s a b) (ran s stands) in
     let parts = folds_parted (Performs does) (run s a).events (run there b).events (stage p) (stage r) ends.1 in
     record {
-      middle = parsing (held_of there) parts.0.screen parts.0.callbacks;
+      middle = parser_value (held_of there) parts.0.screen parts.0.callbacks;
       stands = itself there;
       whole = refl;
       first = λ t also.
@@ -47,7 +47,7 @@ ran_parted {S} does p r a b s stands ran =
     }
 
 pub ran_parted_list : {S : Type 0} (does : CallRelation S)
-    (p r : Parsing S) (piece : List ℕ) (pieces : List (List ℕ)) (s : State) →
+    (p r : ParserValue S) (piece : List ℕ) (pieces : List (List ℕ)) (s : State) →
     StandsFor p.scanner s → Ran does p (pieces_joined (piece ∷ pieces)) r → FoldsTo (Ran does) p (piece ∷ pieces) r
 ran_parted_list does p r piece [] s stands ran =
     (r, subst (λ (bytes : List ℕ). Ran does p bytes r) (append-nil piece) ran, refl)
@@ -60,16 +60,16 @@ ran_parted_list does p r piece (next ∷ pieces) s stands ran =
 
 -- A run over two chunks passes through a parser between them, for any state that the scanner stands for.
 
-pub some_parted : {S : Type 0} (does : CallRelation S) (p r : Parsing S) (a b : List ℕ)
+pub some_parted : {S : Type 0} (does : CallRelation S) (p r : ParserValue S) (a b : List ℕ)
     → ∥ ((state : State) × StandsFor p.scanner state) ∥₁ → Ran does p (a ++ b) r
-    → ∥ ((q : Parsing S) × (q.is_failed ≡ false) × Ran does p a q × Ran does q b r) ∥₁
+    → ∥ ((q : ParserValue S) × (q.is_failed ≡ false) × Ran does p a q × Ran does q b r) ∥₁
 some_parted {S} does p r a b some ran =
-    ∥∥₁_map {B = (q : Parsing S) × (q.is_failed ≡ false) × Ran does p a q × Ran does q b r}
+    ∥∥₁_map {B = (q : ParserValue S) × (q.is_failed ≡ false) × Ran does p a q × Ran does q b r}
     some (λ (s : (state : State) × StandsFor p.scanner state).
     let parted = ran_parted does p r a b s.0 s.1 ran in
     (parted.middle, parted.whole, parted.first, parted.then))
 
-pub some_parted_list : {S : Type 0} (does : CallRelation S) (p r : Parsing S) (piece : List ℕ) (pieces : List (List ℕ))
+pub some_parted_list : {S : Type 0} (does : CallRelation S) (p r : ParserValue S) (piece : List ℕ) (pieces : List (List ℕ))
     → ∥ ((state : State) × StandsFor p.scanner state) ∥₁ → Ran does p (pieces_joined (piece ∷ pieces)) r
     → ∥ FoldsTo (Ran does) p (piece ∷ pieces) r ∥₁
 some_parted_list does p r piece pieces some ran =

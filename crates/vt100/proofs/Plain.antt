@@ -10,7 +10,7 @@ use Rattle.vt_cells.proofs.Widths.{columns_of-ascii}
 use Rattle.vt_rows.specs.Texts.{IsPrintableAscii}
 use Rattle.vt_grid.specs.Page.{Page}
 use Rattle.vt_grid.proofs.Texts.{printed_put}
-use Rattle.vt_scan.specs.Scanner.{Held, ReadsItself}
+use Rattle.vt_scan.specs.Scanner.{ScannerValue, ReadsItself}
 use Rattle.vt_scan.proofs.Feeding.{text_feeds}
 use Rattle.vt_screen.specs.Run.{CallRelation, Takes, state}
 use Rattle.vt_screen.specs.Screen.{ScreenValue}
@@ -19,7 +19,7 @@ use Rattle.vt_screen.specs.Steps.{Step, Print, display_after}
 use Rattle.vt_screen.specs.Texts.{screen_after_text}
 use Rattle.vt_screen.proofs.Sizes.{same_printed}
 use Rattle.vt_screen.proofs.TextSteps.{print_scrolls}
-use Rattle.vt100.specs.Parser.{Ran, parsing, stage}
+use Rattle.vt100.specs.Parser.{Ran, parser_value, stage}
 use Rattle.vt100.proofs.Deciding.{printed_steps}
 use Rattle.vt100.proofs.Running.{byte_ran, one_character, ran_then}
 
@@ -32,12 +32,12 @@ print_done does c s screen low high room =
     (sym (printed_steps c shown))
     (state s (display_after (Print c) screen), print_scrolls does c s screen (columns_of-ascii c low high) room, refl)
 
-character_ran : {S : Type 0} (does : CallRelation S) (c : ℕ) (held : Held) (s : S) (screen : ScreenValue) →
+character_ran : {S : Type 0} (does : CallRelation S) (c : ℕ) (held : ScannerValue) (s : S) (screen : ScreenValue) →
     ReadsItself held c → screen.page.column < screen.page.width →
-    Ran does (parsing held screen s) (c ∷ []) (parsing held (display_after (Print c) screen) s)
+    Ran does (parser_value held screen s) (c ∷ []) (parser_value held (display_after (Print c) screen) s)
 character_ran does c held s screen itself room =
-    let now = parsing held (display_after (Print c) screen) s in
-    byte_ran does (parsing held screen s) now c (one_character c)
+    let now = parser_value held (display_after (Print c) screen) s in
+    byte_ran does (parser_value held screen s) now c (one_character c)
     (text_feeds held c itself.0 itself.1 itself.2 (omega (arith, itself.3)))
     (stage now, print_done does c s screen itself.2 itself.3 room, refl)
 
@@ -46,9 +46,9 @@ pub column_printed : (c : ℕ) (screen : ScreenValue) → columns_of c ≡ Some 
     screen.page.column < screen.page.width → (display_after (Print c) screen).page.column ≡ screen.page.column + 1
 column_printed c screen one room = ap (λ (page : Page). page.column) (printed_put c screen.attrs screen.page one room)
 
-pub text_ran : {S : Type 0} (does : CallRelation S) (text : List ℕ) (held : Held) (s : S) (screen : ScreenValue) →
+pub text_ran : {S : Type 0} (does : CallRelation S) (text : List ℕ) (held : ScannerValue) (s : S) (screen : ScreenValue) →
     All (ReadsItself held) text → screen.page.column + length text ≤ screen.page.width →
-    Ran does (parsing held screen s) text (parsing held (screen_after_text text screen) s)
+    Ran does (parser_value held screen s) text (parser_value held (screen_after_text text screen) s)
 text_ran does [] held s screen plain room = λ st stands. (stands, refl)
 text_ran does (c ∷ text) held s screen plain room =
     let first = All-head (ReadsItself held) c text plain in
@@ -57,10 +57,10 @@ text_ran does (c ∷ text) held s screen plain room =
     let moved = column_printed c screen (columns_of-ascii c first.2 first.3) here in
     let same = same_printed c screen.attrs screen.page in
     let left : next.page.column + length text ≤ next.page.width = omega (arith, moved, same.width, room) in
-    ran_then does (parsing held screen s) (parsing held next s) (parsing held (screen_after_text text next) s) (c ∷ []) text
+    ran_then does (parser_value held screen s) (parser_value held next s) (parser_value held (screen_after_text text next) s) (c ∷ []) text
     (character_ran does c held s screen first here)
     (text_ran does text held s next (All-tail (ReadsItself held) c text plain) left)
 
 -- Bytes that the scanner reads as themselves are printable.
-pub printable_of : (held : Held) (text : List ℕ) → All (ReadsItself held) text → IsPrintableAscii text
+pub printable_of : (held : ScannerValue) (text : List ℕ) → All (ReadsItself held) text → IsPrintableAscii text
 printable_of held text plain = λ k d lt. let itself = plain k d lt in (itself.2, itself.3)

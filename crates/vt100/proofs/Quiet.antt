@@ -8,23 +8,23 @@ use Rattle.vt_grid.specs.Printing.{pushes}
 use Rattle.vt_grid.specs.Moves.{feeds_out}
 use Rattle.vt_grid.specs.Outgoing.{left_by}
 use Rattle.vt_grid.specs.Scrollback as room
-use Rattle.vt_grid.specs.Scrollback.{Scrollback, pushed, reported}
+use Rattle.vt_grid.specs.Scrollback.{Scrollback, scrollback_after_push, rows_reported}
 use Rattle.vt_rows.specs.Row.{RowValue}
 use Rattle.vt_cells.specs.Glyph.{columns_of}
 use Rattle.vt_scan.specs.Automaton.{State, Event, step_in}
 use Rattle.vt_scan.specs.Run.{run}
-use Rattle.vt_scan.specs.Scanner.{Held, StandsFor}
-use Rattle.vt_scan.specs.Table.{class_of, turn_of}
+use Rattle.vt_scan.specs.Scanner.{ScannerValue, StandsFor}
+use Rattle.vt_scan.specs.Table.{class_of, transition_of}
 use Rattle.vt_screen.specs.Screen.{ScreenValue, above_page}
 use Rattle.vt_screen.specs.Run as act
 use Rattle.vt_screen.specs.Run.{CallRelation, Performs, Breaks, CalledOnScroll, Refuses, StopsIn, Takes, state}
 use Rattle.vt_screen.specs.Controls.{seen_of, steps_of}
 use Rattle.vt_screen.specs.Steps.{Step, Print, LineFeed, ScrollUp, OnPage, SaveCursor, RestoreCursor, EnterAlternate}
 use Rattle.vt_screen.specs.Steps.{EnterFresh, LeaveAlternate, LeaveRestoring, Reset, EraseScrollback, Render}
-use Rattle.vt_screen.specs.Steps.{HideCursor, SetMode, CallBack, Grows, outgoing, display_after}
-use Rattle.vt_screen.specs.Reading.{Terminal, terminal, grows, quiet_step, quiet_steps, quiet_events, read, read_byte}
+use Rattle.vt_screen.specs.Steps.{HideCursor, SetMode, CallBack, Grows, rows_scrolled_off, display_after}
+use Rattle.vt_screen.specs.Reading.{Terminal, terminal, grows, quiet_step, quiet_steps, quiet_events, terminal_after, read_byte}
 use Rattle.vt_screen.proofs.Readback.{and_then-some}
-use Rattle.vt100.specs.Parser.{IsHarmless, Parsing, Ran, Stopped, Collects, stage}
+use Rattle.vt100.specs.Parser.{IsHarmless, ParserValue, Ran, Stopped, Collects, stage}
 use Rattle.vt100.proofs.Running.{folds_parted}
 
 abbrev IsNone : {A : Type 0} → Option A → Type 0
@@ -59,18 +59,18 @@ unsent : {S : Type 0} (does : CallRelation S)
     → gone ≡ [] → after.scrollback ≡ screen.scrollback
     → b.screen
     ≡ (if screen.is_alternate then after
-    else record after { scrollback = pushed (length screen.page.rows) screen.page.width gone screen.scrollback })
-    → FoldsTo (CalledOnScroll does screen.is_alternate) held (reported gone (above_page screen)) b.callbacks
+    else record after { scrollback = scrollback_after_push (length screen.page.rows) screen.page.width gone screen.scrollback })
+    → FoldsTo (CalledOnScroll does screen.is_alternate) held (rows_reported gone (above_page screen)) b.callbacks
     → b ≡ state held after
 unsent {S} does held screen after gone b none kept is called =
     let shown : b.screen ≡ after = is ∙ same_screen screen.is_alternate after after _ refl
     (ap (λ (rows : List RowValue). record after
-    { scrollback = pushed (length screen.page.rows) screen.page.width rows screen.scrollback })
+    { scrollback = scrollback_after_push (length screen.page.rows) screen.page.width rows screen.scrollback })
     none
     ∙ ap (λ (above : Scrollback). record after { scrollback = above }) (sym kept)) in
     let told : held ≡ b.callbacks =
     subst (λ (rows : List RowValue). FoldsTo (CalledOnScroll does screen.is_alternate)
-    held (reported rows (above_page screen)) b.callbacks)
+    held (rows_reported rows (above_page screen)) b.callbacks)
     none called in
     ap (λ (s : S). act.state s b.screen) (sym told) ∙ ap (act.state held) shown
 
@@ -79,26 +79,26 @@ quiet_takes : {S : Type 0} (does : CallRelation S)
     quiet_step x screen ≡ Some after → Takes does (state held screen) x b → b ≡ state held after
 quiet_takes does (Print c) held screen after b e t =
     let calm = calm_of (pushes c screen.page) (Some (display_after (Print c) screen)) after e in
-    let none : outgoing (Print c) screen ≡ [] =
-    ap (λ (pushed : Bool). if pushed then take 1 (left_by (columns_of c) screen.attrs screen.page).rows else [])
+    let none : rows_scrolled_off (Print c) screen ≡ [] =
+    ap (λ (scrollback_after_push : Bool). if scrollback_after_push then take 1 (left_by (columns_of c) screen.attrs screen.page).rows else [])
     calm.0 in
-    unsent does held screen (display_after (Print c) screen) (outgoing (Print c) screen) b none refl t.screen t.called
+    unsent does held screen (display_after (Print c) screen) (rows_scrolled_off (Print c) screen) b none refl t.screen t.called
     ∙ ap (state held) (same_some (display_after (Print c) screen) after calm.1)
 quiet_takes does LineFeed held screen after b e t =
     let calm = calm_of (feeds_out screen.page) (Some (display_after LineFeed screen)) after e in
-    let none : outgoing LineFeed screen ≡ [] =
+    let none : rows_scrolled_off LineFeed screen ≡ [] =
     ap (λ (fed : Bool). if fed then take 1 screen.page.rows else []) calm.0 in
-    unsent does held screen (display_after LineFeed screen) (outgoing LineFeed screen) b none refl t.screen t.called
+    unsent does held screen (display_after LineFeed screen) (rows_scrolled_off LineFeed screen) b none refl t.screen t.called
     ∙ ap (state held) (same_some (display_after LineFeed screen) after calm.1)
 quiet_takes does (CallBack call) held screen after b e t = absurd (subst IsNone e tt)
 quiet_takes does (OnPage x) held screen after b e t =
     t ∙ ap (state held) (same_some (display_after (OnPage x) screen) after e)
 quiet_takes does (ScrollUp count) held screen after b e t =
     let calm = calm_of (screen.page.top == 0) (Some (display_after (ScrollUp count) screen)) after e in
-    let none : outgoing (ScrollUp count) screen ≡ [] =
+    let none : rows_scrolled_off (ScrollUp count) screen ≡ [] =
     ap (λ (whole : Bool). if whole then take (min count (screen.page.bottom + 1)) screen.page.rows else []) calm.0 in
     unsent does held screen (display_after (ScrollUp count) screen)
-    (outgoing (ScrollUp count) screen) b none refl t.screen t.called
+    (rows_scrolled_off (ScrollUp count) screen) b none refl t.screen t.called
     ∙ ap (state held) (same_some (display_after (ScrollUp count) screen) after calm.1)
 quiet_takes does EraseScrollback held screen after b e t = absurd (subst IsNone e tt)
 quiet_takes does (Render setting) held screen after b e t =
@@ -152,17 +152,17 @@ never_grows gone above none takes = let n : length gone ≡ 0 = ap length none i
 quiet_holds : (x : Step) (screen after : ScreenValue) → quiet_step x screen ≡ Some after → Grows x screen → ⊥
 quiet_holds (Print c) screen after e g =
     let calm = calm_of (pushes c screen.page) (Some (display_after (Print c) screen)) after e in
-    never_grows (outgoing (Print c) screen) (above_page screen)
-    (ap (λ (pushed : Bool). if pushed then take 1 (left_by (columns_of c) screen.attrs screen.page).rows else [])
+    never_grows (rows_scrolled_off (Print c) screen) (above_page screen)
+    (ap (λ (scrollback_after_push : Bool). if scrollback_after_push then take 1 (left_by (columns_of c) screen.attrs screen.page).rows else [])
     calm.0)
     g
 quiet_holds LineFeed screen after e g =
     let calm = calm_of (feeds_out screen.page) (Some (display_after LineFeed screen)) after e in
-    never_grows (outgoing LineFeed screen) (above_page screen)
+    never_grows (rows_scrolled_off LineFeed screen) (above_page screen)
     (ap (λ (fed : Bool). if fed then take 1 screen.page.rows else []) calm.0) g
 quiet_holds (ScrollUp count) screen after e g =
     let calm = calm_of (screen.page.top == 0) (Some (display_after (ScrollUp count) screen)) after e in
-    never_grows (outgoing (ScrollUp count) screen) (above_page screen)
+    never_grows (rows_scrolled_off (ScrollUp count) screen) (above_page screen)
     (ap (λ (whole : Bool). if whole then take (min count (screen.page.bottom + 1)) screen.page.rows else []) calm.0) g
 quiet_holds (CallBack call) screen after e g = never_grows [] (above_page screen) refl g
 quiet_holds (OnPage x) screen after e g = never_grows [] (above_page screen) refl g
@@ -224,7 +224,7 @@ stops_parted R T (x ∷ xs) ys p q t = elim t [
 
 -- A byte is read without callbacks or allocations, and `u` is the terminal after it.
 record ReadQuietly (t : Terminal) (b : ℕ) (u : Terminal) : Type 0 where
-  calm : grows (turn_of t.scan.kind (class_of b)) ≡ false
+  calm : grows (transition_of t.scan.kind (class_of b)) ≡ false
   scan : u.scan ≡ (step_in t.scan.kind t.scan.collected b).state
   events : quiet_events (step_in t.scan.kind t.scan.collected b).events t.screen ≡ Some u.screen
 
@@ -232,7 +232,7 @@ read_quietly : (t : Terminal) (b : ℕ) (u : Terminal) → read_byte t b ≡ Som
 unfolding read_byte
 read_quietly t b u e =
     let step = step_in t.scan.kind t.scan.collected b in
-    let calm = calm_of (grows (turn_of t.scan.kind (class_of b))) _ u e in
+    let calm = calm_of (grows (transition_of t.scan.kind (class_of b))) _ u e in
     let mid =
     and_then-some (λ screen. Some (terminal step.state screen)) (quiet_events step.events t.screen) u calm.1 in
     let there : terminal step.state mid.0 ≡ u = same_some (terminal step.state mid.0) u mid.2 in
@@ -243,14 +243,14 @@ read_quietly t b u e =
     }
 
 pub read_runs : {S : Type 0} (does : CallRelation S) (bytes : List ℕ) (t u : Terminal) (held : S) (b : act.State S) →
-    read t bytes ≡ Some u → FoldsTo (Performs does) (state held t.screen) (run t.scan bytes).events b →
+    terminal_after t bytes ≡ Some u → FoldsTo (Performs does) (state held t.screen) (run t.scan bytes).events b →
     (b ≡ state held u.screen) × ((run t.scan bytes).state ≡ u.scan)
 read_runs does [] t u held b e f =
     let same = same_some t u e in
     (sym f ∙ ap (λ (v : Terminal). state held v.screen) same, ap (λ (v : Terminal). v.scan) same)
 read_runs does (x ∷ bytes) t u held b e f =
     let step = step_in t.scan.kind t.scan.collected x in
-    let mid = and_then-some (λ v. read v bytes) (read_byte t x) u e in
+    let mid = and_then-some (λ v. terminal_after v bytes) (read_byte t x) u e in
     let quiet = read_quietly t x mid.0 mid.1 in
     let parted = folds_parted (Performs does) step.events (run step.state bytes).events (state held t.screen) b f in
     let there = quiet_performs does step.events held t.screen mid.0.screen parted.0 quiet.events parted.1 in
@@ -262,11 +262,11 @@ read_runs does (x ∷ bytes) t u held b e f =
 
 pub read_unbroken : {S : Type 0} (does : CallRelation S)
     (bytes : List ℕ) (t u : Terminal) (held : S) (b : act.State S) →
-    read t bytes ≡ Some u → StopsIn (Performs does) (Breaks does) (state held t.screen) (run t.scan bytes).events b → ⊥
+    terminal_after t bytes ≡ Some u → StopsIn (Performs does) (Breaks does) (state held t.screen) (run t.scan bytes).events b → ⊥
 read_unbroken does [] t u held b e f = f
 read_unbroken does (x ∷ bytes) t u held b e f =
     let step = step_in t.scan.kind t.scan.collected x in
-    let mid = and_then-some (λ v. read v bytes) (read_byte t x) u e in
+    let mid = and_then-some (λ v. terminal_after v bytes) (read_byte t x) u e in
     let quiet = read_quietly t x mid.0 mid.1 in
     elim (stops_parted (Performs does) (Breaks does) step.events
     (run step.state bytes).events (state held t.screen) b f) [
@@ -280,21 +280,21 @@ read_unbroken does (x ∷ bytes) t u held b e f =
     ]
 
 pub read_calmly : (bytes : List ℕ) (t u : Terminal) (k : ℕ) →
-    read t bytes ≡ Some u → k < length bytes → Collects t.scan bytes k → ⊥
+    terminal_after t bytes ≡ Some u → k < length bytes → Collects t.scan bytes k → ⊥
 read_calmly [] t u k e h c = absurd (omega (arith, h))
 read_calmly (x ∷ bytes) t u zero e h c =
-    let mid = and_then-some (λ v. read v bytes) (read_byte t x) u e in
+    let mid = and_then-some (λ v. terminal_after v bytes) (read_byte t x) u e in
     let quiet = read_quietly t x mid.0 mid.1 in
     false≢true (sym quiet.calm ∙ ap grows c)
 read_calmly (x ∷ bytes) t u (suc k) e h c =
-    let mid = and_then-some (λ v. read v bytes) (read_byte t x) u e in
+    let mid = and_then-some (λ v. terminal_after v bytes) (read_byte t x) u e in
     let quiet = read_quietly t x mid.0 mid.1 in
     read_calmly bytes mid.0 u k mid.2 (omega (arith, h)) (subst (λ (s : State). Collects s bytes k) (sym quiet.scan) c)
 
 -- ---- parsers
 
-pub ran_quietly : {S : Type 0} (does : CallRelation S) (p q : Parsing S) (bytes : List ℕ) (s : State) (t : Terminal) →
-    Ran does p bytes q → StandsFor p.scanner s → read (terminal s p.screen) bytes ≡ Some t →
+pub ran_quietly : {S : Type 0} (does : CallRelation S) (p q : ParserValue S) (bytes : List ℕ) (s : State) (t : Terminal) →
+    Ran does p bytes q → StandsFor p.scanner s → terminal_after (terminal s p.screen) bytes ≡ Some t →
     StandsFor q.scanner t.scan × (q.screen ≡ t.screen) × (q.callbacks ≡ p.callbacks)
 ran_quietly {S} does p q bytes s t ran stands e =
     let one = ran s stands in
@@ -306,18 +306,18 @@ ran_quietly {S} does p q bytes s t ran stands e =
 
 -- Reading without callbacks or allocations has the same effect on a parser that is given by its fields.
 pub quietly_here : {S : Type 0} (does : CallRelation S)
-    (p old q : Parsing S) (bytes : List ℕ) (s : State) (t : Terminal) →
-    p ≡ old → Ran does p bytes q → StandsFor old.scanner s → read (terminal s old.screen) bytes ≡ Some t →
+    (p old q : ParserValue S) (bytes : List ℕ) (s : State) (t : Terminal) →
+    p ≡ old → Ran does p bytes q → StandsFor old.scanner s → terminal_after (terminal s old.screen) bytes ≡ Some t →
     StandsFor q.scanner t.scan × (q.screen ≡ t.screen) × (q.callbacks ≡ old.callbacks)
 quietly_here {S} does p old q bytes s t same ran stands told =
-    ran_quietly does old q bytes s t (subst (λ (z : Parsing S). Ran does z bytes q) same ran) stands told
+    ran_quietly does old q bytes s t (subst (λ (z : ParserValue S). Ran does z bytes q) same ran) stands told
 
 pub never_refused : {S : Type 0} (does : CallRelation S)
-    (p old q : Parsing S) (bytes : List ℕ) (s : State) (t : Terminal) →
+    (p old q : ParserValue S) (bytes : List ℕ) (s : State) (t : Terminal) →
     p.scanner ≡ old.scanner → stage p ≡ stage old → Stopped does p bytes q → StandsFor old.scanner s →
-    read (terminal s old.screen) bytes ≡ Some t → ⊥
+    terminal_after (terminal s old.screen) bytes ≡ Some t → ⊥
 never_refused {S} does p old q bytes s t scanner same stopped stands told =
-    let ready : StandsFor p.scanner s = subst (λ (held : Held). StandsFor held s) (sym scanner) stands in
+    let ready : StandsFor p.scanner s = subst (λ (held : ScannerValue). StandsFor held s) (sym scanner) stands in
     elim stopped [
       | inl before ↦
           read_calmly bytes (terminal s old.screen) t before.count told before.inside (before.refused s ready)
@@ -328,7 +328,7 @@ never_refused {S} does p old q bytes s t scanner same stopped stands told =
     ]
 
 pub quietly_harmless : {S : Type 0} (does : CallRelation S)
-    (p : Parsing S) (bytes : List ℕ) (s : State) (t : Terminal) →
-    StandsFor p.scanner s → read (terminal s p.screen) bytes ≡ Some t → IsHarmless does p bytes
+    (p : ParserValue S) (bytes : List ℕ) (s : State) (t : Terminal) →
+    StandsFor p.scanner s → terminal_after (terminal s p.screen) bytes ≡ Some t → IsHarmless does p bytes
 quietly_harmless does p bytes s t stands told q stopped =
     never_refused does p p q bytes s t refl refl stopped stands told

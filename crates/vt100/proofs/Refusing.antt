@@ -5,20 +5,20 @@ use Rattle.std.proofs.Math.Seq.{take-add}
 use Rattle.std.proofs.lemmas.List.{append-nil, get_or-drop, length-drop, take_more}
 use Rattle.vt_scan.specs.Automaton.{Event, State, Step, step_in}
 use Rattle.vt_scan.specs.Run.{run}
-use Rattle.vt_scan.specs.Scanner.{Feeds, FeedsAll, HasNoEvent, Held, events_in}
-use Rattle.vt_scan.specs.Table.{class_of, turn_of}
+use Rattle.vt_scan.specs.Scanner.{Feeds, FeedsAll, HasNoEvent, ScannerValue, events_in}
+use Rattle.vt_scan.specs.Table.{class_of, transition_of}
 use Rattle.vt_scan.specs.declared.event.Events.{Events}
 use Rattle.vt_scan.specs.declared.table.Kind.TheVariants.{OscString}
-use Rattle.vt_scan.specs.declared.table.Turn.TheVariants.{Collect}
+use Rattle.vt_scan.specs.declared.table.Transition.TheVariants.{Collect}
 use Rattle.vt_scan.proofs.Running.{run-append}
 use Rattle.vt_screen.specs.Run.{CallRelation, Performs, Breaks, StopsIn}
 use Rattle.vt_screen.specs.Run as screen
-use Rattle.vt100.specs.Parser.{IsRefused, Parsing, Ran, StoppedAt, stage}
+use Rattle.vt100.specs.Parser.{IsRefused, ParserValue, Ran, StoppedAt, stage}
 
 -- If the first byte is collected into a command and its allocation fails, parsing stops at that byte.
-pub stopped_at_text : {S : Type 0} (does : CallRelation S) (p q : Parsing S) (bytes : List ℕ)
+pub stopped_at_text : {S : Type 0} (does : CallRelation S) (p q : ParserValue S) (bytes : List ℕ)
     → 0 < length bytes → stage q ≡ stage p
-    → turn_of p.scanner.kind (class_of (slice_index_or bytes 0 0)) ≡ Collect OscString → StoppedAt does p bytes 0 q
+    → transition_of p.scanner.kind (class_of (slice_index_or bytes 0 0)) ≡ Collect OscString → StoppedAt does p bytes 0 q
 stopped_at_text does p q bytes some same turn = record {
   inside = some;
   before = λ s stands. refl;
@@ -26,7 +26,7 @@ stopped_at_text does p q bytes some same turn = record {
 }
 
 -- If an allocation fails in an event of the first byte, parsing stops at that byte.
-pub stopped_at_first : {S : Type 0} (does : CallRelation S) (p q : Parsing S) (after : Held) (bytes : List ℕ)
+pub stopped_at_first : {S : Type 0} (does : CallRelation S) (p q : ParserValue S) (after : ScannerValue) (bytes : List ℕ)
     (answer : Events) → 0 < length bytes → Feeds p.scanner (slice_index_or bytes 0 0) after answer
     → StopsIn (Performs does) (Breaks does) (stage p) (events_in after answer) (stage q) → StoppedAt does p bytes 0 q
 stopped_at_first does p q after bytes answer some feeds stops = record {
@@ -49,7 +49,7 @@ last_events s bytes k inside none =
     ∙ append-nil (step_in there.kind there.collected b).events
 
 -- If only the last byte has events and an allocation fails in one of them, parsing stops at that byte.
-pub stopped_at_last : {S : Type 0} (does : CallRelation S) (p q : Parsing S) (after : Held) (bytes : List ℕ) (n : ℕ)
+pub stopped_at_last : {S : Type 0} (does : CallRelation S) (p q : ParserValue S) (after : ScannerValue) (bytes : List ℕ) (n : ℕ)
     (events : List Event) → 0 < n → n ≤ length bytes → FeedsAll p.scanner (take n bytes) after events
     → HasNoEvent p.scanner (take (n - 1) bytes)
     → StopsIn (Performs does) (Breaks does) (stage p) events (stage q) → StoppedAt does p bytes (n - 1) q
@@ -67,7 +67,7 @@ stopped_at_last does p q after bytes n events some inside fed none stops =
     }
 
 -- A run over no bytes before the byte whose allocation fails doesn't change where parsing stops.
-pub stopped_at_after : {S : Type 0} (does : CallRelation S) (p q r : Parsing S) (bytes : List ℕ) (count : ℕ)
+pub stopped_at_after : {S : Type 0} (does : CallRelation S) (p q r : ParserValue S) (bytes : List ℕ) (count : ℕ)
     → Ran does p (take 0 bytes) q → StoppedAt does q bytes count r → StoppedAt does p bytes count r
 stopped_at_after {S = S} does p q r bytes count nothing at = record {
   inside = at.inside;
@@ -79,7 +79,7 @@ stopped_at_after {S = S} does p q r bytes count nothing at = record {
 }
 
 -- If k bytes without events come first, parsing stops k bytes later.
-pub stopped_at_then : {S : Type 0} (does : CallRelation S) (p q r : Parsing S) (bytes : List ℕ) (k n : ℕ)
+pub stopped_at_then : {S : Type 0} (does : CallRelation S) (p q r : ParserValue S) (bytes : List ℕ) (k n : ℕ)
     → FeedsAll p.scanner (take k bytes) q.scanner [] → stage q ≡ stage p
     → StoppedAt does q (drop k bytes) n r → StoppedAt does p bytes (k + n) r
 stopped_at_then {S = S} does p q r bytes k n fed same at =

@@ -9,17 +9,17 @@ use Rattle.std.specs.Prelude.{Err, IfOk, Ok, Result}
 use Rattle.vt_rows.proofs.Folds.{folds_then}
 use Rattle.vt_scan.specs.Automaton.{Event, State, Step, step_in}
 use Rattle.vt_scan.specs.Run.{run}
-use Rattle.vt_scan.specs.Scanner.{Feeds, FeedsAll, Held, StandsFor, events_in}
-use Rattle.vt_scan.specs.Table.{class_of, turn_of}
+use Rattle.vt_scan.specs.Scanner.{Feeds, FeedsAll, ScannerValue, StandsFor, events_in}
+use Rattle.vt_scan.specs.Table.{class_of, transition_of}
 use Rattle.vt_scan.specs.declared.event.Event.TheVariants.{Character}
 use Rattle.vt_scan.specs.declared.event.Events.{Events}
 use Rattle.vt_scan.specs.declared.table.Kind.{Kind}
 use Rattle.vt_scan.specs.declared.table.Kind.TheVariants.{OscString}
-use Rattle.vt_scan.specs.declared.table.Turn.TheVariants.{Collect}
+use Rattle.vt_scan.specs.declared.table.Transition.TheVariants.{Collect}
 use Rattle.vt_scan.proofs.Running.{run-append}
 use Rattle.vt_screen.specs.Run.{CallRelation, Performs, Breaks, StopsIn}
 use Rattle.vt100.specs.Internals.{ReadsOrStops}
-use Rattle.vt100.specs.Parser.{CallsByLast, Parsing, Ran, Stopped, StoppedAt, StoppedBefore, StoppedWithin, Collects}
+use Rattle.vt100.specs.Parser.{CallsByLast, ParserValue, Ran, Stopped, StoppedAt, StoppedBefore, StoppedWithin, Collects}
 use Rattle.vt100.specs.Parser.{pieces_joined, stage}
 use Rattle.vt100.proofs.Refusing.{stopped_at_after}
 
@@ -41,7 +41,7 @@ pub folds_parted : {P A : Type 0} (R : P → A → P → Type 0) (xs ys : List A
 folds_parted R [] ys p r t = (p, refl, t)
 folds_parted R (x ∷ xs) ys p r t = let rest = folds_parted R xs ys t.0 r t.2 in (rest.0, (t.0, t.1, rest.1), rest.2)
 
-pub ran_then : {S : Type 0} (does : CallRelation S) (p q r : Parsing S) (a b : List ℕ) →
+pub ran_then : {S : Type 0} (does : CallRelation S) (p q r : ParserValue S) (a b : List ℕ) →
     Ran does p a q → Ran does q b r → Ran does p (a ++ b) r
 ran_then does p q r a b first second = λ s stands.
     let one = first s stands in
@@ -52,7 +52,7 @@ ran_then does p q r a b first second = λ s stands.
           (stage p) (stage q) (stage r) one.1 two.1,
     )
 
-pub byte_ran : {S : Type 0} (does : CallRelation S) (p q : Parsing S) (b : ℕ) (answer : Events) →
+pub byte_ran : {S : Type 0} (does : CallRelation S) (p q : ParserValue S) (b : ℕ) (answer : Events) →
     Feeds p.scanner b q.scanner answer → FoldsTo (Performs does) (stage p) (events_in q.scanner answer) (stage q) →
     Ran does p (b ∷ []) q
 byte_ran does p q b answer feeds folds = λ s stands.
@@ -63,7 +63,7 @@ byte_ran does p q b answer feeds folds = λ s stands.
     )
 
 -- What was read stays read when the scanner drops data that no state depends on.
-pub released_ran : {S : Type 0} (does : CallRelation S) (p q : Parsing S) (held : Held) (bytes : List ℕ) →
+pub released_ran : {S : Type 0} (does : CallRelation S) (p q : ParserValue S) (held : ScannerValue) (bytes : List ℕ) →
     Ran does p bytes q → ((s : State) → StandsFor q.scanner s → StandsFor held s) →
     Ran does p bytes (record q { scanner = held })
 released_ran does p q held bytes ran still = λ s stands.
@@ -71,17 +71,17 @@ released_ran does p q held bytes ran still = λ s stands.
     (still (run s bytes).state follows.0, follows.1)
 
 -- The byte whose allocation failed is collected into a command's text.
-pub refused_at : {S : Type 0} (does : CallRelation S) (p q : Parsing S) (bytes : List ℕ) (k : ℕ) →
-    Ran does p (take k bytes) q → turn_of q.scanner.kind (class_of (slice_index_or bytes k 0)) ≡ Collect OscString →
+pub refused_at : {S : Type 0} (does : CallRelation S) (p q : ParserValue S) (bytes : List ℕ) (k : ℕ) →
+    Ran does p (take k bytes) q → transition_of q.scanner.kind (class_of (slice_index_or bytes k 0)) ≡ Collect OscString →
     (state : State) → StandsFor p.scanner state → Collects state bytes k
 refused_at does p q bytes k ran turn = λ s stands.
-    subst (λ (kind : Kind). turn_of kind (class_of (slice_index_or bytes k 0)) ≡ Collect OscString)
+    subst (λ (kind : Kind). transition_of kind (class_of (slice_index_or bytes k 0)) ≡ Collect OscString)
     (ran s stands).0.kind turn
 
-ran_nothing : {S : Type 0} (does : CallRelation S) (p q : Parsing S) → p ≡ q → Ran does p [] q
+ran_nothing : {S : Type 0} (does : CallRelation S) (p q : ParserValue S) → p ≡ q → Ran does p [] q
 ran_nothing does p q same = subst (λ z. Ran does p [] z) same (λ s stands. (stands, refl))
 
-pub ran_joined : {S : Type 0} (does : CallRelation S) (p q : Parsing S) (pieces : List (List ℕ)) →
+pub ran_joined : {S : Type 0} (does : CallRelation S) (p q : ParserValue S) (pieces : List (List ℕ)) →
     FoldsTo (Ran does) p pieces q → Ran does p (pieces_joined pieces) q
 ran_joined does p q [] same = ran_nothing does p q same
 ran_joined does p q (piece ∷ pieces) runs =
@@ -89,7 +89,7 @@ ran_joined does p q (piece ∷ pieces) runs =
 
 -- If an allocation fails in an event of one byte of many, parsing stops within the events of all of them.
 pub stopped_within : {S : Type 0} (does : CallRelation S)
-    (p m q : Parsing S) (after : Held) (bytes : List ℕ) (k : ℕ) (answer : Events)
+    (p m q : ParserValue S) (after : ScannerValue) (bytes : List ℕ) (k : ℕ) (answer : Events)
     → k < length bytes → Ran does p (take k bytes) m → Feeds m.scanner (slice_index_or bytes k 0) after answer
     → StopsIn (Performs does) (Breaks does) (stage m) (events_in after answer) (stage q) → StoppedWithin does p bytes q
 stopped_within does p m q after bytes k answer inside ran feeds stops = λ s stands.
@@ -113,20 +113,20 @@ abbrev pub one_character : ℕ → Events
 one_character code = record { first = Some (Character code); second = None }
 
 -- A byte that is read as its own character has the event of that character.
-pub text_answer : (held : Held) (b code : ℕ) → Feeds held b held (one_character b) →
+pub text_answer : (held : ScannerValue) (b code : ℕ) → Feeds held b held (one_character b) →
     code ≡ b → Feeds held b held (one_character code)
 text_answer held b code feeds same = subst (λ (k : ℕ). Feeds held b held (one_character k)) (sym same) feeds
 
 -- ---- a run followed by one that stops because an allocation fails
 
-stopped_within_then : {S : Type 0} (does : CallRelation S) (p q r : Parsing S) (a b : List ℕ) →
+stopped_within_then : {S : Type 0} (does : CallRelation S) (p q r : ParserValue S) (a b : List ℕ) →
     Ran does p a q → StoppedWithin does q b r → StoppedWithin does p (a ++ b) r
 stopped_within_then does p q r a b first second = λ s stands.
     let one = first s stands in
     rw (run-append s a b) (stops_then (Performs does) (Breaks does) (run s a).events
     (run (run s a).state b).events (stage p) (stage q) (stage r) one.1 (second (run s a).state one.0))
 
-stopped_before_then : {S : Type 0} (does : CallRelation S) (p q r : Parsing S) (a b : List ℕ) →
+stopped_before_then : {S : Type 0} (does : CallRelation S) (p q r : ParserValue S) (a b : List ℕ) →
     Ran does p a q → StoppedBefore does q b r → StoppedBefore does p (a ++ b) r
 stopped_before_then does p q r a b first second =
     let k = second.count in
@@ -143,7 +143,7 @@ stopped_before_then does p q r a b first second =
           rw (reached, get_or-append-add a b k 0) turn;
     }
 
-pub stopped_then : {S : Type 0} (does : CallRelation S) (p q r : Parsing S) (bytes : List ℕ) (k : ℕ) →
+pub stopped_then : {S : Type 0} (does : CallRelation S) (p q r : ParserValue S) (bytes : List ℕ) (k : ℕ) →
     Ran does p (take k bytes) q → Stopped does q (drop k bytes) r → Stopped does p bytes r
 stopped_then does p q r bytes k ran stopped =
     subst (λ (all : List ℕ). Stopped does p all r) (take-append-drop k bytes) (elim stopped [
@@ -151,7 +151,7 @@ stopped_then does p q r bytes k ran stopped =
       | inr within ↦ inr (stopped_within_then does p q r (take k bytes) (drop k bytes) ran within)
     ])
 
-pub ran_on : {S : Type 0} (does : CallRelation S) (p q r : Parsing S) (bytes : List ℕ) (k n : ℕ) →
+pub ran_on : {S : Type 0} (does : CallRelation S) (p q r : ParserValue S) (bytes : List ℕ) (k n : ℕ) →
     k ≤ length bytes → Ran does p (take k bytes) q → Ran does q (take n (drop k bytes)) r →
     Ran does p (take (k + n) bytes) r
 ran_on does p q r bytes k n inside first second =
@@ -164,7 +164,7 @@ ran_on does p q r bytes k n inside first second =
 
 -- ---- bytes whose events are known
 
-pub known_ran : {S : Type 0} (does : CallRelation S) (p q : Parsing S) (bytes : List ℕ) (events : List Event)
+pub known_ran : {S : Type 0} (does : CallRelation S) (p q : ParserValue S) (bytes : List ℕ) (events : List Event)
     → FeedsAll p.scanner bytes q.scanner events
     → FoldsTo (Performs does) (stage p) events (stage q) → Ran does p bytes q
 known_ran does p q bytes events fed folds = λ s stands.
@@ -172,7 +172,7 @@ known_ran does p q bytes events fed folds = λ s stands.
     (follows.0, subst (λ (all : List Event). FoldsTo (Performs does) (stage p) all (stage q)) (sym follows.1) folds)
 
 pub known_stopped : {S : Type 0} (does : CallRelation S)
-    (p q : Parsing S) (after : Held) (bytes : List ℕ) (n : ℕ) (events : List Event)
+    (p q : ParserValue S) (after : ScannerValue) (bytes : List ℕ) (n : ℕ) (events : List Event)
     → FeedsAll p.scanner (take n bytes) after events
     → StopsIn (Performs does) (Breaks does) (stage p) events (stage q) → StoppedWithin does p bytes q
 known_stopped does p q after bytes n events fed stops = λ s stands.
@@ -188,18 +188,18 @@ known_stopped does p q after bytes n events fed stops = λ s stands.
 
 -- ---- results of calls
 
-pub some_read : {S : Type 0} (does : CallRelation S) (p q : Parsing S) (bytes : List ℕ) (count : ℕ) →
+pub some_read : {S : Type 0} (does : CallRelation S) (p q : ParserValue S) (bytes : List ℕ) (count : ℕ) →
     count ≤ length bytes → Ran does p (take count bytes) q → ReadsOrStops does p bytes q (Ok count)
 some_read does p q bytes count inside ran =
     record { inside = inside; ran = ran; stopped = λ r. absurd (false≢true r); where_stopped = tt }
 
-pub stopped_in : {S : Type 0} (does : CallRelation S) (p q : Parsing S) (bytes : List ℕ) (count : ℕ) →
+pub stopped_in : {S : Type 0} (does : CallRelation S) (p q : ParserValue S) (bytes : List ℕ) (count : ℕ) →
     Stopped does p bytes q → StoppedAt does p bytes count q → ReadsOrStops does p bytes q (Err count)
 stopped_in does p q bytes count stopped at =
     record { inside = tt; ran = tt; stopped = λ r. stopped; where_stopped = at }
 
 -- A call after a run over no bytes has the effect of the call alone.
-pub read_behind : {S : Type 0} (does : CallRelation S) (p q r : Parsing S) (bytes : List ℕ) (result : Result ℕ ℕ) →
+pub read_behind : {S : Type 0} (does : CallRelation S) (p q r : ParserValue S) (bytes : List ℕ) (result : Result ℕ ℕ) →
     Ran does p (take 0 bytes) q → ReadsOrStops does q bytes r result → ReadsOrStops does p bytes r result
 read_behind does p q r bytes (Ok count) nothing reads =
     some_read does p r bytes count reads.inside (ran_then does p q r [] (take count bytes) nothing reads.ran)
@@ -210,7 +210,7 @@ read_behind does p q r bytes (Err count) nothing reads =
 -- ---- which callbacks are invoked, and when
 
 -- If only the last byte of a text has events, this is also true if bytes without events come before the text.
-pub led_by_last : {S : Type 0} (old new : S) (before led : Held) (bytes : List ℕ) (k n : ℕ)
+pub led_by_last : {S : Type 0} (old new : S) (before led : ScannerValue) (bytes : List ℕ) (k n : ℕ)
     → FeedsAll before (take k bytes) led [] → CallsByLast old led (drop k bytes) n new
     → CallsByLast old before bytes (k + n) new
 led_by_last old new before led bytes k n fed last = elim last [
@@ -235,7 +235,7 @@ map_some P Q (Ok k) f h = f k h
 map_some P Q (Err error) f h = tt
 
 -- If only the last byte of a call has events, this stays so after a run over no bytes.
-pub later_by_last : {S : Type 0} (does : CallRelation S) (p q : Parsing S) (new : S) (bytes : List ℕ) (n k : ℕ)
+pub later_by_last : {S : Type 0} (does : CallRelation S) (p q : ParserValue S) (new : S) (bytes : List ℕ) (n k : ℕ)
     → n ≡ 0 → Ran does p (take n bytes) q → CallsByLast p.callbacks p.scanner bytes n q.callbacks
     → CallsByLast q.callbacks q.scanner bytes k new → CallsByLast p.callbacks p.scanner bytes k new
 later_by_last does p q new bytes n k none ran first last =

@@ -17,7 +17,7 @@ use Rattle.vt_screen.specs.Steps.{Step}
 use Rattle.vt_screen.specs.CallsOfRun.{LeavesScreen}
 use Rattle.vt_screen.proofs.Sized.{IsSized, sized_screen}
 use Rattle.vt_screen.proofs.SizedRuns.{sized_taken}
-use Rattle.vt100.specs.Parser.{Parsing, Ran, Stopped, quietly, stage}
+use Rattle.vt100.specs.Parser.{ParserValue, Ran, Stopped, does_nothing, stage}
 
 module _ {S : Type 0} (does : CallRelation S) (leaves : LeavesScreen does) (height width : ℕ) where
   sized_steps : (steps : List Step) (a b : act.State S) → IsSized height width a.screen →
@@ -52,14 +52,14 @@ size_is : (a b : ScreenValue) → IsSized (length a.page.rows) a.page.width b �
 size_is a b z = record { width = z.page.width_is; height = z.page.height_is }
 
 pub ran_size : {S : Type 0} (does : CallRelation S) →
-    LeavesScreen does → (p q : Parsing S) (bytes : List ℕ) (scan : State) → IsScreen p.screen →
+    LeavesScreen does → (p q : ParserValue S) (bytes : List ℕ) (scan : State) → IsScreen p.screen →
     StandsFor p.scanner scan → Ran does p bytes q → SameSize q.screen.page p.screen.page
 ran_size does leaves p q bytes scan is stands ran =
     size_is p.screen q.screen (sized_events does leaves (length p.screen.page.rows) p.screen.page.width
     (run scan bytes).events (stage p) (stage q) (sized_screen p.screen is) (ran scan stands).1)
 
 pub stopped_size : {S : Type 0} (does : CallRelation S) →
-    LeavesScreen does → (p q : Parsing S) (bytes : List ℕ) (scan : State) → IsScreen p.screen →
+    LeavesScreen does → (p q : ParserValue S) (bytes : List ℕ) (scan : State) → IsScreen p.screen →
     StandsFor p.scanner scan → Stopped does p bytes q → SameSize q.screen.page p.screen.page
 stopped_size does leaves p q bytes scan is stands stopped = elim stopped [
   | inl before ↦ ran_size does leaves p q (take before.count bytes) scan is stands before.ran
@@ -92,14 +92,14 @@ same_size_for_some {A} new old some h = record {
   height = same_for_some (length new.rows) (length old.rows) some (λ (a : A). (h a).height);
 }
 
-pub some_ran_size : {S : Type 0} (does : CallRelation S) (p q : Parsing S) (bytes : List ℕ) →
+pub some_ran_size : {S : Type 0} (does : CallRelation S) (p q : ParserValue S) (bytes : List ℕ) →
     LeavesScreen does → IsScreen p.screen → ∥ ((scan : State) × StandsFor p.scanner scan) ∥₁ → Ran does p bytes q →
     SameSize q.screen.page p.screen.page
 some_ran_size does p q bytes leaves is stands ran =
     same_size_for_some q.screen.page p.screen.page stands
     (λ (s : (scan : State) × StandsFor p.scanner scan). ran_size does leaves p q bytes s.0 is s.1 ran)
 
-pub some_stopped_size : {S : Type 0} (does : CallRelation S) (p q : Parsing S) (bytes : List ℕ) →
+pub some_stopped_size : {S : Type 0} (does : CallRelation S) (p q : ParserValue S) (bytes : List ℕ) →
     LeavesScreen does → IsScreen p.screen → ∥ ((scan : State) × StandsFor p.scanner scan) ∥₁ → Stopped does p bytes q →
     SameSize q.screen.page p.screen.page
 some_stopped_size does p q bytes leaves is stands stopped =
@@ -107,5 +107,5 @@ some_stopped_size does p q bytes leaves is stands stopped =
     (λ (s : (scan : State) × StandsFor p.scanner scan). stopped_size does leaves p q bytes s.0 is s.1 stopped)
 
 -- Callbacks that do nothing leave the screen unchanged.
-pub quiet_leaves : LeavesScreen quietly
+pub quiet_leaves : LeavesScreen does_nothing
 quiet_leaves call old new before after t = t.1

@@ -5,7 +5,7 @@ use Rattle.std.proofs.lemmas.List.{append-nil}
 use Rattle.std.specs.List.{AllByRecursion, FoldsTo}
 use Rattle.vt_grid.proofs.Pages.{page_blank}
 use Rattle.vt_rows.proofs.Folds.{folds_then}
-use Rattle.vt_rows.specs.Basic.{Written, unwritten}
+use Rattle.vt_rows.specs.Basic.{Written, nothing_written}
 use Rattle.vt_rows.specs.Row.{RowValue, trimmed_row}
 use Rattle.vt_scan.specs.Automaton.{State, Event, Step as Outcome, start}
 use Rattle.vt_scan.specs.Run.{run}
@@ -23,31 +23,31 @@ use Rattle.vt_screen.proofs.EventSteps.{run_streams}
 use Rattle.vt_screen.proofs.CallsOfRun.{Calling, called_events}
 use Rattle.vt_screen.proofs.StepLists.{screen_in_then, sent_in_then}
 use Rattle.vt_screen.proofs.StreamedTexts.{after_then, streamed_is, texts_then}
-use Rattle.vt_screen.proofs.Streaming.{Held, Streamed, held_fresh, held_screen, streamed_then, view_streams}
-use Rattle.vt100.specs.Parser.{Parsing, Ran, stage}
+use Rattle.vt_screen.proofs.Streaming.{ScannerValue, Streamed, held_fresh, held_screen, streamed_then, view_streams}
+use Rattle.vt100.specs.Parser.{ParserValue, Ran, stage}
 use Rattle.vt100.specs.Streams.{ParserCall, Process, SetScrollback, IsFreshParser, IsRecorder}
 use Rattle.vt100.specs.Streams.{MakesCall, bytes_of_calls, screen_by, calls_by, whole_text}
 
 -- ---- the calls that callbacks receive
 
 pub ran_called : {S : Type 0} (does : CallRelation S) → LeavesScreen does
-    → (p q : Parsing S) (bytes : List ℕ) (scan : State) → StandsFor p.scanner scan → Ran does p bytes q
+    → (p q : ParserValue S) (bytes : List ℕ) (scan : State) → StandsFor p.scanner scan → Ran does p bytes q
     → Calling does (stage p) (calls_in scan p.screen bytes) (screen_in scan p.screen bytes) (stage q)
 ran_called does leaves p q bytes scan stands ran =
     called_events does leaves (run scan bytes).events (stage p) (stage q) (ran scan stands).1
 
 -- The given calls to a parser were made.
 pub record HasCalled {S : Type 0} (does : CallRelation S)
-    (scan : State) (screen : ScreenValue) (calls : List ParserCall) (p q : Parsing S) : Type 0 where
+    (scan : State) (screen : ScreenValue) (calls : List ParserCall) (p q : ParserValue S) : Type 0 where
   pub shown : q.screen ≡ screen_by scan screen calls
   pub called : FoldsTo (CalledOnSomeScreen does) p.callbacks (calls_by scan screen calls) q.callbacks
 
 pub calls_made : {S : Type 0} (does : CallRelation S)
-    → LeavesScreen does → (calls : List ParserCall) (p q : Parsing S) (scan : State)
+    → LeavesScreen does → (calls : List ParserCall) (p q : ParserValue S) (scan : State)
     → StandsFor p.scanner scan → FoldsTo (MakesCall does) p calls q
     → HasCalled does scan p.screen calls p q
 calls_made {S} does leaves [] p q scan stands e =
-    record { shown = sym (ap (λ (r : Parsing S). r.screen) e); called = ap (λ (r : Parsing S). r.callbacks) e }
+    record { shown = sym (ap (λ (r : ParserValue S). r.screen) e); called = ap (λ (r : ParserValue S). r.callbacks) e }
 calls_made does leaves (Process bytes ∷ calls) p q scan stands t =
     let one = ran_called does leaves p t.0 bytes scan stands t.1 in
     let rest = subst (λ (screen : ScreenValue). HasCalled does (run scan bytes).state screen calls t.0 q)
@@ -60,9 +60,9 @@ calls_made does leaves (Process bytes ∷ calls) p q scan stands t =
           p.callbacks t.0.callbacks q.callbacks one.called rest.called;
     }
 calls_made {S} does leaves (SetScrollback rows ∷ calls) p q scan stands t =
-    let now : Parsing S = record p { screen = scrolled_back rows p.screen } in
+    let now : ParserValue S = record p { screen = scrolled_back rows p.screen } in
     let rest = calls_made does leaves calls now q scan stands
-    (subst (λ (r : Parsing S). FoldsTo (MakesCall does) r calls q) t.1 t.2) in
+    (subst (λ (r : ParserValue S). FoldsTo (MakesCall does) r calls q) t.1 t.2) in
     record { shown = rest.shown; called = rest.called }
 
 -- ---- rows reported and rows kept
@@ -84,7 +84,7 @@ record Follows (told : List CallValue) (scan : State) (s r after : ScreenValue) 
   same : SameBare after (screen_in scan r bytes)
 
 calls_stream : (calls : List ParserCall) (scan : State) (s r : ScreenValue) →
-    SameBare s r → HasNoRis scan (bytes_of_calls calls) → Held s →
+    SameBare s r → HasNoRis scan (bytes_of_calls calls) → ScannerValue s →
     Follows (calls_by scan s calls) scan s r (screen_by scan s calls) (bytes_of_calls calls)
 calls_stream [] scan s r e none k = record {
   streams = record { held = k; alike = ap (map trimmed_row) (sym (append-nil s.scrollback.rows)) };
@@ -123,7 +123,7 @@ calls_stream (Process bytes ∷ calls) scan s r e none k =
 
 -- Two parsers whose screens differ only in their scrollback scroll the same rows off.
 pub ran_apart : {S : Type 0} (does : CallRelation S) → LeavesScreen does
-    → (p q r s : Parsing S) (bytes : List ℕ) (scan : State) → StandsFor p.scanner scan → StandsFor r.scanner scan
+    → (p q r s : ParserValue S) (bytes : List ℕ) (scan : State) → StandsFor p.scanner scan → StandsFor r.scanner scan
     → without_scrollback p.screen ≡ without_scrollback r.screen → Ran does p bytes q → Ran does r bytes s
     → (sent_off_in scan p.screen bytes ≡ sent_off_in scan r.screen bytes) × (without_scrollback q.screen ≡ without_scrollback s.screen)
 ran_apart does leaves p q r s bytes scan stands others same ran runs = (
@@ -134,7 +134,7 @@ ran_apart does leaves p q r s bytes scan stands others same ran runs = (
 )
 
 pub ran_keeps : {S : Type 0} (does : CallRelation S) → LeavesScreen does
-    → (p q : Parsing S) (bytes : List ℕ) (scan : State) → StandsFor p.scanner scan → Ran does p bytes q
+    → (p q : ParserValue S) (bytes : List ℕ) (scan : State) → StandsFor p.scanner scan → Ran does p bytes q
     → IsScreen p.screen → HasWideFlags p.screen → HasNoRis scan bytes
     → FoldsTo (CalledOnSomeScreen does) p.callbacks (calls_in scan p.screen bytes) q.callbacks
     × AreSameTrimmed (rows_of_calls (calls_in scan p.screen bytes) ++ q.screen.scrollback.rows)
@@ -152,7 +152,7 @@ ran_keeps does leaves p q bytes scan stands ran is wide none =
 -- ---- one text
 
 pub text_by : (rows cols capacity : ℕ) (calls : List ParserCall)
-    → Held (fresh_screen rows cols capacity) → HasNoRis start (bytes_of_calls calls)
+    → ScannerValue (fresh_screen rows cols capacity) → HasNoRis start (bytes_of_calls calls)
     → (screen_by start (fresh_screen rows cols capacity) calls).is_alternate ≡ false
     → streamed_text (calls_by start (fresh_screen rows cols capacity) calls)
     (screen_by start (fresh_screen rows cols capacity) calls)
@@ -163,10 +163,10 @@ text_by rows cols capacity calls held none main =
     let bytes = bytes_of_calls calls in
     let k = calls_stream calls start s r refl none held in
     streamed_is (calls_by start s calls) (sent_off_in start r bytes) s (screen_by start s calls) k.streams refl main
-    ∙ ap (λ (t : ScreenValue). basic_texts unwritten (sent_off_in start r bytes ++ t.page.rows)) k.same
+    ∙ ap (λ (t : ScreenValue). basic_texts nothing_written (sent_off_in start r bytes ++ t.page.rows)) k.same
 
 pub one_text : {S : Type 0} (does : CallRelation S) → LeavesScreen does
-    → (rows cols capacity : ℕ) (p q : Parsing S) (calls : List ParserCall) → IsFreshParser rows cols capacity p
+    → (rows cols capacity : ℕ) (p q : ParserValue S) (calls : List ParserCall) → IsFreshParser rows cols capacity p
     → HasNoRis start (bytes_of_calls calls) → FoldsTo (MakesCall does) p calls q → q.screen.is_alternate ≡ false
     → streamed_text (calls_by start p.screen calls) q.screen ≡ whole_text rows cols (bytes_of_calls calls)
 one_text does leaves rows cols capacity p q calls fresh none makes main =
@@ -222,9 +222,9 @@ has_recorded does text_of state_of is_whole r (call ∷ calls) old new t w =
 
 pub recorded_text : {S : Type 0} (does : CallRelation S)
     (text_of : S → List ℕ) (state_of : S → Written) (is_whole : S → Bool)
-    → IsRecorder does text_of state_of is_whole → (rows cols capacity : ℕ) (p q : Parsing S) (calls : List ParserCall)
+    → IsRecorder does text_of state_of is_whole → (rows cols capacity : ℕ) (p q : ParserValue S) (calls : List ParserCall)
     → IsFreshParser rows cols capacity p → text_of p.callbacks ≡ []
-    → state_of p.callbacks ≡ unwritten → HasNoRis start (bytes_of_calls calls)
+    → state_of p.callbacks ≡ nothing_written → HasNoRis start (bytes_of_calls calls)
     → FoldsTo (MakesCall does) p calls q → q.screen.is_alternate ≡ false → is_whole q.callbacks ≡ true
     → text_of q.callbacks ++ basic_texts (state_of q.callbacks) (all_rows q.screen)
     ≡ whole_text rows cols (bytes_of_calls calls)

@@ -10,7 +10,7 @@ use Rattle.vt_screen.specs.Screen.{ScreenValue}
 use Rattle.vt_screen.specs.Steps.{Step, Print, LineFeed, ScrollUp, EnterAlternate}
 use Rattle.vt_screen.specs.Steps.{EnterFresh, EraseScrollback, CallBack}
 use Rattle.vt_screen.specs.Run.{CallRelation, Breaks, Performs, Refuses, State, StopsIn, Takes, state}
-use Rattle.vt100.specs.Parser.{Parsing, Ran, Stopped, StoppedAt}
+use Rattle.vt100.specs.Parser.{ParserValue, Ran, Stopped, StoppedAt}
 use Rattle.vt100.specs.declared.sequence.Sequence.{Sequence}
 
 -- Taking all of `steps` in order turns the callbacks `old` and the screen `before` into `new` and `after`.
@@ -34,7 +34,7 @@ pub record DoesOrStops {S : Type 0} (does : CallRelation S)
 pub record RepeatsOrStops {S : Type 0} (does : CallRelation S)
     (old : S) (before : ScreenValue) (left : ℕ) (step : Step) (new : S) (after : ScreenValue)
     (result : Result ℕ Error) : Type 0 where
-  pub some : IfOk result (λ count. 0 < count)
+  pub progress : IfOk result (λ count. 0 < count)
   pub most : IfOk result (λ count. count ≤ left)
   pub done : IfOk result (λ count. Does does old before (replicate count step) new after)
   pub stopped : IsErr result → Stops does old before (replicate left step) new after
@@ -50,7 +50,7 @@ pub record PerformsOrBreaks {S : Type 0} (does : CallRelation S)
 -- The effect of a call that reads a prefix of `bytes` and returns its length, or stops at a byte whose allocation
 -- fails and returns the number of bytes before it as the error.
 pub record ReadsOrStops {S : Type 0} (does : CallRelation S)
-    (old : Parsing S) (bytes : List ℕ) (new : Parsing S) (result : Result ℕ ℕ) : Type 0 where
+    (old : ParserValue S) (bytes : List ℕ) (new : ParserValue S) (result : Result ℕ ℕ) : Type 0 where
   pub inside : IfOk result (λ count. count ≤ length bytes)
   pub ran : IfOk result (λ count. Ran does old (take count bytes) new)
   pub stopped : IsErr result → Stopped does old bytes new

@@ -3,10 +3,10 @@ use Rattle.std.specs.Prelude.{◌≡◌, ◌⊎◌, ℕ, ◌<◌, ◌-◌, Bool,
 use Rattle.std.specs.List.{FoldsTo}
 use Rattle.vt_scan.specs.Automaton.{State, step_in}
 use Rattle.vt_scan.specs.Run as scan
-use Rattle.vt_scan.specs.Scanner.{HasNoEvent, Held, StandsFor}
-use Rattle.vt_scan.specs.Table.{class_of, turn_of}
+use Rattle.vt_scan.specs.Scanner.{HasNoEvent, ScannerValue, StandsFor}
+use Rattle.vt_scan.specs.Table.{class_of, transition_of}
 use Rattle.vt_scan.specs.declared.table.Kind.TheVariants.{OscString}
-use Rattle.vt_scan.specs.declared.table.Turn.TheVariants.{Collect}
+use Rattle.vt_scan.specs.declared.table.Transition.TheVariants.{Collect}
 use Rattle.vt_screen.specs.Calls.{CallValue}
 use Rattle.vt_screen.specs.Screen.{ScreenValue, fresh_screen}
 use Rattle.vt_screen.specs.Run as screen
@@ -14,31 +14,31 @@ use Rattle.vt_screen.specs.Run.{CallRelation, Performs, Breaks, StopsIn}
 
 -- The value of a parser: the state held by its scanner, its screen, its callbacks, and whether the parser ran out of
 -- memory.
-pub record Parsing (S : Type 0) : Type 0 where
-  pub scanner : Held
+pub record ParserValue (S : Type 0) : Type 0 where
+  pub scanner : ScannerValue
   pub screen : ScreenValue
   pub callbacks : S
   pub is_failed : Bool
 
 -- A parser that has the given scanner, screen and callbacks and has not run out of memory.
-abbrev pub parsing : {S : Type 0} → Held → ScreenValue → S → Parsing S
-parsing scanner screen callbacks =
+abbrev pub parser_value : {S : Type 0} → ScannerValue → ScreenValue → S → ParserValue S
+parser_value scanner screen callbacks =
     record { scanner = scanner; screen = screen; callbacks = callbacks; is_failed = false }
 
 -- The parser has not run out of memory and has a blank screen of the given size and scrollback capacity, and the given
 -- callbacks.
-abbrev pub HasFreshScreen : {S : Type 0} → (rows cols capacity : ℕ) → S → Parsing S → Type 0
+abbrev pub HasFreshScreen : {S : Type 0} → (rows cols capacity : ℕ) → S → ParserValue S → Type 0
 HasFreshScreen rows cols capacity callbacks parser =
-    parser ≡ parsing parser.scanner (fresh_screen rows cols capacity) callbacks
+    parser ≡ parser_value parser.scanner (fresh_screen rows cols capacity) callbacks
 
 -- The part of a parser that the steps of events change: its callbacks and its screen.
-abbrev pub stage : {S : Type 0} → Parsing S → screen.State S
+abbrev pub stage : {S : Type 0} → ParserValue S → screen.State S
 stage parser = screen.state parser.callbacks parser.screen
 
 -- Parsing `bytes` takes the parser from `old` to `new`. For every state that the scanner of `old` stands for, the
 -- scanner of `new` stands for the state after the bytes, and the callbacks and the screen take the steps of all events
 -- in order.
-abbrev pub Ran : {S : Type 0} → CallRelation S → Parsing S → List ℕ → Parsing S → Type 0
+abbrev pub Ran : {S : Type 0} → CallRelation S → ParserValue S → List ℕ → ParserValue S → Type 0
 Ran does old bytes new =
     (state : State) → StandsFor old.scanner state
     → StandsFor new.scanner (scan.run state bytes).state
@@ -47,12 +47,12 @@ Ran does old bytes new =
 -- The byte at index `k` is appended to the text of an operating system command, which may require an allocation.
 abbrev pub Collects : State → List ℕ → ℕ → Type 0
 Collects state bytes k =
-    turn_of (scan.run state (take k bytes)).state.kind (class_of (slice_index_or bytes k 0)) ≡ Collect OscString
+    transition_of (scan.run state (take k bytes)).state.kind (class_of (slice_index_or bytes k 0)) ≡ Collect OscString
 
 -- Parsing stopped before a byte because an allocation for that byte failed. All earlier bytes were parsed, and nothing
 -- else changed.
 pub record StoppedBefore {S : Type 0} (does : CallRelation S)
-    (old : Parsing S) (bytes : List ℕ) (new : Parsing S) : Type 0 where
+    (old : ParserValue S) (bytes : List ℕ) (new : ParserValue S) : Type 0 where
   pub count : ℕ
   pub inside : count < length bytes
   pub ran : Ran does old (take count bytes) new
@@ -60,35 +60,35 @@ pub record StoppedBefore {S : Type 0} (does : CallRelation S)
 
 -- Parsing stopped before a step because an allocation for that step failed. All earlier steps were taken, and nothing
 -- else changed. The state of the scanner is unspecified, because the parser reads nothing more.
-abbrev pub StoppedWithin : {S : Type 0} → CallRelation S → Parsing S → List ℕ → Parsing S → Type 0
+abbrev pub StoppedWithin : {S : Type 0} → CallRelation S → ParserValue S → List ℕ → ParserValue S → Type 0
 StoppedWithin does old bytes new =
     (state : State) → StandsFor old.scanner state →
     StopsIn (Performs does) (Breaks does) (stage old) (scan.run state bytes).events (stage new)
 
 -- Parsing the first `count` bytes invokes no callbacks, or only the last of these bytes issues events.
-abbrev pub CallsByLast : {S : Type 0} → S → Held → List ℕ → ℕ → S → Type 0
+abbrev pub CallsByLast : {S : Type 0} → S → ScannerValue → List ℕ → ℕ → S → Type 0
 CallsByLast old held bytes count new =
     (new ≡ old) ⊎ ((0 < count) × HasNoEvent held (take (count - 1) bytes))
 
 -- The call relation of callbacks that do nothing and leave the screen unchanged.
-abbrev pub quietly : CallValue → Unit {0} → ScreenValue → Unit {0} → ScreenValue → Type 0
-quietly call old before new after = (new ≡ old) × (after ≡ before)
+abbrev pub does_nothing : CallValue → Unit {0} → ScreenValue → Unit {0} → ScreenValue → Type 0
+does_nothing call old before new after = (new ≡ old) × (after ≡ before)
 
 -- Parsing stopped because an allocation failed.
-abbrev pub Stopped : {S : Type 0} → CallRelation S → Parsing S → List ℕ → Parsing S → Type 0
+abbrev pub Stopped : {S : Type 0} → CallRelation S → ParserValue S → List ℕ → ParserValue S → Type 0
 Stopped does old bytes new = StoppedBefore does old bytes new ⊎ StoppedWithin does old bytes new
 
 -- An allocation for `byte` fails in the scanner state `state`: either the one that appends the byte to a command's
 -- text, or one made by a step of one of the byte's events.
 abbrev pub IsRefused : {S : Type 0} → CallRelation S → screen.State S → State → ℕ → screen.State S → Type 0
 IsRefused does old state byte new =
-    ((new ≡ old) × (turn_of state.kind (class_of byte) ≡ Collect OscString))
+    ((new ≡ old) × (transition_of state.kind (class_of byte) ≡ Collect OscString))
     ⊎ StopsIn (Performs does) (Breaks does) old (step_in state.kind state.collected byte).events new
 
 -- Parsing stopped at the byte at index `count` because an allocation for that byte failed. The bytes before it issue no
 -- events.
 pub record StoppedAt {S : Type 0} (does : CallRelation S)
-    (old : Parsing S) (bytes : List ℕ) (count : ℕ) (new : Parsing S) : Type 0 where
+    (old : ParserValue S) (bytes : List ℕ) (count : ℕ) (new : ParserValue S) : Type 0 where
   pub inside : count < length bytes
   pub before : HasNoEvent old.scanner (take count bytes)
   pub refused : (state : State) → StandsFor old.scanner state →
@@ -96,8 +96,8 @@ pub record StoppedAt {S : Type 0} (does : CallRelation S)
 
 -- Parsing `bytes` never stops because of a failed allocation.
 abbrev pub IsHarmless : {S : Type 0} →
-    CallRelation S → Parsing S → List ℕ → Type 0
-IsHarmless {S} does old bytes = (new : Parsing S) → Stopped does old bytes new → ⊥
+    CallRelation S → ParserValue S → List ℕ → Type 0
+IsHarmless {S} does old bytes = (new : ParserValue S) → Stopped does old bytes new → ⊥
 
 -- The concatenation of a list of chunks.
 abbrev pub pieces_joined : List (List ℕ) → List ℕ

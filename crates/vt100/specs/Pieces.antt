@@ -8,11 +8,11 @@ use Rattle.vt_scan.specs.Scanner.{StandsFor}
 use Rattle.vt_screen.specs.Again.{IsReport, KeepsAside}
 use Rattle.vt_screen.specs.Calls.{CallValue}
 use Rattle.vt_screen.specs.CallsOfRun.{TakesCalls}
-use Rattle.vt_screen.specs.Reading.{Terminal, read, terminal}
+use Rattle.vt_screen.specs.Reading.{Terminal, terminal_after, terminal}
 use Rattle.vt_screen.specs.Run.{CallRelation}
 use Rattle.vt_screen.specs.Screen.{IsScreen, ScreenValue, above_page}
-use Rattle.vt_screen.specs.Shown.{IsPlain, KeepsRest, shown}
-use Rattle.vt100.specs.Parser.{Parsing}
+use Rattle.vt_screen.specs.Shown.{IsPlain, KeepsRest, display}
+use Rattle.vt100.specs.Parser.{ParserValue}
 
 -- A call to `process`: its bytes and its result.
 pub record Processing : Type 0 where
@@ -27,7 +27,7 @@ IsFine call = call.answer ≡ Ok tt
 
 -- The parser `new` has not failed, has the scanner state and the screen of the terminal `after`, and has the callbacks
 -- of `old`.
-pub record HasRead {S : Type 0} (old : Parsing S) (after : Terminal) (new : Parsing S) : Type 0 where
+pub record HasRead {S : Type 0} (old : ParserValue S) (after : Terminal) (new : ParserValue S) : Type 0 where
   pub is_failed : new.is_failed ≡ false
   pub scanner : StandsFor new.scanner after.scan
   pub screen : new.screen ≡ after.screen
@@ -35,10 +35,10 @@ pub record HasRead {S : Type 0} (old : Parsing S) (after : Terminal) (new : Pars
 
 -- The effect of a call to `process` whose bytes invoke no callbacks and allocate nothing: the call returns `Ok`, and
 -- all bytes are read.
-abbrev pub Processes : {S : Type 0} → Parsing S → Processing → Parsing S → Type 0
+abbrev pub Processes : {S : Type 0} → ParserValue S → Processing → ParserValue S → Type 0
 Processes old call new =
     (state : State) → (after : Terminal) → old.is_failed ≡ false
-    → StandsFor old.scanner state → read (terminal state old.screen) call.bytes ≡ Some after
+    → StandsFor old.scanner state → terminal_after (terminal state old.screen) call.bytes ≡ Some after
     → IsFine call × HasRead old after new
 
 -- The concatenated bytes of a list of calls to `process`.
@@ -47,29 +47,29 @@ bytes_in [] = []
 bytes_in (call ∷ calls) = call.bytes ++ bytes_in calls
 
 -- The parser has not failed, is in ground state, and has a plain screen.
-pub record IsPlainParser {S : Type 0} (parser : Parsing S) : Type 0 where
+pub record IsPlainParser {S : Type 0} (parser : ParserValue S) : Type 0 where
   pub is_failed : parser.is_failed ≡ false
   pub scanner : StandsFor parser.scanner start
   pub screen : IsPlain parser.screen
 
 -- The parser `new` is plain and displays what the screen `last` displays. Its scrollback, inactive page, scroll region,
 -- modes and callbacks are the same as in `old`.
-pub record ShowsLast {S : Type 0} (old : Parsing S) (last : ScreenValue) (new : Parsing S) : Type 0 where
+pub record ShowsLast {S : Type 0} (old : ParserValue S) (last : ScreenValue) (new : ParserValue S) : Type 0 where
   pub plain : IsPlainParser new
-  pub shows : shown new.screen ≡ shown last
+  pub shows : display new.screen ≡ display last
   pub rest : KeepsRest old.screen new.screen
   pub callbacks : new.callbacks ≡ old.callbacks
 
 -- The parser is in ground state, and its screen displays no scrollback. The screen may have any scroll region and
 -- origin mode.
-pub record IsUnscrolledParser {S : Type 0} (parser : Parsing S) : Type 0 where
+pub record IsUnscrolledParser {S : Type 0} (parser : ParserValue S) : Type 0 where
   pub sound : IsScreen parser.screen
   pub scanner : StandsFor parser.scanner start
   pub offset : (above_page parser.screen).offset ≡ 0
 
 -- The parser `new` is plain, and its inactive page, input modes, cursor style and size are the same as in `old`. No
 -- callback was invoked except `on_scroll`, for rows that scrolled off the top.
-pub record IsPlainAgain {S : Type 0} (does : CallRelation S) (old new : Parsing S) : Type 0 where
+pub record IsPlainAgain {S : Type 0} (does : CallRelation S) (old new : ParserValue S) : Type 0 where
   pub plain : IsPlainParser new
   pub aside : KeepsAside old.screen new.screen
   pub calls : List CallValue

@@ -1,7 +1,7 @@
 -- Lists of calls to a parser that also change which scrollback rows are displayed: the callbacks they invoke, and the
 -- single text formed by all reported and captured rows.
 use Rattle.std.specs.Prelude.{◌≡◌, ℕ, ◌<◌, ◌^◌, Bool, true, List, [], ◌∷◌, ◌++◌}
-use Rattle.vt_rows.specs.Basic.{Written, unwritten}
+use Rattle.vt_rows.specs.Basic.{Written, nothing_written}
 use Rattle.vt_scan.specs.Automaton.{State, start}
 use Rattle.vt_scan.specs.Run.{run}
 use Rattle.vt_scan.specs.Scanner.{StandsFor}
@@ -11,7 +11,7 @@ use Rattle.vt_screen.specs.Screen.{ScreenValue, fresh_screen, scrolled_back}
 use Rattle.vt_screen.specs.Streamed.{row_of_call, sent_off_in}
 use Rattle.vt_screen.specs.CallsOfRun.{LeavesScreen, calls_in, screen_in}
 use Rattle.vt_screen.specs.Run.{CallRelation}
-use Rattle.vt100.specs.Parser.{Parsing, Ran}
+use Rattle.vt100.specs.Parser.{ParserValue, Ran}
 
 -- A call to `Parser::process` or `Screen::set_scrollback`.
 pub data ParserCall : Type 0 where
@@ -19,7 +19,7 @@ pub data ParserCall : Type 0 where
   SetScrollback : (rows : ℕ) → ParserCall
 
 -- The effect of a successful call to a parser.
-abbrev pub MakesCall : {S : Type 0} → CallRelation S → Parsing S → ParserCall → Parsing S → Type 0
+abbrev pub MakesCall : {S : Type 0} → CallRelation S → ParserValue S → ParserCall → ParserValue S → Type 0
 MakesCall does old (Process bytes) new = Ran does old bytes new
 MakesCall does old (SetScrollback rows) new = new ≡ record old { screen = scrolled_back rows old.screen }
 
@@ -42,7 +42,7 @@ screen_by scan screen (Process bytes ∷ calls) = screen_by (run scan bytes).sta
 screen_by scan screen (SetScrollback rows ∷ calls) = screen_by scan (scrolled_back rows screen) calls
 
 -- The parser has read nothing yet, and has a blank screen of the given size and scrollback capacity.
-pub record IsFreshParser {S : Type 0} (rows cols capacity : ℕ) (parser : Parsing S) : Type 0 where
+pub record IsFreshParser {S : Type 0} (rows cols capacity : ℕ) (parser : ParserValue S) : Type 0 where
   pub has_rows : 0 < rows
   pub few_rows : rows < 2 ^ 16
   pub has_columns : 0 < cols
@@ -55,7 +55,7 @@ pub record IsFreshParser {S : Type 0} (rows cols capacity : ℕ) (parser : Parsi
 abbrev pub whole_text : (rows cols : ℕ) → List ℕ → List ℕ
 whole_text rows cols bytes =
     let fresh = fresh_screen rows cols 0 in
-    basic_texts unwritten (sent_off_in start fresh bytes ++ (screen_in start fresh bytes).page.rows)
+    basic_texts nothing_written (sent_off_in start fresh bytes ++ (screen_in start fresh bytes).page.rows)
 
 -- The callbacks append each reported row of the main page to a text, using a single capture state. The text is complete
 -- unless its sink rejected a part of it.

@@ -3,20 +3,20 @@
 
 ghost use Rattle.std.specs.List.{AllByRecursion, FoldsTo};
 ghost use Rattle.std.specs.Prelude.{◌≡◌, ◌<◌, ℕ, Bool, false, true, List, [], ◌∷◌, ◌++◌, Some, length, map};
-ghost use Rattle.vt100.specs.Parser.{IsHarmless, Parsing, Ran, Stopped, parsing, pieces_joined, quietly};
+ghost use Rattle.vt100.specs.Parser.{IsHarmless, ParserValue, Ran, Stopped, parser_value, pieces_joined, does_nothing};
 ghost use Rattle.vt100.specs.Pieces.{HasRead, IsFine, IsPlainAgain, IsPlainParser, IsUnscrolledParser};
 ghost use Rattle.vt100.specs.Pieces.{Processes, Processing, ShowsLast, bytes_in};
 ghost use Rattle.vt100.specs.Streams.{IsFreshParser, IsRecorder, MakesCall, ParserCall, Process, bytes_of_calls};
 ghost use Rattle.vt100.specs.Streams.{screen_by, calls_by, whole_text};
 ghost use Rattle.vt_grid.specs.Page.{SameSize};
-ghost use Rattle.vt_rows.specs.Basic.{Written, unwritten};
+ghost use Rattle.vt_rows.specs.Basic.{Written, nothing_written};
 ghost use Rattle.vt_scan.specs.Automaton.{State, start};
 ghost use Rattle.vt_scan.specs.Scanner.{StandsFor};
 ghost use Rattle.vt_screen.specs.Again.{KeepsPlain, MakesPlain};
 ghost use Rattle.vt_screen.specs.Capture.{all_rows, basic_texts};
 ghost use Rattle.vt_screen.specs.Chain.{CanShowOn, chain_text, last_screen};
-ghost use Rattle.vt_screen.specs.Pages.{resized};
-ghost use Rattle.vt_screen.specs.Reading.{Terminal, read, terminal};
+ghost use Rattle.vt_screen.specs.Pages.{screen_after_resize};
+ghost use Rattle.vt_screen.specs.Reading.{Terminal, terminal_after, terminal};
 ghost use Rattle.vt_screen.specs.Screen.{IsScreen, ScreenValue, fresh_screen};
 ghost use Rattle.vt_screen.specs.Streamed.{AreSameTrimmed, HasNoRis, HasWideFlags, without_scrollback, rows_of_calls, sent_off_in};
 ghost use Rattle.vt_screen.specs.Streamed.{streamed_text};
@@ -39,14 +39,14 @@ use vt_screen::Callbacks;
 /// represents at least one state of the automaton. By the clause `stands` of
 /// `Parser::screen`, every parser's scanner meets this premise.
 pub fn pieces<CB: Callbacks>()
-    ensures two { (p q r : Parsing CB) (a b : List ℕ) →
+    ensures two { (p q r : ParserValue CB) (a b : List ℕ) →
         Ran CB.does p a q → Ran CB.does q b r → Ran CB.does p (a ++ b) r }
-    ensures list { (p q : Parsing CB) (pieces : List (List ℕ)) →
+    ensures list { (p q : ParserValue CB) (pieces : List (List ℕ)) →
         FoldsTo (Ran CB.does) p pieces q → Ran CB.does p (pieces_joined pieces) q }
-    ensures parted { (p r : Parsing CB) (a b : List ℕ) →
+    ensures parted { (p r : ParserValue CB) (a b : List ℕ) →
         ∥ ((state : State) × StandsFor p.scanner state) ∥₁ → Ran CB.does p (a ++ b) r →
-        ∥ ((q : Parsing CB) × (q.is_failed ≡ false) × Ran CB.does p a q × Ran CB.does q b r) ∥₁ }
-    ensures parted_list { (p r : Parsing CB) (piece : List ℕ) (pieces : List (List ℕ)) →
+        ∥ ((q : ParserValue CB) × (q.is_failed ≡ false) × Ran CB.does p a q × Ran CB.does q b r) ∥₁ }
+    ensures parted_list { (p r : ParserValue CB) (piece : List ℕ) (pieces : List (List ℕ)) →
         ∥ ((state : State) × StandsFor p.scanner state) ∥₁ →
         Ran CB.does p (pieces_joined (piece ∷ pieces)) r → ∥ FoldsTo (Ran CB.does) p (piece ∷ pieces) r ∥₁ }
 {}
@@ -61,13 +61,13 @@ pub fn pieces<CB: Callbacks>()
 /// By the clauses of `Screen::size` and `Parser::screen`, the premises about
 /// the screen and the scanner hold for every parser.
 pub fn sizes<CB: Callbacks>()
-    ensures ran { (p q : Parsing CB) (bytes : List ℕ) → LeavesScreen CB.does →
+    ensures ran { (p q : ParserValue CB) (bytes : List ℕ) → LeavesScreen CB.does →
         IsScreen p.screen → ∥ ((state : State) × StandsFor p.scanner state) ∥₁ →
         Ran CB.does p bytes q → SameSize q.screen.page p.screen.page }
-    ensures stopped { (p q : Parsing CB) (bytes : List ℕ) → LeavesScreen CB.does →
+    ensures stopped { (p q : ParserValue CB) (bytes : List ℕ) → LeavesScreen CB.does →
         IsScreen p.screen → ∥ ((state : State) × StandsFor p.scanner state) ∥₁ →
         Stopped CB.does p bytes q → SameSize q.screen.page p.screen.page }
-    ensures nobody { LeavesScreen quietly }
+    ensures nobody { LeavesScreen does_nothing }
 {}
 
 /// States that a new parser has the requested size and scrollback capacity and
@@ -79,14 +79,14 @@ pub fn sizes<CB: Callbacks>()
 /// follow from the clauses `ground` and `shown` of these functions and the
 /// clause `whole` of `Screen::size`.
 pub fn fresh_parsers<CB: Callbacks>()
-    ensures fresh { (rows cols capacity : ℕ) (p : Parsing CB) → IsScreen p.screen → StandsFor p.scanner start
-        → p ≡ parsing p.scanner (fresh_screen rows cols capacity) p.callbacks
+    ensures fresh { (rows cols capacity : ℕ) (p : ParserValue CB) → IsScreen p.screen → StandsFor p.scanner start
+        → p ≡ parser_value p.scanner (fresh_screen rows cols capacity) p.callbacks
         → IsFreshParser rows cols capacity p }
-    ensures plain { (rows cols capacity : ℕ) (p : Parsing CB) → IsScreen p.screen → StandsFor p.scanner start
-        → p ≡ parsing p.scanner (fresh_screen rows cols capacity) p.callbacks → IsPlainParser p }
-    ensures rows { (rows cols capacity : ℕ) (p : Parsing CB) → IsFreshParser rows cols capacity p
+    ensures plain { (rows cols capacity : ℕ) (p : ParserValue CB) → IsScreen p.screen → StandsFor p.scanner start
+        → p ≡ parser_value p.scanner (fresh_screen rows cols capacity) p.callbacks → IsPlainParser p }
+    ensures rows { (rows cols capacity : ℕ) (p : ParserValue CB) → IsFreshParser rows cols capacity p
         → length p.screen.page.rows ≡ rows }
-    ensures cols { (rows cols capacity : ℕ) (p : Parsing CB) → IsFreshParser rows cols capacity p
+    ensures cols { (rows cols capacity : ℕ) (p : ParserValue CB) → IsFreshParser rows cols capacity p
         → p.screen.page.width ≡ cols }
 {}
 
@@ -94,14 +94,14 @@ pub fn fresh_parsers<CB: Callbacks>()
 /// was plain before. The clause `ok` of `Parser::set_size` provides the premise
 /// that the resize succeeded.
 pub fn resized_parsers<CB: Callbacks>()
-    ensures plain { (rows cols : ℕ) (p q : Parsing CB) → 0 < rows
-        → q ≡ record p { screen = resized rows cols p.screen; callbacks = q.callbacks }
+    ensures plain { (rows cols : ℕ) (p q : ParserValue CB) → 0 < rows
+        → q ≡ record p { screen = screen_after_resize rows cols p.screen; callbacks = q.callbacks }
         → IsPlainParser p → IsPlainParser q }
-    ensures rows { (rows cols : ℕ) (p q : Parsing CB)
-        → q ≡ record p { screen = resized rows cols p.screen; callbacks = q.callbacks }
+    ensures rows { (rows cols : ℕ) (p q : ParserValue CB)
+        → q ≡ record p { screen = screen_after_resize rows cols p.screen; callbacks = q.callbacks }
         → length q.screen.page.rows ≡ rows }
-    ensures cols { (rows cols : ℕ) (p q : Parsing CB)
-        → q ≡ record p { screen = resized rows cols p.screen; callbacks = q.callbacks }
+    ensures cols { (rows cols : ℕ) (p q : ParserValue CB)
+        → q ≡ record p { screen = screen_after_resize rows cols p.screen; callbacks = q.callbacks }
         → q.screen.page.width ≡ cols }
 {}
 
@@ -115,15 +115,15 @@ pub fn resized_parsers<CB: Callbacks>()
 /// - `harmless`: a run on this input never runs out of memory, so `process`
 ///   returns `Ok`.
 pub fn quiet_runs<CB: Callbacks>()
-    ensures ran { (p q : Parsing CB) (bytes : List ℕ) (state : State) (after : Terminal)
-        → StandsFor p.scanner state → read (terminal state p.screen) bytes ≡ Some after
+    ensures ran { (p q : ParserValue CB) (bytes : List ℕ) (state : State) (after : Terminal)
+        → StandsFor p.scanner state → terminal_after (terminal state p.screen) bytes ≡ Some after
         → Ran CB.does p bytes q → q.is_failed ≡ false → HasRead p after q }
-    ensures made { (p q : Parsing CB) (pieces : List (List ℕ)) (state : State) (after : Terminal)
+    ensures made { (p q : ParserValue CB) (pieces : List (List ℕ)) (state : State) (after : Terminal)
         → StandsFor p.scanner state
-        → read (terminal state p.screen) (pieces_joined pieces) ≡ Some after
+        → terminal_after (terminal state p.screen) (pieces_joined pieces) ≡ Some after
         → FoldsTo (MakesCall CB.does) p (map Process pieces) q → q.is_failed ≡ false → HasRead p after q }
-    ensures harmless { (p : Parsing CB) (bytes : List ℕ) (state : State) (after : Terminal)
-        → StandsFor p.scanner state → read (terminal state p.screen) bytes ≡ Some after
+    ensures harmless { (p : ParserValue CB) (bytes : List ℕ) (state : State) (after : Terminal)
+        → StandsFor p.scanner state → terminal_after (terminal state p.screen) bytes ≡ Some after
         → IsHarmless CB.does p bytes }
 {}
 
@@ -135,8 +135,8 @@ pub fn quiet_runs<CB: Callbacks>()
 /// The clause `quiet` of `Parser::process` states the same guarantee for a
 /// single call.
 pub fn quiet_pieces<CB: Callbacks>()
-    ensures { (p q : Parsing CB) → (calls : List Processing) → (state : State) → (after : Terminal) →
-        p.is_failed ≡ false → StandsFor p.scanner state → read (terminal state p.screen) (bytes_in calls) ≡ Some after →
+    ensures { (p q : ParserValue CB) → (calls : List Processing) → (state : State) → (after : Terminal) →
+        p.is_failed ≡ false → StandsFor p.scanner state → terminal_after (terminal state p.screen) (bytes_in calls) ≡ Some after →
         FoldsTo Processes p calls q → AllByRecursion IsFine calls × HasRead p after q }
 {}
 
@@ -148,7 +148,7 @@ pub fn quiet_pieces<CB: Callbacks>()
 /// Each call to `process` returns `Ok`. Callbacks, scrollback, the other page
 /// and the modes are unchanged.
 pub fn chain<CB: Callbacks>()
-    ensures shows { (self : ScreenValue) → (nexts : List ScreenValue) → (p q : Parsing CB) →
+    ensures shows { (self : ScreenValue) → (nexts : List ScreenValue) → (p q : ParserValue CB) →
         (calls : List Processing) → IsScreen p.screen → IsPlainParser p → CanShowOn p.screen self →
         AllByRecursion (CanShowOn p.screen) nexts → bytes_in calls ≡ chain_text self nexts →
         FoldsTo Processes p calls q → AllByRecursion IsFine calls × ShowsLast p (last_screen self nexts) q }
@@ -174,9 +174,9 @@ pub fn chain<CB: Callbacks>()
 /// The premise that the parser has not failed holds after calls to `process`
 /// that returned `Ok`.
 pub fn again<CB: Callbacks>()
-    ensures kept { (p q : Parsing CB) (chunks : List (List ℕ)) → KeepsPlain (pieces_joined chunks) →
+    ensures kept { (p q : ParserValue CB) (chunks : List (List ℕ)) → KeepsPlain (pieces_joined chunks) →
         IsPlainParser p → FoldsTo (Ran CB.does) p chunks q → q.is_failed ≡ false → IsPlainAgain CB.does p q }
-    ensures made { (p q : Parsing CB) (chunks : List (List ℕ)) → MakesPlain (pieces_joined chunks) →
+    ensures made { (p q : ParserValue CB) (chunks : List (List ℕ)) → MakesPlain (pieces_joined chunks) →
         IsUnscrolledParser p → FoldsTo (Ran CB.does) p chunks q → q.is_failed ≡ false → IsPlainAgain CB.does p q }
 {}
 
@@ -212,32 +212,32 @@ pub fn again<CB: Callbacks>()
 /// The premises are that each call returned `Ok`, that the bytes contain no
 /// RIS, and that the callbacks leave the screen alone.
 pub fn one_text<CB: Callbacks>()
-    ensures called { (p q : Parsing CB) (calls : List ParserCall) (scan : State) → LeavesScreen CB.does →
+    ensures called { (p q : ParserValue CB) (calls : List ParserCall) (scan : State) → LeavesScreen CB.does →
         StandsFor p.scanner scan → FoldsTo (MakesCall CB.does) p calls q →
         (q.screen ≡ screen_by scan p.screen calls)
         × FoldsTo (CalledOnSomeScreen CB.does) p.callbacks (calls_by scan p.screen calls) q.callbacks }
-    ensures kept { (p q : Parsing CB) (bytes : List ℕ) (scan : State) → LeavesScreen CB.does →
+    ensures kept { (p q : ParserValue CB) (bytes : List ℕ) (scan : State) → LeavesScreen CB.does →
         StandsFor p.scanner scan → Ran CB.does p bytes q → IsScreen p.screen → HasWideFlags p.screen →
         HasNoRis scan bytes →
         FoldsTo (CalledOnSomeScreen CB.does) p.callbacks (calls_in scan p.screen bytes) q.callbacks
         × AreSameTrimmed (rows_of_calls (calls_in scan p.screen bytes) ++ q.screen.scrollback.rows)
         (p.screen.scrollback.rows ++ sent_off_in scan p.screen bytes) }
-    ensures apart { (p q r s : Parsing CB) (bytes : List ℕ) (scan : State) → LeavesScreen CB.does →
+    ensures apart { (p q r s : ParserValue CB) (bytes : List ℕ) (scan : State) → LeavesScreen CB.does →
         StandsFor p.scanner scan → StandsFor r.scanner scan → without_scrollback p.screen ≡ without_scrollback r.screen →
         Ran CB.does p bytes q → Ran CB.does r bytes s →
         (sent_off_in scan p.screen bytes ≡ sent_off_in scan r.screen bytes) × (without_scrollback q.screen ≡ without_scrollback s.screen) }
-    ensures text { (rows cols capacity : ℕ) (p q : Parsing CB) (calls : List ParserCall) →
+    ensures text { (rows cols capacity : ℕ) (p q : ParserValue CB) (calls : List ParserCall) →
         LeavesScreen CB.does → IsFreshParser rows cols capacity p → HasNoRis start (bytes_of_calls calls) →
         FoldsTo (MakesCall CB.does) p calls q → q.screen.is_alternate ≡ false →
         streamed_text (calls_by start p.screen calls) q.screen ≡ whole_text rows cols (bytes_of_calls calls) }
     ensures recorded { (text_of : CB → List ℕ) (state_of : CB → Written) (is_whole : CB → Bool)
-        (rows cols capacity : ℕ) (p q : Parsing CB) (calls : List ParserCall) →
+        (rows cols capacity : ℕ) (p q : ParserValue CB) (calls : List ParserCall) →
         IsRecorder CB.does text_of state_of is_whole → IsFreshParser rows cols capacity p → text_of p.callbacks ≡ [] →
-        state_of p.callbacks ≡ unwritten → HasNoRis start (bytes_of_calls calls) →
+        state_of p.callbacks ≡ nothing_written → HasNoRis start (bytes_of_calls calls) →
         FoldsTo (MakesCall CB.does) p calls q → q.screen.is_alternate ≡ false → is_whole q.callbacks ≡ true →
         text_of q.callbacks ++ basic_texts (state_of q.callbacks) (all_rows q.screen)
         ≡ whole_text rows cols (bytes_of_calls calls) }
-    ensures one { (rows cols capacity other : ℕ) (p q r s : Parsing CB) (calls others : List ParserCall) →
+    ensures one { (rows cols capacity other : ℕ) (p q r s : ParserValue CB) (calls others : List ParserCall) →
         LeavesScreen CB.does → IsFreshParser rows cols capacity p → IsFreshParser rows cols other r →
         bytes_of_calls calls ≡ bytes_of_calls others → HasNoRis start (bytes_of_calls calls) →
         FoldsTo (MakesCall CB.does) p calls q → FoldsTo (MakesCall CB.does) r others s →

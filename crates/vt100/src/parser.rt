@@ -8,7 +8,7 @@ ghost use Rattle.vt100.specs.Parser.{HasFreshScreen};
 ghost use Rattle.vt100.specs.contracts.parser.Parser.{the_row as parser_row};
 ghost use Rattle.vt_scan.specs.Automaton.{State, start};
 ghost use Rattle.vt_scan.specs.Scanner.{StandsFor, unfinished_command};
-ghost use Rattle.vt_screen.specs.Pages.{calls_resized, has_size, resized};
+ghost use Rattle.vt_screen.specs.Pages.{calls_resized, has_size, screen_after_resize};
 ghost use Rattle.vt_screen.specs.CallsOfRun.{TakesCalls};
 ghost use Rattle.vt_screen.specs.contracts.screen.Screen.{the_row as screen_row};
 
@@ -33,9 +33,9 @@ pub struct Parser<CB: Callbacks = ()> {
 }
 
 impl<CB: Callbacks> Model for Parser<CB> {
-    ghost use Rattle.vt100.specs.Parser.{Parsing};
+    ghost use Rattle.vt100.specs.Parser.{ParserValue};
 
-    ghost Value = { Parsing CB };
+    ghost Value = { ParserValue CB };
 
     ghost view = { λ p.
         record { scanner = p.scanner; screen = p.screen; callbacks = p.callbacks; is_failed = p.is_failed } };
@@ -254,7 +254,7 @@ impl<CB: Callbacks> Parser<CB> {
     pub fn set_size(&mut self, rows: NonZeroU16, cols: NonZeroU16) -> Result<(), Error>
         ensures ok { OnOk result (self.new
             ≡ record self.old
-            { screen = resized rows.value cols.value self.old.screen; callbacks = self.new.callbacks }) }
+            { screen = screen_after_resize rows.value cols.value self.old.screen; callbacks = self.new.callbacks }) }
         ensures called { OnOk result (TakesCalls CB.does self.old.callbacks
             (calls_resized rows.value cols.value self.old.screen) self.new.callbacks) }
         ensures err { OnErr result (self.new ≡ self.old) }

@@ -3,7 +3,7 @@
 ghost use Rattle.std.specs.Prelude.{◌-◌, ◌<◌, ◌≤◌, IfOk, IsErr, length, map, option_to_list, slice_index_or};
 ghost use Rattle.vt_cells.specs.Refusals.{OnlyOutOfMemory};
 ghost use Rattle.vt100.specs.Internals.{PerformsOrBreaks, ReadsOrStops};
-ghost use Rattle.vt100.specs.Parser.{CallsByLast, Ran, Stopped, parsing};
+ghost use Rattle.vt100.specs.Parser.{CallsByLast, Ran, Stopped, parser_value};
 ghost use Rattle.vt_scan.specs.Scanner.{ReadsItself, event_of, events_in};
 ghost use Rattle.vt_screen.specs.Run.{state};
 
@@ -31,10 +31,10 @@ pub fn process<CB: Callbacks>(
     callbacks: &mut CB,
     bytes: &[u8],
 ) -> Result<(), Error>
-    ensures ran { IfOk result (λ _. Ran CB.does (parsing scanner.old screen.old callbacks.old)
-        bytes.now (parsing scanner.new screen.new callbacks.new)) }
-    ensures stopped { IsErr result → Stopped CB.does (parsing scanner.old screen.old callbacks.old)
-        bytes.now (parsing scanner.new screen.new callbacks.new) }
+    ensures ran { IfOk result (λ _. Ran CB.does (parser_value scanner.old screen.old callbacks.old)
+        bytes.now (parser_value scanner.new screen.new callbacks.new)) }
+    ensures stopped { IsErr result → Stopped CB.does (parser_value scanner.old screen.old callbacks.old)
+        bytes.now (parser_value scanner.new screen.new callbacks.new) }
     ensures memory { OnlyOutOfMemory result }
 {
     let mut at = 0;
@@ -64,10 +64,10 @@ pub fn process_some<CB: Callbacks>(
     bytes: &[u8],
 ) -> Result<usize, usize>
     requires { 0 < length bytes.now }
-    ensures some { IfOk result (λ count. 0 < count) }
+    ensures progress { IfOk result (λ count. 0 < count) }
     ensures last { IfOk result (λ count. CallsByLast callbacks.old scanner.old bytes.now count callbacks.new) }
-    ensures read { ReadsOrStops CB.does (parsing scanner.old screen.old callbacks.old) bytes.now
-        (parsing scanner.new screen.new callbacks.new) result }
+    ensures read { ReadsOrStops CB.does (parser_value scanner.old screen.old callbacks.old) bytes.now
+        (parser_value scanner.new screen.new callbacks.new) result }
 {
     if scanner.is_text(bytes[0]) {
         return print_some(scanner, screen, callbacks, bytes);
@@ -105,10 +105,10 @@ fn process_sequence<CB: Callbacks>(
     bytes: &[u8],
 ) -> Result<usize, usize>
     ensures last { IfOk result (λ count. CallsByLast callbacks.old scanner.old bytes.now count callbacks.new) }
-    ensures read { ReadsOrStops CB.does (parsing scanner.old screen.old callbacks.old) bytes.now
-        (parsing scanner.new screen.new callbacks.new) result }
+    ensures read { ReadsOrStops CB.does (parser_value scanner.old screen.old callbacks.old) bytes.now
+        (parser_value scanner.new screen.new callbacks.new) result }
 {
-    let leading = scanner.lead_in(bytes);
+    let leading = scanner.take_introducer(bytes);
     if leading == bytes.len() {
         return Ok(leading);
     }
@@ -135,16 +135,16 @@ fn end_sequence<CB: Callbacks>(
 ) -> Result<usize, usize>
     requires { 0 < length bytes.now }
     ensures last { IfOk result (λ count. CallsByLast callbacks.old scanner.old bytes.now count callbacks.new) }
-    ensures read { ReadsOrStops CB.does (parsing scanner.old screen.old callbacks.old) bytes.now
-        (parsing scanner.new screen.new callbacks.new) result }
+    ensures read { ReadsOrStops CB.does (parser_value scanner.old screen.old callbacks.old) bytes.now
+        (parser_value scanner.new screen.new callbacks.new) result }
 {
-    if scanner.final_byte(bytes[0]) {
+    if scanner.take_final_byte(bytes[0]) {
         return match control_sequence(scanner, screen, callbacks, bytes[0]) {
             Ok(()) => Ok(1),
             Err(_) => Err(0),
         };
     }
-    if scanner.escape_byte(bytes[0]) {
+    if scanner.take_escape_byte(bytes[0]) {
         escape_sequence(scanner, screen, callbacks, bytes[0]);
         return Ok(1);
     }
@@ -172,10 +172,10 @@ fn process_one<CB: Callbacks>(
     bytes: &[u8],
 ) -> Result<usize, usize>
     requires { 0 < length bytes.now }
-    ensures some { IfOk result (λ count. 0 < count) }
+    ensures progress { IfOk result (λ count. 0 < count) }
     ensures last { IfOk result (λ count. CallsByLast callbacks.old scanner.old bytes.now count callbacks.new) }
-    ensures read { ReadsOrStops CB.does (parsing scanner.old screen.old callbacks.old) bytes.now
-        (parsing scanner.new screen.new callbacks.new) result }
+    ensures read { ReadsOrStops CB.does (parser_value scanner.old screen.old callbacks.old) bytes.now
+        (parser_value scanner.new screen.new callbacks.new) result }
 {
     if let Some((character, count)) = scanner.whole_character(bytes) {
         return match print(screen, callbacks, character) {
@@ -201,16 +201,16 @@ fn process_rest<CB: Callbacks>(
     bytes: &[u8],
 ) -> Result<usize, usize>
     requires { 0 < length bytes.now }
-    ensures some { IfOk result (λ count. 0 < count) }
+    ensures progress { IfOk result (λ count. 0 < count) }
     ensures last { IfOk result (λ count. CallsByLast callbacks.old scanner.old bytes.now count callbacks.new) }
-    ensures read { ReadsOrStops CB.does (parsing scanner.old screen.old callbacks.old) bytes.now
-        (parsing scanner.new screen.new callbacks.new) result }
+    ensures read { ReadsOrStops CB.does (parser_value scanner.old screen.old callbacks.old) bytes.now
+        (parser_value scanner.new screen.new callbacks.new) result }
 {
     let skipped = scanner.skipped_len(bytes);
     if skipped > 0 {
         return Ok(skipped);
     }
-    let Ok(collected) = scanner.command_text(bytes) else {
+    let Ok(collected) = scanner.take_command_text(bytes) else {
         return Err(0);
     };
     if collected > 0 {
@@ -244,12 +244,12 @@ fn print_some<CB: Callbacks>(
     callbacks: &mut CB,
     bytes: &[u8],
 ) -> Result<usize, usize>
-    requires some { 0 < length bytes.now }
+    requires nonempty { 0 < length bytes.now }
     requires itself { ReadsItself scanner.now (slice_index_or bytes.now 0 0) }
-    ensures some { IfOk result (λ count. 0 < count) }
+    ensures progress { IfOk result (λ count. 0 < count) }
     ensures last { IfOk result (λ count. CallsByLast callbacks.old scanner.now bytes.now count callbacks.new) }
-    ensures read { ReadsOrStops CB.does (parsing scanner.now screen.old callbacks.old) bytes.now
-        (parsing scanner.now screen.new callbacks.new) result }
+    ensures read { ReadsOrStops CB.does (parser_value scanner.now screen.old callbacks.old) bytes.now
+        (parser_value scanner.now screen.new callbacks.new) result }
 {
     let fitting = bytes.len().min(usize::from(printing::room(screen)));
     let count = scanner.text_len(&bytes[..fitting]);
@@ -279,10 +279,10 @@ fn process_high<CB: Callbacks>(
     bytes: &[u8],
 ) -> Result<usize, usize>
     requires { 0 < length bytes.now }
-    ensures some { IfOk result (λ count. 0 < count) }
+    ensures progress { IfOk result (λ count. 0 < count) }
     ensures last { IfOk result (λ count. CallsByLast callbacks.old scanner.old bytes.now count callbacks.new) }
-    ensures read { ReadsOrStops CB.does (parsing scanner.old screen.old callbacks.old) bytes.now
-        (parsing scanner.new screen.new callbacks.new) result }
+    ensures read { ReadsOrStops CB.does (parser_value scanner.old screen.old callbacks.old) bytes.now
+        (parser_value scanner.new screen.new callbacks.new) result }
 {
     let printed = print_run(scanner, screen, callbacks, bytes)?;
     if printed > 0 {
@@ -302,8 +302,8 @@ fn print_run<CB: Callbacks>(
     bytes: &[u8],
 ) -> Result<usize, usize>
     requires { 0 < length bytes.now }
-    ensures { ReadsOrStops CB.does (parsing scanner.now screen.old callbacks.now) bytes.now
-        (parsing scanner.now screen.new callbacks.now) result }
+    ensures { ReadsOrStops CB.does (parser_value scanner.now screen.old callbacks.now) bytes.now
+        (parser_value scanner.now screen.new callbacks.now) result }
 {
     // The most common combining characters begin with CC or CD. They end a run at once, so trying
     // to print a run would cost more than it saves.
@@ -329,8 +329,8 @@ fn print_wide_run<CB: Callbacks>(
     callbacks: &CB,
     bytes: &[u8],
 ) -> Result<usize, usize>
-    ensures { ReadsOrStops CB.does (parsing scanner.now screen.old callbacks.now) bytes.now
-        (parsing scanner.now screen.new callbacks.now) result }
+    ensures { ReadsOrStops CB.does (parser_value scanner.now screen.old callbacks.now) bytes.now
+        (parser_value scanner.now screen.new callbacks.now) result }
 {
     let mut text = ['\0'; RUN];
     print_wide_some(scanner, screen, callbacks, bytes, &mut text)
@@ -346,8 +346,8 @@ fn print_wide_some<CB: Callbacks>(
     bytes: &[u8],
     text: &mut [char],
 ) -> Result<usize, usize>
-    ensures { ReadsOrStops CB.does (parsing scanner.now screen.old callbacks.now) bytes.now
-        (parsing scanner.now screen.new callbacks.now) result }
+    ensures { ReadsOrStops CB.does (parser_value scanner.now screen.old callbacks.now) bytes.now
+        (parser_value scanner.now screen.new callbacks.now) result }
 {
     let most = bytes.len().min(3 * usize::from(printing::room(screen) / 2));
     let count = scanner.wide_text(&bytes[..most], text);
@@ -370,8 +370,8 @@ fn print_narrow_run<CB: Callbacks>(
     callbacks: &CB,
     bytes: &[u8],
 ) -> Result<usize, usize>
-    ensures { ReadsOrStops CB.does (parsing scanner.now screen.old callbacks.now) bytes.now
-        (parsing scanner.now screen.new callbacks.now) result }
+    ensures { ReadsOrStops CB.does (parser_value scanner.now screen.old callbacks.now) bytes.now
+        (parser_value scanner.now screen.new callbacks.now) result }
 {
     let mut text = ['\0'; RUN];
     print_narrow_some(scanner, screen, callbacks, bytes, &mut text)
@@ -387,8 +387,8 @@ fn print_narrow_some<CB: Callbacks>(
     bytes: &[u8],
     text: &mut [char],
 ) -> Result<usize, usize>
-    ensures { ReadsOrStops CB.does (parsing scanner.now screen.old callbacks.now) bytes.now
-        (parsing scanner.now screen.new callbacks.now) result }
+    ensures { ReadsOrStops CB.does (parser_value scanner.now screen.old callbacks.now) bytes.now
+        (parser_value scanner.now screen.new callbacks.now) result }
 {
     let most = text.len().min(usize::from(printing::room(screen)));
     print_narrow_fitting(scanner, screen, callbacks, bytes, &mut text[..most])
@@ -406,8 +406,8 @@ fn print_narrow_fitting<CB: Callbacks>(
     text: &mut [char],
 ) -> Result<usize, usize>
     requires room { length text.old ≤ screen.old.page.width - screen.old.page.column }
-    ensures { ReadsOrStops CB.does (parsing scanner.now screen.old callbacks.now) bytes.now
-        (parsing scanner.now screen.new callbacks.now) result }
+    ensures { ReadsOrStops CB.does (parser_value scanner.now screen.old callbacks.now) bytes.now
+        (parser_value scanner.now screen.new callbacks.now) result }
 {
     let (count, len) = scanner.narrow_text(bytes, text);
     if count == 0 {

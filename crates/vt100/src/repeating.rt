@@ -102,7 +102,7 @@ fn repeat_some<CB: Callbacks>(
 fn repeat_in_row(screen: &mut Screen, byte: u8, count: u16)
     requires low { 0x20 ≤ byte }
     requires high { byte < 0x7F }
-    requires some { 0 < count }
+    requires nonempty { 0 < count }
     requires most { count ≤ 64 }
     requires room { screen.old.page.column + count ≤ screen.old.page.width }
     ensures { screen.new ≡ screen_after_text (replicate count byte) screen.old }

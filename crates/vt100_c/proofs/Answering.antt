@@ -15,29 +15,29 @@ use Rattle.std.specs.Prelude.{Result, Ok, Err, IfErr, IfOk, IsErr}
 use Rattle.vt_cells.specs.declared.error.Error.{Error}
 use Rattle.vt_cells.specs.declared.error.Error.TheVariants.{Failed, NoNumber, OutOfMemory}
 use Rattle.vt100.proofs.Running.{ran_then}
-use Rattle.vt100.specs.Parser.{IsHarmless, IsRefused, Parsing, Ran, Stopped, StoppedAt, stage}
+use Rattle.vt100.specs.Parser.{IsHarmless, IsRefused, ParserValue, Ran, Stopped, StoppedAt, stage}
 use Rattle.vt100_c.specs.Reading.{IsQuietBefore, IsQuietBetween, ReadsFrom, ReadsParser, ReadsUnit, are_bare_rows, batch, is_quiet, mark_of}
 use Rattle.vt100_c.specs.Records.{Logged, Logs}
-use Rattle.vt100_c.specs.Status.{answered, failed, ok}
+use Rattle.vt100_c.specs.Status.{status_of_result, failed, ok}
 use Rattle.vt100_c.specs.declared.reading.Mark.{Mark}
 
 not_true : (b : Bool) → (b ≡ true → false ≡ true) → b ≡ false
 not_true true h = absurd (cc (h refl))
 not_true false h = refl
 
-pub parser_reads : (old new : Parsing Logged) (bytes : List ℕ) (answer : Result (Unit {0}) Error)
+pub parser_reads : (old new : ParserValue Logged) (bytes : List ℕ) (answer : Result (Unit {0}) Error)
     → IfOk answer (λ _. Ran Logs old bytes new) → (answer ≡ Err OutOfMemory → Stopped Logs old bytes new)
     → (old.is_failed ≡ true → (answer ≡ Err Failed) × (new ≡ old)) → (answer ≡ Err Failed → old.is_failed ≡ true)
     → IfErr answer (λ error. error ≢ NoNumber) → (new.is_failed ≡ true ↔ IsErr answer)
     → (old.is_failed ≡ false → IsHarmless Logs old bytes → answer ≡ Ok tt)
-    → ReadsParser old bytes (answered answer) new
+    → ReadsParser old bytes (status_of_result answer) new
 parser_reads old new bytes (Ok u) ran stopped before only other good harmless = record {
   ran = λ _. ran;
   stopped = λ e. absurd (cc e);
   failed_before = λ e. absurd (cc (before e).0);
   failed_only = λ e. absurd (cc e);
   one_of = inl refl;
-  goes_on = λ _. not_true new.is_failed good.0;
+  is_wrapped = λ _. not_true new.is_failed good.0;
   fails = λ no. absurd (no refl);
   harmless = λ _ _. refl;
 }
@@ -47,7 +47,7 @@ parser_reads old new bytes (Err OutOfMemory) ran stopped before only other good 
   failed_before = λ e. absurd (cc (before e).0);
   failed_only = λ e. absurd (cc e);
   one_of = inr (inl refl);
-  goes_on = λ e. absurd (cc e);
+  is_wrapped = λ e. absurd (cc e);
   fails = λ _. good.1 refl;
   harmless = λ whole quiet. absurd (cc (harmless whole quiet));
 }
@@ -57,7 +57,7 @@ parser_reads old new bytes (Err Failed) ran stopped before only other good harml
   failed_before = λ e. (refl, (before e).1);
   failed_only = λ _. only refl;
   one_of = inr (inr refl);
-  goes_on = λ e. absurd (cc e);
+  is_wrapped = λ e. absurd (cc e);
   fails = λ _. good.1 refl;
   harmless = λ whole quiet. absurd (cc (harmless whole quiet));
 }
@@ -65,34 +65,34 @@ parser_reads old new bytes (Err NoNumber) ran stopped before only other good har
 
 -- ---- units of bytes
 
-pub unit_read : (old new : Parsing Logged) (bytes : List ℕ) (count : ℕ) (answer : Result (Unit {0}) Error)
-    → ParserReadsUnit Logs old bytes count answer new → ReadsUnit old bytes count (answered answer) new
+pub unit_read : (old new : ParserValue Logged) (bytes : List ℕ) (count : ℕ) (answer : Result (Unit {0}) Error)
+    → ParserReadsUnit Logs old bytes count answer new → ReadsUnit old bytes count (status_of_result answer) new
 unit_read old new bytes count (Ok done) unit = record {
-  some = λ _. unit.some;
+  nonempty = λ _. unit.nonempty;
   inside = unit.inside;
   last = λ _. unit.last;
   ran = λ _. unit.ran;
-  goes_on = λ _. (not_true old.is_failed (λ e. absurd (cc (unit.failed e).0)), not_true new.is_failed unit.for_good.0);
+  is_wrapped = λ _. (not_true old.is_failed (λ e. absurd (cc (unit.failed e).0)), not_true new.is_failed unit.for_good.0);
   memory = λ no. absurd (no refl);
   failed_before = λ no. absurd (no refl);
   fails = λ no. absurd (no refl);
 }
 unit_read old new bytes count (Err OutOfMemory) unit = record {
-  some = λ e. absurd (cc e);
+  nonempty = λ e. absurd (cc e);
   inside = omega (arith, (unit.memory refl).inside);
   last = λ e. absurd (cc e);
   ran = λ e. absurd (cc e);
-  goes_on = λ e. absurd (cc e);
+  is_wrapped = λ e. absurd (cc e);
   memory = λ _ _. (refl, unit.memory refl);
   failed_before = λ _ e. absurd (cc (unit.failed e).0);
   fails = λ _. unit.for_good.1 refl;
 }
 unit_read old new bytes count (Err Failed) unit = record {
-  some = λ e. absurd (cc e);
+  nonempty = λ e. absurd (cc e);
   inside = omega (arith, (unit.failed (unit.only refl)).2);
   last = λ e. absurd (cc e);
   ran = λ e. absurd (cc e);
-  goes_on = λ e. absurd (cc e);
+  is_wrapped = λ e. absurd (cc e);
   memory = λ _ good. absurd (false≢true (sym good ∙ unit.only refl));
   failed_before = λ _ e. (refl, (unit.failed e).2, (unit.failed e).1);
   fails = λ _. unit.for_good.1 refl;
@@ -119,14 +119,14 @@ quiet_now log = λ i.
     && (nat_lt (nothing_more log.room i) batch && (has_room (log.room == 0) i && as_whole log.is_whole i))
 
 -- The first `count` bytes have been read, and none of them recorded an event at which reading stops.
-pub record HasReadQuietly (mark : Mark) (old : Parsing Logged) (bytes : List ℕ) (count : ℕ)
-    (now : Parsing Logged) : Type 0 where
+pub record HasReadQuietly (mark : Mark) (old : ParserValue Logged) (bytes : List ℕ) (count : ℕ)
+    (now : ParserValue Logged) : Type 0 where
   pub ran : Ran Logs old (take count bytes) now
   pub quiet : is_quiet mark now.callbacks ≡ true
   pub still : now.is_failed ≡ old.is_failed
   pub nothing : old.is_failed ≡ true → (count ≡ 0) × (now ≡ old)
 
-pub quiet_at_first : (mark : Mark) (old : Parsing Logged) (bytes : List ℕ)
+pub quiet_at_first : (mark : Mark) (old : ParserValue Logged) (bytes : List ℕ)
     → is_quiet mark old.callbacks ≡ true → HasReadQuietly mark old bytes 0 old
 quiet_at_first mark old bytes quiet = record {
   ran = λ s stands. (stands, refl);
@@ -135,26 +135,26 @@ quiet_at_first mark old bytes quiet = record {
   nothing = λ _. (refl, refl);
 }
 
-next_ran : (old now new : Parsing Logged) (bytes : List ℕ) (at count : ℕ) → Ran Logs old (take at bytes) now
+next_ran : (old now new : ParserValue Logged) (bytes : List ℕ) (at count : ℕ) → Ran Logs old (take at bytes) now
     → Ran Logs now (take count (drop at bytes)) new → Ran Logs old (take (at + count) bytes) new
 next_ran old now new bytes at count first second =
     subst (λ (read : List ℕ). Ran Logs old read new) (sym (take-add at count bytes))
     (ran_then Logs old now new (take at bytes) (take count (drop at bytes)) first second)
 
-pub quiet_more : (mark : Mark) (old now new : Parsing Logged) (bytes : List ℕ) (at count status : ℕ)
+pub quiet_more : (mark : Mark) (old now new : ParserValue Logged) (bytes : List ℕ) (at count status : ℕ)
     → HasReadQuietly mark old bytes at now → ReadsUnit now (drop at bytes) count status new
     → status ≡ ok → is_quiet mark new.callbacks ≡ true → HasReadQuietly mark old bytes (at + count) new
 quiet_more mark old now new bytes at count status read unit well quiet =
-    let good : old.is_failed ≡ false = sym read.still ∙ (unit.goes_on well).0 in
+    let good : old.is_failed ≡ false = sym read.still ∙ (unit.is_wrapped well).0 in
     record {
       ran = next_ran old now new bytes at count read.ran (unit.ran well);
       quiet = quiet;
-      still = (unit.goes_on well).1 ∙ sym good;
+      still = (unit.is_wrapped well).1 ∙ sym good;
       nothing = λ e. absurd (false≢true (sym good ∙ e));
     }
 
 -- If bytes without events follow a run, the effect and the scanner's state are those of a run over all of these bytes.
-quiet_part : (mark : Mark) (old now : Parsing Logged) (bytes : List ℕ) (at more : ℕ)
+quiet_part : (mark : Mark) (old now : ParserValue Logged) (bytes : List ℕ) (at more : ℕ)
     → HasReadQuietly mark old bytes at now → HasNoEvent now.scanner (take more (drop at bytes))
     → (s : State) → StandsFor old.scanner s
     → FoldsTo (Performs Logs) (stage old) (run s (take (at + more) bytes)).events (stage now)
@@ -178,7 +178,7 @@ quiet_part mark old now bytes at more read none s stands =
     )
 
 -- If only the last byte of a unit has events, the bytes before it record no event at which reading stops.
-quiet_between : (mark : Mark) (old now new : Parsing Logged) (bytes : List ℕ) (at more : ℕ)
+quiet_between : (mark : Mark) (old now new : ParserValue Logged) (bytes : List ℕ) (at more : ℕ)
     → HasReadQuietly mark old bytes at now → HasNoEvent now.scanner (take more (drop at bytes))
     → Ran Logs now (take (more + 1) (drop at bytes)) new → (s : State) → StandsFor old.scanner s
     → IsQuietBetween mark old (take (at + more) bytes) (take 1 (drop (at + more) bytes)) new s
@@ -205,7 +205,7 @@ quiet_between mark old now new bytes at more read none ran s stands =
     }
 
 -- A unit of bytes that isn't read ends before the last byte.
-unread_inside : (is_failed : Bool) (old now new : Parsing Logged) (bytes : List ℕ) (at count status : ℕ)
+unread_inside : (is_failed : Bool) (old now new : ParserValue Logged) (bytes : List ℕ) (at count status : ℕ)
     → now.is_failed ≡ is_failed → at < length bytes → ReadsUnit now (drop at bytes) count status new
     → (status ≡ ok → ⊥) → at + count < length bytes
 unread_inside true old now new bytes at count status is inside unit refused =
@@ -213,7 +213,7 @@ unread_inside true old now new bytes at count status is inside unit refused =
 unread_inside false old now new bytes at count status is inside unit refused =
     omega (arith, (unit.memory refused is).1.inside, length-drop at bytes)
 
-pub event_left : (mark : Mark) (old now new : Parsing Logged) (bytes : List ℕ) (at count status : ℕ)
+pub event_left : (mark : Mark) (old now new : ParserValue Logged) (bytes : List ℕ) (at count status : ℕ)
     → HasReadQuietly mark old bytes at now → ReadsUnit now (drop at bytes) count status new → status ≡ ok
     → is_quiet mark new.callbacks ≡ false → ReadsFrom mark bytes (at + count) old ok new
 event_left mark old now new bytes at count status read unit well event = elim (unit.last well) [
@@ -230,14 +230,14 @@ event_left mark old now new bytes at count status read unit well event = elim (u
         status_is = refl;
         used_is = omega (arith, some.0);
         ran = next_ran old now new bytes at count read.ran (unit.ran well);
-        sound = sym read.still ∙ (unit.goes_on well).0;
-        goes_on = (unit.goes_on well).1;
+        sound = sym read.still ∙ (unit.is_wrapped well).0;
+        is_wrapped = (unit.is_wrapped well).1;
       }))
 ]
 
 -- If the allocation for a byte after bytes without events fails, the bytes before it record no event at which reading
 -- stops.
-quiet_before : (mark : Mark) (old now new : Parsing Logged) (bytes : List ℕ) (at count : ℕ)
+quiet_before : (mark : Mark) (old now new : ParserValue Logged) (bytes : List ℕ) (at count : ℕ)
     → HasReadQuietly mark old bytes at now → StoppedAt Logs now (drop at bytes) count new
     → (s : State) → StandsFor old.scanner s → IsQuietBefore mark old bytes (at + count) new s
 quiet_before mark old now new bytes at count read stopped s stands =
@@ -254,7 +254,7 @@ quiet_before mark old now new bytes at count read stopped s stands =
           (sym part.1) (stopped.refused (run s (take at bytes)).state reached.0));
     }
 
-pub left_unread : (mark : Mark) (old now new : Parsing Logged) (bytes : List ℕ) (at count status : ℕ)
+pub left_unread : (mark : Mark) (old now new : ParserValue Logged) (bytes : List ℕ) (at count status : ℕ)
     → HasReadQuietly mark old bytes at now → at < length bytes
     → ReadsUnit now (drop at bytes) count status new → (status ≡ ok → ⊥)
     → ReadsFrom mark bytes (at + count) old status new
@@ -270,7 +270,7 @@ left_unread mark old now new bytes at count status read inside unit refused = in
   fails = unit.fails refused;
 }))
 
-pub all_quiet : (mark : Mark) (old now : Parsing Logged) (bytes : List ℕ)
+pub all_quiet : (mark : Mark) (old now : ParserValue Logged) (bytes : List ℕ)
     → HasReadQuietly mark old bytes (length bytes) now → ReadsFrom mark bytes (length bytes) old ok now
 all_quiet mark old now bytes read = inl (record {
   status_is = refl;

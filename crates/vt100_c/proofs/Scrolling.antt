@@ -7,20 +7,20 @@ use Rattle.vt_cells.specs.declared.error.Error.{Error}
 use Rattle.vt_redraw.specs.Shifted.{IsMoving}
 use Rattle.vt_redraw.specs.Redraw.{difference}
 use Rattle.vt_screen.specs.Screen.{ScreenValue}
-use Rattle.vt_screen.specs.Shown.{shown}
+use Rattle.vt_screen.specs.Shown.{display}
 use Rattle.vt100_c.specs.Texts.{IsScrollingDiff}
 
 pub scrolls : (screen prev : ScreenValue) (answer : Result (String Global) Error) (made : Result (String Global) ℕ)
-    → IfOk answer (λ text. IsMoving (shown screen) (shown prev) (string_bytes text))
+    → IfOk answer (λ text. IsMoving (display screen) (display prev) (string_bytes text))
     → IfOk answer (λ text.
-    length (string_bytes text) ≤ length (bytes_of_all (difference (shown screen) (shown prev))))
+    length (string_bytes text) ≤ length (bytes_of_all (difference (display screen) (display prev))))
     → IfOk made (λ text. answer ≡ Ok text)
     → IfOk made (λ text. IsScrollingDiff screen prev (string_bytes text))
 scrolls screen prev answer (Ok text) draws shorter is = record {
   draws = subst (λ (a : Result (String Global) Error).
-      IfOk a (λ text. IsMoving (shown screen) (shown prev) (string_bytes text))) is draws;
+      IfOk a (λ text. IsMoving (display screen) (display prev) (string_bytes text))) is draws;
   shorter = subst (λ (a : Result (String Global) Error).
       IfOk a (λ text. length (string_bytes text)
-      ≤ length (bytes_of_all (difference (shown screen) (shown prev))))) is shorter;
+      ≤ length (bytes_of_all (difference (display screen) (display prev))))) is shorter;
 }
 scrolls screen prev answer (Err status) draws shorter is = is

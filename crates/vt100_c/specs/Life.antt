@@ -1,6 +1,6 @@
 -- Creating, saving and swapping the objects of handles.
 use Rattle.std.specs.Prelude.{◌≡◌, ℕ, Option, Some, None, unwrap_or}
-use Rattle.vt100.specs.Parser.{parsing}
+use Rattle.vt100.specs.Parser.{parser_value}
 use Rattle.vt100_c.specs.Calls.{Either, Fills, is_size}
 use Rattle.vt100_c.specs.Records.{default_limit, nothing_logged}
 use Rattle.vt100_c.specs.Sources.{screen_in}
@@ -12,13 +12,13 @@ use Rattle.vt_grid.specs.Page.{SameSize}
 use Rattle.vt_scan.specs.Automaton.{start}
 use Rattle.vt_scan.specs.Scanner.{StandsFor}
 use Rattle.vt_screen.specs.Screen.{ScreenValue, fresh_screen}
-use Rattle.vt_screen.specs.Shown.{shown}
+use Rattle.vt_screen.specs.Shown.{display}
 
 -- The value is a parser that has read nothing, with a blank screen and an empty log.
 abbrev pub IsNewParser : (rows cols capacity wanted : ℕ) → Source → Type 0
 IsNewParser rows cols capacity wanted (Parser parser) =
     StandsFor parser.scanner start
-    × (parser ≡ parsing parser.scanner (fresh_screen rows cols capacity) (nothing_logged wanted default_limit))
+    × (parser ≡ parser_value parser.scanner (fresh_screen rows cols capacity) (nothing_logged wanted default_limit))
 IsNewParser rows cols capacity wanted (Screen screen) = ⊥
 IsNewParser rows cols capacity wanted (Mirror mirror) = ⊥
 IsNewParser rows cols capacity wanted (Capture written) = ⊥
@@ -58,7 +58,7 @@ refusal_of (Some copy) = out_of_memory
 -- The value is a saved screen that displays the same content as `screen` and has the same size.
 abbrev pub IsShownCopy : ScreenValue → Source → Type 0
 IsShownCopy screen (Parser parser) = ⊥
-IsShownCopy screen (Screen copy) = (shown copy ≡ shown screen) × SameSize copy.page screen.page
+IsShownCopy screen (Screen copy) = (display copy ≡ display screen) × SameSize copy.page screen.page
 IsShownCopy screen (Mirror mirror) = ⊥
 IsShownCopy screen (Capture written) = ⊥
 

@@ -1,6 +1,6 @@
 -- The log of a handle; only a parser has one.
 use Rattle.std.specs.Prelude.{◌≡◌, ℕ, List, [], Option, Some, None}
-use Rattle.vt100_c.specs.Records.{Logged, bit_of, emptied, nothing_logged}
+use Rattle.vt100_c.specs.Records.{Logged, bit_of, log_after_clear, nothing_logged}
 use Rattle.vt100_c.specs.Status.{ok, no_object, wrong_kind}
 use Rattle.vt100_c.specs.declared.object.Object.{Object}
 use Rattle.vt100_c.specs.declared.object.Source.{Source}
@@ -37,7 +37,7 @@ whole_of (Some log) = bit_of log.is_whole
 
 -- The value after its log, if any, is cleared.
 abbrev pub with_emptied : Source → Source
-with_emptied (Parser parser) = Parser (record parser { callbacks = emptied parser.callbacks })
+with_emptied (Parser parser) = Parser (record parser { callbacks = log_after_clear parser.callbacks })
 with_emptied (Screen screen) = Screen screen
 with_emptied (Mirror mirror) = Mirror mirror
 with_emptied (Capture written) = Capture written

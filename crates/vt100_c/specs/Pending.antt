@@ -2,7 +2,7 @@
 use Rattle.std.specs.Prelude.{◌≡◌, ℕ, Option, Some, None, length}
 use Rattle.vt_scan.specs.Automaton.{State}
 use Rattle.vt_scan.specs.Scanner.{StandsFor, unfinished_command}
-use Rattle.vt100.specs.Parser.{Parsing}
+use Rattle.vt100.specs.Parser.{ParserValue}
 use Rattle.vt100_c.specs.Records.{Logged}
 use Rattle.vt100_c.specs.Status.{ok, no_object, wrong_kind}
 use Rattle.vt100_c.specs.declared.object.Object.{Object}
@@ -10,14 +10,14 @@ use Rattle.vt100_c.specs.declared.object.Source.{Source}
 use Rattle.vt100_c.specs.declared.object.Source.TheVariants.{Parser, Screen, Mirror, Capture}
 
 -- The parser that a value contains, if any.
-abbrev pub parser_in : Source → Option (Parsing Logged)
+abbrev pub parser_in : Source → Option (ParserValue Logged)
 parser_in (Parser parser) = Some parser
 parser_in (Screen screen) = None
 parser_in (Mirror mirror) = None
 parser_in (Capture written) = None
 
 -- The status of a call that requires a parser: `ok` if there is a parser, otherwise `wrong_kind`.
-abbrev pub due_to : Option (Parsing Logged) → ℕ
+abbrev pub due_to : Option (ParserValue Logged) → ℕ
 due_to None = wrong_kind
 due_to (Some parser) = ok
 
@@ -27,16 +27,16 @@ due_to_parser None = no_object
 due_to_parser (Some object) = due_to (parser_in object.source)
 
 -- The parser exists, and `Holds` holds for this parser.
-abbrev pub OnParser : Option (Parsing Logged) → (Parsing Logged → Type 0) → Type 0
+abbrev pub OnParser : Option (ParserValue Logged) → (ParserValue Logged → Type 0) → Type 0
 OnParser None Holds = ⊥
 OnParser (Some parser) Holds = Holds parser
 
 -- The handle holds a parser, and `Holds` holds for this parser.
-abbrev pub HoldsParser : Option Object → (Parsing Logged → Type 0) → Type 0
+abbrev pub HoldsParser : Option Object → (ParserValue Logged → Type 0) → Type 0
 HoldsParser None Holds = ⊥
 HoldsParser (Some object) Holds = OnParser (parser_in object.source) Holds
 
 -- In every state that the scanner can be in, `len` bytes of an unfinished command have been read.
-abbrev pub ArePending : (len : ℕ) → Parsing Logged → Type 0
+abbrev pub ArePending : (len : ℕ) → ParserValue Logged → Type 0
 ArePending len parser =
     (state : State) → StandsFor parser.scanner state → len ≡ length (unfinished_command state.kind state.collected)

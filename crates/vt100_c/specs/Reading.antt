@@ -9,10 +9,10 @@ use Rattle.vt_scan.specs.Run as scan
 use Rattle.vt_scan.specs.Scanner.{StandsFor}
 use Rattle.vt_screen.specs.Run as screen
 use Rattle.vt_screen.specs.Run.{Performs}
-use Rattle.vt100.specs.Parser.{CallsByLast, IsHarmless, IsRefused, Parsing, Ran, Stopped, StoppedAt, stage}
+use Rattle.vt100.specs.Parser.{CallsByLast, IsHarmless, IsRefused, ParserValue, Ran, Stopped, StoppedAt, stage}
 use Rattle.vt100_c.specs.Calls.{Refuses}
 use Rattle.vt100_c.specs.Records.{Logged, Logs}
-use Rattle.vt100_c.specs.Status.{ok, out_of_memory, failed, wrong_kind, answered}
+use Rattle.vt100_c.specs.Status.{ok, out_of_memory, failed, wrong_kind, status_of_result}
 use Rattle.vt100_c.specs.declared.object.Source.{Source}
 use Rattle.vt100_c.specs.declared.reading.Mark.{Mark}
 use Rattle.vt100_c.specs.declared.object.Source.TheVariants.{Parser, Screen, Mirror, Capture}
@@ -21,13 +21,13 @@ use Rattle.std.specs.declared.result.Result.{Result}
 
 -- A parser reads bytes as `Parser::process` does: it reads all of them, or stops at a byte for which an allocation
 -- fails, after which the parser has failed. A parser that had failed before reads nothing.
-pub record ReadsParser (old : Parsing Logged) (bytes : List ℕ) (status : ℕ) (new : Parsing Logged) : Type 0 where
+pub record ReadsParser (old : ParserValue Logged) (bytes : List ℕ) (status : ℕ) (new : ParserValue Logged) : Type 0 where
   pub ran : status ≡ ok → Ran Logs old bytes new
   pub stopped : status ≡ out_of_memory → Stopped Logs old bytes new
   pub failed_before : old.is_failed ≡ true → (status ≡ failed) × (new ≡ old)
   pub failed_only : status ≡ failed → old.is_failed ≡ true
   pub one_of : (status ≡ ok) ⊎ ((status ≡ out_of_memory) ⊎ (status ≡ failed))
-  pub goes_on : status ≡ ok → new.is_failed ≡ false
+  pub is_wrapped : status ≡ ok → new.is_failed ≡ false
   pub fails : ¬ (status ≡ ok) → new.is_failed ≡ true
   pub harmless : old.is_failed ≡ false → IsHarmless Logs old bytes → status ≡ ok
 
@@ -35,7 +35,7 @@ pub record ReadsParser (old : Parsing Logged) (bytes : List ℕ) (status : ℕ) 
 pub record ReadsMirror (old : MirrorValue) (bytes : List ℕ) (status : ℕ) (new : MirrorValue) : Type 0 where
   pub answer : Result (Unit {0}) Error
   pub call : MirrorProcesses old bytes answer new
-  pub status_is : status ≡ answered answer
+  pub status_is : status ≡ status_of_result answer
 
 -- The parser or mirror that a value contains reads bytes; for any other kind of value, the status is `wrong_kind`.
 abbrev pub Reads : List ℕ → Source → ℕ → Source → Type 0
@@ -69,7 +69,7 @@ mark_of log = record { len = length log.records; rows = length log.rows; room = 
 
 -- All bytes are read, and none of them records an event at which reading stops. If the parser had failed before, the
 -- list of bytes is empty.
-pub record ReadsAll (mark : Mark) (old : Parsing Logged) (bytes : List ℕ) (used status : ℕ) (new : Parsing Logged) :
+pub record ReadsAll (mark : Mark) (old : ParserValue Logged) (bytes : List ℕ) (used status : ℕ) (new : ParserValue Logged) :
     Type 0 where
   pub status_is : status ≡ ok
   pub used_is : used ≡ length bytes
@@ -80,7 +80,7 @@ pub record ReadsAll (mark : Mark) (old : Parsing Logged) (bytes : List ℕ) (use
 
 -- Parsing the bytes `before` from the scanner state `start` reaches a point at which reading continues, and parsing the
 -- bytes `after` from that point leads to `new`.
-pub record IsQuietBetween (mark : Mark) (old : Parsing Logged) (before after : List ℕ) (new : Parsing Logged)
+pub record IsQuietBetween (mark : Mark) (old : ParserValue Logged) (before after : List ℕ) (new : ParserValue Logged)
     (start : State) : Type 0 where
   pub between : screen.State Logged
   pub first : FoldsTo (Performs Logs) (stage old) (scan.run start before).events between
@@ -89,7 +89,7 @@ pub record IsQuietBetween (mark : Mark) (old : Parsing Logged) (before after : L
 
 -- A prefix of the bytes records no event at which reading stops. The byte after this prefix records or loses such an
 -- event and is the last byte that is read.
-pub record ReadsEvent (mark : Mark) (old : Parsing Logged) (bytes : List ℕ) (used status : ℕ) (new : Parsing Logged) :
+pub record ReadsEvent (mark : Mark) (old : ParserValue Logged) (bytes : List ℕ) (used status : ℕ) (new : ParserValue Logged) :
     Type 0 where
   pub count : ℕ
   pub inside : count < length bytes
@@ -100,11 +100,11 @@ pub record ReadsEvent (mark : Mark) (old : Parsing Logged) (bytes : List ℕ) (u
   pub used_is : used ≡ count + 1
   pub ran : Ran Logs old (take used bytes) new
   pub sound : old.is_failed ≡ false
-  pub goes_on : new.is_failed ≡ false
+  pub is_wrapped : new.is_failed ≡ false
 
 -- Parsing the first `used` bytes from the scanner state `start` reaches a point at which reading continues, and an
 -- allocation for the next byte fails.
-pub record IsQuietBefore (mark : Mark) (old : Parsing Logged) (bytes : List ℕ) (used : ℕ) (new : Parsing Logged)
+pub record IsQuietBefore (mark : Mark) (old : ParserValue Logged) (bytes : List ℕ) (used : ℕ) (new : ParserValue Logged)
     (start : State) : Type 0 where
   pub between : screen.State Logged
   pub first : FoldsTo (Performs Logs) (stage old) (scan.run start (take used bytes)).events between
@@ -113,7 +113,7 @@ pub record IsQuietBefore (mark : Mark) (old : Parsing Logged) (bytes : List ℕ)
 
 -- The first `used` bytes record no event at which reading stops, and the next byte is not read, because an allocation
 -- for that byte fails or because the parser had failed before.
-pub record StopsUnread (mark : Mark) (old : Parsing Logged) (bytes : List ℕ) (used status : ℕ) (new : Parsing Logged) :
+pub record StopsUnread (mark : Mark) (old : ParserValue Logged) (bytes : List ℕ) (used status : ℕ) (new : ParserValue Logged) :
     Type 0 where
   pub inside : used < length bytes
   pub memory : old.is_failed ≡ false → (status ≡ out_of_memory)
@@ -125,25 +125,25 @@ pub record StopsUnread (mark : Mark) (old : Parsing Logged) (bytes : List ℕ) (
 
 -- On success, the first `count` bytes are read, and if an event was recorded, only the last of these bytes issues
 -- events. On failure, the byte at index `count` is not read, and the bytes before it issue no events.
-pub record ReadsUnit (old : Parsing Logged) (bytes : List ℕ) (count status : ℕ) (new : Parsing Logged) : Type 0 where
-  pub some : status ≡ ok → 0 < count
+pub record ReadsUnit (old : ParserValue Logged) (bytes : List ℕ) (count status : ℕ) (new : ParserValue Logged) : Type 0 where
+  pub nonempty : status ≡ ok → 0 < count
   pub inside : count ≤ length bytes
   pub last : status ≡ ok → CallsByLast old.callbacks old.scanner bytes count new.callbacks
   pub ran : status ≡ ok → Ran Logs old (take count bytes) new
-  pub goes_on : status ≡ ok → (old.is_failed ≡ false) × (new.is_failed ≡ false)
+  pub is_wrapped : status ≡ ok → (old.is_failed ≡ false) × (new.is_failed ≡ false)
   pub memory : ¬ (status ≡ ok) → old.is_failed ≡ false → (status ≡ out_of_memory) × StoppedAt Logs old bytes count new
   pub failed_before : ¬ (status ≡ ok) → old.is_failed ≡ true → (status ≡ failed) × (count ≡ 0) × (new ≡ old)
   pub fails : ¬ (status ≡ ok) → new.is_failed ≡ true
 
 -- Bytes are read until the input ends, an allocation fails, or the log has recorded, since `mark`, an event at which
 -- reading stops.
-abbrev pub ReadsFrom : Mark → List ℕ → (used : ℕ) → Parsing Logged → ℕ → Parsing Logged → Type 0
+abbrev pub ReadsFrom : Mark → List ℕ → (used : ℕ) → ParserValue Logged → ℕ → ParserValue Logged → Type 0
 ReadsFrom mark bytes used old status new =
     ReadsAll mark old bytes used status new
     ⊎ (ReadsEvent mark old bytes used status new ⊎ StopsUnread mark old bytes used status new)
 
 -- Bytes are read until the input ends, an allocation fails, or the call has recorded an event at which reading stops.
-abbrev pub ReadsUntil : List ℕ → (used : ℕ) → Parsing Logged → ℕ → Parsing Logged → Type 0
+abbrev pub ReadsUntil : List ℕ → (used : ℕ) → ParserValue Logged → ℕ → ParserValue Logged → Type 0
 ReadsUntil bytes used old status new = ReadsFrom (mark_of old.callbacks) bytes used old status new
 
 -- The parser that a value contains reads bytes up to an event; for any other kind of value, the status is `wrong_kind`.

@@ -180,8 +180,8 @@ abbrev pub nothing_logged : (wanted limit : ℕ) → Logged
 nothing_logged wanted limit =
     record { wanted = wanted; limit = limit; room = limit; records = []; rows = []; is_whole = true }
 
-abbrev pub emptied : Logged → Logged
-emptied log = nothing_logged log.wanted log.limit
+abbrev pub log_after_clear : Logged → Logged
+log_after_clear log = nothing_logged log.wanted log.limit
 
 -- The limit of a new parser's log: 1 MiB.
 abbrev pub default_limit : ℕ

@@ -2,7 +2,7 @@
 use Rattle.std.specs.Prelude.{◌≡◌, ◌⊎◌, ◌+◌, ◌<◌, ℕ, Bool, List, [], ◌∷◌, length, slice_index_or, if◌then◌else◌}
 use Rattle.vt_cells.specs.Attrs.{Attrs, is_bold, is_dim}
 use Rattle.vt_cells.specs.Cell.{CellValue, attrs_of, default_blank, is_right_half, is_wide, text_of}
-use Rattle.vt_cells.specs.CellInternals.{padded}
+use Rattle.vt_cells.specs.CellInternals.{padded_text}
 use Rattle.vt_cells.specs.declared.color.Color.{Color}
 use Rattle.vt_cells.specs.declared.color.Color.TheVariants as color
 use Rattle.vt_cells.specs.declared.modes.CursorStyle.{CursorStyle}
@@ -45,7 +45,7 @@ cell_flags cell = style_flags (attrs_of cell) + bit 32 (is_wide cell) + bit 64 (
 -- A cell as C reads it. Unused bytes of the cell's text array are 0.
 abbrev pub cell_for_c : CellValue → VtCell
 cell_for_c cell = record {
-  text = padded (text_of cell);
+  text = padded_text (text_of cell);
   len = length (text_of cell);
   flags = cell_flags cell;
   fgcolor = color_for_c (attrs_of cell).fgcolor;

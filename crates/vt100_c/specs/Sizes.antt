@@ -6,14 +6,14 @@ use Rattle.vt_cells.specs.declared.error.Error.{Error}
 use Rattle.vt_grid.specs.Scrollback.{ViewTakesMemory}
 use Rattle.vt_mirror.specs.Calls.{Resizes}
 use Rattle.vt_mirror.specs.Mirror.{MirrorValue}
-use Rattle.vt_screen.specs.Pages.{calls_resized, has_size, resized}
+use Rattle.vt_screen.specs.Pages.{calls_resized, has_size, screen_after_resize}
 use Rattle.vt_screen.specs.Run.{CalledOnAnyScreen}
 use Rattle.vt_screen.specs.Screen.{ScreenValue, scrolled_back}
 use Rattle.vt_screen.specs.Steps.{EraseScrollback, screen_after}
-use Rattle.vt100.specs.Parser.{Parsing}
+use Rattle.vt100.specs.Parser.{ParserValue}
 use Rattle.vt100_c.specs.Calls.{Either, Refuses, is_size}
 use Rattle.vt100_c.specs.Records.{Logged, Logs}
-use Rattle.vt100_c.specs.Status.{bad_argument, ok, wrong_kind, answered}
+use Rattle.vt100_c.specs.Status.{bad_argument, ok, wrong_kind, status_of_result}
 use Rattle.vt100_c.specs.declared.object.Source.{Source}
 use Rattle.vt100_c.specs.declared.object.Source.TheVariants.{Parser, Screen, Mirror, Capture}
 
@@ -26,23 +26,23 @@ Outcome (suc (suc status)) Done Refused = ⊥
 
 -- The parser's screen is resized, and the rows that the resize drops are reported to the parser's log. All other parts
 -- of the parser are unchanged.
-pub record HasResized (rows cols : ℕ) (old new : Parsing Logged) : Type 0 where
-  pub screen : new ≡ record old { screen = resized rows cols old.screen; callbacks = new.callbacks }
+pub record HasResized (rows cols : ℕ) (old new : ParserValue Logged) : Type 0 where
+  pub screen : new ≡ record old { screen = screen_after_resize rows cols old.screen; callbacks = new.callbacks }
   pub called : FoldsTo (CalledOnAnyScreen Logs) old.callbacks (calls_resized rows cols old.screen) new.callbacks
 
-abbrev pub ResizesParser : (rows cols : ℕ) → Parsing Logged → ℕ → Parsing Logged → Type 0
+abbrev pub ResizesParser : (rows cols : ℕ) → ParserValue Logged → ℕ → ParserValue Logged → Type 0
 ResizesParser rows cols old status new =
     Outcome status (HasResized rows cols old new) ((new ≡ old) × (has_size rows cols old.screen ≡ false))
 
 abbrev pub ResizesScreen : (rows cols : ℕ) → ScreenValue → ℕ → ScreenValue → Type 0
 ResizesScreen rows cols old status new =
-    Outcome status (new ≡ resized rows cols old) ((new ≡ old) × (has_size rows cols old ≡ false))
+    Outcome status (new ≡ screen_after_resize rows cols old) ((new ≡ old) × (has_size rows cols old ≡ false))
 
 -- A mirror is resized as `Mirror::set_size` does.
 pub record ResizesMirror (rows cols : ℕ) (old : MirrorValue) (status : ℕ) (new : MirrorValue) : Type 0 where
   pub answer : Result (Unit {0}) Error
   pub call : Resizes old rows cols answer new
-  pub status_is : status ≡ answered answer
+  pub status_is : status ≡ status_of_result answer
 
 -- A parser, a saved screen or a mirror is resized; for a capture, the status is `wrong_kind`.
 abbrev pub ResizesSource : (rows cols : ℕ) → Source → ℕ → Source → Type 0

@@ -37,6 +37,6 @@ status_of Failed = 2
 status_of NoNumber = 8
 
 -- The status that C receives for a result without a value: `ok` for success, and otherwise the status of the error.
-abbrev pub answered : Result (Unit {0}) Error → ℕ
-answered (Ok done) = 0
-answered (Err error) = status_of error
+abbrev pub status_of_result : Result (Unit {0}) Error → ℕ
+status_of_result (Ok done) = 0
+status_of_result (Err error) = status_of error

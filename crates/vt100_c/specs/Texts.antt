@@ -3,20 +3,20 @@ use Rattle.std.specs.Prelude.{◌≡◌, ◌<◌, ◌≤◌, ℕ, List, Option, 
 use Rattle.vt_cells.specs.Op.{bytes_of_all}
 use Rattle.vt_redraw.specs.Shifted.{IsMoving}
 use Rattle.vt_redraw.specs.Redraw.{cursor_state, difference, redraw}
-use Rattle.vt_rows.specs.Basic.{unwritten}
+use Rattle.vt_rows.specs.Basic.{nothing_written}
 use Rattle.vt_screen.specs.AnyRegion.{reset_text}
 use Rattle.vt_screen.specs.Capture.{basic_texts}
 use Rattle.vt_screen.specs.Contents.{between_of, contents_of}
 use Rattle.vt_screen.specs.InputTexts.{input_change, input_text}
 use Rattle.vt_screen.specs.Screen.{ScreenValue, visible_rows}
-use Rattle.vt_screen.specs.Shown.{attributes_text, shown}
+use Rattle.vt_screen.specs.Shown.{attributes_text, display}
 use Rattle.vt_screen.specs.States.{state_change, state_text}
 use Rattle.vt100_c.specs.Due.{HoldBoth, HoldsScreen, any_screen, any_screens, has_start, of_one_size, source_at, text_at}
 use Rattle.vt100_c.specs.Status.{ok, out_of_memory}
-use Rattle.vt100_c.specs.declared.making.Difference.{Difference}
-use Rattle.vt100_c.specs.declared.making.Difference.TheVariants as between
-use Rattle.vt100_c.specs.declared.making.Text.{Text}
-use Rattle.vt100_c.specs.declared.making.Text.TheVariants as text
+use Rattle.vt100_c.specs.declared.output.Difference.{Difference}
+use Rattle.vt100_c.specs.declared.output.Difference.TheVariants as between
+use Rattle.vt100_c.specs.declared.output.Text.{Text}
+use Rattle.vt100_c.specs.declared.output.Text.TheVariants as text
 use Rattle.vt100_c.specs.declared.object.Object.{Object}
 
 -- ---- one screen
@@ -25,11 +25,11 @@ abbrev pub text_of : Text → ScreenValue → List ℕ
 text_of text.Contents screen = contents_of screen
 text_of (text.Between start_row start_col end_row end_col) screen =
     between_of start_row start_col end_row end_col screen
-text_of text.Formatted screen = bytes_of_all (redraw (shown screen))
-text_of text.FormattedReset screen = reset_text (shown screen)
-text_of text.FormattedBasic screen = basic_texts unwritten (visible_rows screen)
+text_of text.Formatted screen = bytes_of_all (redraw (display screen))
+text_of text.FormattedReset screen = reset_text (display screen)
+text_of text.FormattedBasic screen = basic_texts nothing_written (visible_rows screen)
 text_of text.State screen = state_text screen
-text_of text.CursorState screen = bytes_of_all (cursor_state (shown screen))
+text_of text.CursorState screen = bytes_of_all (cursor_state (display screen))
 text_of text.Attributes screen = attributes_text screen.attrs
 text_of text.InputMode screen = input_text screen.modes
 
@@ -42,11 +42,11 @@ due_for _ screen = any_screen screen
 
 -- The text is a difference that may move rows or columns first and is never longer than the one that moves nothing.
 pub record IsScrollingDiff (screen prev : ScreenValue) (text : List ℕ) : Type 0 where
-  pub draws : IsMoving (shown screen) (shown prev) text
-  pub shorter : length text ≤ length (bytes_of_all (difference (shown screen) (shown prev)))
+  pub draws : IsMoving (display screen) (display prev) text
+  pub shorter : length text ≤ length (bytes_of_all (difference (display screen) (display prev)))
 
 abbrev pub IsDifference : Difference → ScreenValue → ScreenValue → List ℕ → Type 0
-IsDifference between.Contents screen prev text = text ≡ bytes_of_all (difference (shown screen) (shown prev))
+IsDifference between.Contents screen prev text = text ≡ bytes_of_all (difference (display screen) (display prev))
 IsDifference between.Scrolling screen prev text = IsScrollingDiff screen prev text
 IsDifference between.State screen prev text = text ≡ state_change prev screen
 IsDifference between.InputMode screen prev text = text ≡ input_change prev.modes screen.modes
@@ -66,21 +66,21 @@ HasText _ screen = Unit {0}
 
 -- The output isn't empty, and the screens display different content.
 abbrev pub HasChange : (text : List ℕ) → ScreenValue → ScreenValue → Type 0
-HasChange text screen prev = (0 < length text) × ¬ (shown screen ≡ shown prev)
+HasChange text screen prev = (0 < length text) × ¬ (display screen ≡ display prev)
 
 abbrev pub HasDifference : Difference → ScreenValue → ScreenValue → Type 0
 HasDifference between.State screen prev =
-    (0 < length (state_change prev screen)) × ¬ ((shown screen ≡ shown prev) × (screen.modes ≡ prev.modes))
+    (0 < length (state_change prev screen)) × ¬ ((display screen ≡ display prev) × (screen.modes ≡ prev.modes))
 HasDifference between.InputMode screen prev =
     (0 < length (input_change prev.modes screen.modes)) × ¬ (screen.modes ≡ prev.modes)
-HasDifference _ screen prev = HasChange (bytes_of_all (difference (shown screen) (shown prev))) screen prev
+HasDifference _ screen prev = HasChange (bytes_of_all (difference (display screen) (display prev))) screen prev
 
 -- ---- the effects of calls on handles
 
 -- The text that `name` selects is generated from the handle's screen, which is unchanged.
 pub record MakesText (name : Text) (old : Option Object) (status : ℕ) (new : Option Object) : Type 0 where
   pub source : source_at new ≡ source_at old
-  pub some : status ≡ out_of_memory → HoldsScreen old (HasText name)
+  pub nonempty : status ≡ out_of_memory → HoldsScreen old (HasText name)
   pub made : status ≡ ok → HoldsScreen old (λ screen. text_at new ≡ text_of name screen)
 
 -- The difference that `name` selects is generated; it leads from the screen of the handle `prev` to the screen of the
@@ -88,5 +88,5 @@ pub record MakesText (name : Text) (old : Option Object) (status : ℕ) (new : O
 pub record MakesDifference (name : Difference) (old prev : Option Object) (status : ℕ) (new : Option Object) :
     Type 0 where
   pub source : source_at new ≡ source_at old
-  pub some : status ≡ out_of_memory → HoldBoth old prev (HasDifference name)
+  pub nonempty : status ≡ out_of_memory → HoldBoth old prev (HasDifference name)
   pub made : status ≡ ok → HoldBoth old prev (λ screen before. IsDifference name screen before (text_at new))

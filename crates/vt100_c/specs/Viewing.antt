@@ -7,7 +7,7 @@ use Rattle.vt_mirror.specs.Watching.{IsFresh}
 use Rattle.vt_scan.specs.Automaton.{start}
 use Rattle.vt_scan.specs.Scanner.{StandsFor}
 use Rattle.vt_screen.specs.Screen.{fresh_screen}
-use Rattle.vt100.specs.Parser.{parsing}
+use Rattle.vt100.specs.Parser.{parser_value}
 use Rattle.vt100_c.specs.Calls.{Refuses}
 use Rattle.vt100_c.specs.Mirrors.{Joins, LeavesIt, UpdateNumbers, Updates}
 use Rattle.vt100_c.specs.Shown.{bit}
@@ -21,7 +21,7 @@ use Rattle.vt100_c.specs.declared.object.Source.TheVariants.{Parser, Screen, Mir
 abbrev pub IsNewMirror : (rows cols capacity : ℕ) → Source → Type 0
 IsNewMirror rows cols capacity (Mirror mirror) =
     StandsFor mirror.parser.scanner start
-    × (mirror.parser ≡ parsing mirror.parser.scanner (fresh_screen rows cols capacity) mirror.parser.callbacks)
+    × (mirror.parser ≡ parser_value mirror.parser.scanner (fresh_screen rows cols capacity) mirror.parser.callbacks)
     × IsFresh mirror
 IsNewMirror rows cols capacity (Parser parser) = ⊥
 IsNewMirror rows cols capacity (Screen screen) = ⊥

@@ -2,7 +2,7 @@
 
 ghost use Rattle.std.specs.Prelude.{◌≡◌, length};
 ghost use Rattle.vt_cells.specs.Cell.{text_of};
-ghost use Rattle.vt_cells.specs.CellInternals.{padded};
+ghost use Rattle.vt_cells.specs.CellInternals.{padded_text};
 ghost use Rattle.vt100_c.specs.Shown.{bit, cell_flags, cell_for_c, color_for_c, cursor_style_number};
 ghost use Rattle.vt100_c.specs.Shown.{mouse_encoding_number, mouse_mode_number, state_for_c, style_flags};
 
@@ -62,7 +62,7 @@ pub(crate) fn cell_for_c(cell: &Cell) -> VtCell
 #[tactic(auto, using(crate::proofs::Padding::short, crate::proofs::Padding::pads))]
 fn write_text(cell: &Cell, room: &mut [u8; 30]) -> u8
     ensures len { result ≡ length (text_of cell.now) }
-    ensures text { room.new ≡ padded (text_of cell.now) }
+    ensures text { room.new ≡ padded_text (text_of cell.now) }
 {
     let text = cell.contents().as_bytes();
     *room = [0; 30];

@@ -6,11 +6,11 @@ ghost use Rattle.vt100_c.specs.KeptText.{KeepsBoth, KeepsText};
 ghost use Rattle.vt100_c.specs.Sources.{screen_in};
 ghost use Rattle.vt100_c.specs.Status.{ok, out_of_memory};
 ghost use Rattle.vt100_c.specs.Texts.{HasDifference, IsDifference, MakesDifference, due_for_both};
-ghost use Rattle.vt100_c.specs.declared.making.Difference.TheVariants as between;
+ghost use Rattle.vt100_c.specs.declared.output.Difference.TheVariants as between;
 
 use crate::handle::Handle;
-use crate::making::{Difference, difference_in, keep};
 use crate::object::{Object, Source};
+use crate::output::{Difference, difference_in, keep};
 use crate::status::{BAD_ARGUMENT, NO_OBJECT};
 use std::alloc::Global;
 
@@ -167,7 +167,7 @@ fn renew(object: &mut Object, prev: &Source, difference: Difference, len: &mut u
     ensures source { object.new.source ≡ object.old.source }
     ensures answer { IsAnswer
         (due_on_both (due_for_both difference) (screen_in object.old.source) (screen_in prev.now)) result }
-    ensures some { result ≡ out_of_memory →
+    ensures nonempty { result ≡ out_of_memory →
         OnBoth (screen_in object.old.source) (screen_in prev.now) (HasDifference difference) }
     ensures text { result ≡ ok → OnBoth (screen_in object.old.source) (screen_in prev.now)
         (λ screen before. IsDifference difference screen before (string_bytes object.new.text)) }

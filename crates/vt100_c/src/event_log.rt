@@ -1,198 +1,246 @@
-//! Reading and clearing the records of a parser's events.
+//! The log that records a terminal's callbacks until C reads them.
 
-ghost use Rattle.std.specs.Prelude.{◌≡◌, IfSome, None, Some, drop, length, min, take};
-ghost use Rattle.vt100_c.specs.Calls.{OnSource};
-ghost use Rattle.vt100_c.specs.Log.{Empties, Limits, due_to, due_to_log, log_at, log_in, records_of, whole_of};
-ghost use Rattle.vt100_c.specs.Records.{emptied, nothing_logged};
-ghost use Rattle.vt100_c.specs.Status.{ok};
+ghost use Rattle.std.specs.Prelude.{◌≡◌, ◌&&◌, ◌<◌, OnErr, OnOk, length};
+ghost use Rattle.std.specs.List.{slice_get};
+ghost use Rattle.vt100_c.specs.Records.{LogsIt, bit_of, log_after_clear, is_wanted, nothing_logged, with_record};
+ghost use Rattle.vt_screen.specs.Calls as calls;
+ghost use Rattle.vt_screen.specs.Meanings.{call_of};
 
-use crate::copying::copy;
-use crate::events::Events;
-use crate::handle::Handle;
-use crate::object::Source;
-use crate::status::{NO_OBJECT, OK, WRONG_KIND};
-use std::alloc::Global;
-use vt100::Parser;
+use crate::records::{self, ON_SCROLL};
+use std::alloc::{AllocError, Global};
+use std::marker::Model;
+use vt_rows::Row;
+use vt100::capture::RowContents;
+use vt100::{Call, Callbacks, Screen};
 
-/// Stores in `len` the length in bytes of the records that were added since the
-/// log was last cleared. Stores 1 in `is_whole` if no record has been lost
-/// since then, otherwise 0. Once a record has been lost, no more are added
-/// until the log is cleared.
+/// The size limit of a new log, in bytes, after which records are lost: 1 MiB.
+pub(crate) const DEFAULT_LIMIT: usize = 1_048_576;
+
+/// A log of callbacks, which has a record of each wanted call since the log was
+/// last cleared, in order, and a copy of each row that these calls report.
 ///
-/// # Errors
-///
-/// Returns `NO_OBJECT` if the handle is empty, or `WRONG_KIND` if it holds no
-/// parser. On error, nothing is stored.
-#[unsafe(no_mangle)]
-pub extern "C" fn vt100_events(
+/// If an allocation for a record fails, or the log has reached its limit, the
+/// record is lost. After that, nothing is added until the log is cleared, so
+/// that the records never have a gap in the middle.
+#[derive(Drop)]
+pub struct Events {
     alloc: Global,
-    handle: &mut Handle,
-    len: &mut usize,
-    is_whole: &mut u8,
-) -> u8
-    ensures same { handle.new.held ≡ handle.old.held }
-    ensures status { result ≡ due_to_log handle.old.held }
-    ensures len { result ≡ ok → len.new ≡ length (records_of (log_at handle.old.held)) }
-    ensures whole { result ≡ ok → is_whole.new ≡ whole_of (log_at handle.old.held) }
-    ensures refused_len { ¬ (result ≡ ok) → len.new ≡ len.old }
-    ensures refused_whole { ¬ (result ≡ ok) → is_whole.new ≡ is_whole.old }
-{
-    if !handle.is_full() {
-        return NO_OBJECT;
-    }
-    let object = handle.take_out(alloc);
-    let status = tell(&object.source, len, is_whole);
-    handle.put_back(object);
-    status
+    wanted: u16,
+
+    /// The number of bytes after which records are lost.
+    limit: usize,
+
+    /// The number of bytes that can still be added.
+    room: usize,
+    records: Vec<u8>,
+
+    /// The reported rows, followed by spare rows. The memory of the spare rows
+    /// is reused, so that most rows need no allocation.
+    rows: Vec<Row>,
+    row_count: usize,
+    is_whole: bool,
 }
 
-/// Copies as many bytes of a parser's event records as fit into `out`, and
-/// returns the number of bytes copied. The rest of `out` and the log are
-/// unchanged.
-#[unsafe(no_mangle)]
-pub extern "C" fn vt100_copy_events(alloc: Global, handle: &mut Handle, out: &mut [u8]) -> usize
-    ensures same { handle.new.held ≡ handle.old.held }
-    ensures count { result ≡ min (length (records_of (log_at handle.old.held))) (length out.old) }
-    ensures text { take result out.new ≡ take result (records_of (log_at handle.old.held)) }
-    ensures rest { drop result out.new ≡ drop result out.old }
-{
-    if !handle.is_full() {
-        return 0;
-    }
-    let object = handle.take_out(alloc);
-    let count = copy_records(&object.source, out);
-    handle.put_back(object);
-    count
+impl Model for Events {
+    ghost use Rattle.std.specs.Prelude.{◌≤◌, length, take};
+    ghost use Rattle.vt100_c.specs.Records.{Logged};
+    ghost use Rattle.vt_grid.specs.Spare.{AreRows};
+
+    ghost Value = { Logged };
+
+    ghost view = { λ e.
+        record {
+          wanted = e.wanted;
+          limit = e.limit;
+          room = e.room;
+          records = e.records.items;
+          rows = take e.row_count e.rows.items;
+          is_whole = e.is_whole;
+        } };
+
+    ghost invariant = { λ e. AreRows e.rows.items × (e.row_count ≤ length e.rows.items) };
 }
 
-/// Clears a parser's log: its records, the rows that they report, and the flag
-/// that says whether records have been lost.
-///
-/// # Errors
-///
-/// Returns `NO_OBJECT` if the handle is empty, or `WRONG_KIND` if it holds no
-/// parser.
-#[unsafe(no_mangle)]
-pub extern "C" fn vt100_clear_events(alloc: Global, handle: &mut Handle) -> u8
-    ensures { OnSource Empties handle.old.held result handle.new.held }
-{
-    if !handle.is_full() {
-        return NO_OBJECT;
-    }
-    let mut object = handle.take_out(alloc);
-    let status = clear(&mut object.source);
-    handle.put_back(object);
-    status
-}
-
-/// Clears a parser's log and sets its limit, the number of bytes after which
-/// records are lost. The limit covers the records and the cells of the rows
-/// that they report.
-///
-/// # Errors
-///
-/// Returns `NO_OBJECT` if the handle is empty, or `WRONG_KIND` if it holds no
-/// parser.
-#[unsafe(no_mangle)]
-pub extern "C" fn vt100_set_event_limit(alloc: Global, handle: &mut Handle, bytes: usize) -> u8
-    ensures { OnSource (Limits bytes) handle.old.held result handle.new.held }
-{
-    if !handle.is_full() {
-        return NO_OBJECT;
-    }
-    let mut object = handle.take_out(alloc);
-    let status = set_limit(&mut object.source, bytes);
-    handle.put_back(object);
-    status
-}
-
-/// Returns the log of a source if it is a parser, otherwise `None`.
-pub(crate) fn log_of(source: &Source) -> Option<&Events>
-    ensures some { IfSome result (λ log. log_in source.now ≡ Some log.now) }
-    ensures none { result ≡ None → log_in source.now ≡ None }
-{
-    match source {
-        Source::Parser(parser) => Some(parser.callbacks()),
-        Source::Screen(_) => None,
-        Source::Mirror(_) => None,
-        Source::Capture(_) => None,
-    }
-}
-
-/// Copies as many bytes of a source's records as fit into `out`, and returns
-/// the number of bytes copied, which is 0 if the source is not a parser.
-fn copy_records(source: &Source, out: &mut [u8]) -> usize
-    ensures count { result ≡ min (length (records_of (log_in source.now))) (length out.old) }
-    ensures text { take result out.new ≡ take result (records_of (log_in source.now)) }
-    ensures rest { drop result out.new ≡ drop result out.old }
-{
-    match log_of(source) {
-        Some(log) => copy(log.records(), out),
-        None => 0,
-    }
-}
-
-/// Stores the length of a source's records in `len`. Stores 1 in `is_whole` if
-/// no record has been lost, otherwise 0. Returns `WRONG_KIND` if the source has
-/// no log.
-fn tell(source: &Source, len: &mut usize, is_whole: &mut u8) -> u8
-    ensures status { result ≡ due_to (log_in source.now) }
-    ensures len { result ≡ ok → len.new ≡ length (records_of (log_in source.now)) }
-    ensures whole { result ≡ ok → is_whole.new ≡ whole_of (log_in source.now) }
-    ensures refused_len { ¬ (result ≡ ok) → len.new ≡ len.old }
-    ensures refused_whole { ¬ (result ≡ ok) → is_whole.new ≡ is_whole.old }
-{
-    match log_of(source) {
-        Some(log) => {
-            *len = log.records().len();
-            *is_whole = log.whole_bit();
-            OK
+impl Events {
+    /// Creates an empty log with a size limit of `limit` bytes. Bit `k` of
+    /// `wanted` says whether calls of kind `k` are recorded.
+    pub(crate) fn new(alloc: Global, wanted: u16, limit: usize) -> Events
+        ensures { result ≡ nothing_logged wanted limit }
+    {
+        Events {
+            alloc,
+            wanted,
+            limit,
+            room: limit,
+            records: Vec::new(alloc),
+            rows: Vec::new(alloc),
+            row_count: 0,
+            is_whole: true,
         }
-        None => WRONG_KIND,
     }
-}
 
-/// Clears the log of a source. Returns `WRONG_KIND` if the source has no log.
-fn clear(source: &mut Source) -> u8
-    ensures { Empties source.old result source.new }
-{
-    match source {
-        Source::Parser(parser) => {
-            clear_log(parser);
-            OK
+    /// Returns the bytes of the records.
+    pub(crate) fn records(&self) -> &[u8]
+        ensures { result.now ≡ self.now.records }
+    {
+        self.records.as_slice()
+    }
+
+    /// Returns the number of rows that the records report.
+    pub(crate) fn row_count(&self) -> usize
+        ensures { result ≡ length self.now.rows }
+    {
+        self.row_count
+    }
+
+    /// Returns the number of bytes that can still be added before the limit is
+    /// reached.
+    pub(crate) fn room(&self) -> usize
+        ensures { result ≡ self.now.room }
+    {
+        self.room
+    }
+
+    /// Returns the reported row at `index`, counted from 0, or `None` if there
+    /// is no such row.
+    #[tactic(auto, using(crate::proofs::Reported::first_sound))]
+    pub(crate) fn row(&self, index: usize) -> Option<RowContents<'_>>
+        ensures { result ≡ slice_get self.now.rows index }
+    {
+        match self.rows[..self.row_count].get(index) {
+            Some(row) => Some(row.contents()),
+            None => None,
         }
-        Source::Screen(_) => WRONG_KIND,
-        Source::Mirror(_) => WRONG_KIND,
-        Source::Capture(_) => WRONG_KIND,
     }
-}
 
-/// Clears the log of a source and sets the log's size limit to `bytes` bytes.
-/// Returns `WRONG_KIND` if the source has no log.
-fn set_limit(source: &mut Source, bytes: usize) -> u8
-    ensures { Limits bytes source.old result source.new }
-{
-    match source {
-        Source::Parser(parser) => {
-            set_log_limit(parser, bytes);
-            OK
+    /// Returns whether no record has been lost since the log was last cleared.
+    pub(crate) fn is_whole(&self) -> bool
+        ensures { result ≡ self.now.is_whole }
+    {
+        self.is_whole
+    }
+
+    /// Returns 1 if no record has been lost since the log was last cleared,
+    /// otherwise 0.
+    pub(crate) fn whole_bit(&self) -> u8
+        ensures { result ≡ bit_of self.now.is_whole }
+    {
+        if self.is_whole { 1 } else { 0 }
+    }
+
+    /// Clears the records, and the flag that says whether records have been
+    /// lost. If the log has reached its limit, also frees the memory of its
+    /// rows.
+    pub(crate) fn clear(&mut self)
+        ensures { self.new ≡ log_after_clear self.old }
+    {
+        self.records.clear();
+        if self.room == 0 {
+            self.rows.clear();
         }
-        Source::Screen(_) => WRONG_KIND,
-        Source::Mirror(_) => WRONG_KIND,
-        Source::Capture(_) => WRONG_KIND,
+        self.row_count = 0;
+        self.room = self.limit;
+        self.is_whole = true;
+    }
+
+    /// Clears the log and sets its size limit to `limit` bytes.
+    pub(crate) fn set_limit(&mut self, limit: usize)
+        ensures { self.new ≡ nothing_logged self.old.wanted limit }
+    {
+        self.limit = limit;
+        self.clear();
+    }
+
+    /// Returns whether calls of the given kind are currently recorded.
+    fn keeps(&self, kind: u8) -> bool
+        requires { kind < 16 }
+        ensures { result ≡ (self.now.is_whole && is_wanted self.now.wanted kind) }
+    {
+        self.is_whole && records::is_wanted(self.wanted, kind)
+    }
+
+    /// Adds the record of a call if its kind is wanted. If the record cannot be
+    /// added, it is lost.
+    fn note(&mut self, call: Call<'_>)
+        ensures { LogsIt (call_of call.entry) self.old self.new }
+    {
+        if !self.keeps(records::kind_of(call)) {
+            return;
+        }
+        if self.room == 0 || self.add(call).is_err() {
+            self.is_whole = false;
+        }
+    }
+
+    /// Adds the record of a call.
+    ///
+    /// # Errors
+    ///
+    /// Returns an error if an allocation fails. On error, the log is unchanged.
+    fn add(&mut self, call: Call<'_>) -> Result<(), AllocError>
+        ensures ok { OnOk result (self.new ≡ with_record (call_of call.entry) self.old) }
+        ensures err { OnErr result (self.new ≡ self.old) }
+    {
+        let before = self.records.len();
+        records::write_call(self.alloc, &mut self.records, call)?;
+        self.room = self
+            .room
+            .saturating_sub(self.records.len().saturating_sub(before));
+        Ok(())
+    }
+
+    /// Adds the record of a row if rows are wanted. If the record cannot be
+    /// added, it is lost.
+    fn note_row(&mut self, row: &RowContents<'_>, alternate: bool)
+        ensures { LogsIt (calls.OnScroll row.now alternate) self.old self.new }
+    {
+        if !self.keeps(ON_SCROLL) {
+            return;
+        }
+        if self.room == 0 || self.add_row(row, alternate).is_err() {
+            self.is_whole = false;
+        }
+    }
+
+    /// Adds the record of a row.
+    ///
+    /// # Errors
+    ///
+    /// Returns an error if an allocation fails. On error, the log is unchanged.
+    fn add_row(&mut self, row: &RowContents<'_>, alternate: bool) -> Result<(), AllocError>
+        ensures ok { OnOk result (self.new ≡ with_record (calls.OnScroll row.now alternate) self.old) }
+        ensures err { OnErr result (self.new ≡ self.old) }
+    {
+        let before = self.records.len();
+        records::hold_row(self.alloc, &mut self.rows, self.row_count, row)?;
+        let is_bare = records::is_bare(self.wanted);
+        records::write_row(self.alloc, &mut self.records, row, alternate, is_bare)?;
+        self.row_count += 1;
+        let room = self
+            .room
+            .saturating_sub(self.records.len().saturating_sub(before));
+        self.room = room.saturating_sub(records::cells_size(row));
+        Ok(())
     }
 }
 
-/// Clears the log of a parser and sets the log's size limit to `bytes` bytes.
-fn set_log_limit(parser: &mut Parser<Events>, bytes: usize)
-    ensures { parser.new ≡ record parser.old { callbacks = nothing_logged parser.old.callbacks.wanted bytes } }
-{
-    parser.callbacks_mut().set_limit(bytes);
-}
+/// Callbacks that record each wanted call once, with its arguments, and do not
+/// change the screen.
+impl Callbacks for Events {
+    ghost use Rattle.vt100_c.specs.Records.{Logs};
 
-/// Clears the log of a parser.
-fn clear_log(parser: &mut Parser<Events>)
-    ensures { parser.new ≡ record parser.old { callbacks = emptied parser.old.callbacks } }
-{
-    parser.callbacks_mut().clear();
+    ghost does = { Logs };
+
+    fn otherwise(&mut self, _screen: &mut Screen, call: Call<'_>) {
+        self.note(call);
+    }
+
+    fn on_scroll(&mut self, row: RowContents<'_>, alternate: bool) {
+        self.note_row(&row, alternate);
+    }
+
+    /// Returns whether rows are currently recorded.
+    fn wants_rows(&self) -> bool {
+        self.keeps(ON_SCROLL)
+    }
 }

@@ -2,20 +2,21 @@
 //! of a pointer, and return a status code.
 #![tactic(auto)]
 
-mod captures;
-mod capturing;
+mod capture_reading;
+mod capture_writing;
 mod cells;
 mod convert;
 mod copying;
 mod differences;
+mod displayed;
 mod event_log;
-mod events;
+mod event_reading;
 mod handle;
 pub mod laws;
-mod life;
-mod making;
+mod lifecycle;
 mod mirrors;
 mod object;
+mod output;
 mod parts;
 mod pending;
 mod reading;
@@ -23,7 +24,6 @@ mod records;
 mod row_changes;
 mod row_texts;
 mod rows;
-mod shown;
 mod sizes;
 mod state;
 mod status;

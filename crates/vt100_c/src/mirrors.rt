@@ -12,7 +12,7 @@ ghost use Rattle.vt100_c.specs.Viewing.{TellsCurrent, UpdatesObject, due_to, due
 ghost use Rattle.vt_mirror.specs.Calls.{Drawn, Scrolling};
 
 use crate::handle::Handle;
-use crate::life::{hold, size_of};
+use crate::lifecycle::{hold, size_of};
 use crate::object::{Object, Source};
 use crate::status::{BAD_ARGUMENT, IN_USE, NO_OBJECT, OK, OUT_OF_MEMORY, WRONG_KIND};
 use crate::viewers;

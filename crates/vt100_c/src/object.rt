@@ -3,7 +3,7 @@
 ghost use Rattle.std.specs.Prelude.{◌≡◌, IfSome, Some, None};
 ghost use Rattle.vt100_c.specs.Sources.{kind_of, screen_in};
 
-use crate::events::Events;
+use crate::event_log::Events;
 use vt_mirror::Mirror;
 use vt100::capture::BasicFormattedCaptureState;
 use vt100::{Parser, Screen};

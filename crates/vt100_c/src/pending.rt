@@ -5,7 +5,7 @@ ghost use Rattle.std.specs.Prelude.{◌≡◌, IfSome, None, Some};
 ghost use Rattle.vt100_c.specs.Pending.{ArePending, HoldsParser, OnParser, due_to, due_to_parser, parser_in};
 ghost use Rattle.vt100_c.specs.Status.{ok};
 
-use crate::events::Events;
+use crate::event_log::Events;
 use crate::handle::Handle;
 use crate::object::Source;
 use crate::status::{NO_OBJECT, OK, WRONG_KIND};

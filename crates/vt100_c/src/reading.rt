@@ -5,7 +5,7 @@ ghost use Rattle.vt100_c.specs.Calls.{OnSource};
 ghost use Rattle.vt100_c.specs.Reading.{Reads, ReadsMirror, ReadsParser, ReadsUntil, ReadsUntilEvent};
 ghost use Rattle.vt100_c.specs.Reading.{ReadsFrom, ReadsUnit, are_bare_rows, is_quiet, mark_of};
 
-use crate::events::Events;
+use crate::event_log::Events;
 use crate::handle::Handle;
 use crate::object::Source;
 use crate::records::HEAD_LEN;

@@ -8,8 +8,8 @@ ghost use Rattle.vt100_c.specs.Sources.{screen_in};
 ghost use Rattle.vt_screen.specs.RowsShown.{changed_rows};
 
 use crate::handle::Handle;
-use crate::making::{is_sized_as, keep, or_status};
 use crate::object::{Source, screen_of};
+use crate::output::{is_sized_as, keep, or_status};
 use crate::row_texts;
 use crate::rows::{has_range, places_for, write_ends};
 use crate::status::{BAD_ARGUMENT, NO_OBJECT, OTHER_SIZE, WRONG_KIND};

@@ -10,8 +10,8 @@ ghost use Rattle.vt100_c.specs.Status.{bad_argument, ok, out_of_memory};
 ghost use Rattle.vt_screen.specs.RowsShown.{formatted_rows};
 
 use crate::handle::Handle;
-use crate::making::{keep, or_status};
 use crate::object::{Source, screen_of};
+use crate::output::{keep, or_status};
 use crate::row_texts;
 use crate::status::{BAD_ARGUMENT, NO_OBJECT, OUT_OF_MEMORY, WRONG_KIND};
 use std::alloc::Global;

@@ -4,9 +4,9 @@ ghost use Rattle.vt100_c.specs.Calls.{OnSource};
 ghost use Rattle.vt100_c.specs.Sizes.{Clears, OnScreen, ResizesMirror, ResizesParser, ResizesScreen};
 ghost use Rattle.vt100_c.specs.Sizes.{ResizesSource, ScrollsBack, SetsScreenSize, SetsSize};
 
-use crate::events::Events;
+use crate::event_log::Events;
 use crate::handle::Handle;
-use crate::life::size_of;
+use crate::lifecycle::size_of;
 use crate::object::Source;
 use crate::status::{BAD_ARGUMENT, NO_OBJECT, OK, OUT_OF_MEMORY, WRONG_KIND, answered};
 use std::alloc::Global;

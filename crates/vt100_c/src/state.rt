@@ -2,7 +2,7 @@
 
 ghost use Rattle.std.specs.Prelude.{◌≡◌};
 ghost use Rattle.vt_redraw.specs.Steady.{IsSteady};
-ghost use Rattle.vt_screen.specs.Shown.{shown};
+ghost use Rattle.vt_screen.specs.Shown.{display};
 ghost use Rattle.vt100_c.specs.Due.{HoldsScreen, OnScreen, any_screen, due_at, due_on};
 ghost use Rattle.vt100_c.specs.Shown.{IsBitFor, state_for_c};
 ghost use Rattle.vt100_c.specs.Sources.{screen_in};
@@ -52,7 +52,7 @@ pub extern "C" fn vt100_get_state(alloc: Global, handle: &mut Handle, out: &mut 
 pub extern "C" fn vt100_is_steady(alloc: Global, handle: &mut Handle, out: &mut u8) -> u8
     ensures same { handle.new.held ≡ handle.old.held }
     ensures status { result ≡ due_at any_screen handle.old.held }
-    ensures steady { result ≡ ok → HoldsScreen handle.old.held (λ screen. IsBitFor (IsSteady (shown screen)) out.new) }
+    ensures steady { result ≡ ok → HoldsScreen handle.old.held (λ screen. IsBitFor (IsSteady (display screen)) out.new) }
     ensures refused { ¬ (result ≡ ok) → out.new ≡ out.old }
 {
     if !handle.is_full() {
@@ -84,7 +84,7 @@ fn write_state(source: &Source, out: &mut VtState) -> u8
 /// `WRONG_KIND` if the source has no screen.
 fn write_steady(source: &Source, out: &mut u8) -> u8
     ensures status { result ≡ due_on any_screen (screen_in source.now) }
-    ensures steady { result ≡ ok → OnScreen (screen_in source.now) (λ screen. IsBitFor (IsSteady (shown screen)) out.new) }
+    ensures steady { result ≡ ok → OnScreen (screen_in source.now) (λ screen. IsBitFor (IsSteady (display screen)) out.new) }
     ensures refused { ¬ (result ≡ ok) → out.new ≡ out.old }
 {
     match screen_of(source) {
@@ -98,7 +98,7 @@ fn write_steady(source: &Source, out: &mut u8) -> u8
 
 /// Returns 1 if a screen is steady, otherwise 0.
 fn steady_bit(screen: &Screen) -> u8
-    ensures { IsBitFor (IsSteady (shown screen.now)) result }
+    ensures { IsBitFor (IsSteady (display screen.now)) result }
 {
     if screen.is_steady() { 1 } else { 0 }
 }

@@ -1,7 +1,7 @@
 //! The status codes that calls return.
 
 ghost use Rattle.std.specs.Prelude.{◌≡◌};
-ghost use Rattle.vt100_c.specs.Status.{answered, status_of};
+ghost use Rattle.vt100_c.specs.Status.{status_of_result, status_of};
 
 use vt100::Error;
 
@@ -45,7 +45,7 @@ pub(crate) fn status_of(error: Error) -> u8
 
 /// Returns `OK` if a call succeeded, otherwise the status code of its error.
 pub(crate) fn answered(answer: Result<(), Error>) -> u8
-    ensures { result ≡ answered answer }
+    ensures { result ≡ status_of_result answer }
 {
     match answer {
         Ok(()) => OK,

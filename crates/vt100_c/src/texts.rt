@@ -5,11 +5,11 @@ ghost use Rattle.vt100_c.specs.Due.{IsAnswer, any_screen, due_at, due_on, has_st
 ghost use Rattle.vt100_c.specs.KeptText.{KeepsText};
 ghost use Rattle.vt100_c.specs.Sources.{screen_in};
 ghost use Rattle.vt100_c.specs.Texts.{MakesText, due_for};
-ghost use Rattle.vt100_c.specs.declared.making.Text.TheVariants as text;
+ghost use Rattle.vt100_c.specs.declared.output.Text.TheVariants as text;
 
 use crate::handle::Handle;
-use crate::making::{Text, keep, text_in};
 use crate::object::Object;
+use crate::output::{Text, keep, text_in};
 use crate::status::NO_OBJECT;
 use std::alloc::Global;
 

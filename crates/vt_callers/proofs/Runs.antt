@@ -8,10 +8,10 @@ use Rattle.vt_rows.specs.Row.{blank_row}
 use Rattle.vt_scan.specs.Automaton.{start}
 use Rattle.vt_scan.specs.Scanner.{StandsFor}
 use Rattle.vt_screen.specs.Screen.{IsScreen, ScreenValue, fresh_screen}
-use Rattle.vt100.specs.Parser.{Parsing, Ran, quietly}
+use Rattle.vt100.specs.Parser.{ParserValue, Ran, does_nothing}
 use Rattle.vt100.specs.Streams.{IsFreshParser}
 
-pub fresh_parser : {S : Type 0} (rows cols capacity : ℕ) (p : Parsing S) → 0 < rows → 0 < cols → IsScreen p.screen →
+pub fresh_parser : {S : Type 0} (rows cols capacity : ℕ) (p : ParserValue S) → 0 < rows → 0 < cols → IsScreen p.screen →
     StandsFor p.scanner start → p.screen ≡ fresh_screen rows cols capacity → IsFreshParser rows cols capacity p
 fresh_parser rows cols capacity p tall wide sound begun shown =
     let page = (subst (λ (s : ScreenValue). IsScreen s) shown sound).page in
@@ -24,6 +24,6 @@ fresh_parser rows cols capacity p tall wide sound begun shown =
       shown = shown;
     }
 
-pub ran_more : (pieces : List (List ℕ)) (piece : List ℕ) (p q r : Parsing (Unit {0})) →
-    FoldsTo (Ran quietly) p pieces q → Ran quietly q piece r → FoldsTo (Ran quietly) p (pieces ++ (piece ∷ [])) r
-ran_more pieces piece p q r folds ran = folds_then (Ran quietly) pieces (piece ∷ []) p q r folds (r, ran, refl)
+pub ran_more : (pieces : List (List ℕ)) (piece : List ℕ) (p q r : ParserValue (Unit {0})) →
+    FoldsTo (Ran does_nothing) p pieces q → Ran does_nothing q piece r → FoldsTo (Ran does_nothing) p (pieces ++ (piece ∷ [])) r
+ran_more pieces piece p q r folds ran = folds_then (Ran does_nothing) pieces (piece ∷ []) p q r folds (r, ran, refl)

@@ -15,10 +15,10 @@ use Rattle.vt_rows.proofs.Folds.{folds_then}
 use Rattle.vt_scan.specs.Automaton.{State}
 use Rattle.vt_scan.specs.Scanner.{StandsFor}
 use Rattle.vt_screen.specs.Chain.{CanShowOn, chain_text, last_screen}
-use Rattle.vt_screen.specs.Reading.{Terminal, read, terminal}
+use Rattle.vt_screen.specs.Reading.{Terminal, terminal_after, terminal}
 use Rattle.vt_screen.specs.Screen.{IsScreen, ScreenValue}
-use Rattle.vt_screen.specs.Shown.{shown}
-use Rattle.vt100.specs.Parser.{Parsing}
+use Rattle.vt_screen.specs.Shown.{display}
+use Rattle.vt100.specs.Parser.{ParserValue}
 use Rattle.vt100.specs.Pieces.{HasRead, IsFine, IsPlainParser, Processes, Processing, ShowsLast, bytes_in, processing}
 use Rattle.vt_mirror.proofs.Runs.{all_of_more, last_of_more, text_of_more}
 use Rattle.vt_callers.specs.Failing.{IsFailure}
@@ -32,10 +32,10 @@ bytes_then [] ys = refl
 bytes_then (x ∷ xs) ys =
     ap (λ (bytes : List ℕ). x.bytes ++ bytes) (bytes_then xs ys) ∙ sym (append_assoc x.bytes (bytes_in xs) (bytes_in ys))
 
-pub taken_none : {S : Type 0} (p : Parsing S) → HasTaken [] p p
+pub taken_none : {S : Type 0} (p : ParserValue S) → HasTaken [] p p
 taken_none p = record { calls = []; whole = refl; folds = refl; fails = λ e. e }
 
-pub taken_one : {S : Type 0} (bytes : List ℕ) (answer : Result (Unit {0}) Error) (p q : Parsing S) →
+pub taken_one : {S : Type 0} (bytes : List ℕ) (answer : Result (Unit {0}) Error) (p q : ParserValue S) →
     Processes p (processing bytes answer) q → q.is_failed ≡ false → HasTaken bytes p q
 taken_one bytes answer p q processes fine = record {
   calls = processing bytes answer ∷ [];
@@ -44,7 +44,7 @@ taken_one bytes answer p q processes fine = record {
   fails = λ failed. absurd (false≢true (sym fine ∙ failed));
 }
 
-pub taken_then : {S : Type 0} (a b : List ℕ) (p q r : Parsing S) →
+pub taken_then : {S : Type 0} (a b : List ℕ) (p q r : ParserValue S) →
     HasTaken a p q → HasTaken b q r → HasTaken (a ++ b) p r
 taken_then a b p q r first second = record {
   calls = first.calls ++ second.calls;
@@ -55,17 +55,17 @@ taken_then a b p q r first second = record {
   fails = λ failed. first.fails (second.fails failed);
 }
 
-pub fails_behind : {S : Type 0} (bytes : List ℕ) (p q : Parsing S) (error : Error) →
+pub fails_behind : {S : Type 0} (bytes : List ℕ) (p q : ParserValue S) (error : Error) →
     HasTaken bytes p q → IsFailure q error → IsFailure p error
 fails_behind bytes p q error t (inl refused) = inl refused
 fails_behind bytes p q error t (inr failed) = inr (failed.0, t.fails failed.1)
 
 -- ---- A text that is split
 
-pub cut_none : {S : Type 0} (text : List ℕ) (p : Parsing S) → IsCut text text p p
+pub cut_none : {S : Type 0} (text : List ℕ) (p : ParserValue S) → IsCut text text p p
 cut_none text p = record { front = []; whole = refl; takes = taken_none p }
 
-pub cut_more : {S : Type 0} (text rest : List ℕ) (count : ℕ) (answer : Result (Unit {0}) Error) (p q r : Parsing S)
+pub cut_more : {S : Type 0} (text rest : List ℕ) (count : ℕ) (answer : Result (Unit {0}) Error) (p q r : ParserValue S)
     → IsCut text rest p q → Processes q (processing (take count rest) answer) r → r.is_failed ≡ false
     → IsCut text (take (length rest - count) (drop count rest)) p r
 cut_more text rest count answer p q r c processes fine = record {
@@ -79,7 +79,7 @@ cut_more text rest count answer p q r c processes fine = record {
       taken_then c.front (take count rest) p q r c.takes (taken_one (take count rest) answer q r processes fine);
 }
 
-pub cut_all : {S : Type 0} (text rest : List ℕ) (answer : Result (Unit {0}) Error) (p q r : Parsing S)
+pub cut_all : {S : Type 0} (text rest : List ℕ) (answer : Result (Unit {0}) Error) (p q r : ParserValue S)
     → IsCut text rest p q → Processes q (processing rest answer) r → r.is_failed ≡ false → HasTaken text p r
 cut_all {S} text rest answer p q r c processes fine =
     subst (λ (bytes : List ℕ). HasTaken bytes p r) c.whole
@@ -87,12 +87,12 @@ cut_all {S} text rest answer p q r c processes fine =
 
 -- A text that was received in chunks has the effect of the whole text received at once.
 pub as_one : {S : Type 0}
-    → ((p q : Parsing S) (calls : List Processing) (state : State) (after : Terminal) → p.is_failed ≡ false
-    → StandsFor p.scanner state → read (terminal state p.screen) (bytes_in calls) ≡ Some after
+    → ((p q : ParserValue S) (calls : List Processing) (state : State) (after : Terminal) → p.is_failed ≡ false
+    → StandsFor p.scanner state → terminal_after (terminal state p.screen) (bytes_in calls) ≡ Some after
     → FoldsTo Processes p calls q → AllByRecursion IsFine calls × HasRead p after q)
-    → (text : List ℕ) (p q : Parsing S) → HasTaken text p q → Processes p (processing text (Ok tt)) q
+    → (text : List ℕ) (p q : ParserValue S) → HasTaken text p q → Processes p (processing text (Ok tt)) q
 as_one law text p q t = λ state after fine stands reads.
-    (refl, (law p q t.calls state after fine stands (ap (read (terminal state p.screen)) t.whole ∙ reads) t.folds).1)
+    (refl, (law p q t.calls state after fine stands (ap (terminal_after (terminal state p.screen)) t.whole ∙ reads) t.folds).1)
 
 -- ---- A redraw, and differences after it
 
@@ -102,13 +102,13 @@ same_size_back a b s = record { width = sym s.width; height = sym s.height }
 size_through : (a b c : Page) → SameSize a b → SameSize b c → SameSize a c
 size_through a b c s t = record { width = s.width ∙ t.width; height = s.height ∙ t.height }
 
-pub next_size : {S : Type 0} (first : ScreenValue) (nexts : List ScreenValue) (prev next : ScreenValue) (p q : Parsing S) →
+pub next_size : {S : Type 0} (first : ScreenValue) (nexts : List ScreenValue) (prev next : ScreenValue) (p q : ParserValue S) →
     HasFollowed first nexts prev p q → SameSize next.page first.page → SameSize next.page prev.page
 next_size first nexts prev next p q f size =
     size_through next.page first.page prev.page size (same_size_back prev.page first.page f.size)
 
-pub followed_first : {S : Type 0} (first : ScreenValue) (bytes : List ℕ) (answer : Result (Unit {0}) Error) (p q : Parsing S)
-    → IsWhole first → bytes ≡ bytes_of_all (redraw (shown first))
+pub followed_first : {S : Type 0} (first : ScreenValue) (bytes : List ℕ) (answer : Result (Unit {0}) Error) (p q : ParserValue S)
+    → IsWhole first → bytes ≡ bytes_of_all (redraw (display first))
     → Processes p (processing bytes answer) q → q.is_failed ≡ false → HasFollowed first [] first p q
 followed_first first bytes answer p q whole text processes fine = record {
   whole = (whole, tt);
@@ -116,10 +116,10 @@ followed_first first bytes answer p q whole text processes fine = record {
   last = refl;
   takes =
       subst (λ (text : List ℕ). HasTaken text p q)
-      (text ∙ sym (append-nil (bytes_of_all (redraw (shown first))))) (taken_one bytes answer p q processes fine);
+      (text ∙ sym (append-nil (bytes_of_all (redraw (display first))))) (taken_one bytes answer p q processes fine);
 }
 
-pub followed_more : {S : Type 0} (first : ScreenValue) (nexts : List ScreenValue) (prev next : ScreenValue) (p q r : Parsing S)
+pub followed_more : {S : Type 0} (first : ScreenValue) (nexts : List ScreenValue) (prev next : ScreenValue) (p q r : ParserValue S)
     → HasFollowed first nexts prev p q → SameSize next.page first.page → SendsNext next prev q r
     → HasFollowed first (nexts ++ (next ∷ [])) next p r
 followed_more {S} first nexts prev next p q r f size s = record {
@@ -127,7 +127,7 @@ followed_more {S} first nexts prev next p q r f size s = record {
   size = size;
   last = last_of_more first nexts next;
   takes =
-      let change = λ (was : ScreenValue). bytes_of_all (difference (shown next) (shown was)) in
+      let change = λ (was : ScreenValue). bytes_of_all (difference (display next) (display was)) in
       subst (λ (text : List ℕ). HasTaken text p r)
       (ap (λ (was : ScreenValue). chain_text first nexts ++ change was) (sym f.last)
       ∙ sym (text_of_more first nexts next))
@@ -152,7 +152,7 @@ next_fits first nexts k next inside is size =
 
 -- After the screen at the next index is sent, the terminal has received all screens up to that index.
 pub followed_next : {S : Type 0} (first : ScreenValue) (nexts : List ScreenValue) (k : ℕ) (prev next : ScreenValue)
-    (p q r : Parsing S) → k < length nexts → next ≡ get_or nexts k next
+    (p q r : ParserValue S) → k < length nexts → next ≡ get_or nexts k next
     → AllByRecursion (λ screen. SameSize screen.page first.page) nexts
     → HasFollowed first (take k nexts) prev p q → SendsNext next prev q r
     → HasFollowed first (take (k + 1) nexts) next p r
@@ -161,8 +161,8 @@ followed_next first nexts k prev next p q r inside is size f s =
     (ap (λ (x : ScreenValue). take k nexts ++ (x ∷ [])) is ∙ sym (take_more nexts k next inside))
     (followed_more first (take k nexts) prev next p q r f (next_fits first nexts k next inside is size) s)
 
-can_show : (reader first : ScreenValue) → SamePictureSize (shown first) (shown reader) →
-    (screen : ScreenValue) → IsWhole screen → IsSteady (shown screen) → SameSize screen.page first.page →
+can_show : (reader first : ScreenValue) → SamePictureSize (display first) (display reader) →
+    (screen : ScreenValue) → IsWhole screen → IsSteady (display screen) → SameSize screen.page first.page →
     CanShowOn reader screen
 can_show reader first same screen whole steady size =
     let own = same_shown screen first size in
@@ -173,8 +173,8 @@ can_show reader first same screen whole steady size =
       size = record { width = own.width ∙ same.width; height = own.height ∙ same.height };
     }
 
-can_show_all : (reader first : ScreenValue) → SamePictureSize (shown first) (shown reader) → (screens : List ScreenValue) →
-    AllByRecursion IsWhole screens → AllByRecursion (λ screen. IsSteady (shown screen)) screens →
+can_show_all : (reader first : ScreenValue) → SamePictureSize (display first) (display reader) → (screens : List ScreenValue) →
+    AllByRecursion IsWhole screens → AllByRecursion (λ screen. IsSteady (display screen)) screens →
     AllByRecursion (λ screen. SameSize screen.page first.page) screens → AllByRecursion (CanShowOn reader) screens
 can_show_all reader first same [] whole steady size = tt
 can_show_all reader first same (x ∷ xs) whole steady size = (
@@ -183,14 +183,14 @@ can_show_all reader first same (x ∷ xs) whole steady size = (
 )
 
 pub follows_all : {S : Type 0}
-    → ((self : ScreenValue) (nexts : List ScreenValue) (p q : Parsing S) (calls : List Processing)
+    → ((self : ScreenValue) (nexts : List ScreenValue) (p q : ParserValue S) (calls : List Processing)
     → IsScreen p.screen → IsPlainParser p → CanShowOn p.screen self → AllByRecursion (CanShowOn p.screen) nexts
     → bytes_in calls ≡ chain_text self nexts → FoldsTo Processes p calls q
     → AllByRecursion IsFine calls × ShowsLast p (last_screen self nexts) q)
-    → (first : ScreenValue) (nexts : List ScreenValue) (prev : ScreenValue) (p q : Parsing S)
-    → IsScreen p.screen → IsPlainParser p → SamePictureSize (shown first) (shown p.screen)
+    → (first : ScreenValue) (nexts : List ScreenValue) (prev : ScreenValue) (p q : ParserValue S)
+    → IsScreen p.screen → IsPlainParser p → SamePictureSize (display first) (display p.screen)
     → AllByRecursion (λ screen. SameSize screen.page first.page) nexts
-    → AllByRecursion (λ screen. IsSteady (shown screen)) (first ∷ nexts) → HasFollowed first nexts prev p q
+    → AllByRecursion (λ screen. IsSteady (display screen)) (first ∷ nexts) → HasFollowed first nexts prev p q
     → ShowsScreen (last_screen first nexts) q
 follows_all law first nexts prev p q is plain same size steady f =
     let own : SameSize first.page first.page = record { width = refl; height = refl } in

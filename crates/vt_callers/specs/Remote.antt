@@ -6,26 +6,26 @@ use Rattle.vt_grid.specs.Page.{SameSize}
 use Rattle.vt_redraw.specs.Redraw.{difference}
 use Rattle.vt_screen.specs.Chain.{chain_text, last_screen}
 use Rattle.vt_screen.specs.Screen.{IsColored, IsScreen, ScreenValue}
-use Rattle.vt_screen.specs.Shown.{shown}
-use Rattle.vt100.specs.Parser.{Parsing}
+use Rattle.vt_screen.specs.Shown.{display}
+use Rattle.vt100.specs.Parser.{ParserValue}
 use Rattle.vt100.specs.Pieces.{IsPlainParser, Processes, Processing, bytes_in}
 
 -- The parser is plain and displays the same content as the screen.
-pub record ShowsScreen {S : Type 0} (screen : ScreenValue) (remote : Parsing S) : Type 0 where
+pub record ShowsScreen {S : Type 0} (screen : ScreenValue) (remote : ParserValue S) : Type 0 where
   pub plain : IsPlainParser remote
-  pub shows : shown remote.screen ≡ shown screen
+  pub shows : display remote.screen ≡ display screen
 
 -- ---- Auxiliary definitions for proofs, cited only by private functions
 
 -- The terminal received `bytes` through calls to `process`, and failed only if it had failed before.
-pub record HasTaken {S : Type 0} (bytes : List ℕ) (old new : Parsing S) : Type 0 where
+pub record HasTaken {S : Type 0} (bytes : List ℕ) (old new : ParserValue S) : Type 0 where
   pub calls : List Processing
   pub whole : bytes_in calls ≡ bytes
   pub folds : FoldsTo Processes old calls new
   pub fails : new.is_failed ≡ true → old.is_failed ≡ true
 
 -- The terminal received a prefix of `text`, and `rest` is the remaining part.
-pub record IsCut {S : Type 0} (text rest : List ℕ) (old new : Parsing S) : Type 0 where
+pub record IsCut {S : Type 0} (text rest : List ℕ) (old new : ParserValue S) : Type 0 where
   pub front : List ℕ
   pub whole : front ++ rest ≡ text
   pub takes : HasTaken front old new
@@ -36,14 +36,14 @@ pub record IsWhole (screen : ScreenValue) : Type 0 where
   pub colored : IsColored screen
 
 -- The terminal received the difference from `prev` to `screen`.
-pub record SendsNext {S : Type 0} (screen prev : ScreenValue) (old new : Parsing S) : Type 0 where
+pub record SendsNext {S : Type 0} (screen prev : ScreenValue) (old new : ParserValue S) : Type 0 where
   pub whole : IsWhole screen
-  pub takes : HasTaken (bytes_of_all (difference (shown screen) (shown prev))) old new
+  pub takes : HasTaken (bytes_of_all (difference (display screen) (display prev))) old new
 
 -- The terminal received the redraw of `first`, followed by the differences that lead from `first` to each screen of
 -- `nexts` in turn. The last of these screens is `prev`.
 pub record HasFollowed {S : Type 0} (first : ScreenValue) (nexts : List ScreenValue) (prev : ScreenValue)
-    (old new : Parsing S) : Type 0 where
+    (old new : ParserValue S) : Type 0 where
   pub whole : AllByRecursion IsWhole (first ∷ nexts)
   pub size : SameSize prev.page first.page
   pub last : last_screen first nexts ≡ prev

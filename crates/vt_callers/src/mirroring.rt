@@ -1,7 +1,7 @@
 //! A mirror with a viewer that joins late, and then displays what the mirror displays.
 
 ghost use Rattle.std.specs.Prelude.{◌≡◌, ◌<◌, IfErr, IfOk, OnOk, true};
-ghost use Rattle.vt100.specs.Parser.{Ran, quietly};
+ghost use Rattle.vt100.specs.Parser.{Ran, does_nothing};
 ghost use Rattle.vt100.specs.Pieces.{IsPlainParser};
 ghost use Rattle.vt_callers.specs.Failing.{HasSides, IsFailure, IsLateFailure};
 ghost use Rattle.vt_callers.specs.Remote.{ShowsScreen};
@@ -9,7 +9,7 @@ ghost use Rattle.vt_cells.specs.Refusals.{OnlyOutOfMemory};
 ghost use Rattle.vt_mirror.specs.Viewers.{is_viewer, next_number};
 ghost use Rattle.vt_mirror.specs.Watching.{IsFresh, ReadsText, TakesUpdate, TakesSize};
 ghost use Rattle.vt_redraw.specs.Steady.{IsSteady};
-ghost use Rattle.vt_screen.specs.Shown.{shown};
+ghost use Rattle.vt_screen.specs.Shown.{display};
 
 use std::num::NonZeroU16;
 use vt_mirror::{Mirror, Update, laws};
@@ -33,9 +33,9 @@ pub fn show_late<CB: Callbacks>(
     output: &[u8],
     terminal: &mut Parser<CB>,
 ) -> Result<u64, Error>
-    ensures read { IfOk result (λ viewer. Ran quietly mirror.old.parser output.now mirror.new.parser) }
+    ensures read { IfOk result (λ viewer. Ran does_nothing mirror.old.parser output.now mirror.new.parser) }
     ensures shows { IfOk result (λ viewer. IsFresh mirror.old → IsPlainParser terminal.old →
-        IsSteady (shown mirror.new.parser.screen) → ShowsScreen mirror.new.parser.screen terminal.new) }
+        IsSteady (display mirror.new.parser.screen) → ShowsScreen mirror.new.parser.screen terminal.new) }
     ensures number { IfOk result (λ viewer. viewer ≡ next_number mirror.old.viewers.last) }
     ensures joined { IfOk result (λ viewer. is_viewer mirror.new.viewers viewer ≡ true) }
     ensures only { IfErr result (IsLateFailure mirror.old terminal.old) }

@@ -10,7 +10,7 @@ ghost use Rattle.vt_grid.specs.Page.{SameSize};
 ghost use Rattle.vt_redraw.specs.Picture.{SamePictureSize};
 ghost use Rattle.vt_redraw.specs.Steady.{IsSteady};
 ghost use Rattle.vt_screen.specs.Chain.{last_screen};
-ghost use Rattle.vt_screen.specs.Shown.{shown};
+ghost use Rattle.vt_screen.specs.Shown.{display};
 
 use vt100::{Callbacks, Error, Parser, Screen, laws};
 
@@ -26,8 +26,8 @@ use vt100::{Callbacks, Error, Parser, Screen, laws};
 /// Returns [`Error::OutOfMemory`] if an allocation fails, and [`Error::Failed`] if the remote
 /// terminal failed before.
 pub fn send_redraw<CB: Callbacks>(screen: &Screen, remote: &mut Parser<CB>) -> Result<(), Error>
-    ensures shows { OnOk result (IsSteady (shown screen.now) → IsPlainParser remote.old →
-        SamePictureSize (shown screen.now) (shown remote.old.screen) → ShowsScreen screen.now remote.new) }
+    ensures shows { OnOk result (IsSteady (display screen.now) → IsPlainParser remote.old →
+        SamePictureSize (display screen.now) (display remote.old.screen) → ShowsScreen screen.now remote.new) }
     ensures fine { OnOk result (remote.new.is_failed ≡ false) }
     ensures only { IfErr result (IsFailure remote.old) }
 {
@@ -55,7 +55,7 @@ pub fn send_difference<CB: Callbacks>(
 ) -> Result<(), Error>
     requires { SameSize screen.now.page prev.now.page }
     ensures shows { OnOk result
-        (IsSteady (shown screen.now) → ShowsScreen prev.now remote.old → ShowsScreen screen.now remote.new) }
+        (IsSteady (display screen.now) → ShowsScreen prev.now remote.old → ShowsScreen screen.now remote.new) }
     ensures only { IfErr result (IsFailure remote.old) }
 {
     // Only for the proof: a call on a screen makes its invariant available.
@@ -83,8 +83,8 @@ pub fn send_both<CB: Callbacks>(
     remote: &mut Parser<CB>,
 ) -> Result<(), Error>
     requires { SameSize second.now.page first.now.page }
-    ensures shows { OnOk result (IsSteady (shown first.now) → IsSteady (shown second.now) → IsPlainParser remote.old →
-        SamePictureSize (shown first.now) (shown remote.old.screen) → ShowsScreen second.now remote.new) }
+    ensures shows { OnOk result (IsSteady (display first.now) → IsSteady (display second.now) → IsPlainParser remote.old →
+        SamePictureSize (display first.now) (display remote.old.screen) → ShowsScreen second.now remote.new) }
     ensures only { IfErr result (IsFailure remote.old) }
 {
     send_redraw(first, remote)?;
@@ -104,8 +104,8 @@ pub fn send_redraw_cut<CB: Callbacks>(
     sizes: &[usize],
     remote: &mut Parser<CB>,
 ) -> Result<(), Error>
-    ensures shows { OnOk result (IsSteady (shown screen.now) → IsPlainParser remote.old →
-        SamePictureSize (shown screen.now) (shown remote.old.screen) → ShowsScreen screen.now remote.new) }
+    ensures shows { OnOk result (IsSteady (display screen.now) → IsPlainParser remote.old →
+        SamePictureSize (display screen.now) (display remote.old.screen) → ShowsScreen screen.now remote.new) }
     ensures only { IfErr result (IsFailure remote.old) }
 {
     // Only for the proof: a call on a screen makes its invariant available.
@@ -130,7 +130,7 @@ pub fn send_difference_cut<CB: Callbacks>(
 ) -> Result<(), Error>
     requires { SameSize screen.now.page prev.now.page }
     ensures shows { OnOk result
-        (IsSteady (shown screen.now) → ShowsScreen prev.now remote.old → ShowsScreen screen.now remote.new) }
+        (IsSteady (display screen.now) → ShowsScreen prev.now remote.old → ShowsScreen screen.now remote.new) }
     ensures only { IfErr result (IsFailure remote.old) }
 {
     // Only for the proof: a call on a screen makes its invariant available.
@@ -177,8 +177,8 @@ pub fn follow<CB: Callbacks>(
     remote: &mut Parser<CB>,
 ) -> Result<(), Error>
     requires { AllByRecursion (λ next. SameSize next.page first.now.page) nexts.now }
-    ensures shows { OnOk result (AllByRecursion (λ screen. IsSteady (shown screen)) (first.now ∷ nexts.now) →
-        IsPlainParser remote.old → SamePictureSize (shown first.now) (shown remote.old.screen) →
+    ensures shows { OnOk result (AllByRecursion (λ screen. IsSteady (display screen)) (first.now ∷ nexts.now) →
+        IsPlainParser remote.old → SamePictureSize (display first.now) (display remote.old.screen) →
         ShowsScreen (last_screen first.now nexts.now) remote.new) }
     ensures only { IfErr result (IsFailure remote.old) }
 {

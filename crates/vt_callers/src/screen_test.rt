@@ -2,7 +2,7 @@
 //! output has been parsed.
 
 ghost use Rattle.std.specs.Prelude.{◌≡◌, ◌↔◌, false, map, true, IfOk, OnOk};
-ghost use Rattle.vt100.specs.Parser.{Ran, pieces_joined, quietly};
+ghost use Rattle.vt100.specs.Parser.{Ran, pieces_joined, does_nothing};
 ghost use Rattle.vt_callers.specs.Spots.{HasText};
 ghost use Rattle.vt_cells.specs.Refusals.{OnlyOutOfMemory};
 ghost use Rattle.vt_scan.specs.Automaton.{start};
@@ -109,7 +109,7 @@ pub fn pieces_show(
 fn read_pieces(parser: &mut Parser, pieces: &[&[u8]]) -> Result<(), Error>
     requires { parser.old.is_failed ≡ false }
     ensures ran { OnOk result
-        (Ran quietly parser.old (pieces_joined (map (λ piece. piece.now) pieces.now)) parser.new) }
+        (Ran does_nothing parser.old (pieces_joined (map (λ piece. piece.now) pieces.now)) parser.new) }
     ensures memory { OnlyOutOfMemory result }
 {
     laws::pieces::<()>();

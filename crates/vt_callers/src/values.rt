@@ -6,7 +6,7 @@ ghost use Rattle.vt_cells.specs.declared.color.Color.{Color};
 ghost use Rattle.vt_cells.specs.declared.modes.CursorStyle.{CursorStyle};
 ghost use Rattle.vt_cells.specs.declared.modes.MouseProtocolEncoding.{MouseProtocolEncoding};
 ghost use Rattle.vt_cells.specs.declared.modes.MouseProtocolMode.{MouseProtocolMode};
-ghost use Rattle.vt_rows.specs.Basic.{unwritten};
+ghost use Rattle.vt_rows.specs.Basic.{nothing_written};
 
 use vt100::capture::BasicFormattedCaptureState;
 use vt100::{Cell, Color, CursorStyle, MouseProtocolEncoding, MouseProtocolMode};
@@ -55,7 +55,7 @@ pub fn same_cursor_style(style: &CursorStyle) -> CursorStyle
 
 /// Returns the state of a capture without any rows.
 pub fn first_state() -> BasicFormattedCaptureState
-    ensures { result ≡ unwritten }
+    ensures { result ≡ nothing_written }
 {
     BasicFormattedCaptureState::default()
 }

@@ -3,7 +3,7 @@ use Rattle.std.proofs.Common.{◌≡◌, ℕ, ◌+◌, ◌≤◌, List, [], ◌�
 use Rattle.std.proofs.Common.{IsUtf8, refl, sym, subst, ap, ◌∙◌, arith, length-append, append-nil}
 use Rattle.std.proofs.lemmas.Slice.{take-put_mid}
 use Rattle.std.proofs.lemmas.Str.{IsUtf8-append}
-use Rattle.vt_cells.specs.BufferInternals.{IsBuffer, gathered}
+use Rattle.vt_cells.specs.BufferInternals.{IsBuffer, buffered_text}
 use borrow.Rule.Slice.PartMut.{put_mid}
 
 -- If two lists have one item each, setting the item of the first list to that of the second gives the second list.
@@ -59,6 +59,6 @@ pushed len k bytes copied text buffer inside fits same utf8 =
     (ap (λ (n : ℕ). n + length text) (sym buffer.measured))
     (subst (λ (n : ℕ). n + length text ≤ 128) buffer.measured fits) utf8)
 
-pub nothing_gathered : (text : List ℕ) → gathered text [] ≡ text
-unfolding gathered
+pub nothing_gathered : (text : List ℕ) → buffered_text text [] ≡ text
+unfolding buffered_text
 nothing_gathered text = append-nil text

@@ -8,8 +8,8 @@ use Rattle.std.proofs.lemmas.List.Concat.{flat_map-append}
 use Rattle.std.proofs.lemmas.Str.{IsAscii-append, IsAscii-drop}
 use Rattle.vt_cells.specs.Attrs.{Attrs, same_bool, same_color, same_intensity}
 use Rattle.vt_cells.specs.AttrsInternals.{same_style, style_of_attrs}
-use Rattle.vt_cells.specs.ChangeInternals.{IsEnd, separated, separated_all, style_part, without_separator}
-use Rattle.vt_cells.specs.Op.{change_numbers, joined, part}
+use Rattle.vt_cells.specs.ChangeInternals.{IsEnd, number_after_semicolon, separated_all, style_part, without_separator}
+use Rattle.vt_cells.specs.Op.{change_numbers, semicolon_list, part}
 use Rattle.vt_cells.specs.declared.color.Color.{Color}
 use Rattle.vt_cells.proofs.Changes.{background_part, foreground_part, intensity_part}
 use Rattle.vt_cells.proofs.Changes.{inverse_part, italic_part, joined_is, underline_part}
@@ -58,8 +58,8 @@ longer_by_number n rest now text whole byte e same is_whole =
     let both = length-append (decimal n) rest in
     omega arith
 
-pub one_put : (n : ℕ) (xs : List ℕ) → separated_all (n ∷ []) ++ xs ≡ separated n ++ xs
-one_put n xs = ap (λ ys. ys ++ xs) (append-nil (separated n))
+pub one_put : (n : ℕ) (xs : List ℕ) → separated_all (n ∷ []) ++ xs ≡ number_after_semicolon n ++ xs
+one_put n xs = ap (λ ys. ys ++ xs) (append-nil (number_after_semicolon n))
 
 -- If two colours are equal, no parameters are prepended.
 pub nothing_put : (a b : Color) (xs ns : List ℕ) → same_color a b ≡ true →
@@ -87,9 +87,9 @@ four_put : (i t u v end : List ℕ)
     ≡ separated_all (i ++ (t ++ (u ++ v))) ++ end
 four_put i t u v end =
     rw (
-      flat_map-append separated i (t ++ (u ++ v)),
-      flat_map-append separated t (u ++ v),
-      flat_map-append separated u v,
+      flat_map-append number_after_semicolon i (t ++ (u ++ v)),
+      flat_map-append number_after_semicolon t (u ++ v),
+      flat_map-append number_after_semicolon u v,
       append_assoc (separated_all i) (separated_all t ++ (separated_all u ++ separated_all v)) end,
       append_assoc (separated_all t) (separated_all u ++ separated_all v) end,
       append_assoc (separated_all u) (separated_all v) end,
@@ -108,8 +108,8 @@ three_put : (f b i end : List ℕ) →
     separated_all f ++ (separated_all b ++ (separated_all i ++ end)) ≡ separated_all (f ++ (b ++ i)) ++ end
 three_put f b i end =
     rw (
-      flat_map-append separated f (b ++ i),
-      flat_map-append separated b i,
+      flat_map-append number_after_semicolon f (b ++ i),
+      flat_map-append number_after_semicolon b i,
       append_assoc (separated_all f) (separated_all b ++ separated_all i) end,
       append_assoc (separated_all b) (separated_all i) end,
     ) refl
@@ -149,10 +149,10 @@ tail_left x m [] = refl
 tail_left x m (y ∷ ys) = refl
 
 -- Removing the first separator from separated numbers leaves them joined.
-pub numbers_left : (ns : List ℕ) → without_separator (separated_all ns ++ 0x6D ∷ []) ≡ joined ns ++ 0x6D ∷ []
+pub numbers_left : (ns : List ℕ) → without_separator (separated_all ns ++ 0x6D ∷ []) ≡ semicolon_list ns ++ 0x6D ∷ []
 numbers_left [] = refl
 numbers_left (n ∷ ns) =
-    tail_left 0x3B 0x6D (decimal n ++ flat_map separated ns) ∙ ap (λ xs. xs ++ 0x6D ∷ []) (sym (joined_is n ns))
+    tail_left 0x3B 0x6D (decimal n ++ flat_map number_after_semicolon ns) ∙ ap (λ xs. xs ++ 0x6D ∷ []) (sym (joined_is n ns))
 
 -- The lemmas on the parameters that a change of a colour adds: none, one, or several.
 pub ruleset numbers_put = (nothing_put, one_put, some_put)

@@ -6,9 +6,9 @@ use Rattle.std.proofs.lemmas.Bool.{cond_both}
 use Rattle.std.proofs.lemmas.Bool.Decides.{nat_tests}
 use Rattle.std.specs.List.{AllByRecursion}
 use Rattle.vt_cells.specs.Attrs.{default_attrs, same_attrs, same_bool, same_color, same_intensity, Attrs}
-use Rattle.vt_cells.specs.ChangeInternals.{separated}
+use Rattle.vt_cells.specs.ChangeInternals.{number_after_semicolon}
 use Rattle.vt_cells.specs.Op.{FitsAttrs, FitsColor, background_numbers, change_numbers, change_text}
-use Rattle.vt_cells.specs.Op.{csi, foreground_numbers, intensity_number, joined, part}
+use Rattle.vt_cells.specs.Op.{csi, foreground_numbers, intensity_number, semicolon_list, part}
 use Rattle.vt_cells.specs.declared.attrs.Intensity.{Intensity}
 use Rattle.vt_cells.specs.declared.attrs.Intensity.TheVariants.{Normal, Bold, Dim}
 use Rattle.vt_cells.specs.declared.color.Color.{Color}
@@ -171,7 +171,7 @@ change_numbers-none was new none =
     refl
 
 -- Joined numbers are the first number in decimal, followed by each further number after a separator.
-pub joined_is : (x : ℕ) (xs : List ℕ) → joined (x ∷ xs) ≡ decimal x ++ flat_map separated xs
+pub joined_is : (x : ℕ) (xs : List ℕ) → semicolon_list (x ∷ xs) ≡ decimal x ++ flat_map number_after_semicolon xs
 joined_is x [] = sym (append-nil (decimal x))
 joined_is x (y ∷ xs) = ap (λ rest. decimal x ++ 0x3B ∷ rest) (joined_is y xs)
 
@@ -187,7 +187,7 @@ change_text-default was new e f =
     rw (sym (attrs_eq-same was new), e, sym (attrs_eq-same new default_attrs), f) refl
 
 pub change_text-other : (was new : Attrs) → attrs_eq was new ≡ false →
-    attrs_eq new default_attrs ≡ false → change_text was new ≡ csi (joined (change_numbers was new)) 0x6D
+    attrs_eq new default_attrs ≡ false → change_text was new ≡ csi (semicolon_list (change_numbers was new)) 0x6D
 unfolding change_text
 change_text-other was new e f =
     rw (sym (attrs_eq-same was new), e, sym (attrs_eq-same new default_attrs), f) refl

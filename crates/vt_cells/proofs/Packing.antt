@@ -3,7 +3,7 @@ use Rattle.std.proofs.Common.{◌≡◌, ℕ, ◌+◌, ◌*◌, ◌/◌, ◌%◌
 use Rattle.std.proofs.Common.{Bool, true, false, refl, arith, ap, subst, sym, ◌∙◌, eqb-true, if◌then◌else◌}
 use Rattle.std.proofs.lemmas.Bool.Decides.{nat_tests}
 use Rattle.vt_cells.specs.Attrs.{Attrs, same_attrs, same_color}
-use Rattle.vt_cells.specs.AttrsInternals.{StyleValue, same_style, style_bits, style_of, unpacked}
+use Rattle.vt_cells.specs.AttrsInternals.{StyleValue, same_style, style_bits, style_of, color_of_parts}
 use Rattle.vt_cells.specs.AttrsInternals.{intensity_bits, color_bits, color_of, IsColorBits}
 use Rattle.vt_cells.specs.AttrsInternals.{attrs_of_bits, attrs_of_word, attrs_word, word_of}
 use Rattle.vt_cells.specs.AttrsInternals.{word_back, IsAttrsWord}
@@ -98,7 +98,7 @@ pub index_of : (i : ℕ) → i < 256 → color_of (1 + 4 * i) ≡ Idx i
 index_of i small =
     let kind : (1 + 4 * i) % 4 ≡ 1 = omega arith in
     let first : (1 + 4 * i) / 4 % 256 ≡ i = omega arith in
-    λ j. unpacked (kind j) (first j) ((1 + 4 * i) / 4 / 256 % 256) ((1 + 4 * i) / 4 / 256 / 256 % 256)
+    λ j. color_of_parts (kind j) (first j) ((1 + 4 * i) / 4 / 256 % 256) ((1 + 4 * i) / 4 / 256 / 256 % 256)
 
 pub index_bits : (i : ℕ) → i < 256 → IsColorBits (1 + 4 * i)
 index_bits i small = record { small = omega arith; back = ap color_bits (index_of i small) }
@@ -111,7 +111,7 @@ rgb_of r g b red green blue =
     let first : bits / 4 % 256 ≡ r = omega arith in
     let second : bits / 4 / 256 % 256 ≡ g = omega arith in
     let third : bits / 4 / 256 / 256 % 256 ≡ b = omega arith in
-    λ j. unpacked (kind j) (first j) (second j) (third j)
+    λ j. color_of_parts (kind j) (first j) (second j) (third j)
 
 pub rgb_bits : (r g b : ℕ) → r < 256 → g < 256 → b < 256
     → IsColorBits (2 + 4 * (r + 256 * (g + 256 * b)))
@@ -196,7 +196,7 @@ words_same m n p q =
     ∙ word_back n q) (itself n))
 
 unpacked_fits : (kind first second third : ℕ) → first < 256 → second < 256 → third < 256
-    → FitsColor (unpacked kind first second third)
+    → FitsColor (color_of_parts kind first second third)
 unpacked_fits zero first second third f s t = tt
 unpacked_fits (suc zero) first second third f s t = f
 unpacked_fits (suc (suc kind)) first second third f s t = (f, (s, t))

@@ -10,7 +10,7 @@ use Rattle.std.proofs.lemmas.Slice.Eq.{bytes_eq-Decides}
 use Rattle.vt_cells.specs.Cell.{CellValue, blank, glyph, right_half, cell_of, IsCell, is_blank}
 use Rattle.vt_cells.specs.Cell.{same_cell, text_of, attrs_of, is_wide, is_right_half}
 use Rattle.vt_cells.specs.CellInternals.{IsKept, blank_shape, same_shape, shape_of_cell, cell_head}
-use Rattle.vt_cells.specs.CellInternals.{cell_of_parts, front, head_of_cell, padded, same_head}
+use Rattle.vt_cells.specs.CellInternals.{cell_of_parts, first_eight_bytes, head_of_cell, padded_text, same_head}
 use Rattle.vt_cells.specs.CellInternals.{HeadValue, IsStored, stored_contents, stored_head}
 use Rattle.vt_cells.specs.CellEq.{cell_eq}
 use Rattle.vt_cells.specs.Attrs.{Attrs}
@@ -145,17 +145,17 @@ take_front (x ∷ s) z zero le = absurd (omega arith)
 take_front (x ∷ s) z (suc n) le = ap (λ t. x ∷ t) (take_front s z n (omega arith))
 
 -- Two texts of the same length, at most eight bytes, are equal if the first eight bytes of their arrays are equal.
-pub short_texts : (s t : List ℕ) → length s ≡ length t → length s ≤ 8 → front s ≡ front t → s ≡ t
-unfolding front
+pub short_texts : (s t : List ℕ) → length s ≡ length t → length s ≤ 8 → first_eight_bytes s ≡ first_eight_bytes t → s ≡ t
+unfolding first_eight_bytes
 short_texts s t same short fronts =
     sym (take_front s _ 8 short) ∙ (λ i. take (same i) (fronts i)) ∙ take_front t _ 8 (omega (arith, same))
 
 -- The first eight bytes of a stored cell's array are the front of the cell's text.
 pub front_stored : (head : HeadValue) (contents : List ℕ) (cell : CellValue) → IsStored head contents
-    → cell_of_parts head contents ≡ cell → take 8 contents ≡ front (text_of cell)
-unfolding front
+    → cell_of_parts head contents ≡ cell → take 8 contents ≡ first_eight_bytes (text_of cell)
+unfolding first_eight_bytes
 front_stored head contents cell h is =
-    (λ i. take 8 (sym (stored_contents head contents h) i)) ∙ ap (λ v. take 8 (padded (text_of v))) is
+    (λ i. take 8 (sym (stored_contents head contents h) i)) ∙ ap (λ v. take 8 (padded_text (text_of v))) is
 
 -- The stored head is the head of the cell that it represents.
 pub head_stored : (head : HeadValue) (contents : List ℕ) (cell : CellValue) → IsStored head contents
@@ -165,7 +165,7 @@ head_stored head contents cell h is = sym (ap head_of_cell is) ∙ stored_head h
 -- A cell with fewer than eight bytes of text equals any cell with the same head and the same first eight bytes of the
 -- text array.
 pub cells_begin : (x y : CellValue) → IsCell x → IsCell y → length (text_of x) < 8
-    → head_of_cell x ≡ head_of_cell y → front (text_of x) ≡ front (text_of y) → x ≡ y
+    → head_of_cell x ≡ head_of_cell y → first_eight_bytes (text_of x) ≡ first_eight_bytes (text_of y) → x ≡ y
 cells_begin x y is_x is_y short heads fronts =
     cell_by_parts x y is_x is_y
     (short_texts (text_of x) (text_of y) (ap (λ h. h.shape.len) heads) (omega arith) fronts)

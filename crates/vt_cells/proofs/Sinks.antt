@@ -4,7 +4,7 @@ use Rattle.std.proofs.Common.{refl, sym, subst, ap, ◌∙◌, arith, append_ass
 use Rattle.std.specs.Result.{OnErr}
 use Rattle.std.specs.declared.result.Result.{Result}
 use Rattle.std.specs.declared.result.Result.TheVariants.{Ok, Err}
-use Rattle.vt_cells.specs.BufferInternals.{gathered}
+use Rattle.vt_cells.specs.BufferInternals.{buffered_text}
 use Rattle.vt_cells.specs.Sinks.{IsStopped}
 
 -- A statement that holds in any case holds after an error.
@@ -20,7 +20,7 @@ stopped_first refuses before offered rest after some refused = record {
   offered = offered;
   rest = rest;
   parts = refl;
-  some = some;
+  nonempty = some;
   refused = subst (λ (xs : List ℕ). refuses xs offered after) (sym (append-nil before)) refused;
 }
 
@@ -57,7 +57,7 @@ stopped_in refuses old mid text rest whole after e le stopped =
           ∙ ap (λ (xs : List ℕ). front ++ xs) (append_assoc stopped.taken (stopped.offered ++ stopped.rest) rest
           ∙ ap (λ (xs : List ℕ). stopped.taken ++ xs) (append_assoc stopped.offered stopped.rest rest))
           ∙ sym (append_assoc front stopped.taken (stopped.offered ++ (stopped.rest ++ rest)));
-      some = stopped.some;
+      nonempty = stopped.nonempty;
       refused =
           subst (λ (xs : List ℕ). refuses xs stopped.offered after)
           (ap (λ (xs : List ℕ). xs ++ stopped.taken) (sym part.0) ∙ append_assoc old front stopped.taken)
@@ -73,9 +73,9 @@ stopped_before refuses before buffer text rest after stopped =
 
 -- If writing the second of two texts stopped after the first one was gathered, writing both texts stopped there.
 pub stopped_behind : (refuses : List ℕ → List ℕ → List ℕ → Type 0) (old mid was buffer text more after : List ℕ)
-    → gathered mid buffer ≡ gathered old was ++ text → length old ≤ length mid
+    → buffered_text mid buffer ≡ buffered_text old was ++ text → length old ≤ length mid
     → IsStopped refuses mid (buffer ++ more) after → IsStopped refuses old (was ++ (text ++ more)) after
-unfolding gathered
+unfolding buffered_text
 stopped_behind refuses old mid was buffer text more after e le stopped =
     stopped_in refuses old mid (buffer ++ more) [] (was ++ (text ++ more)) after
     (ap (λ (xs : List ℕ). mid ++ xs) (append-nil (buffer ++ more))
@@ -87,9 +87,9 @@ stopped_behind refuses old mid was buffer text more after e le stopped =
 
 -- If writing one of many texts stopped after all texts before it were gathered, writing all of them stopped there.
 pub stopped_among : (refuses : List ℕ → List ℕ → List ℕ → Type 0) (old mid buffer text rest whole after : List ℕ)
-    → gathered mid buffer ++ (text ++ rest) ≡ old ++ whole → length old ≤ length mid
+    → buffered_text mid buffer ++ (text ++ rest) ≡ old ++ whole → length old ≤ length mid
     → IsStopped refuses mid (buffer ++ text) after → IsStopped refuses old whole after
-unfolding gathered
+unfolding buffered_text
 stopped_among refuses old mid buffer text rest whole after e le stopped =
     stopped_in refuses old mid (buffer ++ text) rest whole after
     (ap (λ (xs : List ℕ). mid ++ xs) (append_assoc buffer text rest)
@@ -98,9 +98,9 @@ stopped_among refuses old mid buffer text rest whole after e le stopped =
 
 -- A text is not empty if its next part, including the buffered bytes, is not empty.
 pub some_among : (old mid buffer text rest whole : List ℕ)
-    → gathered mid buffer ++ (text ++ rest) ≡ old ++ whole → length old ≤ length mid
+    → buffered_text mid buffer ++ (text ++ rest) ≡ old ++ whole → length old ≤ length mid
     → 0 < length buffer + length text → 0 < length whole
-unfolding gathered
+unfolding buffered_text
 some_among old mid buffer text rest whole e le some =
     let wrote = length-append (mid ++ buffer) (text ++ rest) in
     let first = length-append mid buffer in

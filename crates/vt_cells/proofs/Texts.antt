@@ -9,7 +9,7 @@ use Rattle.vt_cells.specs.Attrs.{default_attrs, same_attrs, Attrs}
 use Rattle.vt_cells.specs.Op.{Op, Hide, ClearAttrs, MoveTo, MoveRight, NextRow, LineFeed, Backspace}
 use Rattle.vt_cells.specs.Op.{EraseBelow, EraseRest, EraseChars, SaveCursor, RestoreCursor, ChangeAttrs}
 use Rattle.vt_cells.specs.Op.{Print, FitsAttrs, FitsOp, bytes_of, bytes_of_all, change_numbers}
-use Rattle.vt_cells.specs.Op.{change_text, counted, csi, is_print, joined, place}
+use Rattle.vt_cells.specs.Op.{change_text, counted, csi, is_print, semicolon_list, place}
 use Rattle.vt_cells.proofs.Changes.{AllBytes, AllBytes-change_numbers}
 
 -- The bytes of two concatenated lists of operations are the concatenation of their bytes.
@@ -42,12 +42,12 @@ IsAscii-place zero (suc col) h k = IsAscii-pair (zero + 1) (suc col + 1) (omega 
 IsAscii-place (suc row) zero h k = IsAscii-pair (suc row + 1) (zero + 1) (omega arith) (omega arith)
 IsAscii-place (suc row) (suc col) h k = IsAscii-pair (suc row + 1) (suc col + 1) (omega arith) (omega arith)
 
-IsAscii-joined : (ns : List ℕ) → AllBytes ns → IsAscii (joined ns)
+IsAscii-joined : (ns : List ℕ) → AllBytes ns → IsAscii (semicolon_list ns)
 IsAscii-joined [] h = IsAscii-nil
 IsAscii-joined (n ∷ []) h = IsAscii-decimal n (omega (arith, h.0))
 IsAscii-joined (n ∷ m ∷ ns) h =
-    IsAscii-append (decimal n) (0x3B ∷ joined (m ∷ ns)) (IsAscii-decimal n (omega (arith, h.0)))
-    (IsAscii-cons 0x3B (joined (m ∷ ns)) (omega arith) (IsAscii-joined (m ∷ ns) h.1))
+    IsAscii-append (decimal n) (0x3B ∷ semicolon_list (m ∷ ns)) (IsAscii-decimal n (omega (arith, h.0)))
+    (IsAscii-cons 0x3B (semicolon_list (m ∷ ns)) (omega arith) (IsAscii-joined (m ∷ ns) h.1))
 
 ascii_if : (b : Bool) (xs ys : List ℕ) → IsAscii xs → IsAscii ys → IsAscii (if b then xs else ys)
 ascii_if true xs ys h k = h
@@ -58,7 +58,7 @@ unfolding change_text
 IsAscii-change_text was new h =
     ascii_if (same_attrs was new) _ _ IsAscii-nil
     (ascii_if (same_attrs new default_attrs) _ _ (IsAscii-csi [] 0x6D (omega arith) IsAscii-nil)
-    (IsAscii-csi (joined (change_numbers was new)) 0x6D (omega arith)
+    (IsAscii-csi (semicolon_list (change_numbers was new)) 0x6D (omega arith)
     (IsAscii-joined (change_numbers was new) (AllBytes-change_numbers was new h))))
 
 IsAscii-two : (a b : ℕ) → a < 128 → b < 128 → IsAscii (a ∷ b ∷ [])

@@ -9,7 +9,7 @@ use Rattle.std.proofs.lemmas.Nat.{from_le_bytes-to_le_bytes_8}
 use Rattle.std.proofs.lemmas.Nat.Bits.{bit_at-lt, bit_at-zero, bit_at_or, bit_at_xor}
 use Rattle.std.proofs.lemmas.Nat.Bits.{same_from_bits}
 use Rattle.vt_cells.specs.Cell.{CellValue, IsCell, text_of}
-use Rattle.vt_cells.specs.CellInternals.{HeadValue, IsStored, cell_of_parts, front, head_of}
+use Rattle.vt_cells.specs.CellInternals.{HeadValue, IsStored, cell_of_parts, first_eight_bytes, head_of}
 use Rattle.vt_cells.specs.CellInternals.{head_of_cell}
 use Rattle.vt_cells.proofs.Same.{false_of}
 use Rattle.vt_cells.proofs.SameCells.{cells_begin, head_stored, same_text-itself, short_texts}
@@ -61,17 +61,17 @@ first_eight (s0 ∷ s1 ∷ s2 ∷ s3 ∷ s4 ∷ s5 ∷ s6 ∷ []) long = absurd 
 
 -- Two texts of the same length, at most eight bytes, are equal if their first words are equal.
 pub same_words : (s t : List ℕ) (m n : ℕ)
-    → to_le_bytes w64 m ≡ front s → to_le_bytes w64 n ≡ front t → m ≡ n
+    → to_le_bytes w64 m ≡ first_eight_bytes s → to_le_bytes w64 n ≡ first_eight_bytes t → m ≡ n
     → length s ≡ length t → length s ≤ 8 → true ≡ bytes_eq s t
 same_words s t m n own other word same short =
     sym (rw (short_texts s t same short (sym own ∙ ap (to_le_bytes w64) word ∙ other)) (same_text-itself t))
 
 -- Texts whose first words differ are different.
 pub other_words : (s t : List ℕ) (m n : ℕ) → m < 2 ^ 64 → n < 2 ^ 64
-    → to_le_bytes w64 m ≡ front s → to_le_bytes w64 n ≡ front t → m ≢ n → false ≡ bytes_eq s t
+    → to_le_bytes w64 m ≡ first_eight_bytes s → to_le_bytes w64 n ≡ first_eight_bytes t → m ≢ n → false ≡ bytes_eq s t
 other_words s t m n small less own other differ =
     sym (false_of (bytes_eq s t) (λ same.
-    let fronts = own ∙ ap front (text_of-same s t same) ∙ sym other in
+    let fronts = own ∙ ap first_eight_bytes (text_of-same s t same) ∙ sym other in
     differ (sym (from_le_bytes-to_le_bytes_8 m small) ∙ ap (from_le_bytes w64) fronts
     ∙ from_le_bytes-to_le_bytes_8 n less)))
 
@@ -80,7 +80,7 @@ pub cells_even : (head others : HeadValue) (contents bytes : List ℕ) (x y : Ce
     → IsStored head contents → cell_of_parts head contents ≡ x
     → IsStored others bytes → cell_of_parts others bytes ≡ y
     → (d ≡ 0 → head ≡ others) → (d ≡ 0 → head.shape.len < 8)
-    → to_le_bytes w64 m ≡ front (text_of x) → to_le_bytes w64 n ≡ front (text_of y)
+    → to_le_bytes w64 m ≡ first_eight_bytes (text_of x) → to_le_bytes w64 n ≡ first_eight_bytes (text_of y)
     → bit_or d (bit_xor m n) ≡ 0 → x ≡ y
 cells_even head others contents bytes x y d m n h is_x k is_y same short own other e =
     let none : d ≡ 0 = or_none_left d (bit_xor m n) e in

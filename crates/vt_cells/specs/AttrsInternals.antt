@@ -10,10 +10,10 @@ use Rattle.vt_cells.specs.declared.color.Color.TheVariants.{Default, Idx, Rgb}
 
 -- The color of the given kind (0 for default, 1 for palette, 2 or more for RGB), with as many of the given components
 -- as its kind needs.
-abbrev pub unpacked : (kind first second third : ℕ) → Color
-unpacked zero first second third = Default
-unpacked (suc zero) first second third = Idx first
-unpacked (suc (suc kind)) first second third = Rgb first second third
+abbrev pub color_of_parts : (kind first second third : ℕ) → Color
+color_of_parts zero first second third = Default
+color_of_parts (suc zero) first second third = Idx first
+color_of_parts (suc (suc kind)) first second third = Rgb first second third
 
 -- A color packed into a number: its kind in the low two bits, and up to three components of eight bits each above the
 -- kind.
@@ -24,7 +24,7 @@ color_bits (Rgb r g b) = 2 + 4 * (r + 256 * (g + 256 * b))
 
 -- The color that a packed number stands for.
 abbrev pub color_of : ℕ → Color
-color_of bits = unpacked (bits % 4) (bits / 4 % 256) (bits / 4 / 256 % 256) (bits / 4 / 256 / 256 % 256)
+color_of bits = color_of_parts (bits % 4) (bits / 4 % 256) (bits / 4 / 256 % 256) (bits / 4 / 256 / 256 % 256)
 
 -- The number is a valid packed color, which fits in 26 bits.
 pub record IsColorBits (bits : ℕ) : Type 0 where

@@ -8,5 +8,5 @@ pub record IsBuffer (len : ℕ) (text : List ℕ) : Type 0 where
   pub utf8 : IsUtf8 text
 
 -- The text that was already written to the sink, followed by the text that is still in the buffer.
-unfoldable pub gathered : List ℕ → List ℕ → List ℕ
-gathered text buffer = text ++ buffer
+unfoldable pub buffered_text : List ℕ → List ℕ → List ℕ
+buffered_text text buffer = text ++ buffer

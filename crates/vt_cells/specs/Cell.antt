@@ -65,22 +65,22 @@ same_cell _ _ = false
 
 -- The cell after a combining character is added to its text, if the text is short enough. A blank first becomes the
 -- glyph of a space with the same attributes; a continuation cell is unchanged.
-abbrev pub marked : ℕ → CellValue → CellValue
-marked mark (blank attrs) = glyph (marked_text (0x20 ∷ []) mark) false attrs
-marked mark (glyph text wide attrs) = glyph (marked_text text mark) wide attrs
-marked mark right_half = right_half
+abbrev pub cell_with_mark : ℕ → CellValue → CellValue
+cell_with_mark mark (blank attrs) = glyph (marked_text (0x20 ∷ []) mark) false attrs
+cell_with_mark mark (glyph text wide attrs) = glyph (marked_text text mark) wide attrs
+cell_with_mark mark right_half = right_half
 
 -- The cell after its glyph becomes wide or narrow; a cell without a glyph is unchanged.
-abbrev pub widened : Bool → CellValue → CellValue
-widened wide (glyph text was attrs) = glyph text wide attrs
-widened wide (blank attrs) = blank attrs
-widened wide right_half = right_half
+abbrev pub cell_made_wide : Bool → CellValue → CellValue
+cell_made_wide wide (glyph text was attrs) = glyph text wide attrs
+cell_made_wide wide (blank attrs) = blank attrs
+cell_made_wide wide right_half = right_half
 
 -- The cell with the given attributes instead of its own; a continuation cell is unchanged.
-abbrev pub redrawn : Attrs → CellValue → CellValue
-redrawn attrs (blank was) = blank attrs
-redrawn attrs (glyph text wide was) = glyph text wide attrs
-redrawn attrs right_half = right_half
+abbrev pub cell_with_attrs : Attrs → CellValue → CellValue
+cell_with_attrs attrs (blank was) = blank attrs
+cell_with_attrs attrs (glyph text wide was) = glyph text wide attrs
+cell_with_attrs attrs right_half = right_half
 
 -- The invariant of every cell: the text of a glyph is a valid glyph text for the glyph's width.
 abbrev pub IsCell : CellValue → Type 0

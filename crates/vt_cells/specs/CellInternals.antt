@@ -101,16 +101,16 @@ cell_of_parts head contents =
     cell_of (take head.shape.len contents) head.shape.wide head.shape.right_half head.attrs
 
 -- The text, padded with zeros to the size of a cell's text array.
-abbrev pub padded : List ℕ → List ℕ
-padded text = text ++ replicate (text_room - length text) 0
+abbrev pub padded_text : List ℕ → List ℕ
+padded_text text = text ++ replicate (text_room - length text) 0
 
 -- The first eight bytes of the text array of a cell with the given text.
-unfoldable pub front : List ℕ → List ℕ
-front text = take 8 (padded text)
+unfoldable pub first_eight_bytes : List ℕ → List ℕ
+first_eight_bytes text = take 8 (padded_text text)
 
 -- If all bytes of an array after the first `len` are zero, padding those `len` bytes gives the array.
 pub padded_back : (len : ℕ) (contents : List ℕ) → length contents ≡ text_room → len ≤ text_room
-    → ((k : ℕ) → len ≤ k → slice_index contents k ≡ 0) → padded (take len contents) ≡ contents
+    → ((k : ℕ) → len ≤ k → slice_index contents k ≡ 0) → padded_text (take len contents) ≡ contents
 padded_back len contents room bounded zeros =
     same_number_lists _ _ (grind (arith, common_steps)) (λ k lt. grind (arith, common_steps, zeros k))
 
@@ -149,13 +149,13 @@ stored_head head contents h = cell_head _ _ _ _ _ h.kept
 
 -- The padded text of a cell built from a valid head and text array equals that array.
 pub stored_contents : (head : HeadValue) (contents : List ℕ) → IsStored head contents
-    → padded (text_of (cell_of_parts head contents)) ≡ contents
+    → padded_text (text_of (cell_of_parts head contents)) ≡ contents
 stored_contents head contents h =
-    (λ i. padded (cell_text _ _ _ _ _ h.kept i))
+    (λ i. padded_text (cell_text _ _ _ _ _ h.kept i))
     ∙ padded_back head.shape.len contents h.room h.kept.bounded h.zeros
 
 -- The cell itself, or the glyph of a space with the same attributes if the cell is a blank.
-abbrev pub spaced : CellValue → CellValue
-spaced (blank attrs) = glyph (0x20 ∷ []) false attrs
-spaced (glyph text wide attrs) = glyph text wide attrs
-spaced right_half = right_half
+abbrev pub cell_as_glyph : CellValue → CellValue
+cell_as_glyph (blank attrs) = glyph (0x20 ∷ []) false attrs
+cell_as_glyph (glyph text wide attrs) = glyph text wide attrs
+cell_as_glyph right_half = right_half

@@ -10,12 +10,12 @@ pub record IsEnd (start : ℕ) (text : List ℕ) : Type 0 where
   pub ascii : IsAscii text
 
 -- A number in decimal, preceded by the separator `;`.
-abbrev pub separated : ℕ → List ℕ
-separated n = 0x3B ∷ decimal n
+abbrev pub number_after_semicolon : ℕ → List ℕ
+number_after_semicolon n = 0x3B ∷ decimal n
 
 -- Numbers in decimal, each preceded by the separator `;`.
 abbrev pub separated_all : List ℕ → List ℕ
-separated_all ns = flat_map separated ns
+separated_all ns = flat_map number_after_semicolon ns
 
 -- The text without its first byte; a text of at most one byte is unchanged.
 abbrev pub without_separator : List ℕ → List ℕ

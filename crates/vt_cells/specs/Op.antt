@@ -49,10 +49,10 @@ place zero zero = []
 place row col = decimal (row + 1) ++ 0x3B ∷ decimal (col + 1)
 
 -- Decimal numbers joined by `;`.
-abbrev pub joined : List ℕ → List ℕ
-joined [] = []
-joined (n ∷ []) = decimal n
-joined (n ∷ m ∷ ns) = decimal n ++ 0x3B ∷ joined (m ∷ ns)
+abbrev pub semicolon_list : List ℕ → List ℕ
+semicolon_list [] = []
+semicolon_list (n ∷ []) = decimal n
+semicolon_list (n ∷ m ∷ ns) = decimal n ++ 0x3B ∷ semicolon_list (m ∷ ns)
 
 -- The SGR parameters of a foreground color: one number for the default color and the first 16 palette colors, and
 -- xterm's long form for all other colors.
@@ -97,7 +97,7 @@ unfoldable pub change_text : Attrs → Attrs → List ℕ
 change_text was new =
     if same_attrs was new then []
     else if same_attrs new default_attrs then csi [] 0x6D
-    else csi (joined (change_numbers was new)) 0x6D
+    else csi (semicolon_list (change_numbers was new)) 0x6D
 
 -- The bytes that a redraw writes for an operation.
 abbrev pub bytes_of : Op → List ℕ
@@ -123,8 +123,8 @@ bytes_of_all ops = flat_map bytes_of ops
 
 -- The operations that move the cursor from one position to another: CR and LF to reach the first column of the next
 -- row, CUF to move right within a row, none if the positions are equal, and CUP otherwise.
-abbrev pub moving : (from_row from_col to_row to_col : ℕ) → List Op
-moving from_row from_col to_row to_col =
+abbrev pub cursor_move_ops : (from_row from_col to_row to_col : ℕ) → List Op
+cursor_move_ops from_row from_col to_row to_col =
     if (to_row == from_row + 1) && (to_col == 0) then NextRow ∷ []
     else if (to_row == from_row) && nat_lt from_col to_col then MoveRight (to_col - from_col) ∷ []
     else if (to_row == from_row) && (to_col == from_col) then []

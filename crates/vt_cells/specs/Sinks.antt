@@ -9,5 +9,5 @@ pub record IsStopped (refuses : List ℕ → List ℕ → List ℕ → Type 0) (
   pub offered : List ℕ
   pub rest : List ℕ
   pub parts : text ≡ taken ++ (offered ++ rest)
-  pub some : 0 < length offered
+  pub nonempty : 0 < length offered
   pub refused : refuses (before ++ taken) offered after

@@ -1,7 +1,7 @@
 //! A buffer that collects short strings before they are written to a sink.
 
 ghost use Rattle.std.specs.Prelude.{◌≡◌, ◌+◌, ◌++◌, ◌<◌, ◌≤◌, [], length, IsErr, OnErr, OnOk};
-ghost use Rattle.vt_cells.specs.BufferInternals.{gathered};
+ghost use Rattle.vt_cells.specs.BufferInternals.{buffered_text};
 ghost use Rattle.vt_cells.specs.Sinks.{IsStopped};
 
 use crate::sink::Sink;
@@ -51,16 +51,16 @@ impl Buffer {
     ///
     /// Returns the sink's error. Part of the output may have been written by then.
     #[inline(always)]
-    #[tactic(auto, unfolding(crate::specs::BufferInternals::gathered))]
+    #[tactic(auto, unfolding(crate::specs::BufferInternals::buffered_text))]
     pub fn add<S: Sink>(&mut self, sink: &mut S, text: &str) -> Result<(), S::Error>
-        ensures text { OnOk result (gathered (S.text sink.new) self.new
-            ≡ gathered (S.text sink.old) self.old ++ text.now) }
+        ensures text { OnOk result (buffered_text (S.text sink.new) self.new
+            ≡ buffered_text (S.text sink.old) self.old ++ text.now) }
         ensures gathers { length self.old + length text.now ≤ 128
             → (self.new ≡ self.old ++ text.now) × (sink.new ≡ sink.old) }
         ensures grows { OnOk result (length (S.text sink.old) ≤ length (S.text sink.new)) }
         ensures err { OnErr result (IsStopped S.refuses (S.text sink.old) (self.old ++ text.now) (S.text sink.new)) }
         ensures full { IsErr result → 128 < length self.old + length text.now }
-        ensures some { IsErr result → 0 < length text.now }
+        ensures nonempty { IsErr result → 0 < length text.now }
     {
         if text.len() == 1 && self.len < ROOM {
             self.push_one(text);
@@ -80,13 +80,13 @@ impl Buffer {
     ///
     /// Returns the sink's error. Part of the output may have been written by then.
     #[inline(never)]
-    #[tactic(auto, unfolding(crate::specs::BufferInternals::gathered))]
+    #[tactic(auto, unfolding(crate::specs::BufferInternals::buffered_text))]
     pub fn flush<S: Sink>(&mut self, sink: &mut S) -> Result<(), S::Error>
-        ensures text { OnOk result (S.text sink.new ≡ gathered (S.text sink.old) self.old) }
+        ensures text { OnOk result (S.text sink.new ≡ buffered_text (S.text sink.old) self.old) }
         ensures empty { OnOk result (self.new ≡ []) }
         ensures nothing { self.old ≡ [] → sink.new ≡ sink.old }
         ensures err { OnErr result (S.refuses (S.text sink.old) self.old (S.text sink.new)) }
-        ensures some { IsErr result → 0 < length self.old }
+        ensures nonempty { IsErr result → 0 < length self.old }
     {
         if self.len == 0 {
             return Ok(());

@@ -5,7 +5,7 @@ ghost use Rattle.std.specs.Int.{to_le_bytes, w64};
 ghost use Rattle.vt_cells.specs.Attrs.{is_bold, is_dim, same_attrs};
 ghost use Rattle.vt_cells.specs.Cell.{is_wide, is_blank, is_glyph, is_right_half};
 ghost use Rattle.vt_cells.specs.Cell.{text_of, attrs_of, same_cell, IsCell};
-ghost use Rattle.vt_cells.specs.CellInternals.{front, head_of_cell, same_head};
+ghost use Rattle.vt_cells.specs.CellInternals.{first_eight_bytes, head_of_cell, same_head};
 ghost use Rattle.vt_cells.specs.Glyph.{is_wide_text};
 
 mod editing;
@@ -39,7 +39,7 @@ pub struct Cell {
 
 impl Model for Cell {
     ghost use Rattle.vt_cells.specs.Cell.{CellValue, text_of};
-    ghost use Rattle.vt_cells.specs.CellInternals.{IsStored, cell_of_parts, head_of_cell, padded};
+    ghost use Rattle.vt_cells.specs.CellInternals.{IsStored, cell_of_parts, head_of_cell, padded_text};
     ghost use Rattle.vt_cells.specs.CellInternals.{stored_contents, stored_head};
 
     ghost Value = { CellValue };
@@ -48,7 +48,7 @@ impl Model for Cell {
 
     ghost invariant = { λ c. IsStored c.head c.contents };
 
-    ghost inverse = { λ v. record { head = head_of_cell v; contents = padded (text_of v) } };
+    ghost inverse = { λ v. record { head = head_of_cell v; contents = padded_text (text_of v) } };
 
     ghost inverse_ok = { λ c h. λ i. record {
       head = stored_head c.head c.contents h i;
@@ -154,7 +154,7 @@ impl Cell {
     /// of the text are zero.
     #[inline(always)]
     fn front_word(&self) -> u64
-        ensures { to_le_bytes w64 result ≡ front (text_of self.now) }
+        ensures { to_le_bytes w64 result ≡ first_eight_bytes (text_of self.now) }
     {
         let bytes = &self.contents;
         u64::from_le_bytes([

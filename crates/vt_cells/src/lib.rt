@@ -5,13 +5,13 @@
 pub mod attrs;
 pub mod buffer;
 pub mod cell;
+pub mod cell_runs;
 pub mod color;
 pub mod error;
 mod head;
 pub mod modes;
 mod packed_color;
 pub mod pos;
-pub mod runs;
 mod shape;
 pub mod sink;
 pub mod term;

@@ -36,5 +36,5 @@ pub trait BufWrite {
     /// empty sequence never fails.
     fn write_buf<S: Sink>(&self, sink: &mut S) -> Result<(), S::Error>
         ensures text { OnOk result (S.text sink.new ≡ S.text sink.old ++ bytes self.now) }
-        ensures some { OnErr result (0 < length (bytes self.now)) };
+        ensures nonempty { OnErr result (0 < length (bytes self.now)) };
 }

@@ -7,10 +7,10 @@ use Rattle.std.proofs.lemmas.Bool.{cases_lt, cases_eq}
 use Rattle.std.proofs.lemmas.Bool.Decides.{nat_tests}
 use Rattle.std.proofs.lemmas.Grind.{get_or-set_at}
 use Rattle.std.proofs.lemmas.List.{set-set, set-get_or, length-set}
-use Rattle.vt_cells.specs.Cell.{CellValue, blank, default_blank, is_wide, is_right_half, text_of, marked}
+use Rattle.vt_cells.specs.Cell.{CellValue, blank, default_blank, is_wide, is_right_half, text_of, cell_with_mark}
 use Rattle.vt_cells.specs.Glyph.{is_selector, is_wide_text}
 use Rattle.vt_cells.specs.Attrs.{Attrs}
-use Rattle.vt_rows.specs.Cells.{at, IsPaired, blanks, erased, marked_at, column_of}
+use Rattle.vt_rows.specs.Cells.{at, IsPaired, blanks, cells_after_erase, marked_at, column_of}
 use Rattle.vt_rows.specs.Row.{RowValue, with_cells}
 use Rattle.vt_rows.proofs.Columns.{put_columns, same_columns}
 use Rattle.vt_rows.proofs.Pairs.{is_wide-marked}
@@ -18,7 +18,7 @@ use Rattle.vt_rows.proofs.Rows.{IsRow-erased, length-erased}
 use Rattle.vt_rows.proofs.Steps.{at-set}
 use Rattle.vt_grid.specs.Page.{Page, IsPage, cursor_row, with_row}
 use Rattle.vt_grid.specs.Printing.{carries, lifted_page, wrapped_page, glyph_put, mark_column}
-use Rattle.vt_grid.specs.Printing.{takes_mark, mark_put, carried, mark_printed}
+use Rattle.vt_grid.specs.Printing.{takes_mark, mark_put, page_after_wrap, mark_printed}
 use Rattle.vt_grid.specs.Internals.{IsSized, IsMarkPlace}
 use Rattle.vt_grid.proofs.Pages.{page_cursor_cells, IsRow-cursor_row}
 use Rattle.vt_grid.proofs.Marks.{cursor_row_put, mark_place}
@@ -30,14 +30,14 @@ pub record IsCarried (mark : ℕ) (page : Page) : Type 0 where
   pub selector : is_selector mark ≡ true
   pub takes : takes_mark (at (cursor_row page).cells (mark_column page)) ≡ true
   pub narrow : is_wide (at (cursor_row page).cells (mark_column page)) ≡ false
-  pub wide : is_wide_text (text_of (marked mark (at (cursor_row page).cells (mark_column page)))) ≡ true
+  pub wide : is_wide_text (text_of (cell_with_mark mark (at (cursor_row page).cells (mark_column page)))) ≡ true
   pub columns : 1 < page.width
   pub pending : page.column ≡ page.width
 
 by_tests : (mark : ℕ) (page : Page) (a b c d : Bool) → is_selector mark ≡ a →
     takes_mark (at (cursor_row page).cells (mark_column page)) ≡ b →
     is_wide (at (cursor_row page).cells (mark_column page)) ≡ c →
-    is_wide_text (text_of (marked mark (at (cursor_row page).cells (mark_column page)))) ≡ d →
+    is_wide_text (text_of (cell_with_mark mark (at (cursor_row page).cells (mark_column page)))) ≡ d →
     ((a && (b && not c)) && (d && (nat_lt 1 page.width && (page.column == page.width)))) ≡ true → IsCarried mark page
 by_tests mark page true true false true e f g h t = record {
   selector = e;
@@ -101,12 +101,12 @@ restored_at k j attrs cells p r w = elim (cases_lt j k) [
 -- Putting a removed narrow cell back restores the cells of the row.
 put_back_cells : (k : ℕ) (attrs : Attrs) (cells : List CellValue) → IsPaired cells →
     is_right_half (at cells k) ≡ false → is_wide (at cells k) ≡ false →
-    k < length cells → set (erased k 1 attrs cells) k (at cells k) ≡ cells
+    k < length cells → set (cells_after_erase k 1 attrs cells) k (at cells k) ≡ cells
 put_back_cells k attrs cells p r w h =
     let l = length-erased k 1 attrs cells (omega arith) in
-    same_columns (set (erased k 1 attrs cells) k (at cells k)) cells
-    (length-set (erased k 1 attrs cells) k (at cells k) ∙ l) (λ j.
-    at-set (erased k 1 attrs cells) k j (at cells k) (omega arith)
+    same_columns (set (cells_after_erase k 1 attrs cells) k (at cells k)) cells
+    (length-set (cells_after_erase k 1 attrs cells) k (at cells k) ∙ l) (λ j.
+    at-set (cells_after_erase k 1 attrs cells) k j (at cells k) (omega arith)
     ∙ (ap (λ (v : CellValue). if j == k then at cells k else v)
     (put_columns k 1 default_blank (blanks attrs 1) cells j refl (omega arith) ∙ restored_at k j attrs cells p r w)
     ∙ same_if j)) where
@@ -120,14 +120,14 @@ pub page_lifted : (k : ℕ) (attrs : Attrs) (page : Page) →
 page_lifted k attrs page h p =
     let row = IsRow-cursor_row page p in
     let l = row.columns in
-    page_cursor_cells (erased k 1 attrs (cursor_row page).cells) page p
+    page_cursor_cells (cells_after_erase k 1 attrs (cursor_row page).cells) page p
     (IsRow-erased page.width (cursor_row page) k 1 attrs (omega arith) row)
 
 pub sized_lifted : (rows cols k : ℕ) (attrs : Attrs) (page : Page) → k < length (cursor_row page).cells →
     IsSized rows cols page → IsSized rows cols (lifted_page k attrs page)
 sized_lifted rows cols k attrs page h s =
     sized rows cols page (lifted_page k attrs page) s
-    (length-set page.rows page.row (with_cells (cursor_row page) (erased k 1 attrs (cursor_row page).cells)))
+    (length-set page.rows page.row (with_cells (cursor_row page) (cells_after_erase k 1 attrs (cursor_row page).cells)))
     refl (page_lifted k attrs page h s.sound)
 
 pub sized_with_row : (rows cols r : ℕ) (row : RowValue) (page : Page) →
@@ -147,12 +147,12 @@ pub put_back_is : (k : ℕ) (attrs : Attrs) (page : Page) → IsMarkPlace (curso
 put_back_is k attrs page place narrow p =
     let row = IsRow-cursor_row page p in
     let cells = (cursor_row page).cells in
-    let was : (cursor_row (lifted_page k attrs page)).cells ≡ erased k 1 attrs cells =
-    ap (λ (row : RowValue). row.cells) (cursor_row_put (erased k 1 attrs cells) page p) in
+    let was : (cursor_row (lifted_page k attrs page)).cells ≡ cells_after_erase k 1 attrs cells =
+    ap (λ (row : RowValue). row.cells) (cursor_row_put (cells_after_erase k 1 attrs cells) page p) in
     let same : set (cursor_row (lifted_page k attrs page)).cells k (at cells k) ≡ cells =
     ap (λ (cs : List CellValue). set cs k (at cells k)) was
     ∙ put_back_cells k attrs cells row.paired place.shown narrow place.inside in
-    let twice = set-set page.rows page.row (with_cells (cursor_row page) (erased k 1 attrs cells)) (cursor_row page) in
+    let twice = set-set page.rows page.row (with_cells (cursor_row page) (cells_after_erase k 1 attrs cells)) (cursor_row page) in
     ap (λ (cs : List CellValue). with_row page.row
     (record { cells = cs; wrapped = (cursor_row page).wrapped }) (lifted_page k attrs page))
     same
@@ -161,32 +161,32 @@ put_back_is k attrs page place narrow p =
 -- ---- The combining character is printed so
 
 pub cell_marked : (k mark : ℕ) (page : Page) → k < length (cursor_row page).cells → IsPage page →
-    at (cursor_row (mark_put k mark page)).cells k ≡ marked mark (at (cursor_row page).cells k)
+    at (cursor_row (mark_put k mark page)).cells k ≡ cell_with_mark mark (at (cursor_row page).cells k)
 cell_marked k mark page h p =
     ap (λ (row : RowValue). at row.cells k) (cursor_row_put (marked_at k mark (cursor_row page).cells) page p)
-    ∙ get_or-set_at (cursor_row page).cells k k (marked mark (at (cursor_row page).cells k)) default_blank refl h
+    ∙ get_or-set_at (cursor_row page).cells k k (cell_with_mark mark (at (cursor_row page).cells k)) default_blank refl h
 
 pub carried_is : (mark : ℕ) (attrs : Attrs) (page : Page) → carries mark page ≡ true →
     mark_printed mark attrs page
-    ≡ glyph_put (text_of (marked mark (at (cursor_row page).cells (mark_column page)))) true attrs
+    ≡ glyph_put (text_of (cell_with_mark mark (at (cursor_row page).cells (mark_column page)))) true attrs
     (wrapped_page (lifted_page (mark_column page) attrs page))
-unfolding mark_printed carried
+unfolding mark_printed page_after_wrap
 carried_is mark attrs page t = rw t refl
 
 -- ---- What the code of a carry needs
 
-pub put_back_parts : (k mark : ℕ) (attrs : Attrs) (page new : Page) (cell : CellValue) (goes_on : Bool) →
+pub put_back_parts : (k mark : ℕ) (attrs : Attrs) (page new : Page) (cell : CellValue) (is_wrapped : Bool) →
     IsPage page → IsCarried mark page → k ≡ mark_column page →
-    new ≡ lifted_page k attrs page → cell ≡ at (cursor_row page).cells k → goes_on ≡ (cursor_row page).wrapped →
+    new ≡ lifted_page k attrs page → cell ≡ at (cursor_row page).cells k → is_wrapped ≡ (cursor_row page).wrapped →
     (k < length (cursor_row new).cells)
-    × (with_row new.row (record { cells = set (cursor_row new).cells k cell; wrapped = goes_on }) new ≡ page)
-put_back_parts k mark attrs page new cell goes_on p c e n x f =
+    × (with_row new.row (record { cells = set (cursor_row new).cells k cell; wrapped = is_wrapped }) new ≡ page)
+put_back_parts k mark attrs page new cell is_wrapped p c e n x f =
     let pos : 0 < page.column = omega (arith, c.columns, c.pending) in
     let place : IsMarkPlace (cursor_row page).cells page.column k = rw e (mark_place page p pos) in
     let narrow : is_wide (at (cursor_row page).cells k) ≡ false = rw e c.narrow in
     let inside = place.inside in
     let len : length (cursor_row (lifted_page k attrs page)).cells ≡ length (cursor_row page).cells =
-    ap (λ (row : RowValue). length row.cells) (cursor_row_put (erased k 1 attrs (cursor_row page).cells) page p)
+    ap (λ (row : RowValue). length row.cells) (cursor_row_put (cells_after_erase k 1 attrs (cursor_row page).cells) page p)
     ∙ length-erased k 1 attrs (cursor_row page).cells (omega arith) in
     (rw (n, len) inside, rw (n, x, f) (put_back_is k attrs page place narrow p))
 
@@ -214,9 +214,9 @@ stays_before mark page p inside s t f n w =
     let x = at (cursor_row page).cells k in
     let here = cell_marked k mark page inside p in
     let narrow : is_wide x ≡ false = sym (is_wide-marked mark x) ∙ (sym (ap is_wide here) ∙ n) in
-    let wide : (is_wide_text (text_of (marked mark x)) && nat_lt 1 page.width) ≡ true =
+    let wide : (is_wide_text (text_of (cell_with_mark mark x)) && nat_lt 1 page.width) ≡ true =
     ap (λ (y : CellValue). is_wide_text (text_of y) && nat_lt 1 page.width) (sym here) ∙ w in
-    let apart = untested (is_selector mark) (takes_mark x) (is_wide x) (is_wide_text (text_of (marked mark x)))
+    let apart = untested (is_selector mark) (takes_mark x) (is_wide x) (is_wide_text (text_of (cell_with_mark mark x)))
     (nat_lt 1 page.width) (page.column == page.width) s t narrow wide f in
     let h = p.cursor_column in
     grind (arith, nat_tests)

@@ -1,7 +1,7 @@
 -- Concatenated lists of operations.
 use Rattle.std.proofs.Common.{◌≡◌, List, [], ◌∷◌, ◌++◌, Option, Some, None, refl, ap, ◌∙◌}
 use Rattle.vt_cells.specs.Op.{Op}
-use Rattle.vt_grid.specs.Canvas.{Canvas, and_then, drawn, drawn_all}
+use Rattle.vt_grid.specs.Canvas.{Canvas, and_then, canvas_after_op, drawn_all}
 
 -- The operations turn canvas a into canvas b.
 abbrev pub Draws : List Op → Canvas → Canvas → Type 0
@@ -22,8 +22,8 @@ pub drawn_all-append : (xs ys : List Op) (a : Canvas) →
 drawn_all-append [] ys a = refl
 drawn_all-append (x ∷ xs) ys a =
     and_then-same (drawn_all (xs ++ ys))
-    (λ b. and_then (drawn_all ys) (drawn_all xs b)) (drawn_all-append xs ys) (drawn x a)
-    ∙ and_then-assoc (drawn_all xs) (drawn_all ys) (drawn x a)
+    (λ b. and_then (drawn_all ys) (drawn_all xs b)) (drawn_all-append xs ys) (canvas_after_op x a)
+    ∙ and_then-assoc (drawn_all xs) (drawn_all ys) (canvas_after_op x a)
 
 pub draws_then : (xs ys : List Op) (a b c : Canvas) → Draws xs a b → Draws ys b c → Draws (xs ++ ys) a c
 draws_then xs ys a b c p q = drawn_all-append xs ys a ∙ (ap (λ (z : Option Canvas). and_then (drawn_all ys) z) p ∙ q)

@@ -5,7 +5,7 @@ use Rattle.std.proofs.Common.{[], ◌∷◌, ◌++◌, length, take, drop, repli
 use Rattle.std.proofs.Common.{get_or, set, inl, inr, sym, ap, subst, ◌∙◌, arith}
 use Rattle.std.proofs.lemmas.Bool.{cases_lt, cases_eq}
 use Rattle.std.proofs.lemmas.Bool.Decides.{nat_tests}
-use Rattle.vt_rows.specs.Internals.{turn_source}
+use Rattle.vt_rows.specs.Internals.{rotation_source}
 use Rattle.std.specs.Vec.{with_items}
 use Rattle.std.proofs.lemmas.List.{with_items_is, length-take, length-drop, length-replicate, get_or-take}
 use Rattle.std.proofs.lemmas.List.{get_or-drop, get_or-replicate, get_or_default, ext_get_or, length-map}
@@ -168,27 +168,27 @@ IsTable-moved w source cells lines now e i once f t = record {
 
 -- ---- The table rotated
 
-turn_inside : (from to n k len : ℕ) → from + n ≤ to → to ≤ len → k < len → turn_source from to n k < len
+turn_inside : (from to n k len : ℕ) → from + n ≤ to → to ≤ len → k < len → rotation_source from to n k < len
 turn_inside from to n k len h t l = grind (arith, nat_tests)
 
-turn_once : (from to n j k : ℕ) → from + n ≤ to → turn_source from to n j ≡ turn_source from to n k → j ≡ k
+turn_once : (from to n j k : ℕ) → from + n ≤ to → rotation_source from to n j ≡ rotation_source from to n k → j ≡ k
 turn_once from to n j k h e = grind (arith, nat_tests)
 
 pub IsTable-turned : (w from to n : ℕ) (cells : List CellValue) (lines now : List Line) →
     from + n ≤ to → to ≤ length lines → length now ≡ length lines →
-    ((k : ℕ) → line_at now k ≡ line_at lines (turn_source from to n k)) → IsTable w cells lines → IsTable w cells now
+    ((k : ℕ) → line_at now k ≡ line_at lines (rotation_source from to n k)) → IsTable w cells lines → IsTable w cells now
 IsTable-turned w from to n cells lines now h i e f t =
-    IsTable-moved w (turn_source from to n) cells lines now e (λ k l. turn_inside from to n k (length lines) h i l)
+    IsTable-moved w (rotation_source from to n) cells lines now e (λ k l. turn_inside from to n k (length lines) h i l)
     (λ j k l m same. turn_once from to n j k h same) (λ k l. ap (λ (x : Line). x.place) (f k)) t
 
 pub rows_in-turned : (w from to n : ℕ) (cells : List CellValue) (lines now : List Line) →
     from + n ≤ to → to ≤ length lines → length now ≡ length lines →
-    ((k : ℕ) → line_at now k ≡ line_at lines (turn_source from to n k)) → (k : ℕ) (d : RowValue) →
-    k < length lines → get_or (rows_in w cells now) k d ≡ get_or (rows_in w cells lines) (turn_source from to n k) d
+    ((k : ℕ) → line_at now k ≡ line_at lines (rotation_source from to n k)) → (k : ℕ) (d : RowValue) →
+    k < length lines → get_or (rows_in w cells now) k d ≡ get_or (rows_in w cells lines) (rotation_source from to n k) d
 rows_in-turned w from to n cells lines now h i e f k d l =
     row_found w k cells now d (omega (arith, e))
     ∙ (ap (row_in w cells) (f k)
-    ∙ sym (row_found w (turn_source from to n k) cells lines d (turn_inside from to n k (length lines) h i l)))
+    ∙ sym (row_found w (rotation_source from to n k) cells lines d (turn_inside from to n k (length lines) h i l)))
 
 -- ---- Rows in their order
 
@@ -333,7 +333,7 @@ row_flagged r flag flat edited h c w f =
 
 pub flat_turned : (from to n : ℕ) (flat turned : Flat) → IsFlat flat → from + n ≤ to → to ≤ length (rows_of flat) →
     turned.cells ≡ flat.cells → turned.width ≡ flat.width → length turned.lines.items ≡ length flat.lines.items →
-    ((k : ℕ) → line_at turned.lines.items k ≡ line_at flat.lines.items (turn_source from to n k)) → IsFlat turned
+    ((k : ℕ) → line_at turned.lines.items k ≡ line_at flat.lines.items (rotation_source from to n k)) → IsFlat turned
 flat_turned from to n flat turned t h i c w e f =
     let all = rows_counted flat.width flat.cells.items flat.lines.items in
     subst (λ (x : ℕ × List CellValue). IsTable x.0 x.1 turned.lines.items) (λ z. (sym w z, (sym c z).items))
@@ -342,9 +342,9 @@ flat_turned from to n flat turned t h i c w e f =
 
 pub rows_turned : (from to n : ℕ) (flat turned : Flat) → from + n ≤ to → to ≤ length (rows_of flat) →
     turned.cells ≡ flat.cells → turned.width ≡ flat.width → length turned.lines.items ≡ length flat.lines.items →
-    ((k : ℕ) → line_at turned.lines.items k ≡ line_at flat.lines.items (turn_source from to n k)) →
+    ((k : ℕ) → line_at turned.lines.items k ≡ line_at flat.lines.items (rotation_source from to n k)) →
     (k : ℕ) (d : RowValue) → k < length (rows_of flat) →
-    get_or (rows_of turned) k d ≡ get_or (rows_of flat) (turn_source from to n k) d
+    get_or (rows_of turned) k d ≡ get_or (rows_of flat) (rotation_source from to n k) d
 rows_turned from to n flat turned h i c w e f k d l =
     let all = rows_counted flat.width flat.cells.items flat.lines.items in
     ap (λ (x : ℕ × List CellValue). get_or (rows_in x.0 x.1 turned.lines.items) k d) (λ z. (w z, (c z).items))

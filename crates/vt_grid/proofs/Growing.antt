@@ -11,7 +11,7 @@ use Rattle.std.proofs.lemmas.List.Elements.{All-get_or}
 use Rattle.vt_cells.specs.Attrs.{default_attrs}
 use Rattle.vt_cells.specs.Cell.{blank}
 use Rattle.vt_rows.specs.Row.{RowValue, blank_row, resized_row, trimmed_row}
-use Rattle.vt_grid.specs.Scrollback.{Scrollback, IsScrollback, last_of, stacked, kept_after, grown_row, narrow_rows}
+use Rattle.vt_grid.specs.Scrollback.{Scrollback, IsScrollback, last_of, rows_with_scrolled_off, kept_after, grown_row, narrow_rows}
 use Rattle.vt_grid.specs.Spare.{AreSpare, window_from, grown_from, in_view}
 use Rattle.vt_grid.proofs.Stacking.{length-stacked, length-last_of}
 
@@ -55,7 +55,7 @@ pub none_in_view : (w h : ℕ) (gone : List RowValue) (above : Scrollback) →
     above.offset ≡ 0 → narrow_rows w (in_view h (kept_after gone above)) ≤ 0
 unfolding kept_after
 none_in_view w h gone above e =
-    let rows = last_of above.capacity (stacked gone above) in
+    let rows = last_of above.capacity (rows_with_scrolled_off gone above) in
     let o : (if above.offset == 0 then 0 else min (above.offset + length gone) (length rows)) ≡ 0 = rw e refl in
     let first : length rows - (if above.offset == 0 then 0 else min (above.offset + length gone) (length rows))
     ≡ length rows = omega (arith, o) in
@@ -72,7 +72,7 @@ pub allocations_enough : (w h count first : ℕ) (gone : List RowValue) (above :
     ≤ narrow_rows w (window_from first h above.rows) + (min (first + h) (length above.rows + count) - length above.rows)
 unfolding kept_after
 allocations_enough w h count first gone above a e o f =
-    let whole = stacked gone above in
+    let whole = rows_with_scrolled_off gone above in
     let rows = last_of above.capacity whole in
     let offset = if above.offset == 0 then 0 else min (above.offset + length gone) (length rows) in
     let place : (length whole - above.capacity) + (length rows - offset) ≡ first =

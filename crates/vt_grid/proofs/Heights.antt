@@ -11,7 +11,7 @@ use Rattle.std.proofs.lemmas.List.FromFn.{length-map-range_with_len, get_or-map-
 use Rattle.vt_cells.specs.Attrs.{default_attrs}
 use Rattle.vt_cells.specs.Cell.{CellValue, default_blank}
 use Rattle.vt_rows.specs.Cells.{blanks}
-use Rattle.vt_rows.specs.Internals.{turn_source}
+use Rattle.vt_rows.specs.Internals.{rotation_source}
 use Rattle.vt_rows.specs.Row.{RowValue, IsRow, blank_row, resized_row}
 use Rattle.vt_rows.proofs.Columns.{blanks_is}
 use Rattle.vt_rows.proofs.Moves.{resized_row-same}
@@ -20,11 +20,11 @@ use Rattle.vt_grid.specs.declared.flat.Flat.{Flat}
 use Rattle.vt_grid.specs.declared.flat.Line.{Line}
 use Rattle.vt_grid.specs.Flat.{IsFlat, IsTable, cells_at, line_at, lines_from, no_line, row_in, rows_in}
 use Rattle.vt_cells.specs.declared.pos.Pos.{Pos}
-use Rattle.vt_grid.specs.Internals.{IsSized, given_back, page_of, refilled}
+use Rattle.vt_grid.specs.Internals.{IsSized, given_back, page_of, row_after_refill}
 use Rattle.vt_grid.specs.Page.{IsPage, Page}
 use Rattle.vt_grid.specs.Scrollback.{IsScrollback, Scrollback, no_scrollback}
 use Rattle.vt_grid.specs.PageRows.{PageRowsValue, with_blank_rows}
-use Rattle.vt_grid.specs.Resize.{out_of_view, page_resized, returning, row_resized, rows_resized}
+use Rattle.vt_grid.specs.Resize.{out_of_view, page_resized, returning_count, row_resized, rows_resized}
 use Rattle.vt_grid.specs.Resize.{scrollback_resized, taken_back, window}
 use Rattle.vt_grid.specs.Shifts.{unflagged}
 use Rattle.vt_grid.proofs.Flats.{length-cells_at, page_rows_of, place_inside, rows_counted, row_found, rows_in_by}
@@ -205,7 +205,7 @@ fitted w k rows d all h =
     sym (resized_row-same (length (blank_row default_attrs w).cells) (get_or rows k d)
     (row.columns ∙ sym (length-replicate w default_blank)) row.paired)
 
-pub turned_blank : (n up k : ℕ) → up ≤ n → k < up → turn_source 0 n (n - up) k ≡ k + (n - up)
+pub turned_blank : (n up k : ℕ) → up ≤ n → k < up → rotation_source 0 n (n - up) k ≡ k + (n - up)
 turned_blank n up k h i = grind (arith, nat_tests)
 
 -- The rows before the appended ones are valid.
@@ -218,16 +218,16 @@ own_sound w h own old e all =
     (All-get_or (IsRow w) old k d
     (omega (arith, l, ap length e, length-append own (replicate (h - length own) d))) all))
 
-turned_down : (n up k : ℕ) → up ≤ n → up ≤ k → k < n → turn_source 0 n (n - up) k ≡ k - up
+turned_down : (n up k : ℕ) → up ≤ n → up ≤ k → k < n → rotation_source 0 n (n - up) k ≡ k - up
 turned_down n up k h i j = grind (arith, nat_tests)
 
 brought_at : (w h up : ℕ) (above own old turned filled : List RowValue) →
     old ≡ own ++ replicate (h - length own) (blank_row default_attrs w) → length own + up ≤ h →
     All (IsRow w) own →
-    ((k : ℕ) (d : RowValue) → k < h → get_or turned k d ≡ get_or old (turn_source 0 h (h - up) k) d) →
+    ((k : ℕ) (d : RowValue) → k < h → get_or turned k d ≡ get_or old (rotation_source 0 h (h - up) k) d) →
     ((k : ℕ) (d : RowValue) → k < h → get_or filled k d ≡ given_back up above (get_or turned k d) k d) →
     (k : ℕ) (d : RowValue) → k < h →
-    get_or filled k d ≡ refilled 0 up above own (blank_row default_attrs w) k d
+    get_or filled k d ≡ row_after_refill 0 up above own (blank_row default_attrs w) k d
 brought_at w h up above own old turned filled e few sound t f k d l =
     let blank = blank_row default_attrs w in
     let n = length blank.cells in
@@ -273,7 +273,7 @@ brought_at w h up above own old turned filled e few sound t f k d l =
 pub brought_back : (w width h up last : ℕ) (above own old turned filled : List RowValue) →
     old ≡ own ++ replicate (h - length own) (blank_row default_attrs w) → length own + up ≤ h → 0 < h →
     All (IsRow w) old → length filled ≡ h → width ≡ w → last ≡ h - 1 →
-    ((k : ℕ) (d : RowValue) → k < h → get_or turned k d ≡ get_or old (turn_source 0 h (h - up) k) d) →
+    ((k : ℕ) (d : RowValue) → k < h → get_or turned k d ≡ get_or old (rotation_source 0 h (h - up) k) d) →
     ((k : ℕ) (d : RowValue) → k < h → get_or filled k d ≡ given_back up above (get_or turned k d) k d) →
     unflagged width last filled ≡ rows_resized w (window w h 0 up above own)
 brought_back w width h up last above own old turned filled e few pos sound l wide end t f =
@@ -284,17 +284,17 @@ brought_back w width h up last above own old turned filled e few pos sound l wid
     (l ∙ sym n) (λ _. refl) (λ k d i.
     let inside : k < h = omega (arith, n, i) in
     brought_at w h up above own old turned filled e few (own_sound w h own old e sound) t f k d inside
-    ∙ ap (λ (row : RowValue). refilled 0 up above own row k d) (sym (get_or-replicate h k blank d inside)))
+    ∙ ap (λ (row : RowValue). row_after_refill 0 up above own row k d) (sym (get_or-replicate h k blank d inside)))
 
 -- ---- Rows removed
 
-turned_up : (n down rows k : ℕ) → down + rows ≤ n → k < rows → turn_source 0 n down k ≡ down + k
+turned_up : (n down rows k : ℕ) → down + rows ≤ n → k < rows → rotation_source 0 n down k ≡ down + k
 turned_up n down rows k h i = grind (arith, nat_tests)
 
 -- The page after some of its rows were kept and the flag of the last of them was cleared.
 pub kept_rows : (w width n down rows last : ℕ) (above old turned kept : List RowValue) → length old ≡ n →
     down + rows ≤ n → 0 < rows → All (IsRow w) old → length kept ≡ rows → width ≡ w → last ≡ rows - 1 →
-    ((k : ℕ) (d : RowValue) → k < n → get_or turned k d ≡ get_or old (turn_source 0 n down k) d) →
+    ((k : ℕ) (d : RowValue) → k < n → get_or turned k d ≡ get_or old (rotation_source 0 n down k) d) →
     ((k : ℕ) (d : RowValue) → k < rows → get_or kept k d ≡ get_or turned k d) →
     unflagged width last kept ≡ rows_resized w (window w rows down 0 above old)
 kept_rows w width n down rows last above old turned kept size few pos sound l wide end t f =
@@ -315,7 +315,7 @@ kept_rows w width n down rows last above old turned kept size few pos sound l wi
     ∙ (sym (picks (nat_lt (down + (k - 0)) (length old)) own blank (grind (arith, nat_tests, there)))
     ∙ (sym (passes (nat_lt k 0) (if nat_le 0 (length above + k) then back else blank)
     (if nat_lt (down + (k - 0)) (length old) then own else blank) (grind (arith, nat_tests)))
-    ∙ ap (λ (row : RowValue). refilled down 0 above old row k d)
+    ∙ ap (λ (row : RowValue). row_after_refill down 0 above old row k d)
     (sym (get_or-replicate rows k blank d inside)))))))))
 
 -- ---- A page with rows appended
@@ -352,7 +352,7 @@ added_blank h up k left ext d e few i l =
 
 -- The page after rows were appended and rows came back to its top.
 pub grown_page : (h rows cols up : ℕ) (above mid : Scrollback) (page : Page) (left ext page_rows : PageRowsValue)
-    (pos saved : Pos) → length page.rows ≤ h → rows ≡ h → cols ≡ page.width → up ≡ returning h above page →
+    (pos saved : Pos) → length page.rows ≤ h → rows ≡ h → cols ≡ page.width → up ≡ returning_count h above page →
     mid ≡ out_of_view above → left.rows ≡ page.rows → left.width ≡ page.width → ext ≡ with_blank_rows h left →
     ((own : List RowValue) → length own + up ≤ length ext.rows →
     ext.rows ≡ own ++ replicate (length ext.rows - length own) (blank_row default_attrs ext.width) →
@@ -376,7 +376,7 @@ grown_page h rows cols up above mid page left ext page_rows pos saved more hr wc
     lw lr sr (w ∙ (wide ∙ lw)) pr pc qr qc
 
 pub grown_above : (h up : ℕ) (above mid new : Scrollback) (page : Page) → length page.rows ≤ h →
-    up ≡ returning h above page → mid ≡ out_of_view above → new ≡ taken_back up mid →
+    up ≡ returning_count h above page → mid ≡ out_of_view above → new ≡ taken_back up mid →
     new ≡ scrollback_resized h page above
 grown_above h up above mid new page more u m t =
     above_by_steps h (length page.rows) page.width 0 up above mid new page refl refl (omega (arith, more)) u m t

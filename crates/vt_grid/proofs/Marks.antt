@@ -10,7 +10,7 @@ use Rattle.std.proofs.lemmas.List.{length-set}
 use Rattle.std.proofs.lemmas.List.Folds.{list_any-append}
 use Rattle.std.proofs.lemmas.List.Elements.{All-get_or}
 use Rattle.vt_cells.specs.Cell.{CellValue, blank, glyph, right_half, default_blank, is_wide, is_blank}
-use Rattle.vt_cells.specs.Cell.{is_right_half, text_of, marked, widened, redrawn, IsCell}
+use Rattle.vt_cells.specs.Cell.{is_right_half, text_of, cell_with_mark, cell_made_wide, cell_with_attrs, IsCell}
 use Rattle.vt_cells.specs.Glyph.{IsGlyphText, IsMark, is_selector, has_room, is_wide_text}
 use Rattle.vt_cells.specs.Attrs.{Attrs}
 use Rattle.vt_cells.proofs.Glyphs.{longer}
@@ -73,7 +73,7 @@ mark_place page p pos =
 
 -- ---- A combining character
 
-pub blank_marked : (mark : ℕ) (x : CellValue) → is_right_half x ≡ false → is_blank (marked mark x) ≡ false
+pub blank_marked : (mark : ℕ) (x : CellValue) → is_right_half x ≡ false → is_blank (cell_with_mark mark x) ≡ false
 blank_marked mark (blank attrs) h = refl
 blank_marked mark (glyph text wide attrs) h = refl
 blank_marked mark right_half h = cc
@@ -99,19 +99,19 @@ selected_text text was wide mark old is_mark selector room =
     longer text was wide mark old is_mark room (λ none. absurd (any_push old.marks mark selector none))
 
 pub selected_cell : (mark : ℕ) (wide : Bool) (x : CellValue) → IsMark mark →
-    is_selector mark ≡ true → takes_mark x ≡ true → IsCell x → IsCell (widened wide (marked mark x))
+    is_selector mark ≡ true → takes_mark x ≡ true → IsCell x → IsCell (cell_made_wide wide (cell_with_mark mark x))
 selected_cell mark wide (blank attrs) m s t h = selected_text (0x20 ∷ []) false wide mark (IsCell-space attrs) m s refl
 selected_cell mark wide (glyph text was attrs) m s t h = rw t (selected_text text was wide mark h m s t)
 selected_cell mark wide right_half m s t h = tt
 
 pub glyph_text : (wide : Bool) (x : CellValue) → is_blank x ≡ false →
-    is_right_half x ≡ false → IsCell (widened wide x) → IsGlyphText (text_of x) wide
+    is_right_half x ≡ false → IsCell (cell_made_wide wide x) → IsGlyphText (text_of x) wide
 glyph_text wide (blank attrs) b r h = cc
 glyph_text wide (glyph text was attrs) b r h = h
 glyph_text wide right_half b r h = cc
 
 -- If a cell can validly be made wide, it can be made wide with different attributes.
-pub lifted_cell : (attrs : Attrs) (x : CellValue) → IsCell (widened true x) → IsCell (widened true (redrawn attrs x))
+pub lifted_cell : (attrs : Attrs) (x : CellValue) → IsCell (cell_made_wide true x) → IsCell (cell_made_wide true (cell_with_attrs attrs x))
 lifted_cell attrs (blank was) h = tt
 lifted_cell attrs (glyph text wide was) h = h
 lifted_cell attrs right_half h = tt
@@ -172,8 +172,8 @@ marked_selected k mark page m s t place p =
     let new = marked_at k mark cells in
     let e : (cursor_row (mark_put k mark page)).cells ≡ new =
     ap (λ (row : RowValue). row.cells) (cursor_row_put new page p) in
-    let here : at new k ≡ marked mark x = get_or-set_at cells k k (marked mark x) default_blank refl place.inside in
-    let l : length new ≡ length cells = length-set cells k (marked mark x) in
+    let here : at new k ≡ cell_with_mark mark x = get_or-set_at cells k k (cell_with_mark mark x) default_blank refl place.inside in
+    let l : length new ≡ length cells = length-set cells k (cell_with_mark mark x) in
     let w : is_wide (at new k) ≡ is_wide x = ap is_wide here ∙ is_wide-marked mark x in
     let r : is_right_half (at new k) ≡ is_right_half x = ap is_right_half here ∙ is_right_half-marked mark x in
     record {
@@ -185,7 +185,7 @@ marked_selected k mark page m s t place p =
       });
       drawn = ap (λ (cs : List CellValue). is_blank (at cs k)) e ∙ (ap is_blank here ∙ blank_marked mark x place.shown);
       either =
-          λ wide. subst (λ (cs : List CellValue). IsCell (widened wide (at cs k)))
-          (sym e) (subst (λ (c : CellValue). IsCell (widened wide c)) (sym here)
+          λ wide. subst (λ (cs : List CellValue). IsCell (cell_made_wide wide (at cs k)))
+          (sym e) (subst (λ (c : CellValue). IsCell (cell_made_wide wide c)) (sym here)
           (selected_cell mark wide x m s t (All-get_or IsCell cells k default_blank place.inside row.sound)));
     }

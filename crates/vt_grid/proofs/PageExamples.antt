@@ -9,7 +9,7 @@ use Rattle.vt_rows.specs.Row.{RowValue}
 use Rattle.vt_grid.specs.Page.{Page, blank_page, moved_rows}
 use Rattle.vt_grid.specs.Moves.{moved_to, moved_right, line_feed}
 use Rattle.vt_grid.specs.Erasing.{erased_chars, erased_rest, erased_below}
-use Rattle.vt_grid.specs.Printing.{glyph_put, room_made, wrapped_page, made_wide, made_narrow, carried, printed_by}
+use Rattle.vt_grid.specs.Printing.{glyph_put, room_made, wrapped_page, made_wide, made_narrow, page_after_wrap, printed_by}
 
 -- The page after a letter of one column is printed.
 abbrev letter : ℕ → Page → Page
@@ -95,10 +95,10 @@ unfolding room_made wrapped_page line_feed put_cells moved_rows made_wide
 heart_in_place = refl
 
 -- U+FE0F after a heart moves it to the next row if no column is left.
-heart_carried : carried 0xFE0F default_attrs (letter 9 (moved_to 1 1 (letter 1 (blank_page 2 2))))
+heart_carried : page_after_wrap 0xFE0F default_attrs (letter 9 (moved_to 1 1 (letter 1 (blank_page 2 2))))
     ≡ shown (row (default_blank ∷ default_blank ∷ []) false ∷ row (heart ∷ right_half ∷ []) false ∷ [])
     1 2 2 (blank_page 2 2)
-unfolding room_made wrapped_page line_feed put_cells moved_rows carried
+unfolding room_made wrapped_page line_feed put_cells moved_rows page_after_wrap
 heart_carried = refl
 
 -- A wide character that is made narrow leaves a space in its second column, and the cursor doesn't move.

@@ -12,7 +12,7 @@ use Rattle.vt_rows.specs.Row.{RowValue}
 use Rattle.vt_rows.proofs.Rows.{IsRow-wrapped, IsRow-put_narrow, IsRow-put_wide}
 use Rattle.vt_grid.specs.Page.{Page, IsPage, IsWhole, row_or, row_at, cursor_row, up_source, scrolled_up}
 use Rattle.vt_grid.specs.Moves.{at_bottom, line_feed}
-use Rattle.vt_grid.specs.Printing.{with_cursor_cells, flagged, left_row, goes_down, flagged_left}
+use Rattle.vt_grid.specs.Printing.{with_cursor_cells, page_with_wrapped, left_row, goes_down, flagged_left}
 use Rattle.vt_grid.specs.Printing.{wrapped_page, lacks_room, room_made, glyph_put}
 use Rattle.vt_grid.proofs.Pages.{page_at, page_if, page_with_row, page_cursor_cells, page_scrolled_up}
 use Rattle.vt_grid.proofs.Pages.{row_or-moved_rows, length-moved_rows, IsRow-row_or, IsRow-cursor_row}
@@ -40,15 +40,15 @@ height_line_feed page =
     (if_same (λ (q : Page). length q.rows) (nat_lt (page.row + 1) (length page.rows))
     (record page { row = page.row + 1 }) page (length page.rows) refl refl)
 
-pub width_flagged_left : (left : Option ℕ) (goes_on : Bool) (page : Page) →
-    (flagged_left left goes_on page).width ≡ page.width
-width_flagged_left (Some r) goes_on page = refl
-width_flagged_left None goes_on page = refl
+pub width_flagged_left : (left : Option ℕ) (is_wrapped : Bool) (page : Page) →
+    (flagged_left left is_wrapped page).width ≡ page.width
+width_flagged_left (Some r) is_wrapped page = refl
+width_flagged_left None is_wrapped page = refl
 
-pub height_flagged_left : (left : Option ℕ) (goes_on : Bool) (page : Page) →
-    length (flagged_left left goes_on page).rows ≡ length page.rows
-height_flagged_left (Some r) goes_on page = length-set page.rows r (record (row_at page r) { wrapped = goes_on })
-height_flagged_left None goes_on page = refl
+pub height_flagged_left : (left : Option ℕ) (is_wrapped : Bool) (page : Page) →
+    length (flagged_left left is_wrapped page).rows ≡ length page.rows
+height_flagged_left (Some r) is_wrapped page = length-set page.rows r (record (row_at page r) { wrapped = is_wrapped })
+height_flagged_left None is_wrapped page = refl
 
 pub width_wrapped_page : (page : Page) → (wrapped_page page).width ≡ page.width
 unfolding wrapped_page
@@ -68,12 +68,12 @@ region_order page p = ordered p.region where
   ordered (inl h) = omega arith
   ordered (inr h) = omega (arith, h.0)
 
-pub page_flagged : (r : ℕ) (goes_on : Bool) (page : Page) → r < length page.rows →
-    (goes_on ≡ true → ends_blank (row_at page r).cells ≡ false) → (r + 1 ≡ length page.rows → goes_on ≡ false) →
-    IsPage page → IsPage (flagged r goes_on page)
-page_flagged r goes_on page h full last p =
-    page_with_row r (record (row_at page r) { wrapped = goes_on }) page h p
-    (IsRow-wrapped page.width (row_at page r) goes_on full (IsRow-row_or page.width page.rows r p.rows)) last
+pub page_flagged : (r : ℕ) (is_wrapped : Bool) (page : Page) → r < length page.rows →
+    (is_wrapped ≡ true → ends_blank (row_at page r).cells ≡ false) → (r + 1 ≡ length page.rows → is_wrapped ≡ false) →
+    IsPage page → IsPage (page_with_wrapped r is_wrapped page)
+page_flagged r is_wrapped page h full last p =
+    page_with_row r (record (row_at page r) { wrapped = is_wrapped }) page h p
+    (IsRow-wrapped page.width (row_at page r) is_wrapped full (IsRow-row_or page.width page.rows r p.rows)) last
 
 not_true : (b : Bool) → not b ≡ true → b ≡ false
 not_true true h = sym h
@@ -106,7 +106,7 @@ wrapped_bottom page p e false s =
     (λ u. absurd (omega arith)) (page_scrolled_up 1 page p)
 
 wrapped_below : (page : Page) → IsPage page → (t : Bool) → nat_lt (page.row + 1) (length page.rows) ≡ t →
-    IsPage (flagged page.row (t && not (ends_blank (cursor_row page).cells))
+    IsPage (page_with_wrapped page.row (t && not (ends_blank (cursor_row page).cells))
     (if t then record page { row = page.row + 1 } else page))
 wrapped_below page p true e =
     let h = ltb-true (page.row + 1) (length page.rows) e in

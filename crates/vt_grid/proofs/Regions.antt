@@ -6,7 +6,7 @@ use Rattle.std.proofs.lemmas.Bool.{ltb-true}
 use Rattle.std.proofs.lemmas.Bool.Decides.{nat_tests}
 use Rattle.vt_grid.specs.Page.{Page, IsPage}
 use Rattle.vt_grid.specs.Regions.{in_region, last_row, moved_up, moved_down, next_line, previous_line}
-use Rattle.vt_grid.specs.Regions.{moved_to_column, moved_to_row, tabbed, region_set, origin_set}
+use Rattle.vt_grid.specs.Regions.{moved_to_column, moved_to_row, page_after_tab, region_set, origin_set}
 use Rattle.vt_grid.proofs.Pages.{page_at, page_if, page_carriage_return, page_moved_to}
 
 -- ---- The cursor
@@ -47,7 +47,7 @@ pub page_moved_to_row : (r : ℕ) (page : Page) → IsPage page → IsPage (move
 page_moved_to_row r page p =
     let h = p.cursor_row in page_at (min r (last_row page)) page.column page (omega arith) p.cursor_column p
 
-pub page_tabbed : (page : Page) → IsPage page → IsPage (tabbed page)
+pub page_tabbed : (page : Page) → IsPage page → IsPage (page_after_tab page)
 page_tabbed page p =
     page_at page.row (min ((page.column / 8 + 1) * 8) (page.width - 1)) page p.cursor_row (omega arith) p
 

@@ -2,7 +2,7 @@
 use Rattle.std.proofs.Common.{◌≡◌, ℕ, Bool, true, false, List, [], ◌∷◌, refl}
 use Rattle.vt_cells.specs.Attrs.{default_attrs, same_attrs, same_color}
 use Rattle.vt_cells.specs.Cell.{CellValue, glyph, right_half, default_blank}
-use Rattle.vt_rows.specs.Cells.{moved, resized}
+use Rattle.vt_rows.specs.Cells.{cells_after_move, cells_after_resize}
 use Rattle.vt_rows.specs.Row.{RowValue}
 use Rattle.vt_grid.specs.Page.{Page}
 use Rattle.vt_grid.specs.Resize.{window, page_resized, scrollback_resized, resize_reports}
@@ -49,7 +49,7 @@ page rows row column saved_row saved_column top bottom width = record {
 -- Two rows come back, of which the older one was not kept and is blank; the last row of the new page is blank too.
 more_rows : page_resized 5 4 (above (one 2 ∷ []) 1 2 0) (page (four 3 ∷ four 4 ∷ []) 1 1 0 2 0 1 4)
     ≡ page (none ∷ four 2 ∷ four 3 ∷ four 4 ∷ none ∷ []) 3 1 2 2 0 4 4
-unfolding page_resized window resized moved
+unfolding page_resized window cells_after_resize cells_after_move
 more_rows = refl
 
 both_came_back : scrollback_resized 5 (page (four 3 ∷ four 4 ∷ []) 1 1 0 2 0 1 4) (above (one 2 ∷ []) 1 2 1)
@@ -60,7 +60,7 @@ both_came_back = refl
 -- If there is room for only one of three rows that scrolled off, the newest comes back.
 one_came_back : page_resized 3 1 (above (one 1 ∷ one 2 ∷ []) 2 3 0) (page (one 3 ∷ one 4 ∷ []) 0 0 1 0 0 1 1)
     ≡ page (one 2 ∷ one 3 ∷ one 4 ∷ []) 1 0 2 0 0 2 1
-unfolding page_resized window resized moved
+unfolding page_resized window cells_after_resize cells_after_move
 one_came_back = refl
 
 two_are_left : scrollback_resized 3 (page (one 3 ∷ one 4 ∷ []) 0 0 1 0 0 1 1) (above (one 1 ∷ one 2 ∷ []) 2 3 0)
@@ -71,7 +71,7 @@ two_are_left = refl
 -- If no row is below the cursor, the first row scrolls off; the scroll region becomes the whole page.
 first_leaves : page_resized 2 4 (no_scrollback 0) (page (four 1 ∷ four 2 ∷ four 3 ∷ []) 2 1 1 0 1 2 4)
     ≡ page (four 2 ∷ four 3 ∷ []) 1 1 0 0 0 1 4
-unfolding page_resized window resized moved
+unfolding page_resized window cells_after_resize cells_after_move
 first_leaves = refl
 
 first_is_reported : resize_reports 2 (page (four 1 ∷ four 2 ∷ four 3 ∷ []) 2 1 1 0 1 2 4) (no_scrollback 0) ≡ one 1 ∷ []
@@ -86,7 +86,7 @@ first_counts = refl
 -- Rows below the cursor are dropped first, and none scrolls off; a saved cursor in a dropped row moves to the last row.
 last_goes : page_resized 2 4 (no_scrollback 0) (page (four 1 ∷ four 2 ∷ four 3 ∷ []) 0 0 2 3 0 2 4)
     ≡ page (four 1 ∷ four 2 ∷ []) 0 0 1 3 0 1 4
-unfolding page_resized window resized moved
+unfolding page_resized window cells_after_resize cells_after_move
 last_goes = refl
 
 none_is_reported : resize_reports 2 (page (four 1 ∷ four 2 ∷ four 3 ∷ []) 0 0 2 3 0 2 4) (no_scrollback 0) ≡ []
@@ -95,7 +95,7 @@ none_is_reported = refl
 -- One row below the cursor is dropped, and one more scrolls off; a saved cursor in that row stays in the first row.
 both_ends : page_resized 1 4 (no_scrollback 1) (page (four 1 ∷ four 2 ∷ four 3 ∷ []) 1 0 0 0 0 2 4)
     ≡ page (four 2 ∷ []) 0 0 0 0 0 0 4
-unfolding page_resized window resized moved
+unfolding page_resized window cells_after_resize cells_after_move
 both_ends = refl
 
 -- A wide glyph that is cut leaves a blank, no row stays wrapped, and the cursors stay on the page.
@@ -103,7 +103,7 @@ cut : page_resized 2 3 (no_scrollback 0)
     (page (row (n 1 ∷ n 2 ∷ w 3 ∷ right_half ∷ []) true ∷ four 4 ∷ []) 0 4 1 3 0 1 4)
     ≡ page (row (n 1 ∷ n 2 ∷ default_blank ∷ []) false ∷ row (n 4 ∷ default_blank ∷ default_blank ∷ []) false ∷ [])
     0 2 1 2 0 1 3
-unfolding page_resized window resized moved
+unfolding page_resized window cells_after_resize cells_after_move
 cut = refl
 
 -- On a wider page no row stays wrapped, and a pending wrap becomes a column of the page.
@@ -111,12 +111,12 @@ grown : page_resized 2 5 (no_scrollback 0) (page (row (n 1 ∷ n 2 ∷ n 3 ∷ n
     ≡ page (row (n 1 ∷ n 2 ∷ n 3 ∷ n 4 ∷ default_blank ∷ []) false
     ∷ row (n 4 ∷ default_blank ∷ default_blank ∷ default_blank ∷ default_blank ∷ []) false ∷ [])
     0 4 1 3 0 1 5
-unfolding page_resized window resized moved
+unfolding page_resized window cells_after_resize cells_after_move
 grown = refl
 
 -- With the same width a row stays wrapped, except for the last one.
 last_flag_falls : page_resized 2 1 (no_scrollback 0)
     (page (row (n 1 ∷ []) true ∷ row (n 2 ∷ []) true ∷ one 3 ∷ []) 0 1 0 0 0 2 1)
     ≡ page (row (n 1 ∷ []) true ∷ one 2 ∷ []) 0 0 0 0 0 1 1
-unfolding page_resized window resized moved
+unfolding page_resized window cells_after_resize cells_after_move
 last_flag_falls = refl

@@ -14,17 +14,17 @@ use Rattle.std.proofs.lemmas.List.Elements.{All-append, All-from_get_or, All-get
 use Rattle.std.proofs.lemmas.List.Elements.{All-replicate, All-same, All-set, All-take, All-weaker}
 use Rattle.vt_cells.specs.Attrs.{default_attrs}
 use Rattle.vt_cells.specs.Cell.{default_blank}
-use Rattle.vt_rows.specs.Cells.{blanks, resized}
+use Rattle.vt_rows.specs.Cells.{blanks, cells_after_resize}
 use Rattle.vt_rows.specs.Row.{RowValue, IsRow, blank_row, resized_row}
 use Rattle.vt_rows.proofs.Columns.{at-blanks}
 use Rattle.vt_rows.proofs.Moves.{IsRow-resized_row, moved_is}
 use Rattle.vt_rows.proofs.Rows.{IsRow-blank_row}
 use Rattle.vt_cells.specs.declared.pos.Pos.{Pos}
-use Rattle.vt_grid.specs.Internals.{IsSized, given_back, page_of, refilled, taken_over}
+use Rattle.vt_grid.specs.Internals.{IsSized, given_back, page_of, row_after_refill, taken_over}
 use Rattle.vt_grid.specs.Page.{Page, IsPage, blank_page, by_row, row_or}
-use Rattle.vt_grid.specs.Resize.{leaving, returning, window, rows_resized, row_resized}
+use Rattle.vt_grid.specs.Resize.{leaving_count, returning_count, window, rows_resized, row_resized}
 use Rattle.vt_grid.specs.Resize.{page_resized, out_of_view, taken_back, scrollback_resized}
-use Rattle.vt_grid.specs.Scrollback.{Scrollback, IsScrollback, kept_after, grown_in_view, pushed}
+use Rattle.vt_grid.specs.Scrollback.{Scrollback, IsScrollback, kept_after, grown_in_view, scrollback_after_push}
 use Rattle.vt_grid.specs.PageRows.{PageRowsValue}
 use Rattle.vt_grid.specs.Shifts.{unflagged}
 use Rattle.vt_grid.proofs.Pages.{IsRow-row_or}
@@ -32,8 +32,8 @@ use Rattle.vt_grid.proofs.Scrolling.{IsScrollback-pushed}
 
 -- ---- A blank row resized is a blank row
 
-resized-blanks : (v w : ℕ) → resized w (blanks default_attrs v) ≡ blanks default_attrs w
-unfolding resized
+resized-blanks : (v w : ℕ) → cells_after_resize w (blanks default_attrs v) ≡ blanks default_attrs w
+unfolding cells_after_resize
 resized-blanks v w =
     sym
     (moved_is w (λ k. k) (blanks default_attrs v) (blanks default_attrs w) (length-replicate w default_blank) (λ k h.
@@ -107,7 +107,7 @@ window_own v h down up above rows k l i =
 -- ---- The new rows take over
 
 refilled_at : (v w h down up : ℕ) (above rows : List RowValue) (k : ℕ) → k < h → (0 < up → down ≡ 0) →
-    refilled down up above rows (blank_row default_attrs w) k (blank_row default_attrs v)
+    row_after_refill down up above rows (blank_row default_attrs w) k (blank_row default_attrs v)
     ≡ resized_row w (row_or v (window v h down up above rows) k)
 refilled_at v w h down up above rows k l either =
     let blank = blank_row default_attrs w in
@@ -150,7 +150,7 @@ refilled_at v w h down up above rows k l either =
 pub refilled_is : (v w h down up : ℕ) (above rows fresh filled : List RowValue) →
     fresh ≡ replicate h (blank_row default_attrs w) → length filled ≡ length fresh → (0 < up → down ≡ 0) →
     ((k : ℕ) (d : RowValue) → k < length fresh →
-    get_or filled k d ≡ refilled down up above rows (get_or fresh k d) k d) →
+    get_or filled k d ≡ row_after_refill down up above rows (get_or fresh k d) k d) →
     filled ≡ map (resized_row w) (window v h down up above rows)
 refilled_is v w h down up above rows fresh filled e l either by_index =
     let d = blank_row default_attrs v in
@@ -162,7 +162,7 @@ refilled_is v w h down up above rows fresh filled e l either by_index =
     let inside : k < h = omega (arith, l, fresh_len) in
     let there : get_or fresh k d ≡ blank =
     ap (λ (rows : List RowValue). get_or rows k d) e ∙ get_or-replicate h k blank d inside in
-    by_index k d (omega (arith, l)) ∙ (ap (λ (row : RowValue). refilled down up above rows row k d) there
+    by_index k d (omega (arith, l)) ∙ (ap (λ (row : RowValue). row_after_refill down up above rows row k d) there
     ∙ (refilled_at v w h down up above rows k inside either
     ∙ sym (get_or-map (resized_row w) win k d d (omega (arith, length-window v h down up above rows, inside))))))
 
@@ -179,7 +179,7 @@ pub settled : (v w width h down up last : ℕ) (above rows fresh filled : List R
     0 < h → last ≡ length filled - 1 → length filled ≡ length fresh →
     (0 < up → down ≡ 0) →
     ((k : ℕ) (d : RowValue) → k < length fresh →
-    get_or filled k d ≡ refilled down up above rows (get_or fresh k d) k d) →
+    get_or filled k d ≡ row_after_refill down up above rows (get_or fresh k d) k d) →
     unflagged width last filled ≡ rows_resized w (window v h down up above rows)
 settled v w width h down up last above rows fresh filled e wide pos end same either by_index =
     let win = window v h down up above rows in
@@ -195,13 +195,13 @@ settled v w width h down up last above rows fresh filled e wide pos end same eit
     ) in
     λ z. unflagged (wide z) (place z) (all z)
 
--- A new page that is filled first from scrollback and then from the old page has the rows that `refilled` describes.
+-- A new page that is filled first from scrollback and then from the old page has the rows that `row_after_refill` describes.
 pub refilled_by : (down up : ℕ) (above rows fresh half filled : List RowValue) → length half ≡ length fresh →
     ((k : ℕ) (d : RowValue) → k < length fresh →
     get_or half k d ≡ given_back up above (get_or fresh k d) k d) →
     ((k : ℕ) (d : RowValue) → k < length half →
     get_or filled k d ≡ taken_over down up rows (get_or half k d) k d) →
-    (k : ℕ) (d : RowValue) → k < length fresh → get_or filled k d ≡ refilled down up above rows (get_or fresh k d) k d
+    (k : ℕ) (d : RowValue) → k < length fresh → get_or filled k d ≡ row_after_refill down up above rows (get_or fresh k d) k d
 refilled_by down up above rows fresh half filled e f g k d h =
     let l : k < length half = omega (arith, e) in
     let blank = get_or fresh k d in
@@ -326,8 +326,8 @@ pub page_page_resized : (height width : ℕ) (above : Scrollback) (page : Page) 
     0 < height → height < 2 ^ 16 → 0 < width → width < 2 ^ 16 → IsPage (page_resized height width above page)
 unfolding page_resized
 page_page_resized height width above page p a h hh w ww =
-    let down = leaving height page in
-    let up = returning height above page in
+    let down = leaving_count height page in
+    let up = returning_count height above page in
     let rows = window page.width height down up above.rows page.rows in
     let win : length rows ≡ height = length-window page.width height down up above.rows page.rows in
     let len : length (rows_resized width rows) ≡ height = length-rows_resized width rows ∙ win in
@@ -352,7 +352,7 @@ page_page_resized height width above page p a h hh w ww =
 -- ---- Scrollback
 
 pub offset-pushed : (h w : ℕ) (gone : List RowValue) (above : Scrollback) →
-    (pushed h w gone (out_of_view above)).offset ≡ 0
+    (scrollback_after_push h w gone (out_of_view above)).offset ≡ 0
 unfolding kept_after grown_in_view
 offset-pushed h w [] above = refl
 offset-pushed h w (row ∷ gone) above = refl
@@ -364,11 +364,11 @@ pub scrollback_resized_is : (height : ℕ) (page : Page) (above : Scrollback) �
     IsPage page → IsScrollback above → IsScrollback (scrollback_resized height page above)
 unfolding scrollback_resized
 scrollback_resized_is height page above p a =
-    let gone = take (leaving height page) page.rows in
-    let mid = pushed (length page.rows) page.width gone (out_of_view above) in
+    let gone = take (leaving_count height page) page.rows in
+    let mid = scrollback_after_push (length page.rows) page.width gone (out_of_view above) in
     let m = IsScrollback-pushed (length page.rows) page.width gone (out_of_view above)
-    (All-take (IsRow page.width) (leaving height page) page.rows p.rows) (IsScrollback-out_of_view above a) in
-    let n = length mid.rows - returning height above page in
+    (All-take (IsRow page.width) (leaving_count height page) page.rows p.rows) (IsScrollback-out_of_view above a) in
+    let n = length mid.rows - returning_count height above page in
     record {
       kept = omega (arith, m.kept, length-take n mid.rows);
       in_view = omega (arith, offset-pushed (length page.rows) page.width gone above);
@@ -407,13 +407,13 @@ window_sent v h down up above kept rows left either same d = elim (cases_eq down
 ]
 
 pushed_none : (h w n : ℕ) (rows : List RowValue) (above : Scrollback) →
-    n ≡ 0 → (pushed h w (take n rows) (out_of_view above)).rows ≡ above.rows
-pushed_none h w n rows above z = ap (λ (m : ℕ). (pushed h w (take m rows) (out_of_view above)).rows) z
+    n ≡ 0 → (scrollback_after_push h w (take n rows) (out_of_view above)).rows ≡ above.rows
+pushed_none h w n rows above z = ap (λ (m : ℕ). (scrollback_after_push h w (take m rows) (out_of_view above)).rows) z
 
 pub page_by_steps : (h w r c down up : ℕ) (above mid : Scrollback)
     (page : Page) (left page_rows : PageRowsValue) (pos saved : Pos) (rows cols : ℕ) →
-    rows ≡ h → cols ≡ w → down ≡ leaving h page → up ≡ returning h above page →
-    mid ≡ pushed r c (take down page.rows) (out_of_view above) →
+    rows ≡ h → cols ≡ w → down ≡ leaving_count h page → up ≡ returning_count h above page →
+    mid ≡ scrollback_after_push r c (take down page.rows) (out_of_view above) →
     left.width ≡ page.width → drop down left.rows ≡ drop down page.rows →
     page_rows.rows ≡ rows_resized w (window left.width h down up mid.rows left.rows) → page_rows.width ≡ w →
     pos.row ≡ row_resized rows down up page.row → pos.col ≡ min page.column (cols - 1) →
@@ -425,16 +425,16 @@ page_by_steps h w r c down up above mid page left page_rows pos saved rows cols 
     let kept : down ≡ 0 → mid.rows ≡ above.rows =
     λ z. ap (λ (s : Scrollback). s.rows) m ∙ pushed_none r c down page.rows above z in
     let win : window left.width h down up mid.rows left.rows
-    ≡ window page.width h (leaving h page) (returning h above page) above.rows page.rows
+    ≡ window page.width h (leaving_count h page) (returning_count h above page) above.rows page.rows
     = ap (λ (v : ℕ). window v h down up mid.rows left.rows) lw
     ∙ (window_sent page.width h down up above.rows mid.rows page.rows left.rows either kept ld
     ∙ λ i. window page.width h (d i) (u i) above.rows page.rows) in
     let all : page_rows.rows
-    ≡ rows_resized w (window page.width h (leaving h page) (returning h above page) above.rows page.rows) =
+    ≡ rows_resized w (window page.width h (leaving_count h page) (returning_count h above page) above.rows page.rows) =
     sr ∙ ap (rows_resized w) win in
-    let row : pos.row ≡ row_resized h (leaving h page) (returning h above page) page.row =
+    let row : pos.row ≡ row_resized h (leaving_count h page) (returning_count h above page) page.row =
     pr ∙ λ i. row_resized (hr i) (d i) (u i) page.row in
-    let saved_row : saved.row ≡ row_resized h (leaving h page) (returning h above page) page.saved_row =
+    let saved_row : saved.row ≡ row_resized h (leaving_count h page) (returning_count h above page) page.saved_row =
     qr ∙ λ i. row_resized (hr i) (d i) (u i) page.saved_row in
     let column : pos.col ≡ min page.column (w - 1) = pc ∙ ap (λ (n : ℕ). min page.column (n - 1)) wc in
     let saved_column : saved.col ≡ min page.saved_column (w - 1) =
@@ -453,24 +453,24 @@ page_by_steps h w r c down up above mid page left page_rows pos saved rows cols 
     }
 
 pub above_by_steps : (h r c down up : ℕ) (above mid new : Scrollback) (page : Page) →
-    r ≡ length page.rows → c ≡ page.width → down ≡ leaving h page → up ≡ returning h above page →
-    mid ≡ pushed r c (take down page.rows) (out_of_view above) →
+    r ≡ length page.rows → c ≡ page.width → down ≡ leaving_count h page → up ≡ returning_count h above page →
+    mid ≡ scrollback_after_push r c (take down page.rows) (out_of_view above) →
     new ≡ taken_back up mid → new ≡ scrollback_resized h page above
 unfolding scrollback_resized
 above_by_steps h r c down up above mid new page re ce d u m t =
-    t ∙ (ap (taken_back up) m ∙ λ i. taken_back (u i) (pushed (re i) (ce i) (take (d i) page.rows) (out_of_view above)))
+    t ∙ (ap (taken_back up) m ∙ λ i. taken_back (u i) (scrollback_after_push (re i) (ce i) (take (d i) page.rows) (out_of_view above)))
 
 pub sized_resized : (rows cols h w : ℕ) (above : Scrollback) (page : Page) → rows ≡ h → cols ≡ w →
     IsPage (page_resized h w above page) → IsSized rows cols (page_resized h w above page)
 unfolding page_resized
 sized_resized rows cols h w above page r c p =
-    let win = window page.width h (leaving h page) (returning h above page) above.rows page.rows in
+    let win = window page.width h (leaving_count h page) (returning_count h above page) above.rows page.rows in
     record {
       sound = p;
       height =
           r
           ∙ sym (length-rows_resized w win
-          ∙ length-window page.width h (leaving h page) (returning h above page) above.rows page.rows);
+          ∙ length-window page.width h (leaving_count h page) (returning_count h above page) above.rows page.rows);
       width = c;
     }
 

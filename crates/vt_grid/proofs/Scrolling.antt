@@ -12,8 +12,8 @@ use Rattle.vt_cells.specs.Attrs.{default_attrs}
 use Rattle.vt_rows.specs.Row.{RowValue, IsRow, blank_row, resized_row, trimmed_row}
 use Rattle.vt_rows.proofs.Moves.{IsRow-resized_row}
 use Rattle.vt_rows.proofs.Rows.{IsRow-blank_row}
-use Rattle.vt_grid.specs.Scrollback.{Scrollback, IsScrollback, last_of, before_last, stacked, greatest, kept_after}
-use Rattle.vt_grid.specs.Scrollback.{grown_row, grown_in_view, pushed, reported, with_view, narrow_rows}
+use Rattle.vt_grid.specs.Scrollback.{Scrollback, IsScrollback, last_of, before_last, rows_with_scrolled_off, greatest, kept_after}
+use Rattle.vt_grid.specs.Scrollback.{grown_row, grown_in_view, scrollback_after_push, rows_reported, with_view, narrow_rows}
 use Rattle.vt_grid.specs.Spare.{AreSpare, window_from, grown_from, in_view}
 use Rattle.vt_grid.proofs.Stacking.{All-stacked, IsScrollback-kept_after, length-stacked}
 
@@ -87,23 +87,23 @@ with_view_is h w n offset above rows e f =
 -- ---- Rows are appended
 
 pub pushed_some : (h w : ℕ) (gone : List RowValue) (above : Scrollback) →
-    0 < length gone → pushed h w gone above ≡ grown_in_view h w (kept_after gone above)
+    0 < length gone → scrollback_after_push h w gone above ≡ grown_in_view h w (kept_after gone above)
 pushed_some h w [] above s = absurd (omega arith)
 pushed_some h w (row ∷ gone) above s = refl
 
 pub reported_some : (gone : List RowValue) (above : Scrollback) → 0 < length gone →
-    reported gone above ≡ before_last above.capacity (stacked gone above)
+    rows_reported gone above ≡ before_last above.capacity (rows_with_scrolled_off gone above)
 reported_some [] above h = absurd (omega arith)
 reported_some (row ∷ gone) above h = refl
 
 pub IsScrollback-pushed : (h w : ℕ) (gone : List RowValue) (above : Scrollback) →
-    All (IsRow w) gone → IsScrollback above → IsScrollback (pushed h w gone above)
+    All (IsRow w) gone → IsScrollback above → IsScrollback (scrollback_after_push h w gone above)
 IsScrollback-pushed h w [] above g a = a
 IsScrollback-pushed h w (row ∷ gone) above g a =
     IsScrollback-grown_in_view h w (kept_after (row ∷ gone) above) (IsScrollback-kept_after w (row ∷ gone) above g a)
 
 kept_is : (gone : List RowValue) (above : Scrollback) (rows : List RowValue) (theoretical offset : ℕ) →
-    rows ≡ last_of above.capacity (stacked gone above) → theoretical ≡ min (above.theoretical + length gone) greatest →
+    rows ≡ last_of above.capacity (rows_with_scrolled_off gone above) → theoretical ≡ min (above.theoretical + length gone) greatest →
     offset ≡ (if above.offset == 0 then 0 else min (above.offset + length gone) (length rows)) →
     record { rows = rows; capacity = above.capacity; theoretical = theoretical; offset = offset }
     ≡ kept_after gone above
@@ -122,7 +122,7 @@ pub kept_by_steps : (gone : List RowValue) (above : Scrollback)
     record { rows = kept; capacity = above.capacity; theoretical = theoretical; offset = offset }
     ≡ kept_after gone above
 kept_by_steps gone above before kept theoretical offset len b e t l o =
-    let stacks : kept ≡ last_of above.capacity (stacked gone above) =
+    let stacks : kept ≡ last_of above.capacity (rows_with_scrolled_off gone above) =
     e ∙ ap (λ (xs : List RowValue). last_of above.capacity (xs ++ map trimmed_row gone)) b in
     kept_is gone above kept theoretical offset stacks t
     (o ∙ ap (λ (n : ℕ). if above.offset == 0 then 0 else min (above.offset + length gone) n) l)
@@ -131,7 +131,7 @@ pub reported_by_steps : {S : Type 0} (leaves : S → RowValue → S → Type 0)
     (gone : List RowValue) (above : Scrollback) (before : List RowValue) (old new : S) →
     0 < length gone →
     before ≡ above.rows → FoldsTo leaves old (before_last above.capacity (before ++ map trimmed_row gone)) new →
-    FoldsTo leaves old (reported gone above) new
+    FoldsTo leaves old (rows_reported gone above) new
 reported_by_steps leaves gone above before old new s b told =
     let all = ap (λ (xs : List RowValue). before_last above.capacity (xs ++ map trimmed_row gone)) b
     ∙ sym (reported_some gone above s) in
@@ -144,7 +144,7 @@ pub pushed_is : (h w : ℕ) (gone : List RowValue) (above : Scrollback)
     ≡ kept_after gone above →
     rows ≡ grown_from (length kept - offset) h w kept →
     record { rows = rows; capacity = above.capacity; theoretical = theoretical; offset = offset }
-    ≡ pushed h w gone above
+    ≡ scrollback_after_push h w gone above
 unfolding grown_in_view
 pushed_is h w gone above kept rows theoretical offset s e f =
     let g : record { rows = rows; capacity = above.capacity; theoretical = theoretical; offset = offset }
@@ -216,30 +216,30 @@ pub turned_is : (h w : ℕ) (gone : List RowValue) (above : Scrollback) (rows : 
     length above.rows ≡ above.capacity → 0 < above.capacity → above.offset ≡ 0 → length gone ≡ 1 →
     rows ≡ drop 1 above.rows ++ map trimmed_row gone → theoretical ≡ min (above.theoretical + length gone) greatest →
     record { rows = rows; capacity = above.capacity; theoretical = theoretical; offset = above.offset }
-    ≡ pushed h w gone above
+    ≡ scrollback_after_push h w gone above
 turned_is h w gone above rows theoretical f c o n e t =
-    let one : 1 ≡ length (stacked gone above) - above.capacity = omega (arith, length-stacked gone above) in
-    let stacks : rows ≡ last_of above.capacity (stacked gone above) =
+    let one : 1 ≡ length (rows_with_scrolled_off gone above) - above.capacity = omega (arith, length-stacked gone above) in
+    let stacks : rows ≡ last_of above.capacity (rows_with_scrolled_off gone above) =
     e
     ∙ (sym (drop-append-le 1 above.rows (map trimmed_row gone) (omega arith))
-    ∙ ap (λ (m : ℕ). drop m (stacked gone above)) one) in
+    ∙ ap (λ (m : ℕ). drop m (rows_with_scrolled_off gone above)) one) in
     let offset : above.offset ≡ (if above.offset == 0 then 0 else min (above.offset + length gone) (length rows)) =
     grind (arith, o) in
     pushed_is h w gone above rows rows theoretical above.offset (omega arith)
     (kept_is gone above rows theoretical above.offset stacks t offset)
     (nothing_grows (length rows - above.offset) h w rows (omega arith))
 
--- If there is room for one more row and no row is displayed, appending a row gives the scrollback that `pushed`
+-- If there is room for one more row and no row is displayed, appending a row gives the scrollback that `scrollback_after_push`
 -- defines.
 pub added_is : (h w : ℕ) (gone : List RowValue) (above : Scrollback) (rows : List RowValue) (theoretical : ℕ) →
     length above.rows < above.capacity → above.offset ≡ 0 → length gone ≡ 1 →
     rows ≡ above.rows ++ map trimmed_row gone → theoretical ≡ min (above.theoretical + length gone) greatest →
     record { rows = rows; capacity = above.capacity; theoretical = theoretical; offset = above.offset }
-    ≡ pushed h w gone above
+    ≡ scrollback_after_push h w gone above
 added_is h w gone above rows theoretical f o n e t =
-    let none : 0 ≡ length (stacked gone above) - above.capacity = omega (arith, length-stacked gone above) in
-    let stacks : rows ≡ last_of above.capacity (stacked gone above) =
-    e ∙ ap (λ (m : ℕ). drop m (stacked gone above)) none in
+    let none : 0 ≡ length (rows_with_scrolled_off gone above) - above.capacity = omega (arith, length-stacked gone above) in
+    let stacks : rows ≡ last_of above.capacity (rows_with_scrolled_off gone above) =
+    e ∙ ap (λ (m : ℕ). drop m (rows_with_scrolled_off gone above)) none in
     let offset : above.offset ≡ (if above.offset == 0 then 0 else min (above.offset + length gone) (length rows)) =
     grind (arith, o) in
     pushed_is h w gone above rows rows theoretical above.offset (omega arith)
@@ -247,19 +247,19 @@ added_is h w gone above rows theoretical f o n e t =
     (nothing_grows (length rows - above.offset) h w rows (omega arith))
 
 pub added_reports : (gone : List RowValue) (above : Scrollback) → length above.rows < above.capacity →
-    length gone ≡ 1 → reported gone above ≡ []
+    length gone ≡ 1 → rows_reported gone above ≡ []
 added_reports gone above room n =
     reported_some gone above (omega arith)
-    ∙ nil_from_length (before_last above.capacity (stacked gone above))
-    (length-take (length (stacked gone above) - above.capacity) (stacked gone above)
+    ∙ nil_from_length (before_last above.capacity (rows_with_scrolled_off gone above))
+    (length-take (length (rows_with_scrolled_off gone above) - above.capacity) (rows_with_scrolled_off gone above)
     ∙ omega (arith, length-stacked gone above))
 
 pub turned_reports : (gone : List RowValue) (above : Scrollback) → length above.rows ≡ above.capacity →
-    0 < above.capacity → length gone ≡ 1 → reported gone above ≡ take 1 above.rows
+    0 < above.capacity → length gone ≡ 1 → rows_reported gone above ≡ take 1 above.rows
 turned_reports gone above f c n =
-    let one : length (stacked gone above) - above.capacity ≡ 1 = omega (arith, length-stacked gone above) in
+    let one : length (rows_with_scrolled_off gone above) - above.capacity ≡ 1 = omega (arith, length-stacked gone above) in
     reported_some gone above (omega arith)
-    ∙ (ap (λ (m : ℕ). take m (stacked gone above)) one
+    ∙ (ap (λ (m : ℕ). take m (rows_with_scrolled_off gone above)) one
     ∙ take-append-le 1 above.rows (map trimmed_row gone) (omega arith))
 
 -- ---- Nothing is kept
@@ -267,11 +267,11 @@ turned_reports gone above f c n =
 pub passed_is : (h w : ℕ) (gone : List RowValue) (above : Scrollback) (theoretical : ℕ) → IsScrollback above →
     above.capacity ≡ 0 → 0 < length gone → theoretical ≡ min (above.theoretical + length gone) greatest →
     record { rows = above.rows; capacity = above.capacity; theoretical = theoretical; offset = above.offset }
-    ≡ pushed h w gone above
+    ≡ scrollback_after_push h w gone above
 passed_is h w gone above theoretical a z s t =
     let none : above.rows ≡ [] = nil_from_length above.rows (omega (arith, a.kept)) in
-    let all : above.rows ≡ last_of above.capacity (stacked gone above) =
-    none ∙ sym (drop_all (length (stacked gone above) - above.capacity) (stacked gone above) (omega arith)) in
+    let all : above.rows ≡ last_of above.capacity (rows_with_scrolled_off gone above) =
+    none ∙ sym (drop_all (length (rows_with_scrolled_off gone above) - above.capacity) (rows_with_scrolled_off gone above) (omega arith)) in
     let offset : above.offset
     ≡ (if above.offset == 0 then 0 else min (above.offset + length gone) (length above.rows)) =
     grind (arith, a.in_view, a.kept) in
@@ -283,10 +283,10 @@ passed_is h w gone above theoretical a z s t =
     (length-grown_from (length above.rows - above.offset) h w above.rows (omega arith) ∙ omega (arith, a.kept))))
 
 pub passed_reports : (gone : List RowValue) (above : Scrollback) → IsScrollback above →
-    above.capacity ≡ 0 → 0 < length gone → reported gone above ≡ map trimmed_row gone
+    above.capacity ≡ 0 → 0 < length gone → rows_reported gone above ≡ map trimmed_row gone
 passed_reports gone above a z s =
     let none : above.rows ≡ [] = nil_from_length above.rows (omega (arith, a.kept)) in
-    let whole : stacked gone above ≡ map trimmed_row gone =
+    let whole : rows_with_scrolled_off gone above ≡ map trimmed_row gone =
     ap (λ (xs : List RowValue). xs ++ map trimmed_row gone) none in
     reported_some gone above s
-    ∙ (take_all (length (stacked gone above) - above.capacity) (stacked gone above) (omega arith) ∙ whole)
+    ∙ (take_all (length (rows_with_scrolled_off gone above) - above.capacity) (rows_with_scrolled_off gone above) (omega arith) ∙ whole)

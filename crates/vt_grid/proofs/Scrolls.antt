@@ -9,16 +9,16 @@ use Rattle.std.proofs.lemmas.List.{get_or-take, get_or-drop, get_or_append_left,
 use Rattle.std.proofs.lemmas.List.FromFn.{fill_by_all}
 use Rattle.vt_cells.specs.Attrs.{default_attrs, Attrs}
 use Rattle.vt_rows.specs.Row.{RowValue, blank_row}
-use Rattle.vt_rows.specs.Internals.{turn_source}
+use Rattle.vt_rows.specs.Internals.{rotation_source}
 use Rattle.vt_grid.specs.Page.{row_or, moved_rows, up_source, rows_up}
 use Rattle.vt_grid.specs.Shifts.{down_source}
 
-source_inside : (from to n k len : ℕ) → from + n ≤ to → to ≤ len → k < len → turn_source from to n k < len
+source_inside : (from to n k len : ℕ) → from + n ≤ to → to ≤ len → k < len → rotation_source from to n k < len
 source_inside from to n k len h t l = grind (arith, nat_tests)
 
 sources_agree : (len top bottom count n k : ℕ) → n ≡ min count (bottom + 1 - top) → top ≤ bottom →
     bottom < len → k < len → (nat_le (bottom + 1 - n) k && nat_lt k (bottom + 1)) ≡ false →
-    turn_source top (bottom + 1) n k ≡ up_source len top bottom count k
+    rotation_source top (bottom + 1) n k ≡ up_source len top bottom count k
 sources_agree len top bottom count n k e o i l f = grind (arith, nat_tests)
 
 source_past : (len top bottom count n k : ℕ) → n ≡ min count (bottom + 1 - top) →
@@ -30,11 +30,11 @@ source_past len top bottom count n k e o i t = grind (arith, nat_tests)
 -- the index that `source` gives, which is past the end for a cleared row.
 turned_is : (w top bottom m from to : ℕ) (source : ℕ → ℕ) (rows turned cleared : List RowValue) →
     top + m ≤ bottom + 1 → bottom < length rows → length cleared ≡ length rows →
-    ((k : ℕ) (d : RowValue) → k < length rows → get_or turned k d ≡ get_or rows (turn_source top (bottom + 1) m k) d) →
+    ((k : ℕ) (d : RowValue) → k < length rows → get_or turned k d ≡ get_or rows (rotation_source top (bottom + 1) m k) d) →
     ((k : ℕ) (d : RowValue) → k < length rows →
     get_or cleared k d ≡ (if nat_le from k && nat_lt k to then blank_row default_attrs w else get_or turned k d)) →
     ((k : ℕ) → k < length rows → (nat_le from k && nat_lt k to) ≡ true → source k ≡ length rows) →
-    ((k : ℕ) → k < length rows → (nat_le from k && nat_lt k to) ≡ false → turn_source top (bottom + 1) m k ≡ source k) →
+    ((k : ℕ) → k < length rows → (nat_le from k && nat_lt k to) ≡ false → rotation_source top (bottom + 1) m k ≡ source k) →
     cleared ≡ moved_rows w source rows
 unfolding moved_rows
 turned_is w top bottom m from to source rows turned cleared o i lc ft fc past agree =
@@ -50,7 +50,7 @@ turned_is w top bottom m from to source rows turned cleared o i lc ft fc past ag
 
 pub scrolled_is : (w top bottom count n : ℕ) (rows turned cleared : List RowValue) →
     n ≡ min count (bottom + 1 - top) → top ≤ bottom → bottom < length rows → length cleared ≡ length rows →
-    ((k : ℕ) (d : RowValue) → k < length rows → get_or turned k d ≡ get_or rows (turn_source top (bottom + 1) n k) d) →
+    ((k : ℕ) (d : RowValue) → k < length rows → get_or turned k d ≡ get_or rows (rotation_source top (bottom + 1) n k) d) →
     ((k : ℕ) (d : RowValue) → k < length rows →
     get_or cleared k d
     ≡ (if nat_le (bottom + 1 - n) k && nat_lt k (bottom + 1) then blank_row default_attrs w else get_or turned k d)) →
@@ -65,7 +65,7 @@ scrolled_is w top bottom count n rows turned cleared e o i lc ft fc =
 
 down_agree : (len top bottom count n k : ℕ) → n ≡ min count (bottom + 1 - top) →
     top ≤ bottom → bottom < len → k < len → (nat_le top k && nat_lt k (top + n)) ≡ false →
-    turn_source top (bottom + 1) (bottom + 1 - top - n) k ≡ down_source len top bottom count k
+    rotation_source top (bottom + 1) (bottom + 1 - top - n) k ≡ down_source len top bottom count k
 down_agree len top bottom count n k e o i l f = grind (arith, nat_tests)
 
 down_past : (len top bottom count n k : ℕ) → n ≡ min count (bottom + 1 - top) →
@@ -76,7 +76,7 @@ down_past len top bottom count n k e o i t = grind (arith, nat_tests)
 pub scrolled_down_is : (w top bottom count n : ℕ) (rows turned cleared : List RowValue) →
     n ≡ min count (bottom + 1 - top) → top ≤ bottom → bottom < length rows → length cleared ≡ length rows →
     ((k : ℕ) (d : RowValue) → k < length rows →
-    get_or turned k d ≡ get_or rows (turn_source top (bottom + 1) (bottom + 1 - top - n) k) d) →
+    get_or turned k d ≡ get_or rows (rotation_source top (bottom + 1) (bottom + 1 - top - n) k) d) →
     ((k : ℕ) (d : RowValue) → k < length rows →
     get_or cleared k d
     ≡ (if nat_le top k && nat_lt k (top + n) then blank_row default_attrs w else get_or turned k d)) →

@@ -2,11 +2,11 @@
 use Rattle.std.proofs.Common.{◌≡◌, ℕ, true, false, List, [], ◌∷◌, length, refl}
 use Rattle.vt_cells.specs.Attrs.{default_attrs}
 use Rattle.vt_cells.specs.Cell.{CellValue, glyph, right_half, default_blank}
-use Rattle.vt_rows.specs.Cells.{put_cells, moved, inserted, deleted}
+use Rattle.vt_rows.specs.Cells.{put_cells, cells_after_move, cells_after_insert, cells_after_delete}
 use Rattle.vt_rows.specs.Row.{RowValue}
 use Rattle.vt_grid.specs.Page.{Page, blank_page, moved_rows}
 use Rattle.vt_grid.specs.Moves.{moved_to}
-use Rattle.vt_grid.specs.Regions.{moved_up, moved_down, tabbed, region_set, origin_set}
+use Rattle.vt_grid.specs.Regions.{moved_up, moved_down, page_after_tab, region_set, origin_set}
 use Rattle.vt_grid.specs.Shifts.{scrolled_down, reverse_index, lines_inserted}
 use Rattle.vt_grid.specs.Shifts.{lines_deleted, chars_inserted, chars_deleted}
 use Rattle.vt_grid.specs.Erasing.{erased_chars, erased_start, erased_above}
@@ -88,18 +88,18 @@ region_down = refl
 
 half_deleted : chars_deleted 1 (paged (row (n 0x61 ∷ wide ∷ right_half ∷ n 0x62 ∷ default_blank ∷ []) ∷ []) 0 2 5 0 0)
     ≡ paged (row (n 0x61 ∷ default_blank ∷ n 0x62 ∷ default_blank ∷ default_blank ∷ []) ∷ []) 0 2 5 0 0
-unfolding deleted moved
+unfolding cells_after_delete cells_after_move
 half_deleted = refl
 
 inserted_behind : chars_inserted 1 (paged (row (wide ∷ right_half ∷ n 1 ∷ n 2 ∷ []) ∷ []) 0 1 4 0 0)
     ≡ paged (row (wide ∷ right_half ∷ default_blank ∷ n 1 ∷ []) ∷ []) 0 1 4 0 0
-unfolding inserted moved
+unfolding cells_after_insert cells_after_move
 inserted_behind = refl
 
 -- If a wrap is pending, ICH moves no column, and clears the wrapped flag.
 pending_inserted : chars_inserted 1 (paged (on (n 1 ∷ n 2 ∷ []) ∷ one 3 ∷ []) 0 2 2 0 1)
     ≡ paged (two 1 2 ∷ one 3 ∷ []) 0 2 2 0 1
-unfolding inserted moved
+unfolding cells_after_insert cells_after_move
 pending_inserted = refl
 
 -- ---- The cursor and the region
@@ -134,10 +134,10 @@ down_from_above : moved_down 9 (record (region_set 1 2 (blank_page 4 4)) { row =
 unfolding moved_down region_set
 down_from_above = refl
 
-tab : tabbed (record (blank_page 1 20) { column = 8 }) ≡ record (blank_page 1 20) { column = 16 }
+tab : page_after_tab (record (blank_page 1 20) { column = 8 }) ≡ record (blank_page 1 20) { column = 16 }
 tab = refl
 
-tab_last : tabbed (record (blank_page 1 20) { column = 20 }) ≡ record (blank_page 1 20) { column = 19 }
+tab_last : page_after_tab (record (blank_page 1 20) { column = 20 }) ≡ record (blank_page 1 20) { column = 19 }
 tab_last = refl
 
 -- ---- Erasing

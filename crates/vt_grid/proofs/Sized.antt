@@ -7,7 +7,7 @@ use Rattle.vt_cells.specs.Attrs.{Attrs}
 use Rattle.vt_cells.specs.Cell.{CellValue}
 use Rattle.vt_cells.specs.Glyph.{IsGlyphText, IsMark, glyph_columns}
 use Rattle.vt_cells.specs.declared.pos.Pos.{Pos}
-use Rattle.vt_rows.specs.Cells.{erased, ends_blank, put_narrow, put_wide, marked_at, widened_at, narrowed_at}
+use Rattle.vt_rows.specs.Cells.{cells_after_erase, ends_blank, put_narrow, put_wide, marked_at, widened_at, narrowed_at}
 use Rattle.vt_rows.specs.Row.{IsRow, blank_row, with_cells}
 use Rattle.vt_rows.proofs.Rows.{IsRow-erased}
 use Rattle.vt_grid.specs.Internals.{IsSized, IsSelected, page_of}
@@ -43,7 +43,7 @@ sized_cursor_cells rows cols cells page h s =
 pub sized_erased_columns : (rows cols c n : ℕ) (attrs : Attrs) (page : Page) →
     c + n ≤ page.width → IsSized rows cols page → IsSized rows cols (erased_columns c n attrs page)
 sized_erased_columns rows cols c n attrs page h s =
-    sized_cursor_cells rows cols (erased c n attrs (cursor_row page).cells) page
+    sized_cursor_cells rows cols (cells_after_erase c n attrs (cursor_row page).cells) page
     (IsRow-erased page.width (cursor_row page) c n attrs h (IsRow-cursor_row page s.sound)) s
 
 pub sized_blanked_below : (rows cols : ℕ) (attrs : Attrs) (page : Page) →
@@ -83,24 +83,24 @@ sized_glyph_put rows cols text true attrs page t h s =
 
 -- Setting a row's flag and moving the cursor of a grid to the first column does the same to the page that the grid
 -- stands for.
-pub flagged_page : (left : Option ℕ) (goes_on : Bool) (page_rows : PageRowsValue)
+pub flagged_page : (left : Option ℕ) (is_wrapped : Bool) (page_rows : PageRowsValue)
     (pos saved : Pos) (top bottom : ℕ) (origin saved_origin : Bool) →
-    page_of (with_page_row_flag left goes_on page_rows) (record { row = pos.row; col = 0 }) saved top bottom origin saved_origin
-    ≡ record (flagged_left left goes_on (page_of page_rows pos saved top bottom origin saved_origin)) { column = 0 }
-flagged_page (Some r) goes_on page_rows pos saved top bottom origin saved_origin = refl
-flagged_page None goes_on page_rows pos saved top bottom origin saved_origin = refl
+    page_of (with_page_row_flag left is_wrapped page_rows) (record { row = pos.row; col = 0 }) saved top bottom origin saved_origin
+    ≡ record (flagged_left left is_wrapped (page_of page_rows pos saved top bottom origin saved_origin)) { column = 0 }
+flagged_page (Some r) is_wrapped page_rows pos saved top bottom origin saved_origin = refl
+flagged_page None is_wrapped page_rows pos saved top bottom origin saved_origin = refl
 
-pub sized_left : (rows cols : ℕ) (left : Option ℕ) (goes_on : Bool) (page : Page) → IsSized rows cols page →
-    IsPage (flagged_left left goes_on page) → IsSized rows cols (record (flagged_left left goes_on page) { column = 0 })
-sized_left rows cols left goes_on page s p =
-    let q = flagged_left left goes_on page in
-    sized rows cols page (record q { column = 0 }) s (height_flagged_left left goes_on page)
-    (width_flagged_left left goes_on page) (page_at q.row 0 q p.cursor_row (omega arith) p)
+pub sized_left : (rows cols : ℕ) (left : Option ℕ) (is_wrapped : Bool) (page : Page) → IsSized rows cols page →
+    IsPage (flagged_left left is_wrapped page) → IsSized rows cols (record (flagged_left left is_wrapped page) { column = 0 })
+sized_left rows cols left is_wrapped page s p =
+    let q = flagged_left left is_wrapped page in
+    sized rows cols page (record q { column = 0 }) s (height_flagged_left left is_wrapped page)
+    (width_flagged_left left is_wrapped page) (page_at q.row 0 q p.cursor_row (omega arith) p)
 
-pub wrap_parts : (page now fed : Page) (left : Option ℕ) (goes_on : Bool) → page ≡ now → left ≡ left_row page →
-    goes_on ≡ (goes_down now && not (ends_blank (cursor_row now).cells)) → fed ≡ line_feed now →
-    IsPage page → IsPage (flagged_left left goes_on fed)
-wrap_parts page now fed left goes_on e l g f p =
+pub wrap_parts : (page now fed : Page) (left : Option ℕ) (is_wrapped : Bool) → page ≡ now → left ≡ left_row page →
+    is_wrapped ≡ (goes_down now && not (ends_blank (cursor_row now).cells)) → fed ≡ line_feed now →
+    IsPage page → IsPage (flagged_left left is_wrapped fed)
+wrap_parts page now fed left is_wrapped e l g f p =
     rw (l, g, f) (subst (λ (q : Page). IsPage
     (flagged_left (left_row page) (goes_down q && not (ends_blank (cursor_row q).cells)) (line_feed q)))
     e (page_left page p))

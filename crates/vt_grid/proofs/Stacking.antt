@@ -10,7 +10,7 @@ use Rattle.std.specs.List.{FoldsTo}
 use Rattle.vt_rows.specs.Row.{RowValue, IsRow, trimmed_row}
 use Rattle.vt_rows.proofs.Folds.{folds_then}
 use Rattle.vt_rows.proofs.Trims.{IsRow-trimmed_row}
-use Rattle.vt_grid.specs.Scrollback.{Scrollback, IsScrollback, last_of, before_last, stacked, kept_after}
+use Rattle.vt_grid.specs.Scrollback.{Scrollback, IsScrollback, last_of, before_last, rows_with_scrolled_off, kept_after}
 
 last_then : {X : Type 0} (c : ℕ) (xs ys : List X) → last_of c (last_of c xs ++ ys) ≡ last_of c (xs ++ ys)
 last_then c xs ys =
@@ -62,7 +62,7 @@ pub room_left : (c n m rest more room : ℕ) → m ≡ min (n + 1) c → more �
 room_left c n m rest more room e f i r = omega arith
 
 pub length-stacked : (gone : List RowValue) (above : Scrollback) →
-    length (stacked gone above) ≡ length above.rows + length gone
+    length (rows_with_scrolled_off gone above) ≡ length above.rows + length gone
 length-stacked gone above =
     length-append above.rows (map trimmed_row gone)
     ∙ ap (λ (n : ℕ). length above.rows + n) (length-map gone trimmed_row)
@@ -133,13 +133,13 @@ pub IsScrollback-kept_after : (w : ℕ) (gone : List RowValue) (above : Scrollba
     All (IsRow w) gone → IsScrollback above → IsScrollback (kept_after gone above)
 unfolding kept_after
 IsScrollback-kept_after w gone above g a = record {
-  kept = omega (arith, length-last_of above.capacity (stacked gone above));
+  kept = omega (arith, length-last_of above.capacity (rows_with_scrolled_off gone above));
   in_view = at_most (above.offset == 0);
   sound =
-      All-drop (λ row. IsRow (length row.cells) row) (length (stacked gone above) - above.capacity)
-      (stacked gone above) (All-stacked w gone above.rows g a.sound);
+      All-drop (λ row. IsRow (length row.cells) row) (length (rows_with_scrolled_off gone above) - above.capacity)
+      (rows_with_scrolled_off gone above) (All-stacked w gone above.rows g a.sound);
 } where
   at_most : (b : _) →
-      (if b then 0 else min (above.offset + length gone) (length (last_of above.capacity (stacked gone above))))
-      ≤ length (last_of above.capacity (stacked gone above))
+      (if b then 0 else min (above.offset + length gone) (length (last_of above.capacity (rows_with_scrolled_off gone above))))
+      ≤ length (last_of above.capacity (rows_with_scrolled_off gone above))
   at_most b = grind arith

@@ -15,7 +15,7 @@ use Rattle.vt_rows.proofs.Rows.{ends_blank-put_narrow}
 use Rattle.vt_rows.proofs.Texts.{IsRow-put_text, put_text_after}
 use Rattle.vt_grid.specs.Internals.{IsSized}
 use Rattle.vt_grid.specs.Page.{Page, IsPage, cursor_row}
-use Rattle.vt_grid.specs.Printing.{glyph_put, lacks_room, printed, room_made, with_cursor_cells}
+use Rattle.vt_grid.specs.Printing.{glyph_put, lacks_room, page_after_print, room_made, with_cursor_cells}
 use Rattle.vt_grid.specs.Texts.{printed_text, text_put}
 use Rattle.vt_grid.proofs.Dispatch.{printed_narrow}
 use Rattle.vt_grid.proofs.Pages.{page_at, page_cursor_cells, IsRow-cursor_row}
@@ -32,7 +32,7 @@ unfolding room_made
 room_kept page h = rw (has_room page h) refl
 
 pub printed_put : (c : ℕ) (attrs : Attrs) (page : Page) → columns_of c ≡ Some 1 →
-    page.column < page.width → printed c attrs page ≡ glyph_put (encode_utf8 c) false attrs page
+    page.column < page.width → page_after_print c attrs page ≡ glyph_put (encode_utf8 c) false attrs page
 printed_put c attrs page one h =
     printed_narrow c attrs page one
     ∙ ap (glyph_put (encode_utf8 c) false attrs) (room_kept page h)

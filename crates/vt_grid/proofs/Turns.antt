@@ -4,7 +4,7 @@ use Rattle.std.proofs.Common.{length, take, drop, replicate, get_or, ap, ◌∙�
 use Rattle.std.specs.Prelude.{if◌then◌else◌}
 use Rattle.vt_cells.specs.Attrs.{default_attrs, Attrs}
 use Rattle.vt_rows.specs.Row.{RowValue, blank_row}
-use Rattle.vt_rows.specs.Internals.{turn_source}
+use Rattle.vt_rows.specs.Internals.{rotation_source}
 use Rattle.vt_grid.specs.declared.flat.Flat.{Flat}
 use Rattle.vt_grid.specs.Flat.{rows_of, line_at}
 use Rattle.vt_grid.specs.Page.{rows_up, moved_rows}
@@ -38,7 +38,7 @@ cleared_by from to flat turned attrs cleared w e a f k d h =
 pub turned_up : (top bottom count n : ℕ) (flat turned : Flat) (attrs : Attrs) (cleared : PageRowsValue) →
     n ≡ min count (bottom + 1 - top) → top ≤ bottom → bottom < length (rows_of flat) →
     turned.cells ≡ flat.cells → turned.width ≡ flat.width → length turned.lines.items ≡ length flat.lines.items →
-    ((k : ℕ) → line_at turned.lines.items k ≡ line_at flat.lines.items (turn_source top (bottom + 1) n k)) →
+    ((k : ℕ) → line_at turned.lines.items k ≡ line_at flat.lines.items (rotation_source top (bottom + 1) n k)) →
     attrs ≡ default_attrs → length cleared.rows ≡ length (rows_of turned) → cleared.width ≡ turned.width →
     ((k : ℕ) (d : RowValue) → k < length (rows_of turned) →
     get_or cleared.rows k d
@@ -56,7 +56,7 @@ pub turned_down : (top bottom count n : ℕ) (flat turned : Flat) (attrs : Attrs
     n ≡ min count (bottom + 1 - top) → top ≤ bottom → bottom < length (rows_of flat) →
     turned.cells ≡ flat.cells → turned.width ≡ flat.width → length turned.lines.items ≡ length flat.lines.items →
     ((k : ℕ) →
-    line_at turned.lines.items k ≡ line_at flat.lines.items (turn_source top (bottom + 1) (bottom + 1 - top - n) k)) →
+    line_at turned.lines.items k ≡ line_at flat.lines.items (rotation_source top (bottom + 1) (bottom + 1 - top - n) k)) →
     attrs ≡ default_attrs → length cleared.rows ≡ length (rows_of turned) → cleared.width ≡ turned.width →
     ((k : ℕ) (d : RowValue) → k < length (rows_of turned) →
     get_or cleared.rows k d

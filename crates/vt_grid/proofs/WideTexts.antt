@@ -16,7 +16,7 @@ use Rattle.vt_rows.proofs.Rows.{ends_blank-put_wide}
 use Rattle.vt_rows.proofs.WideTexts.{IsRow-put_wide_text, put_wide_text_after}
 use Rattle.vt_grid.specs.Internals.{IsSized}
 use Rattle.vt_grid.specs.Page.{Page, IsPage, cursor_row}
-use Rattle.vt_grid.specs.Printing.{glyph_put, lacks_room, printed, room_made, with_cursor_cells}
+use Rattle.vt_grid.specs.Printing.{glyph_put, lacks_room, page_after_print, room_made, with_cursor_cells}
 use Rattle.vt_grid.specs.Texts.{printed_text}
 use Rattle.vt_grid.specs.WideTexts.{wide_text_put}
 use Rattle.vt_grid.proofs.Dispatch.{printed_wide}
@@ -35,7 +35,7 @@ unfolding room_made
 room_kept_for_two page h = rw (has_room_for_two page h) refl
 
 printed_wide_put : (c : ℕ) (attrs : Attrs) (page : Page) → columns_of c ≡ Some 2 →
-    page.column + 2 ≤ page.width → printed c attrs page ≡ glyph_put (encode_utf8 c) true attrs page
+    page.column + 2 ≤ page.width → page_after_print c attrs page ≡ glyph_put (encode_utf8 c) true attrs page
 printed_wide_put c attrs page two h =
     let wide : nat_lt 1 page.width ≡ true = grind (arith, nat_tests) in
     printed_wide c attrs page two

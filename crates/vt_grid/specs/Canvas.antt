@@ -8,7 +8,7 @@ use Rattle.vt_grid.specs.Page.{Page}
 use Rattle.vt_grid.specs.Moves.{carriage_return, moved_left, moved_right, moved_to}
 use Rattle.vt_grid.specs.Moves.{line_feed, feeds_out, cursor_saved, cursor_restored}
 use Rattle.vt_grid.specs.Erasing.{erased_below, erased_rest, erased_chars}
-use Rattle.vt_grid.specs.Printing.{printed, pushes}
+use Rattle.vt_grid.specs.Printing.{page_after_print, pushes}
 
 -- The state that the operations of a redraw change: the active page, the current and saved attributes, and whether the
 -- cursor is hidden.
@@ -21,7 +21,7 @@ pub record Canvas : Type 0 where
 -- The canvas after a character is drawn; `None` if drawing it scrolls a row off the page.
 abbrev pub drawn_char : ℕ → Canvas → Option Canvas
 drawn_char c canvas =
-    if pushes c canvas.page then None else Some (record canvas { page = printed c canvas.attrs canvas.page })
+    if pushes c canvas.page then None else Some (record canvas { page = page_after_print c canvas.attrs canvas.page })
 
 -- The result of a step after an earlier step; `None` if either step has no result.
 abbrev pub and_then : {A B : Type 0} → (A → Option B) → Option A → Option B
@@ -34,30 +34,30 @@ drawn_text [] canvas = Some canvas
 drawn_text (c ∷ cs) canvas = and_then (drawn_text cs) (drawn_char c canvas)
 
 -- The canvas after a line feed; `None` if the line feed scrolls a row off the page.
-abbrev pub fed : Canvas → Option Canvas
-fed canvas = if feeds_out canvas.page then None else Some (record canvas { page = line_feed canvas.page })
+abbrev pub canvas_after_line_feed : Canvas → Option Canvas
+canvas_after_line_feed canvas = if feeds_out canvas.page then None else Some (record canvas { page = line_feed canvas.page })
 
 -- The canvas after an operation; `None` if the operation scrolls a row off the page. Saving and restoring the cursor
 -- also saves and restores the attributes.
-abbrev pub drawn : Op → Canvas → Option Canvas
-drawn (Hide hidden) canvas = Some (record canvas { hidden = hidden })
-drawn ClearAttrs canvas = Some (record canvas { attrs = default_attrs })
-drawn (MoveTo row col) canvas = Some (record canvas { page = moved_to row col canvas.page })
-drawn (MoveRight zero) canvas = Some canvas
-drawn (MoveRight (suc n)) canvas = Some (record canvas { page = moved_right (suc n) canvas.page })
-drawn NextRow canvas = fed (record canvas { page = carriage_return canvas.page })
-drawn LineFeed canvas = fed canvas
-drawn Backspace canvas = Some (record canvas { page = moved_left 1 canvas.page })
-drawn EraseBelow canvas = Some (record canvas { page = erased_below canvas.attrs canvas.page })
-drawn EraseRest canvas = Some (record canvas { page = erased_rest canvas.attrs canvas.page })
-drawn (EraseChars zero) canvas = Some canvas
-drawn (EraseChars (suc n)) canvas = Some (record canvas { page = erased_chars (suc n) canvas.attrs canvas.page })
-drawn SaveCursor canvas = Some (record canvas { page = cursor_saved canvas.page; saved_attrs = canvas.attrs })
-drawn RestoreCursor canvas = Some (record canvas { page = cursor_restored canvas.page; attrs = canvas.saved_attrs })
-drawn (ChangeAttrs was new) canvas = Some (record canvas { attrs = changed_attrs was new canvas.attrs })
-drawn (Print text) canvas = drawn_text (chars text) canvas
+abbrev pub canvas_after_op : Op → Canvas → Option Canvas
+canvas_after_op (Hide hidden) canvas = Some (record canvas { hidden = hidden })
+canvas_after_op ClearAttrs canvas = Some (record canvas { attrs = default_attrs })
+canvas_after_op (MoveTo row col) canvas = Some (record canvas { page = moved_to row col canvas.page })
+canvas_after_op (MoveRight zero) canvas = Some canvas
+canvas_after_op (MoveRight (suc n)) canvas = Some (record canvas { page = moved_right (suc n) canvas.page })
+canvas_after_op NextRow canvas = canvas_after_line_feed (record canvas { page = carriage_return canvas.page })
+canvas_after_op LineFeed canvas = canvas_after_line_feed canvas
+canvas_after_op Backspace canvas = Some (record canvas { page = moved_left 1 canvas.page })
+canvas_after_op EraseBelow canvas = Some (record canvas { page = erased_below canvas.attrs canvas.page })
+canvas_after_op EraseRest canvas = Some (record canvas { page = erased_rest canvas.attrs canvas.page })
+canvas_after_op (EraseChars zero) canvas = Some canvas
+canvas_after_op (EraseChars (suc n)) canvas = Some (record canvas { page = erased_chars (suc n) canvas.attrs canvas.page })
+canvas_after_op SaveCursor canvas = Some (record canvas { page = cursor_saved canvas.page; saved_attrs = canvas.attrs })
+canvas_after_op RestoreCursor canvas = Some (record canvas { page = cursor_restored canvas.page; attrs = canvas.saved_attrs })
+canvas_after_op (ChangeAttrs was new) canvas = Some (record canvas { attrs = changed_attrs was new canvas.attrs })
+canvas_after_op (Print text) canvas = drawn_text (chars text) canvas
 
 -- The canvas after a list of operations; `None` if one of the operations scrolls a row off the page.
 abbrev pub drawn_all : List Op → Canvas → Option Canvas
 drawn_all [] canvas = Some canvas
-drawn_all (op ∷ ops) canvas = and_then (drawn_all ops) (drawn op canvas)
+drawn_all (op ∷ ops) canvas = and_then (drawn_all ops) (canvas_after_op op canvas)

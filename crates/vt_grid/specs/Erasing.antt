@@ -1,14 +1,14 @@
 -- Erasing (ECMA-48: ED, EL and ECH). Erased cells become blanks with the current attributes.
 use Rattle.std.specs.Prelude.{ℕ, ◌+◌, ◌-◌, ◌==◌, ◌||◌, if◌then◌else◌, ◌++◌, length, take, drop, replicate, min}
 use Rattle.vt_cells.specs.Attrs.{Attrs}
-use Rattle.vt_rows.specs.Cells.{erased}
+use Rattle.vt_rows.specs.Cells.{cells_after_erase}
 use Rattle.vt_rows.specs.Row.{blank_row, with_cells}
 use Rattle.vt_grid.specs.Page.{Page, cursor_row, with_row}
 
 -- The page after `n` columns of the cursor's row, starting at column `c`, are erased.
 abbrev pub erased_columns : ℕ → ℕ → Attrs → Page → Page
 erased_columns c n attrs page =
-    with_row page.row (with_cells (cursor_row page) (erased c n attrs (cursor_row page).cells)) page
+    with_row page.row (with_cells (cursor_row page) (cells_after_erase c n attrs (cursor_row page).cells)) page
 
 -- The page after `n` columns of the cursor's row, starting at the cursor, are erased (ECH), or all columns from the
 -- cursor on if there are fewer than `n`. The page is unchanged if a wrap is pending or `n` is 0.

@@ -4,7 +4,7 @@ use Rattle.std.specs.Prelude.{[], length, slice_index_or, Some, zero, if◌then�
 use Rattle.std.specs.Char.{encode_utf8}
 use Rattle.vt_cells.specs.Attrs.{Attrs}
 use Rattle.vt_cells.specs.declared.pos.Pos.{Pos}
-use Rattle.vt_cells.specs.Cell.{CellValue, is_wide, is_blank, is_right_half, widened, IsCell}
+use Rattle.vt_cells.specs.Cell.{CellValue, is_wide, is_blank, is_right_half, cell_made_wide, IsCell}
 use Rattle.vt_rows.specs.Cells.{at}
 use Rattle.vt_rows.specs.Row.{RowValue, blank_row, resized_row}
 use Rattle.vt_grid.specs.Page.{Page, IsPage, cursor_row}
@@ -49,7 +49,7 @@ pub record IsMarkPlace (cells : List CellValue) (column k : ℕ) : Type 0 where
 pub record IsSelected (page : Page) (k : ℕ) : Type 0 where
   pub place : IsMarkPlace (cursor_row page).cells page.column k
   pub drawn : is_blank (at (cursor_row page).cells k) ≡ false
-  pub either : (wide : Bool) → IsCell (widened wide (at (cursor_row page).cells k))
+  pub either : (wide : Bool) → IsCell (cell_made_wide wide (at (cursor_row page).cells k))
 
 -- The rows that scroll off when the cursor wraps because the given number of columns doesn't fit at the cursor.
 abbrev pub room_out : ℕ → Page → List RowValue
@@ -86,9 +86,9 @@ taken_over down up rows blank k d =
 
 -- Row `k` of a blank page after a resize moved rows into the page: a scrollback row, a row of the old page, or a blank
 -- row.
-abbrev pub refilled : (down up : ℕ) → (above rows : List RowValue) →
+abbrev pub row_after_refill : (down up : ℕ) → (above rows : List RowValue) →
     (blank : RowValue) → (k : ℕ) → (d : RowValue) → RowValue
-refilled down up above rows blank k d =
+row_after_refill down up above rows blank k d =
     if nat_lt k up
     then (if nat_le up (length above + k)
     then resized_row (length blank.cells) (slice_index_or above (length above + k - up) d) else blank)

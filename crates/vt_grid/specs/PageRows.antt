@@ -39,9 +39,9 @@ with_row_cells r cells page_rows = with_page_row r (with_cells (page_row page_ro
 
 -- The rows of a page after the wrapped flag of the given row, if any, is set to the given value.
 abbrev pub with_page_row_flag : Option ℕ → Bool → PageRowsValue → PageRowsValue
-with_page_row_flag (Some r) goes_on page_rows =
-    with_page_row r (record (page_row page_rows r) { wrapped = goes_on }) page_rows
-with_page_row_flag None goes_on page_rows = page_rows
+with_page_row_flag (Some r) is_wrapped page_rows =
+    with_page_row r (record (page_row page_rows r) { wrapped = is_wrapped }) page_rows
+with_page_row_flag None is_wrapped page_rows = page_rows
 
 -- The rows of a page after rows `top` to `bottom` move up by `n`.
 abbrev pub page_rows_up : (top bottom n : ℕ) → PageRowsValue → PageRowsValue

@@ -9,7 +9,7 @@ use Rattle.vt_grid.specs.declared.page_step.PageStep.TheVariants.{EraseBelow, Er
 use Rattle.vt_grid.specs.declared.page_step.PageStep.TheVariants.{EraseStart, EraseRow, EraseChars, InsertChars}
 use Rattle.vt_grid.specs.declared.page_step.PageStep.TheVariants.{DeleteChars, InsertLines, DeleteLines, ScrollDown}
 use Rattle.vt_grid.specs.Moves.{carriage_return, moved_left, moved_right, moved_to}
-use Rattle.vt_grid.specs.Regions.{moved_up, moved_down, next_line, previous_line, tabbed}
+use Rattle.vt_grid.specs.Regions.{moved_up, moved_down, next_line, previous_line, page_after_tab}
 use Rattle.vt_grid.specs.Regions.{moved_to_column, moved_to_row, region_set, origin_set}
 use Rattle.vt_grid.specs.Shifts.{reverse_index, scrolled_down, lines_inserted}
 use Rattle.vt_grid.specs.Shifts.{lines_deleted, chars_inserted, chars_deleted}
@@ -26,7 +26,7 @@ page_after attrs (MoveRight count) page = moved_right count page
 page_after attrs (MoveLeft count) page = moved_left count page
 page_after attrs (NextLine count) page = next_line count page
 page_after attrs (PreviousLine count) page = previous_line count page
-page_after attrs Tab page = tabbed page
+page_after attrs Tab page = page_after_tab page
 page_after attrs (MoveTo row col) page = moved_to row col page
 page_after attrs (MoveToColumn col) page = moved_to_column col page
 page_after attrs (MoveToRow row) page = moved_to_row row page

@@ -3,10 +3,10 @@
 use Rattle.std.specs.Prelude.{ℕ, ◌+◌, ◌-◌, ◌==◌, ◌&&◌, nat_lt, not, Bool, true, false, List}
 use Rattle.std.specs.Prelude.{length, Option, Some, None, zero, suc, if◌then◌else◌}
 use Rattle.std.specs.Char.{encode_utf8}
-use Rattle.vt_cells.specs.Cell.{CellValue, text_of, is_wide, is_blank, is_right_half, marked}
+use Rattle.vt_cells.specs.Cell.{CellValue, text_of, is_wide, is_blank, is_right_half, cell_with_mark}
 use Rattle.vt_cells.specs.Glyph.{columns_of, is_selector, is_wide_text, has_room}
 use Rattle.vt_cells.specs.Attrs.{Attrs}
-use Rattle.vt_rows.specs.Cells.{at, ends_blank, erased, put_narrow, put_wide, marked_at, widened_at, narrowed_at}
+use Rattle.vt_rows.specs.Cells.{at, ends_blank, cells_after_erase, put_narrow, put_wide, marked_at, widened_at, narrowed_at}
 use Rattle.vt_rows.specs.Row.{with_cells}
 use Rattle.vt_grid.specs.Page.{Page, row_at, cursor_row, with_row}
 use Rattle.vt_grid.specs.Moves.{line_feed, at_bottom, feeds_out}
@@ -16,8 +16,8 @@ abbrev pub with_cursor_cells : List CellValue → Page → Page
 with_cursor_cells cells page = with_row page.row (with_cells (cursor_row page) cells) page
 
 -- The page after the wrapped flag of row `r` is set to the given value.
-abbrev pub flagged : ℕ → Bool → Page → Page
-flagged r goes_on page = with_row r (record (row_at page r) { wrapped = goes_on }) page
+abbrev pub page_with_wrapped : ℕ → Bool → Page → Page
+page_with_wrapped r is_wrapped page = with_row r (record (row_at page r) { wrapped = is_wrapped }) page
 
 -- The index, after a wrap, of the row that the cursor left: one less than before if the scroll region scrolled, and
 -- `None` if the row was lost because the region has only one row.
@@ -32,8 +32,8 @@ goes_down page = if at_bottom page then true else nat_lt (page.row + 1) (length 
 
 -- The page after the wrapped flag of the row that the cursor left in a wrap, if any, is set to the given value.
 abbrev pub flagged_left : Option ℕ → Bool → Page → Page
-flagged_left (Some r) goes_on page = flagged r goes_on page
-flagged_left None goes_on page = page
+flagged_left (Some r) is_wrapped page = page_with_wrapped r is_wrapped page
+flagged_left None is_wrapped page = page
 
 -- The page after a wrap, which is a line feed followed by a move to column 0. The row that the cursor left is marked as
 -- wrapped if and only if its last cell was not blank and the cursor is now on the row below it.
@@ -75,7 +75,7 @@ unfoldable pub carries : ℕ → Page → Bool
 carries mark page =
     let cell = at (cursor_row page).cells (mark_column page) in
     (is_selector mark && (takes_mark cell && not (is_wide cell)))
-    && (is_wide_text (text_of (marked mark cell)) && (nat_lt 1 page.width && (page.column == page.width)))
+    && (is_wide_text (text_of (cell_with_mark mark cell)) && (nat_lt 1 page.width && (page.column == page.width)))
 
 -- Printing a character that takes the given number of columns makes the cursor wrap.
 abbrev pub wraps_for : Option ℕ → ℕ → Page → Bool
@@ -94,7 +94,7 @@ pushes c page = wraps c page && feeds_out page
 
 -- The page after the glyph at column `k` of the cursor's row is replaced with a blank.
 abbrev pub lifted_page : ℕ → Attrs → Page → Page
-lifted_page k attrs page = with_cursor_cells (erased k 1 attrs (cursor_row page).cells) page
+lifted_page k attrs page = with_cursor_cells (cells_after_erase k 1 attrs (cursor_row page).cells) page
 
 -- The page after a combining character is added to the cell at column `k` of the cursor's row. The width of that cell
 -- is unchanged.
@@ -103,10 +103,10 @@ mark_put k mark page = with_cursor_cells (marked_at k mark (cursor_row page).cel
 
 -- The page after U+FE0F makes the glyph in the last column wide while a wrap is pending. The glyph is removed and
 -- written on the next row, together with U+FE0F.
-unfoldable pub carried : ℕ → Attrs → Page → Page
-carried mark attrs page =
+unfoldable pub page_after_wrap : ℕ → Attrs → Page → Page
+page_after_wrap mark attrs page =
     let k = mark_column page in
-    glyph_put (text_of (marked mark (at (cursor_row page).cells k)))
+    glyph_put (text_of (cell_with_mark mark (at (cursor_row page).cells k)))
     true attrs (wrapped_page (lifted_page k attrs page))
 
 -- The page after the glyph at column `k`, to which U+FE0F was added, becomes wide in place.
@@ -131,7 +131,7 @@ width_followed k attrs page =
 unfoldable pub mark_printed : ℕ → Attrs → Page → Page
 mark_printed mark attrs page =
     let k = mark_column page in
-    if carries mark page then carried mark attrs page
+    if carries mark page then page_after_wrap mark attrs page
     else if takes_mark (at (cursor_row page).cells k)
     then (if is_selector mark then width_followed k attrs (mark_put k mark page) else mark_put k mark page)
     else page
@@ -145,5 +145,5 @@ printed_by (Some (suc (suc n))) c attrs page =
     if nat_lt 1 page.width then glyph_put (encode_utf8 c) true attrs (room_made 2 page) else page
 
 -- The page after a character is printed.
-abbrev pub printed : ℕ → Attrs → Page → Page
-printed c attrs page = printed_by (columns_of c) c attrs page
+abbrev pub page_after_print : ℕ → Attrs → Page → Page
+page_after_print c attrs page = printed_by (columns_of c) c attrs page

@@ -40,8 +40,8 @@ moved_to_row r page = record page { row = min r (last_row page) }
 
 -- The page after HT: the cursor moves to the next column that is a multiple of 8, or to the last column if there is no
 -- such column, and a pending wrap is canceled.
-abbrev pub tabbed : Page → Page
-tabbed page = record page { column = min ((page.column / 8 + 1) * 8) (page.width - 1) }
+abbrev pub page_after_tab : Page → Page
+page_after_tab page = record page { column = min ((page.column / 8 + 1) * 8) (page.width - 1) }
 
 -- The page after its scroll region is set to rows `top` to `bottom`, with `bottom` clamped to the last row, or to the
 -- whole page if that range has fewer than two rows. The cursor moves to the first column of the region's first row

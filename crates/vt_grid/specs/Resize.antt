@@ -3,18 +3,18 @@ use Rattle.std.specs.Prelude.{ℕ, ◌+◌, ◌-◌, nat_lt, List, ◌++◌, len
 use Rattle.vt_cells.specs.Attrs.{default_attrs}
 use Rattle.vt_rows.specs.Row.{RowValue, blank_row, resized_row}
 use Rattle.vt_grid.specs.Page.{Page, by_row, row_or}
-use Rattle.vt_grid.specs.Scrollback.{Scrollback, pushed, reported}
+use Rattle.vt_grid.specs.Scrollback.{Scrollback, scrollback_after_push, rows_reported}
 use Rattle.vt_grid.specs.Shifts.{unflagged}
 
 -- The number of rows that scroll off when a page is resized to the given height: the excess rows, minus the rows below
 -- the cursor, which are dropped first.
-abbrev pub leaving : ℕ → Page → ℕ
-leaving height page = (length page.rows - height) - (length page.rows - (page.row + 1))
+abbrev pub leaving_count : ℕ → Page → ℕ
+leaving_count height page = (length page.rows - height) - (length page.rows - (page.row + 1))
 
 -- The number of rows that come back when a page is resized to the given height: as many as there is room for, up to the
 -- number of rows that scrolled off and haven't come back.
-abbrev pub returning : ℕ → Scrollback → Page → ℕ
-returning height above page = min (height - length page.rows) above.theoretical
+abbrev pub returning_count : ℕ → Scrollback → Page → ℕ
+returning_count height above page = min (height - length page.rows) above.theoretical
 
 -- A window of `height` rows over the scrollback rows `above` followed by the page's `rows`. It begins `up` rows
 -- before row `down` of the page. Rows outside the list are blank, such as scrollback rows that were discarded. For
@@ -36,8 +36,8 @@ row_resized height down up row = min (row - down + up) (height - 1)
 -- The page after a resize. The scroll region is the whole page, and no wrap is pending.
 unfoldable pub page_resized : (height width : ℕ) → Scrollback → Page → Page
 page_resized height width above page =
-    let down = leaving height page in
-    let up = returning height above page in
+    let down = leaving_count height page in
+    let up = returning_count height above page in
     record page {
       rows = rows_resized width (window page.width height down up above.rows page.rows);
       row = row_resized height down up page.row;
@@ -61,9 +61,9 @@ taken_back n above =
 -- Scrollback after its page is resized to the given height.
 unfoldable pub scrollback_resized : ℕ → Page → Scrollback → Scrollback
 scrollback_resized height page above =
-    taken_back (returning height above page)
-    (pushed (length page.rows) page.width (take (leaving height page) page.rows) (out_of_view above))
+    taken_back (returning_count height above page)
+    (scrollback_after_push (length page.rows) page.width (take (leaving_count height page) page.rows) (out_of_view above))
 
 -- The rows that are reported instead of kept when a resize scrolls rows off the page, oldest first.
 abbrev pub resize_reports : ℕ → Page → Scrollback → List RowValue
-resize_reports height page above = reported (take (leaving height page) page.rows) above
+resize_reports height page above = rows_reported (take (leaving_count height page) page.rows) above

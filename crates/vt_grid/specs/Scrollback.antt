@@ -33,8 +33,8 @@ before_last n xs = take (length xs - n) xs
 
 -- The scrollback rows, followed by the rows that scrolled off the page, each of them without its trailing default
 -- blanks.
-abbrev pub stacked : List RowValue → Scrollback → List RowValue
-stacked gone above = above.rows ++ map trimmed_row gone
+abbrev pub rows_with_scrolled_off : List RowValue → Scrollback → List RowValue
+rows_with_scrolled_off gone above = above.rows ++ map trimmed_row gone
 
 -- The maximum theoretical length of scrollback, 2^64 - 1.
 abbrev pub greatest : ℕ
@@ -44,7 +44,7 @@ greatest = 18446744073709551615
 -- scrollback keeps them.
 unfoldable pub kept_after : List RowValue → Scrollback → Scrollback
 kept_after gone above =
-    let rows = last_of above.capacity (stacked gone above) in
+    let rows = last_of above.capacity (rows_with_scrolled_off gone above) in
     record above {
       rows = rows;
       theoretical = min (above.theoretical + length gone) greatest;
@@ -72,18 +72,18 @@ grown_in_view height width above =
     }
 
 -- Scrollback after the given rows scroll off a page of the given height and width.
-abbrev pub pushed : (height width : ℕ) → List RowValue → Scrollback → Scrollback
-pushed height width [] above = above
-pushed height width (row ∷ gone) above = grown_in_view height width (kept_after (row ∷ gone) above)
+abbrev pub scrollback_after_push : (height width : ℕ) → List RowValue → Scrollback → Scrollback
+scrollback_after_push height width [] above = above
+scrollback_after_push height width (row ∷ gone) above = grown_in_view height width (kept_after (row ∷ gone) above)
 
 -- The rows that are reported instead of kept when the given rows scroll off, oldest first.
-abbrev pub reported : List RowValue → Scrollback → List RowValue
-reported [] above = []
-reported (row ∷ gone) above = before_last above.capacity (stacked (row ∷ gone) above)
+abbrev pub rows_reported : List RowValue → Scrollback → List RowValue
+rows_reported [] above = []
+rows_reported (row ∷ gone) above = before_last above.capacity (rows_with_scrolled_off (row ∷ gone) above)
 
 -- A single row scrolls off and reuses the memory of the oldest scrollback row, which has at least as many cells as the
 -- new row without its trailing default blanks. Scrollback is at capacity, and none of it is displayed.
-pub record TurnsOver (gone : List RowValue) (above : Scrollback) : Type 0 where
+pub record RecyclesOldest (gone : List RowValue) (above : Scrollback) : Type 0 where
   pub one : length gone ≡ 1
   pub full : length above.rows ≡ above.capacity
   pub hidden : above.offset ≡ 0
@@ -93,14 +93,14 @@ pub record TurnsOver (gone : List RowValue) (above : Scrollback) : Type 0 where
 -- Moving the given rows into scrollback may allocate: there is at least one row, the capacity is not 0, and the memory
 -- of the oldest scrollback row can't be reused.
 abbrev pub TakesMemory : List RowValue → Scrollback → Type 0
-TakesMemory gone above = (0 < length gone) × ((0 < above.capacity) × (TurnsOver gone above → ⊥))
+TakesMemory gone above = (0 < length gone) × ((0 < above.capacity) × (RecyclesOldest gone above → ⊥))
 
 -- The effect of scrolling the given rows off a page: the rows are moved into scrollback, and the rows that are not kept
 -- are reported one by one.
 abbrev pub Sends : {S : Type 0} → (S → RowValue → S → Type 0) →
     (height width : ℕ) → List RowValue → Scrollback → S → Scrollback → S → Type 0
 Sends leaves height width gone above old after new =
-    (after ≡ pushed height width gone above) × FoldsTo leaves old (reported gone above) new
+    (after ≡ scrollback_after_push height width gone above) × FoldsTo leaves old (rows_reported gone above) new
 
 -- Scrollback after its offset is set to `n`, clamped to the number of its rows. The displayed rows are extended to the
 -- screen's width.
@@ -113,8 +113,8 @@ abbrev pub ViewTakesMemory : (height width : ℕ) → ℕ → Scrollback → Typ
 ViewTakesMemory height width n above = 0 < narrow_rows width (take height (last_of n above.rows))
 
 -- Scrollback after all of its rows are discarded.
-abbrev pub cleared : Scrollback → Scrollback
-cleared above = no_scrollback above.capacity
+abbrev pub scrollback_after_clear : Scrollback → Scrollback
+scrollback_after_clear above = no_scrollback above.capacity
 
 -- The displayed rows: the newest scrollback rows, as many as the offset, followed by rows of the page, up to the
 -- height of the page.

@@ -6,7 +6,7 @@ use Rattle.vt_cells.specs.Refusals.{OnlyOutOfMemory}
 use Rattle.vt_cells.specs.declared.error.Error.{Error}
 use Rattle.vt_rows.specs.Row.{RowValue}
 use Rattle.vt_grid.specs.Page.{Page}
-use Rattle.vt_grid.specs.Resize.{leaving, out_of_view, page_resized, resize_reports, scrollback_resized}
+use Rattle.vt_grid.specs.Resize.{leaving_count, out_of_view, page_resized, resize_reports, scrollback_resized}
 use Rattle.vt_grid.specs.Scrollback.{Scrollback, Sends, TakesMemory}
 
 -- The page becomes `made`, and the rows `gone` are moved to scrollback. If an allocation fails, nothing is changed.
@@ -42,7 +42,7 @@ pub record ResizesPage {S : Type 0} (leaves : S → RowValue → S → Type 0) (
   pub above : OnOk result (kept ≡ scrollback_resized height before was)
   pub reported : OnOk result (FoldsTo leaves old (resize_reports height before was) new)
   pub err : OnErr result ((after ≡ before) × ((kept ≡ was) × (new ≡ old)))
-  pub grows : IsErr result → TakesMemory (take (leaving height before) before.rows) (out_of_view was)
+  pub grows : IsErr result → TakesMemory (take (leaving_count height before) before.rows) (out_of_view was)
   pub memory : OnlyOutOfMemory result
 
 -- The page is resized to this height, at least its own. If an allocation fails, nothing is changed.

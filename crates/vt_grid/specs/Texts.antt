@@ -3,12 +3,12 @@ use Rattle.std.specs.Prelude.{ℕ, ◌+◌, List, [], ◌∷◌, length}
 use Rattle.vt_cells.specs.Attrs.{Attrs}
 use Rattle.vt_rows.specs.Texts.{put_text}
 use Rattle.vt_grid.specs.Page.{Page, cursor_row}
-use Rattle.vt_grid.specs.Printing.{printed, with_cursor_cells}
+use Rattle.vt_grid.specs.Printing.{page_after_print, with_cursor_cells}
 
 -- The page after the characters of a text are printed one by one.
 abbrev pub printed_text : List ℕ → Attrs → Page → Page
 printed_text [] attrs page = page
-printed_text (c ∷ text) attrs page = printed_text text attrs (printed c attrs page)
+printed_text (c ∷ text) attrs page = printed_text text attrs (page_after_print c attrs page)
 
 -- The page after the narrow glyphs of a text are written at the cursor, which then moves past them.
 abbrev pub text_put : List ℕ → Attrs → Page → Page

@@ -7,7 +7,7 @@ ghost use Rattle.std.specs.List.{slice_range};
 ghost use Rattle.vt_cells.specs.Attrs.{default_attrs};
 ghost use Rattle.vt_cells.specs.Refusals.{OnlyOutOfMemory};
 ghost use Rattle.vt_rows.specs.Cells.{blanks};
-ghost use Rattle.vt_rows.specs.Internals.{turn_source};
+ghost use Rattle.vt_rows.specs.Internals.{rotation_source};
 ghost use Rattle.vt_grid.specs.Flat.{line_at};
 
 mod resizing;
@@ -129,7 +129,7 @@ impl Flat {
         ensures width { self.new.width ≡ self.old.width }
         ensures len { length self.new.lines.items ≡ length self.old.lines.items }
         ensures lines { (k : ℕ) →
-            line_at self.new.lines.items k ≡ line_at self.old.lines.items (turn_source from to count k) }
+            line_at self.new.lines.items k ≡ line_at self.old.lines.items (rotation_source from to count k) }
     {
         turn(&mut self.lines, from, to, count);
     }

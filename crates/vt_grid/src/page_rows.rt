@@ -4,10 +4,10 @@ ghost use Rattle.std.specs.Fn.{FnOnceReturnsAtMut, FnOnceTakesAtMut};
 ghost use Rattle.std.specs.Prelude.{◌≡◌, ◌≢◌, ◌+◌, ◌-◌, ◌^◌, ◌&&◌, ◌++◌, ◌<◌, ◌≤◌, ℕ, IfOk, IfSome};
 ghost use Rattle.std.specs.Prelude.{List, Some, All, true, false, encode_utf8, if◌then◌else◌, length};
 ghost use Rattle.std.specs.Prelude.{min, nat_le, nat_lt, replicate, slice_index_or, slice_set, take, drop};
-ghost use Rattle.vt_cells.specs.Cell.{CellValue, IsCell, attrs_of, is_blank, is_right_half, is_wide, text_of, widened};
+ghost use Rattle.vt_cells.specs.Cell.{CellValue, IsCell, attrs_of, is_blank, is_right_half, is_wide, text_of, cell_made_wide};
 ghost use Rattle.vt_cells.specs.Glyph.{columns_of};
 ghost use Rattle.vt_cells.specs.Refusals.{OnlyOutOfMemory};
-ghost use Rattle.vt_rows.specs.Cells.{IsPaired, at, ends_blank, erased, marked_at};
+ghost use Rattle.vt_rows.specs.Cells.{IsPaired, at, ends_blank, cells_after_erase, marked_at};
 ghost use Rattle.vt_rows.specs.Cells.{narrowed_at, put_narrow, put_wide, widened_at};
 ghost use Rattle.vt_rows.specs.Row.{RowValue, IsRow, blank_row, deleted_row, inserted_row};
 ghost use Rattle.vt_grid.specs.Sending.{LetsRowsGo};
@@ -145,14 +145,14 @@ impl PageRows {
         self.flat.wrap(row, wrapped);
     }
 
-    /// Sets the wrapped flag of `left`, the row from which the cursor wrapped, to `goes_on`. Does
+    /// Sets the wrapped flag of `left`, the row from which the cursor wrapped, to `is_wrapped`. Does
     /// nothing if `left` is `None`.
-    pub fn wrap_left(&mut self, left: Option<u16>, goes_on: bool)
+    pub fn wrap_left(&mut self, left: Option<u16>, is_wrapped: bool)
         requires { IfSome left (λ row. row < length self.old.rows) }
-        ensures { self.new ≡ with_page_row_flag left goes_on self.old }
+        ensures { self.new ≡ with_page_row_flag left is_wrapped self.old }
     {
         if let Some(row) = left {
-            self.wrap(usize::from(row), goes_on);
+            self.wrap(usize::from(row), is_wrapped);
         }
     }
 
@@ -167,27 +167,27 @@ impl PageRows {
             × (self.new ≡ with_row_cells row cells self.old) }
     {
         let row = usize::from(row);
-        let goes_on = self.flat.wrapped(row);
+        let is_wrapped = self.flat.wrapped(row);
         let (start, end) = self.flat.part(row);
         let cells = &mut self.flat.cells[start..end];
         let edited = edit(cells);
-        let goes_on = cells::flag_left(cells, goes_on);
-        self.flat.wrap(row, goes_on);
+        let is_wrapped = cells::flag_left(cells, is_wrapped);
+        self.flat.wrap(row, is_wrapped);
         edited
     }
 
-    /// Calls `edit` with the cells of a row, and sets the row's wrapped flag to `goes_on`.
+    /// Calls `edit` with the cells of a row, and sets the row's wrapped flag to `is_wrapped`.
     #[inline(always)]
-    fn edit_row_and_flag<F: FnOnce(&mut [Cell])>(&mut self, row: usize, goes_on: bool, edit: F)
+    fn edit_row_and_flag<F: FnOnce(&mut [Cell])>(&mut self, row: usize, is_wrapped: bool, edit: F)
         requires inside { row < length self.old.rows }
         requires callable { FnOnceTakesAtMut F.FnOnce edit (page_row self.old row).cells }
         ensures { (cells : List CellValue)
             × FnOnceReturnsAtMut F.FnOnce edit (page_row self.old row).cells tt cells
-            × (self.new ≡ with_page_row row (record { cells = cells; wrapped = goes_on }) self.old) }
+            × (self.new ≡ with_page_row row (record { cells = cells; wrapped = is_wrapped }) self.old) }
     {
         let (start, end) = self.flat.part(row);
         edit(&mut self.flat.cells[start..end]);
-        self.flat.wrap(row, goes_on);
+        self.flat.wrap(row, is_wrapped);
     }
 
     /// Puts a narrow glyph at a column of a row, as [`cells::put_narrow`] does.
@@ -240,7 +240,7 @@ impl PageRows {
         requires column { col + 1 < length (page_row self.old row).cells }
         requires glyph { is_blank (at (page_row self.old row).cells col) ≡ false }
         requires shown { is_right_half (at (page_row self.old row).cells col) ≡ false }
-        requires fits { IsCell (widened true (at (page_row self.old row).cells col)) }
+        requires fits { IsCell (cell_made_wide true (at (page_row self.old row).cells col)) }
         ensures { self.new ≡ with_row_cells row (widened_at col attrs (page_row self.old row).cells) self.old }
     {
         self.edit_row(row, |cells| cells::widen(cells, usize::from(col), attrs));
@@ -252,7 +252,7 @@ impl PageRows {
         requires paired { IsPaired (page_row self.old row).cells }
         requires column { col < length (page_row self.old row).cells }
         requires shown { is_right_half (at (page_row self.old row).cells col) ≡ false }
-        requires fits { IsCell (widened false (at (page_row self.old row).cells col)) }
+        requires fits { IsCell (cell_made_wide false (at (page_row self.old row).cells col)) }
         ensures { self.new ≡ with_row_cells row (narrowed_at col attrs (page_row self.old row).cells) self.old }
     {
         self.edit_row(row, |cells| cells::narrow(cells, usize::from(col), attrs));
@@ -264,21 +264,21 @@ impl PageRows {
         requires paired { IsPaired (page_row self.old row).cells }
         requires column { col < length (page_row self.old row).cells }
         ensures lifted { result ≡ at (page_row self.old row).cells col }
-        ensures value { self.new ≡ with_row_cells row (erased col 1 attrs (page_row self.old row).cells) self.old }
+        ensures value { self.new ≡ with_row_cells row (cells_after_erase col 1 attrs (page_row self.old row).cells) self.old }
     {
         self.edit_row(row, |cells| cells::lift(cells, usize::from(col), attrs))
     }
 
-    /// Puts a removed cell back at a column of a row, and sets the row's wrapped flag to `goes_on`.
+    /// Puts a removed cell back at a column of a row, and sets the row's wrapped flag to `is_wrapped`.
     /// The other cells are unchanged.
-    pub fn put_back(&mut self, row: u16, col: u16, cell: Cell, goes_on: bool)
+    pub fn put_back(&mut self, row: u16, col: u16, cell: Cell, is_wrapped: bool)
         requires inside { row < length self.old.rows }
         requires column { col < length (page_row self.old row).cells }
         ensures { self.new
             ≡ with_page_row row
-            (record { cells = slice_set (page_row self.old row).cells col cell; wrapped = goes_on }) self.old }
+            (record { cells = slice_set (page_row self.old row).cells col cell; wrapped = is_wrapped }) self.old }
     {
-        self.edit_row_and_flag(usize::from(row), goes_on, |cells| {
+        self.edit_row_and_flag(usize::from(row), is_wrapped, |cells| {
             cells[usize::from(col)] = cell;
         });
     }
@@ -302,10 +302,10 @@ impl PageRows {
     pub fn erase(&mut self, row: u16, from: u16, to: u16, attrs: Attrs)
         requires inside { row < length self.old.rows }
         requires paired { IsPaired (page_row self.old row).cells }
-        requires some { from < to }
+        requires nonempty { from < to }
         requires columns { to ≤ length (page_row self.old row).cells }
         ensures { self.new
-            ≡ with_row_cells row (erased from (to - from) attrs (page_row self.old row).cells) self.old }
+            ≡ with_row_cells row (cells_after_erase from (to - from) attrs (page_row self.old row).cells) self.old }
     {
         self.edit_row(row, |cells| {
             cells::erase(cells, usize::from(from), usize::from(to), attrs);

@@ -95,12 +95,12 @@ pub fn push_copy(alloc: Global, rows: &mut VecDeque<Row>, page: &PageRows) -> Re
 ///
 /// Returns [`Error::OutOfMemory`] if the copy is wider than the oldest row and the allocation
 /// fails. On error, nothing is changed and no row is passed to `leaving`.
-pub fn turn_over<L: Leaving>(
+pub fn recycle_oldest<L: Leaving>(
     rows: &mut VecDeque<Row>,
     page: &PageRows,
     leaving: &mut L,
 ) -> Result<(), Error>
-    requires some { 0 < length rows.old.items }
+    requires nonempty { 0 < length rows.old.items }
     requires page { HasRows 1 page.now }
     requires sound { AreRows rows.old.items }
     ensures rows { OnOk result (rows.new.items ≡ drop 1 rows.old.items ++ map trimmed_row (take 1 page.now.rows)) }

@@ -12,12 +12,12 @@ ghost use Rattle.vt_grid.specs.Internals.{given_back};
 ghost use Rattle.vt_grid.specs.PageRows.{CanLetRowsGo, HasRows};
 ghost use Rattle.vt_grid.specs.Resize.{out_of_view, taken_back};
 ghost use Rattle.vt_grid.specs.Scrollback.{IsScrollback, Sends, TakesMemory, ViewTakesMemory};
-ghost use Rattle.vt_grid.specs.Scrollback.{before_last, cleared, grown_row, kept_after, last_of};
+ghost use Rattle.vt_grid.specs.Scrollback.{before_last, scrollback_after_clear, grown_row, kept_after, last_of};
 ghost use Rattle.vt_grid.specs.Scrollback.{narrow_rows, no_scrollback, with_view, visible};
 ghost use Rattle.vt_grid.specs.Sending.{SendsOrFails};
 ghost use Rattle.vt_grid.specs.Spare.{AreRows, AreSpare, grown_from, in_view, window_from};
 
-mod one;
+mod appending;
 
 use crate::page_rows::PageRows;
 use crate::row_lists::{blank_rows, copied_rows, report_all, report_trimmed, trimmed_rows};
@@ -213,7 +213,7 @@ impl Scrollback {
     /// [`Scrollback::push`] calls this function if the capacity is 0.
     fn pass<L: Leaving>(&mut self, page: &PageRows, count: usize, leaving: &mut L)
         requires none { self.old.capacity ≡ 0 }
-        requires some { 0 < count }
+        requires nonempty { 0 < count }
         requires page { HasRows count page.now }
         ensures { (height width : ℕ) →
             Sends L.leaves height width (take count page.now.rows) self.old leaving.old self.new leaving.new }
@@ -237,7 +237,7 @@ impl Scrollback {
         leaving: &mut L,
     ) -> Result<(), Error>
         requires page { CanLetRowsGo count size.cols page.now }
-        requires some { 0 < count }
+        requires nonempty { 0 < count }
         requires kept { 0 < self.old.capacity }
         ensures { SendsOrFails L.leaves size.rows size.cols (take count page.now.rows)
             self.old leaving.old self.old self.new leaving.new result }
@@ -306,7 +306,7 @@ impl Scrollback {
     /// Removes all rows and passes them to `leaving`, oldest first, and resets the row counts and
     /// the offset to 0.
     pub fn clear<L: Leaving>(&mut self, leaving: &mut L)
-        ensures rows { self.new ≡ cleared self.old }
+        ensures rows { self.new ≡ scrollback_after_clear self.old }
         ensures reported { FoldsTo L.leaves leaving.old self.old.rows leaving.new }
     {
         report_all(&mut self.rows, leaving);
@@ -358,7 +358,7 @@ impl Scrollback {
 
 /// Appends each row of `gone` to the kept rows, as [`push_row`] does.
 fn push_rows<L: Leaving>(gone: Vec<Row>, kept: &mut VecDeque<Row>, capacity: usize, leaving: &mut L)
-    requires some { 0 < capacity }
+    requires nonempty { 0 < capacity }
     requires inside { length kept.old.items ≤ capacity }
     requires room { length kept.old.items + min (length gone.items) (capacity - length kept.old.items)
         ≤ deque_capacity kept.old }
@@ -374,7 +374,7 @@ fn push_rows<L: Leaving>(gone: Vec<Row>, kept: &mut VecDeque<Row>, capacity: usi
 
 /// Appends a row to the kept rows. If they are at capacity, the oldest row is removed and reported.
 fn push_row<L: Leaving>(row: Row, kept: &mut VecDeque<Row>, capacity: usize, leaving: &mut L)
-    requires some { 0 < capacity }
+    requires nonempty { 0 < capacity }
     requires inside { length kept.old.items ≤ capacity }
     requires room { length kept.old.items < capacity → deque_len kept.old < deque_capacity kept.old }
     requires sound { AreRows kept.old.items }

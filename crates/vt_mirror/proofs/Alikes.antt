@@ -8,7 +8,7 @@ use Rattle.vt_redraw.specs.Picture.{Picture}
 use Rattle.vt_redraw.specs.Redraw.{difference}
 use Rattle.vt_redraw.specs.Steady.{IsSteady}
 use Rattle.vt_screen.specs.Screen.{ScreenValue}
-use Rattle.vt_screen.specs.Shown.{IsReaderOf, KeepsRest, Redraws, shown}
+use Rattle.vt_screen.specs.Shown.{IsReaderOf, KeepsRest, Redraws, display}
 use Rattle.vt_screen.specs.Touched.{TouchesOnly}
 use Rattle.vt_mirror.specs.Alike.{ShowsAlike}
 use Rattle.vt_mirror.specs.Calls.{IsDiff, IsDrawn, Scrolls}
@@ -27,7 +27,7 @@ diff_alike : (self noted copy : ScreenValue) (text : List ℕ) → ShowsAlike no
     IsDiff self noted text
 diff_alike self noted copy text a d = record {
   size = size_through self.page copy.page noted.page d.size a.size;
-  redraws = subst (λ (p : Picture). Redraws (shown self) (IsReaderOf (shown self) p) KeepsRest text) a.shown d.redraws;
+  redraws = subst (λ (p : Picture). Redraws (display self) (IsReaderOf (display self) p) KeepsRest text) a.shown d.redraws;
   none = λ same. d.none (same ∙ sym a.shown);
   empty = λ steady none. d.empty steady none ∙ a.shown;
   again = d.again;
@@ -37,10 +37,10 @@ pub drawn_alike : (self noted copy : ScreenValue) (text : List ℕ) → ShowsAli
     IsDrawn self noted text
 drawn_alike self noted copy text a d = record {
   diff = diff_alike self noted copy text a d.diff;
-  is = d.is ∙ ap (λ (p : Picture). bytes_of_all (difference (shown self) p)) a.shown;
+  is = d.is ∙ ap (λ (p : Picture). bytes_of_all (difference (display self) p)) a.shown;
   controls = d.controls;
   touches =
-      λ steady. subst (λ (p : Picture). TouchesOnly (IsReaderOf (shown self) p) text (IsLocal (shown self) p)) a.shown
+      λ steady. subst (λ (p : Picture). TouchesOnly (IsReaderOf (display self) p) text (IsLocal (display self) p)) a.shown
       (d.touches steady);
 }
 
@@ -49,8 +49,8 @@ pub scrolls_alike : (self noted copy : ScreenValue) (text : List ℕ) → ShowsA
 scrolls_alike self noted copy text a d = record {
   diff = diff_alike self noted copy text a d.diff;
   from_steady = subst IsSteady a.shown d.from_steady;
-  is = subst (λ (p : Picture). IsMoving (shown self) p text) a.shown d.is;
+  is = subst (λ (p : Picture). IsMoving (display self) p text) a.shown d.is;
   controls = d.controls;
   shorter =
-      subst (λ (p : Picture). length text ≤ length (bytes_of_all (difference (shown self) p))) a.shown d.shorter;
+      subst (λ (p : Picture). length text ≤ length (bytes_of_all (difference (display self) p))) a.shown d.shorter;
 }

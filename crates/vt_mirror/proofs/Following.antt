@@ -6,10 +6,10 @@ use Rattle.vt_redraw.specs.Steady.{IsSteady}
 use Rattle.vt_scan.specs.Automaton.{start}
 use Rattle.vt_screen.specs.Chain.{CanShowOn}
 use Rattle.vt_screen.specs.Screen.{IsScreen, ScreenValue}
-use Rattle.vt_screen.specs.Shown.{shown}
+use Rattle.vt_screen.specs.Shown.{display}
 use Rattle.vt_screen.specs.CallsOfRun.{screen_in}
 use Rattle.vt_screen.proofs.Viewing.{same_shown}
-use Rattle.vt100.specs.Parser.{Parsing}
+use Rattle.vt100.specs.Parser.{ParserValue}
 use Rattle.vt100.specs.Pieces.{IsFine, IsPlainParser, Processes, Processing, ShowsLast, bytes_in}
 use Rattle.vt100.proofs.Pieces.{chain_pieces}
 use Rattle.vt_mirror.specs.Runs.{IsUpdatedAfter, screens_on_way, screens_to_end, text_to_end}
@@ -17,7 +17,7 @@ use Rattle.vt_mirror.proofs.Noted.{size_through}
 use Rattle.vt_mirror.proofs.Runs.{last_of_more}
 
 can_show : (first reader : ScreenValue) → SameSize first.page reader.page → (screens : List ScreenValue) →
-    AllByRecursion (IsUpdatedAfter first) screens → AllByRecursion (λ screen. IsSteady (shown screen)) screens →
+    AllByRecursion (IsUpdatedAfter first) screens → AllByRecursion (λ screen. IsSteady (display screen)) screens →
     AllByRecursion (CanShowOn reader) screens
 can_show first reader size [] told steady = tt
 can_show first reader size (screen ∷ screens) told steady = (
@@ -31,10 +31,10 @@ can_show first reader size (screen ∷ screens) told steady = (
 )
 
 pub follows : {S : Type 0} (first : ScreenValue) (every : ℕ) (input : List ℕ)
-    (p q : Parsing S) (calls : List Processing)
+    (p q : ParserValue S) (calls : List Processing)
     → IsScreen p.screen → IsPlainParser p → SameSize first.page p.screen.page
     → AllByRecursion (IsUpdatedAfter first) (first ∷ screens_to_end first every input)
-    → AllByRecursion (λ screen. IsSteady (shown screen)) (first ∷ screens_to_end first every input)
+    → AllByRecursion (λ screen. IsSteady (display screen)) (first ∷ screens_to_end first every input)
     → bytes_in calls ≡ text_to_end first every input → FoldsTo Processes p calls q
     → AllByRecursion IsFine calls × ShowsLast p (screen_in start first input) q
 follows first every input p q calls is plain size told steady bytes folds =

@@ -11,10 +11,10 @@ use Rattle.vt_scan.specs.Scanner.{StandsFor}
 use Rattle.vt_screen.specs.Again.{KeepsPlain, LeavesPlain}
 use Rattle.vt_screen.specs.Run.{CallRelation}
 use Rattle.vt_screen.specs.Screen.{IsScreen, ScreenValue}
-use Rattle.vt_screen.specs.Shown.{IsPlain, IsReader, IsReaderOf, KeepsRest, Redraws, shown}
+use Rattle.vt_screen.specs.Shown.{IsPlain, IsReader, IsReaderOf, KeepsRest, Redraws, display}
 use Rattle.vt_screen.proofs.NoCallbacks.{reported_events}
 use Rattle.vt_screen.proofs.Viewing.{same_shown}
-use Rattle.vt100.specs.Parser.{Parsing, Ran, stage}
+use Rattle.vt100.specs.Parser.{ParserValue, Ran, stage}
 use Rattle.vt100.specs.Pieces.{IsPlainParser}
 use Rattle.vt100.proofs.Pieces.{ran_read}
 use Rattle.vt100.proofs.Running.{ran_joined}
@@ -32,12 +32,12 @@ use Rattle.vt_mirror.proofs.Watching.{takes_size}
 -- ---- a viewer reads
 
 -- The viewer is plain again, and displays the screen `self` if it is steady.
-record Heals {S : Type 0} (self : ScreenValue) (viewer : Parsing S) : Type 0 where
+record Heals {S : Type 0} (self : ScreenValue) (viewer : ParserValue S) : Type 0 where
   pub sound : IsScreen viewer.screen
   pub plain : IsPlainParser viewer
-  pub shows : IsSteady (shown self) → shown viewer.screen ≡ shown self
+  pub shows : IsSteady (display self) → display viewer.screen ≡ display self
 
-plain_after : {S : Type 0} (does : CallRelation S) (p q : Parsing S) (text : List ℕ) → StandsFor p.scanner start →
+plain_after : {S : Type 0} (does : CallRelation S) (p q : ParserValue S) (text : List ℕ) → StandsFor p.scanner start →
     LeavesPlain text p.screen → Ran does p text q → q.is_failed ≡ false → IsPlainParser q
 plain_after does p q text stands leaves ran fine =
     let (scanner, folds) = ran start stands in
@@ -48,7 +48,7 @@ plain_after does p q text stands leaves ran fine =
     }
 
 heals_by : {S : Type 0} (does : CallRelation S) (self : ScreenValue) (Reader : ScreenValue → Type 0) (text : List ℕ)
-    (p q : Parsing S) → KeepsPlain text → Redraws (shown self) Reader KeepsRest text → IsPlainParser p →
+    (p q : ParserValue S) → KeepsPlain text → Redraws (display self) Reader KeepsRest text → IsPlainParser p →
     Reader p.screen → ReadsFine does text p q → Heals self q
 heals_by {S} does self Reader text p q keeps r plain reader t =
     let ran : Ran does p text q = subst (λ (b : List ℕ). Ran does p b q) t.whole (ran_joined does p q t.chunks t.ran) in
@@ -57,29 +57,29 @@ heals_by {S} does self Reader text p q keeps r plain reader t =
       plain = plain_after does p q text plain.scanner (keeps p.screen plain.screen) ran t.works;
       shows = λ steady.
           let reads = r.quiet steady p.screen reader in
-          ap shown (ran_read does p q text start _ plain.scanner reads.1 ran t.works).screen
+          ap display (ran_read does p q text start _ plain.scanner reads.1 ran t.works).screen
           ∙ (r.shows steady p.screen reads.0 reader reads.1).1;
     }
 
-heals_diff : {S : Type 0} (does : CallRelation S) (self prev : ScreenValue) (text : List ℕ) (p q : Parsing S)
-    → Scrolls self prev text → IsScreen p.screen → IsPlainParser p → shown p.screen ≡ shown prev
+heals_diff : {S : Type 0} (does : CallRelation S) (self prev : ScreenValue) (text : List ℕ) (p q : ParserValue S)
+    → Scrolls self prev text → IsScreen p.screen → IsPlainParser p → display p.screen ≡ display prev
     → ReadsFine does text p q → Heals self q
 heals_diff does self prev text p q is sound plain shows t =
-    heals_by does self (IsReaderOf (shown self) (shown prev)) text p q is.diff.again is.diff.redraws plain (record {
+    heals_by does self (IsReaderOf (display self) (display prev)) text p q is.diff.again is.diff.redraws plain (record {
       is = record {
         sound = sound;
         plain = plain.screen;
-        size = subst (SamePictureSize (shown self)) (sym shows) (same_shown self prev is.diff.size);
+        size = subst (SamePictureSize (display self)) (sym shows) (same_shown self prev is.diff.size);
       };
       shows = shows;
     }) t
 
 heals_full : {S : Type 0} (does : CallRelation S) (self : ScreenValue) (rows cols : ℕ) (text : List ℕ)
-    (p sized q : Parsing S) → IsFull self rows cols text → IsScreen p.screen → IsPlainParser p
+    (p sized q : ParserValue S) → IsFull self rows cols text → IsScreen p.screen → IsPlainParser p
     → TakesSize rows cols p sized → ReadsFine does text sized q → Heals self q
 heals_full does self rows cols text p sized q full sound plain takes t =
     let s = takes_size self rows cols text p sized full takes sound plain in
-    heals_by does self (IsReader (shown self)) text sized q full.again full.redraws s.plain
+    heals_by does self (IsReader (display self)) text sized q full.again full.redraws s.plain
     (record {
       sound = s.sound;
       plain = s.plain.screen;
@@ -90,8 +90,8 @@ heals_full does self rows cols text p sized q full sound plain takes t =
 
 -- Reading an update makes the viewer recover, if it displays the recorded screen whenever that is steady.
 heals_update : {S : Type 0} (does : CallRelation S) (self : ScreenValue) (noted : Option ScreenValue)
-    (update : Update) (p q : Parsing S)
-    → ((prev : ScreenValue) → noted ≡ Some prev → IsSteady (shown prev) → shown p.screen ≡ shown prev)
+    (update : Update) (p q : ParserValue S)
+    → ((prev : ScreenValue) → noted ≡ Some prev → IsSteady (display prev) → display p.screen ≡ display prev)
     → IsUpdate Scrolling self noted update → IsScreen p.screen → IsPlainParser p → TakesFine does update p q
     → Heals self q
 heals_update does self (Some prev) (Diff text) p q shows is sound plain t =
@@ -108,19 +108,19 @@ record Holds {S : Type 0} (number : ℕ) (w : Watching S) : Type 0 where
   pub sound : IsScreen w.viewer.screen
   pub plain : IsPlainParser w.viewer
   pub noted : (screen : ScreenValue) → note_of w.mirror.viewers number ≡ Some screen → w.seen ≡ Some screen
-  pub shows : IfSome w.seen (λ screen. IsSteady (shown screen) → shown w.viewer.screen ≡ shown screen)
+  pub shows : IfSome w.seen (λ screen. IsSteady (display screen) → display w.viewer.screen ≡ display screen)
 
-abbrev ShowsIfSteady : {S : Type 0} → Parsing S → Option ScreenValue → Type 0
-ShowsIfSteady {S} p o = IfSome o (λ screen. IsSteady (shown screen) → shown p.screen ≡ shown screen)
+abbrev ShowsIfSteady : {S : Type 0} → ParserValue S → Option ScreenValue → Type 0
+ShowsIfSteady {S} p o = IfSome o (λ screen. IsSteady (display screen) → display p.screen ≡ display screen)
 
 holds_left : {S : Type 0} (number : ℕ) (old new : Watching S) →
     NotedBefore number old.mirror new.mirror → IsLeft old new → Holds number old → Holds number new
 holds_left {S} number old new before l h = record {
-  sound = subst (λ (p : Parsing S). IsScreen p.screen) (sym l.viewer) h.sound;
+  sound = subst (λ (p : ParserValue S). IsScreen p.screen) (sym l.viewer) h.sound;
   plain = subst IsPlainParser (sym l.viewer) h.plain;
   noted = λ screen e. l.seen ∙ h.noted screen (before screen e);
   shows =
-      subst (λ (p : Parsing S). ShowsIfSteady p new.seen) (sym l.viewer)
+      subst (λ (p : ParserValue S). ShowsIfSteady p new.seen) (sym l.viewer)
       (subst (λ (o : Option ScreenValue). ShowsIfSteady old.viewer o) (sym l.seen) h.shows);
 }
 

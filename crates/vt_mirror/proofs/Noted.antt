@@ -4,7 +4,7 @@ use Rattle.std.specs.Prelude.{Result, Ok, Err}
 use Rattle.vt_cells.specs.declared.error.Error.{Error}
 use Rattle.vt_grid.specs.Page.{Page, SameSize}
 use Rattle.vt_screen.specs.Screen.{ScreenValue}
-use Rattle.vt100.specs.Parser.{Parsing}
+use Rattle.vt100.specs.Parser.{ParserValue}
 use Rattle.vt_mirror.specs.Calls.{JoinsMirror, Leaves}
 use Rattle.vt_mirror.specs.Mirror.{IsMirror, MirrorValue}
 use Rattle.vt_mirror.specs.Viewers.{Puts, ViewersValue, note_of}
@@ -39,7 +39,7 @@ pub noted_put : (old new : MirrorValue) (v : ℕ) (is : Bool) (noted : Option Sc
     → ((screen : ScreenValue) → noted ≡ Some screen → SameSize old.parser.screen.page screen.page)
     → IsMirror old → IsMirror new
 noted_put old new v is noted same p size m viewer screen e =
-    subst (λ (parser : Parsing (Unit {0})). SameSize parser.screen.page screen.page) (sym same)
+    subst (λ (parser : ParserValue (Unit {0})). SameSize parser.screen.page screen.page) (sym same)
     (by_number v viewer
     (λ here. size screen (sym p.note_here ∙ (ap (note_of new.viewers) (sym here) ∙ e)))
     (λ other. m viewer screen (sym (p.other_notes viewer other) ∙ e)))
@@ -48,7 +48,7 @@ pub noted_same : (old new : MirrorValue) → new.parser ≡ old.parser →
     new.viewers ≡ old.viewers → IsMirror old → IsMirror new
 noted_same old new same viewers m =
     noted_parser old new viewers (subst
-    (λ (parser : Parsing (Unit {0})). SameSize parser.screen.page old.parser.screen.page)
+    (λ (parser : ParserValue (Unit {0})). SameSize parser.screen.page old.parser.screen.page)
     (sym same) (own_size old.parser.screen.page))
     m
 

@@ -8,18 +8,18 @@ use Rattle.vt_scan.specs.Automaton.{State}
 use Rattle.vt_scan.specs.Scanner.{StandsFor}
 use Rattle.vt_screen.specs.Screen.{IsScreen}
 use Rattle.vt100.specs.Calls.{ParserProcesses}
-use Rattle.vt100.specs.Parser.{Parsing, quietly}
+use Rattle.vt100.specs.Parser.{ParserValue, does_nothing}
 use Rattle.vt100.proofs.Sizes.{quiet_leaves, some_ran_size, some_stopped_size}
 use Rattle.vt_mirror.proofs.Noted.{own_size}
 
-pub processed_size : (p q : Parsing (Unit {0})) (bytes : List ℕ) (answer : Result (Unit {0}) Error)
+pub processed_size : (p q : ParserValue (Unit {0})) (bytes : List ℕ) (answer : Result (Unit {0}) Error)
     → IsScreen p.screen → ∥ ((state : State) × StandsFor p.scanner state) ∥₁
-    → ParserProcesses quietly p bytes answer q → SameSize q.screen.page p.screen.page
+    → ParserProcesses does_nothing p bytes answer q → SameSize q.screen.page p.screen.page
 processed_size p q bytes (Ok u) is stands reads =
-    some_ran_size quietly p q bytes quiet_leaves is stands reads.ran
+    some_ran_size does_nothing p q bytes quiet_leaves is stands reads.ran
 processed_size p q bytes (Err OutOfMemory) is stands reads =
-    some_stopped_size quietly p q bytes quiet_leaves is stands (reads.memory refl)
+    some_stopped_size does_nothing p q bytes quiet_leaves is stands (reads.memory refl)
 processed_size p q bytes (Err Failed) is stands reads =
-    subst (λ (parser : Parsing (Unit {0})). SameSize parser.screen.page p.screen.page)
+    subst (λ (parser : ParserValue (Unit {0})). SameSize parser.screen.page p.screen.page)
     (sym (reads.failed (reads.only refl)).1) (own_size p.screen.page)
 processed_size p q bytes (Err NoNumber) is stands reads = absurd (reads.no_number refl)

@@ -10,7 +10,7 @@ use Rattle.vt_scan.specs.Automaton.{start}
 use Rattle.vt_screen.specs.Chain.{chain_text, last_screen, texts_behind}
 use Rattle.vt_screen.specs.MadeOf.{IsMadeOf, drawing_controls, drawing_finals}
 use Rattle.vt_screen.specs.Screen.{IsColored, ScreenValue}
-use Rattle.vt_screen.specs.Shown.{shown, shown_change, shown_text}
+use Rattle.vt_screen.specs.Shown.{display, display_change, shown_text}
 use Rattle.vt_screen.specs.CallsOfRun.{screen_in}
 use Rattle.vt_screen.proofs.MadeOf.{difference_made, made_append, made_nothing, redraw_made}
 use Rattle.vt_mirror.specs.Runs.{IsUpdatedAfter, multiples, screens_on_way}
@@ -90,22 +90,22 @@ last_of_more first (x ∷ xs) screen = last_of_more x xs screen
 
 behind_more : (prev : ScreenValue) (nexts : List ScreenValue) (screen : ScreenValue) →
     texts_behind prev (nexts ++ (screen ∷ []))
-    ≡ texts_behind prev nexts ++ bytes_of_all (difference (shown screen) (shown (last_screen prev nexts)))
-behind_more prev [] screen = append-nil (bytes_of_all (difference (shown screen) (shown prev)))
+    ≡ texts_behind prev nexts ++ bytes_of_all (difference (display screen) (display (last_screen prev nexts)))
+behind_more prev [] screen = append-nil (bytes_of_all (difference (display screen) (display prev)))
 behind_more prev (x ∷ xs) screen =
-    let one = bytes_of_all (difference (shown x) (shown prev)) in
+    let one = bytes_of_all (difference (display x) (display prev)) in
     ap (λ (text : List ℕ). one ++ text) (behind_more x xs screen)
     ∙ sym (append_assoc one (texts_behind x xs)
-    (bytes_of_all (difference (shown screen) (shown (last_screen x xs)))))
+    (bytes_of_all (difference (display screen) (display (last_screen x xs)))))
 
 pub text_of_more : (first : ScreenValue) (nexts : List ScreenValue) (screen : ScreenValue) →
     chain_text first (nexts ++ (screen ∷ []))
-    ≡ chain_text first nexts ++ bytes_of_all (difference (shown screen) (shown (last_screen first nexts)))
+    ≡ chain_text first nexts ++ bytes_of_all (difference (display screen) (display (last_screen first nexts)))
 text_of_more first nexts screen =
-    let one = bytes_of_all (redraw (shown first)) in
+    let one = bytes_of_all (redraw (display first)) in
     ap (λ (text : List ℕ). one ++ text) (behind_more first nexts screen)
     ∙ sym (append_assoc one (texts_behind first nexts)
-    (bytes_of_all (difference (shown screen) (shown (last_screen first nexts)))))
+    (bytes_of_all (difference (display screen) (display (last_screen first nexts)))))
 
 pub all_of_more : (P : ScreenValue → Type 0) (screens : List ScreenValue) (screen : ScreenValue) →
     AllByRecursion P screens → P screen → AllByRecursion P (screens ++ (screen ∷ []))
@@ -118,7 +118,7 @@ changes_made : (first prev : ScreenValue) (nexts : List ScreenValue) → IsColor
     AllByRecursion (IsUpdatedAfter first) nexts → IsMadeOf drawing_finals drawing_controls (texts_behind prev nexts)
 changes_made first prev [] colored all = made_nothing drawing_finals drawing_controls
 changes_made first prev (x ∷ xs) colored all =
-    made_append drawing_finals drawing_controls (shown_change prev x) (texts_behind x xs)
+    made_append drawing_finals drawing_controls (display_change prev x) (texts_behind x xs)
     (difference_made x prev all.0.sound all.0.colored colored) (changes_made first x xs all.0.colored all.1)
 
 pub chain_made : (first : ScreenValue) (nexts : List ScreenValue) →

@@ -6,14 +6,14 @@ use Rattle.vt_redraw.specs.Steady.{IsSteady}
 use Rattle.vt_screen.specs.Again.{KeepsPlain}
 use Rattle.vt_screen.specs.MadeOf.{IsMadeOf, drawing_controls, drawing_finals}
 use Rattle.vt_screen.specs.Screen.{IsColored, IsScreen, ScreenValue}
-use Rattle.vt_screen.specs.Shown.{shown, shown_change}
+use Rattle.vt_screen.specs.Shown.{display, display_change}
 use Rattle.vt_screen.proofs.Became.{difference_redraws}
 use Rattle.vt_screen.proofs.EqualTexts.{difference_none}
 use Rattle.vt_screen.proofs.MadeOf.{difference_made, scrolling_made}
 use Rattle.vt_screen.proofs.PlainAgain.{difference_keeps}
 use Rattle.vt_screen.proofs.TouchedTexts.{difference_touches}
 use Rattle.vt_screen.proofs.Viewing.{same_shown}
-use Rattle.vt100.specs.Parser.{Parsing}
+use Rattle.vt100.specs.Parser.{ParserValue}
 use Rattle.vt_mirror.specs.Calls.{IsDrawn, Scrolls}
 use Rattle.vt_mirror.specs.Kept.{DiffFrom, KeptValue}
 use Rattle.vt_mirror.specs.Mirror.{IsMirror}
@@ -25,7 +25,7 @@ use Rattle.vt_mirror.proofs.Noted.{noted_none, noted_parser, own_size}
 
 pub unchanged : (self : ScreenValue) → IsScreen self → IsColored self → IsDrawn self self []
 unchanged self is colored =
-    let none : [] ≡ shown_change self self = sym (difference_none (shown self) (shown self) refl) in
+    let none : [] ≡ display_change self self = sym (difference_none (display self) (display self) refl) in
     let size = same_shown self self (own_size self.page) in
     record {
       diff = record {
@@ -40,7 +40,7 @@ unchanged self is colored =
       touches = λ steady. difference_touches self self [] none is colored steady is colored size;
     }
 
-pub unchanged_scrolling : (self : ScreenValue) → IsScreen self → IsColored self → IsSteady (shown self) →
+pub unchanged_scrolling : (self : ScreenValue) → IsScreen self → IsColored self → IsSteady (display self) →
     Scrolls self self []
 unchanged_scrolling self is colored steady =
     let drawn = unchanged self is colored in
@@ -54,20 +54,20 @@ unchanged_scrolling self is colored steady =
 
 -- ---- the kept values
 
-abbrev pub CopiesScreen : Parsing (Unit {0}) → Option ScreenValue → Type 0
+abbrev pub CopiesScreen : ParserValue (Unit {0}) → Option ScreenValue → Type 0
 CopiesScreen parser o = IfSome o (λ screen. screen ≡ parser.screen)
 
-abbrev HasDrawn : Parsing (Unit {0}) → Option DiffFrom → Type 0
+abbrev HasDrawn : ParserValue (Unit {0}) → Option DiffFrom → Type 0
 HasDrawn parser o = IfSome o (λ diff. IsDrawn parser.screen diff.0 diff.1)
 
-abbrev HasScrolling : Parsing (Unit {0}) → Option DiffFrom → Type 0
+abbrev HasScrolling : ParserValue (Unit {0}) → Option DiffFrom → Type 0
 HasScrolling parser o = IfSome o (λ diff. Scrolls parser.screen diff.0 diff.1)
 
-abbrev HasRedraw : Parsing (Unit {0}) → Option (List ℕ) → Type 0
+abbrev HasRedraw : ParserValue (Unit {0}) → Option (List ℕ) → Type 0
 HasRedraw parser o = IfSome o (IsRedraw parser.screen)
 
 -- The copies and texts of a mirror stay valid after a redraw is stored, or if nothing changes.
-pub sharing_redrawn : (parser : Parsing (Unit {0})) (old new : KeptValue) (text : List ℕ)
+pub sharing_redrawn : (parser : ParserValue (Unit {0})) (old new : KeptValue) (text : List ℕ)
     → (new ≡ old) ⊎ (new ≡ record old { redraw = Some text }) → IsRedraw parser.screen text
     → IsSharing parser old → IsSharing parser new
 sharing_redrawn parser old new text (inl same) is s = subst (λ (k : KeptValue). IsSharing parser k) (sym same) s
@@ -76,7 +76,7 @@ sharing_redrawn parser old new text (inr kept) is s =
     (record { sized = s.sized; current = s.current; diff = s.diff; scrolling = s.scrolling; redraw = is })
 
 -- The copies and texts of a mirror stay valid after the screen changes but keeps its size.
-pub sharing_changed : (parser after : Parsing (Unit {0})) (old new : KeptValue)
+pub sharing_changed : (parser after : ParserValue (Unit {0})) (old new : KeptValue)
     → new ≡ record old { current = None; diff = None; scrolling = None; redraw = None; current_viewers = [] }
     → SameSize after.screen.page parser.screen.page → IsSharing parser old → IsSharing after new
 sharing_changed parser after old new e size s =
@@ -91,7 +91,7 @@ sharing_changed parser after old new e size s =
     })
 
 -- The copies and texts of a mirror stay valid after the screen and its size change.
-pub sharing_resized : (after : Parsing (Unit {0})) (old new : KeptValue)
+pub sharing_resized : (after : ParserValue (Unit {0})) (old new : KeptValue)
     → new ≡ record {
       viewers = record (old.viewers) { notes = [] };
       current = None;
@@ -111,12 +111,12 @@ sharing_resized after old new e =
     })
 
 -- The copies and texts of a mirror stay valid if the parser is unchanged.
-pub sharing_parser : (parser after : Parsing (Unit {0})) (kept : KeptValue) → after ≡ parser →
+pub sharing_parser : (parser after : ParserValue (Unit {0})) (kept : KeptValue) → after ≡ parser →
     IsSharing parser kept → IsSharing after kept
-sharing_parser parser after kept same s = subst (λ (p : Parsing (Unit {0})). IsSharing p kept) (sym same) s
+sharing_parser parser after kept same s = subst (λ (p : ParserValue (Unit {0})). IsSharing p kept) (sym same) s
 
 -- The copies and texts of a mirror stay valid after viewers join or leave.
-pub sharing_viewers : (parser : Parsing (Unit {0})) (old new : KeptValue)
+pub sharing_viewers : (parser : ParserValue (Unit {0})) (old new : KeptValue)
     → new ≡ record old { viewers = new.viewers; current_viewers = new.current_viewers }
     → IsMirror (record { parser = parser; viewers = new.viewers; current = new.current_viewers }) → IsSharing parser old → IsSharing parser new
 sharing_viewers parser old new e sized s = record {
@@ -128,7 +128,7 @@ sharing_viewers parser old new e sized s = record {
 }
 
 -- The copies and texts of a mirror stay valid after the current screen is recorded for a viewer.
-pub sharing_noted : (parser : Parsing (Unit {0})) (old new : KeptValue)
+pub sharing_noted : (parser : ParserValue (Unit {0})) (old new : KeptValue)
     → IsMirror (record { parser = parser; viewers = new.viewers; current = new.current_viewers }) → CopiesScreen parser new.current
     → new.diff ≡ old.diff → new.scrolling ≡ old.scrolling → new.redraw ≡ old.redraw
     → IsSharing parser old → IsSharing parser new
@@ -145,7 +145,7 @@ abbrev Kept : KeptValue → (viewer : ℕ) → (was is : Option DiffFrom) → Li
 Kept old viewer was is text =
     (is ≡ was) ⊎ ((screen : ScreenValue) × (note_of old.viewers viewer ≡ Some screen) × (is ≡ Some (screen, text)))
 
-pub sharing_drawn : (parser : Parsing (Unit {0})) (old new : KeptValue) (viewer : ℕ) (text : List ℕ)
+pub sharing_drawn : (parser : ParserValue (Unit {0})) (old new : KeptValue) (viewer : ℕ) (text : List ℕ)
     → new ≡ record old { diff = new.diff } → Kept old viewer old.diff new.diff text
     → ((screen : ScreenValue) → note_of old.viewers viewer ≡ Some screen → IsDrawn parser.screen screen text)
     → IsSharing parser old → IsSharing parser new
@@ -161,7 +161,7 @@ sharing_drawn parser old new viewer text e kept drawn s =
       by_side (inl same) = subst (HasDrawn parser) (sym same) s.diff
       by_side (inr it) = subst (HasDrawn parser) (sym it.2) (drawn it.0 it.1)
 
-pub sharing_scrolled : (parser : Parsing (Unit {0})) (old new : KeptValue) (viewer : ℕ) (text : List ℕ)
+pub sharing_scrolled : (parser : ParserValue (Unit {0})) (old new : KeptValue) (viewer : ℕ) (text : List ℕ)
     → new ≡ record old { scrolling = new.scrolling } → Kept old viewer old.scrolling new.scrolling text
     → ((screen : ScreenValue) → note_of old.viewers viewer ≡ Some screen → Scrolls parser.screen screen text)
     → IsSharing parser old → IsSharing parser new

@@ -10,7 +10,7 @@ use Rattle.vt_redraw.specs.Steady.{IsSteady}
 use Rattle.vt_screen.specs.Again.{KeepsPlain}
 use Rattle.vt_screen.specs.MadeOf.{IsMadeOf, drawing_controls, drawing_finals, scrolling_finals}
 use Rattle.vt_screen.specs.Screen.{ScreenValue}
-use Rattle.vt_screen.specs.Shown.{IsReaderOf, RedrawsFrom, shown, shown_change}
+use Rattle.vt_screen.specs.Shown.{IsReaderOf, RedrawsFrom, display, display_change}
 use Rattle.vt_screen.specs.Touched.{TouchesOnly}
 use Rattle.vt_mirror.specs.Alike.{ShowsAlike}
 use Rattle.vt_mirror.specs.Calls.{IsDrawn, IsFullUpdate, IsOfKind, IsUpdate, Kind, Scrolling, Scrolls}
@@ -34,11 +34,11 @@ copy_size self seen noted copy e alike size =
     subst (λ (s : ScreenValue). SameSize s.page copy.page) (sym e) (size_alike self noted copy alike size)
 
 pub drawn_from : (self seen noted copy : ScreenValue) (text : List ℕ)
-    → seen ≡ self → ShowsAlike noted copy → SameSize self.page noted.page → text ≡ shown_change copy seen
-    → RedrawsFrom copy seen text → (IsSteady (shown seen) → text ≡ [] → shown seen ≡ shown copy)
-    → (shown seen ≡ shown copy → text ≡ [])
-    → (IsSteady (shown seen) → TouchesOnly (IsReaderOf (shown seen) (shown copy)) text
-    (IsLocal (shown seen) (shown copy)))
+    → seen ≡ self → ShowsAlike noted copy → SameSize self.page noted.page → text ≡ display_change copy seen
+    → RedrawsFrom copy seen text → (IsSteady (display seen) → text ≡ [] → display seen ≡ display copy)
+    → (display seen ≡ display copy → text ≡ [])
+    → (IsSteady (display seen) → TouchesOnly (IsReaderOf (display seen) (display copy)) text
+    (IsLocal (display seen) (display copy)))
     → IsMadeOf drawing_finals drawing_controls text → KeepsPlain text → IsDrawn self noted text
 drawn_from self seen noted copy text e alike size is redraws empty none touches controls again =
     drawn_alike self noted copy text alike (subst (λ (s : ScreenValue). IsDrawn s copy text) e (record {
@@ -55,10 +55,10 @@ drawn_from self seen noted copy text e alike size is redraws empty none touches 
     }))
 
 pub scrolled_from : (self seen noted copy : ScreenValue) (text : List ℕ)
-    → seen ≡ self → ShowsAlike noted copy → SameSize self.page noted.page → IsSteady (shown copy)
-    → IsMoving (shown seen) (shown copy) text → length text ≤ length (shown_change copy seen)
-    → RedrawsFrom copy seen text → (IsSteady (shown seen) → text ≡ [] → shown seen ≡ shown copy)
-    → (shown seen ≡ shown copy → text ≡ []) → IsMadeOf scrolling_finals drawing_controls text → KeepsPlain text
+    → seen ≡ self → ShowsAlike noted copy → SameSize self.page noted.page → IsSteady (display copy)
+    → IsMoving (display seen) (display copy) text → length text ≤ length (display_change copy seen)
+    → RedrawsFrom copy seen text → (IsSteady (display seen) → text ≡ [] → display seen ≡ display copy)
+    → (display seen ≡ display copy → text ≡ []) → IsMadeOf scrolling_finals drawing_controls text → KeepsPlain text
     → Scrolls self noted text
 scrolled_from self seen noted copy text e alike size steady is shorter redraws empty none controls again =
     scrolls_alike self noted copy text alike (subst (λ (s : ScreenValue). Scrolls s copy text) e (record {
@@ -83,14 +83,14 @@ diff_update kind inside mirror viewer noted text same e is =
     subst (λ (m : MirrorValue). IsUpdate kind m.parser.screen (note_of m.viewers viewer) (Diff text)) same
     (subst (λ (o : Option ScreenValue). IsUpdate kind inside.parser.screen o (Diff text)) (sym e) is)
 
-full_one : (self noted : ScreenValue) (update : Update) → (IsSteady (shown noted) → ⊥) → IsFullUpdate self update →
+full_one : (self noted : ScreenValue) (update : Update) → (IsSteady (display noted) → ⊥) → IsFullUpdate self update →
     IsUpdate Scrolling self (Some noted) update
 full_one self noted (Full rows cols text) unsteady is = (unsteady, is)
 full_one self noted (Diff text) unsteady is = absurd is
 
 -- A full redraw is an update for a viewer whose recorded screen is not steady.
 pub full_update : (inside mirror : MirrorValue) (viewer : ℕ) (noted : ScreenValue) (result : Result Update Error)
-    → inside ≡ mirror → note_of inside.viewers viewer ≡ Some noted → (IsSteady (shown noted) → ⊥)
+    → inside ≡ mirror → note_of inside.viewers viewer ≡ Some noted → (IsSteady (display noted) → ⊥)
     → IfOk result (λ update. IsFullUpdate mirror.parser.screen update)
     → IfOk result (λ update. IsUpdate Scrolling mirror.parser.screen (note_of mirror.viewers viewer) update)
 full_update inside mirror viewer noted (Ok update) same e unsteady is =

@@ -16,10 +16,10 @@ use Rattle.vt_scan.specs.Scanner.{StandsFor}
 use Rattle.vt_screen.specs.Chain.{chain_text, last_screen}
 use Rattle.vt_screen.specs.MadeOf.{IsMadeOf, drawing_controls, drawing_finals}
 use Rattle.vt_screen.specs.Screen.{ScreenValue}
-use Rattle.vt_screen.specs.Shown.{shown, shown_change}
+use Rattle.vt_screen.specs.Shown.{display, display_change}
 use Rattle.vt_screen.specs.CallsOfRun.{screen_in}
 use Rattle.vt_screen.proofs.MadeOf.{made_append}
-use Rattle.vt100.specs.Parser.{Parsing, Ran, quietly}
+use Rattle.vt100.specs.Parser.{ParserValue, Ran, does_nothing}
 use Rattle.vt100.proofs.Running.{ran_then}
 use Rattle.vt100.proofs.Sizes.{quiet_leaves}
 use Rattle.vt100.proofs.Streams.{ran_called}
@@ -40,14 +40,14 @@ use Rattle.vt_mirror.proofs.Runs.{all_of_more, chain_made, fewer_on_way, last_of
 
 -- ---- reading
 
-nothing_ran : (p : Parsing (Unit {0})) → Ran quietly p [] p
+nothing_ran : (p : ParserValue (Unit {0})) → Ran does_nothing p [] p
 nothing_ran p = λ s stands. (stands, refl)
 
 pub reads_then : (a b : List ℕ) (p q r : MirrorValue) (left at rest : Option (List ℕ)) →
     ReadsBytes a p q left at → ReadsBytes b q r at rest → ReadsBytes (a ++ b) p r left rest
 reads_then a b p q r left at rest first second = record {
   reads = Consumes-trans left at rest a b first.reads second.reads;
-  ran = ran_then quietly p.parser q.parser r.parser a b first.ran second.ran;
+  ran = ran_then does_nothing p.parser q.parser r.parser a b first.ran second.ran;
   viewers = second.viewers ∙ first.viewers;
   size =
       size_through r.parser.screen.page q.parser.screen.page p.parser.screen.page second.size first.size;
@@ -63,7 +63,7 @@ stretch_begun every mirror left some = record {
     viewers = refl;
     size = own_size mirror.parser.screen.page;
   };
-  some = some;
+  nonempty = some;
   count = omega arith;
 }
 
@@ -75,7 +75,7 @@ pub processed : (count : ℕ) (buffer behind : List ℕ) (old new : MirrorValue)
 processed count buffer behind old new (Ok u) left rest fine inside p reads = record {
   reads = reads;
   ran =
-      subst (λ (bytes : List ℕ). Ran quietly old.parser bytes new.parser)
+      subst (λ (bytes : List ℕ). Ran does_nothing old.parser bytes new.parser)
       (take-append-le count buffer behind inside) p.parser.ran;
   viewers = p.viewers;
   size = p.size;
@@ -88,7 +88,7 @@ pub stretch_more : (every still after : ℕ) (bytes : List ℕ) (old mid new : M
 stretch_more every still after bytes old mid new left at rest fewer some s reads = record {
   bytes = s.bytes ++ bytes;
   reads = reads_then s.bytes bytes old mid new left at rest s.reads reads;
-  some = some;
+  nonempty = some;
   count = omega (arith, fewer, s.count, length-append s.bytes bytes);
 }
 
@@ -116,7 +116,7 @@ stretch_ended every still old mid left at rest s none end = record {
     size = s.reads.size;
   };
   whole = λ no. absurd (false≢true no);
-  fewer = λ _. omega (arith, s.some, s.count);
+  fewer = λ _. omega (arith, s.nonempty, s.count);
   end = λ _. end;
 }
 
@@ -124,7 +124,7 @@ pub stretch_failed : (every still : ℕ) (old mid : MirrorValue) (left at rest :
     → InStretch every still old mid left at → Keeps at rest → ReadsFewer every left rest
 stretch_failed every still old mid left at rest s keeps = record {
   bytes = s.bytes;
-  fewer = omega (arith, s.some, s.count);
+  fewer = omega (arith, s.nonempty, s.count);
   reads = Consumes-kept left at rest s.bytes s.reads.reads keeps;
 }
 
@@ -145,15 +145,15 @@ same_some : {A : Type 0} (x y : A) → Some x ≡ Some y → x ≡ y
 same_some x y e = cc
 
 full_text : (self : ScreenValue) (noted : Option ScreenValue) (update : Update) → noted ≡ None →
-    IsUpdate Drawn self noted update → text_of_update update ≡ bytes_of_all (redraw (shown self))
+    IsUpdate Drawn self noted update → text_of_update update ≡ bytes_of_all (redraw (display self))
 full_text self None (Full rows cols text) e is = is.is
 full_text self None (Diff text) e is = absurd is
 full_text self (Some prev) update e is = absurd (no_some prev e)
 
 diff_text : (self prev : ScreenValue) (noted : Option ScreenValue) (update : Update) → noted ≡ Some prev →
-    IsUpdate Drawn self noted update → text_of_update update ≡ bytes_of_all (difference (shown self) (shown prev))
+    IsUpdate Drawn self noted update → text_of_update update ≡ bytes_of_all (difference (display self) (display prev))
 diff_text self prev (Some other) (Diff text) e is =
-    is.is ∙ ap (λ (s : ScreenValue). bytes_of_all (difference (shown self) (shown s))) (same_some other prev e)
+    is.is ∙ ap (λ (s : ScreenValue). bytes_of_all (difference (display self) (display s))) (same_some other prev e)
 diff_text self prev (Some other) (Full rows cols text) e is = absurd is
 diff_text self prev None update e is = absurd (no_some prev (sym e))
 
@@ -164,9 +164,9 @@ update_made self None (Diff text) is = absurd is
 update_made self (Some prev) (Diff text) is = is.controls
 update_made self (Some prev) (Full rows cols text) is = absurd is
 
-ran_shows : (p q : Parsing (Unit {0})) (bytes : List ℕ) → StandsFor p.scanner start → Ran quietly p bytes q →
+ran_shows : (p q : ParserValue (Unit {0})) (bytes : List ℕ) → StandsFor p.scanner start → Ran does_nothing p bytes q →
     q.screen ≡ screen_in start p.screen bytes
-ran_shows p q bytes stands ran = (ran_called quietly quiet_leaves p q bytes start stands ran).shown
+ran_shows p q bytes stands ran = (ran_called does_nothing quiet_leaves p q bytes start stands ran).shown
 
 pub begun_written : (every viewer : ℕ) (old new : MirrorValue) (left written grown : Option (List ℕ)) → 0 < every →
     IsBegun old viewer → WritesUpdate old viewer new written grown →
@@ -176,24 +176,24 @@ begun_written every viewer old new left written grown some b w =
     let first = old.parser.screen in
     let none = none_on_way first every some in
     let size : SameSize new.parser.screen.page first.page =
-    subst (λ (p : Parsing (Unit {0})). SameSize p.screen.page first.page) (sym t.parser) (own_size first.page) in
+    subst (λ (p : ParserValue (Unit {0})). SameSize p.screen.page first.page) (sym t.parser) (own_size first.page) in
     record {
       input = [];
       count = 0;
       length_is = omega arith;
       reads = Consumes-nil left;
-      ran = subst (Ran quietly old.parser []) (sym t.parser) (nothing_ran old.parser);
+      ran = subst (Ran does_nothing old.parser []) (sym t.parser) (nothing_ran old.parser);
       size = size;
       views = t.puts.here;
-      note = t.puts.note_here ∙ ap (λ (p : Parsing (Unit {0})). Some p.screen) (sym t.parser);
-      last = ap (last_screen first) none ∙ ap (λ (p : Parsing (Unit {0})). p.screen) (sym t.parser);
+      note = t.puts.note_here ∙ ap (λ (p : ParserValue (Unit {0})). Some p.screen) (sym t.parser);
+      last = ap (last_screen first) none ∙ ap (λ (p : ParserValue (Unit {0})). p.screen) (sym t.parser);
       updated = (
         record { sound = t.whole; colored = t.colored; size = own_size first.page },
         subst (AllByRecursion (IsUpdatedAfter first)) (sym none) tt,
       );
       appends =
           subst (Appends written grown) (full_text first (note_of old.viewers viewer) w.update b.note t.text
-          ∙ (sym (append-nil (bytes_of_all (redraw (shown first)))) ∙ ap (chain_text first) (sym none))) w.appends;
+          ∙ (sym (append-nil (bytes_of_all (redraw (display first)))) ∙ ap (chain_text first) (sym none))) w.appends;
     }
 
 -- The text of one more update was appended to the output.
@@ -210,9 +210,9 @@ one_more : (viewer : ℕ) (first : ScreenValue) (nexts : List ScreenValue) (mid 
 one_more viewer first nexts mid read new written grown more last note size told appends w =
     let t = w.gives in
     let screen = read.parser.screen in
-    let text : text_of_update w.update ≡ bytes_of_all (difference (shown screen) (shown (last_screen first nexts))) =
+    let text : text_of_update w.update ≡ bytes_of_all (difference (display screen) (display (last_screen first nexts))) =
     diff_text screen mid.parser.screen (note_of read.viewers viewer) w.update note t.text
-    ∙ ap (λ (s : ScreenValue). bytes_of_all (difference (shown screen) (shown s))) (sym last) in
+    ∙ ap (λ (s : ScreenValue). bytes_of_all (difference (display screen) (display s))) (sym last) in
     record {
       updated = (
         told.0,
@@ -235,8 +235,8 @@ written_more every viewer old mid read new left at rest written grown more some 
     let t = w.gives in
     let all = before.input ++ s.bytes in
     let nexts = screens_on_way first every before.input in
-    let ran : Ran quietly old.parser all read.parser =
-    ran_then quietly old.parser mid.parser read.parser before.input s.bytes before.ran s.reads.ran in
+    let ran : Ran does_nothing old.parser all read.parser =
+    ran_then does_nothing old.parser mid.parser read.parser before.input s.bytes before.ran s.reads.ran in
     let size : SameSize read.parser.screen.page first.page =
     size_through read.parser.screen.page mid.parser.screen.page first.page s.reads.size before.size in
     let screens : screens_on_way first every all ≡ nexts ++ (read.parser.screen ∷ []) =
@@ -249,13 +249,13 @@ written_more every viewer old mid read new left at rest written grown more some 
       count = suc before.count;
       length_is = next_length every before.count before.input s.bytes before.length_is (s.whole refl);
       reads = Consumes-trans left at rest before.input s.bytes before.reads s.reads.reads;
-      ran = subst (Ran quietly old.parser all) (sym t.parser) ran;
-      size = subst (λ (p : Parsing (Unit {0})). SameSize p.screen.page first.page) (sym t.parser) size;
+      ran = subst (Ran does_nothing old.parser all) (sym t.parser) ran;
+      size = subst (λ (p : ParserValue (Unit {0})). SameSize p.screen.page first.page) (sym t.parser) size;
       views = t.puts.here;
-      note = t.puts.note_here ∙ ap (λ (p : Parsing (Unit {0})). Some p.screen) (sym t.parser);
+      note = t.puts.note_here ∙ ap (λ (p : ParserValue (Unit {0})). Some p.screen) (sym t.parser);
       last =
           ap (last_screen first) screens
-          ∙ (last_of_more first nexts read.parser.screen ∙ ap (λ (p : Parsing (Unit {0})). p.screen) (sym t.parser));
+          ∙ (last_of_more first nexts read.parser.screen ∙ ap (λ (p : ParserValue (Unit {0})). p.screen) (sym t.parser));
       updated =
           subst (λ (xs : List ScreenValue). AllByRecursion (IsUpdatedAfter first) (first ∷ xs)) (sym screens) one.updated;
       appends = subst (λ (xs : List ScreenValue). Appends written more (chain_text first xs)) (sym screens) one.appends;
@@ -270,8 +270,8 @@ written_all every viewer old mid read new left at rest written grown more stands
     let first = old.parser.screen in
     let all = before.input ++ s.bytes in
     let nexts = screens_on_way first every before.input in
-    let ran : Ran quietly old.parser all read.parser =
-    ran_then quietly old.parser mid.parser read.parser before.input s.bytes before.ran s.reads.ran in
+    let ran : Ran does_nothing old.parser all read.parser =
+    ran_then does_nothing old.parser mid.parser read.parser before.input s.bytes before.ran s.reads.ran in
     let screens : screens_to_end first every all ≡ nexts ++ (read.parser.screen ∷ []) =
     ap (λ (xs : List ScreenValue). xs ++ (screen_in start first all ∷ []))
     (fewer_on_way first every before.count before.input s.bytes before.length_is (s.fewer refl))
@@ -420,13 +420,13 @@ pub fails_later : (every viewer : ℕ) (is_whole : Bool) (old mid read new : Mir
 fails_later every viewer is_whole old mid read new left at rest written grown more stands before s w =
     let first = old.parser.screen in
     let all = before.input ++ s.bytes in
-    let ran : Ran quietly old.parser all read.parser =
-    ran_then quietly old.parser mid.parser read.parser before.input s.bytes before.ran s.reads.ran in
-    let text : text_of_update w.update ≡ shown_change (screen_in start first before.input) (screen_in start first all) =
+    let ran : Ran does_nothing old.parser all read.parser =
+    ran_then does_nothing old.parser mid.parser read.parser before.input s.bytes before.ran s.reads.ran in
+    let text : text_of_update w.update ≡ display_change (screen_in start first before.input) (screen_in start first all) =
     diff_text read.parser.screen mid.parser.screen (note_of read.viewers viewer) w.update
     (ap (λ (v : ViewersValue). note_of v viewer) s.reads.viewers ∙ before.note) w.gives.text
-    ∙ (ap (λ (x : ScreenValue). shown_change mid.parser.screen x) (ran_shows old.parser read.parser all stands ran)
-    ∙ ap (λ (x : ScreenValue). shown_change x (screen_in start first all))
+    ∙ (ap (λ (x : ScreenValue). display_change mid.parser.screen x) (ran_shows old.parser read.parser all stands ran)
+    ∙ ap (λ (x : ScreenValue). display_change x (screen_in start first all))
     (ran_shows old.parser mid.parser before.input stands before.ran)) in
     record {
       input = before.input;
@@ -445,7 +445,7 @@ fails_later every viewer is_whole old mid read new left at rest written grown mo
       };
       controls =
           made_append drawing_finals drawing_controls (text_on_way first every before.input)
-          (shown_change (screen_in start first before.input) (screen_in start first all))
+          (display_change (screen_in start first before.input) (screen_in start first all))
           (chain_made first (screens_on_way first every before.input) before.updated)
           (subst (IsMadeOf drawing_finals drawing_controls) text
           (update_made read.parser.screen (note_of read.viewers viewer) w.update w.gives.text));

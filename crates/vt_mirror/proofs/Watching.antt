@@ -8,12 +8,12 @@ use Rattle.vt_redraw.specs.Picture.{SamePictureSize}
 use Rattle.vt_redraw.specs.Steady.{IsSteady}
 use Rattle.vt_scan.specs.Automaton.{start}
 use Rattle.vt_scan.specs.Scanner.{StandsFor}
-use Rattle.vt_screen.specs.Pages.{has_size, resized}
-use Rattle.vt_screen.specs.Reading.{read, terminal}
+use Rattle.vt_screen.specs.Pages.{has_size, screen_after_resize}
+use Rattle.vt_screen.specs.Reading.{terminal_after, terminal}
 use Rattle.vt_screen.specs.Screen.{IsScreen, ScreenValue}
-use Rattle.vt_screen.specs.Shown.{IsPlain, IsReader, IsReaderOf, KeepsRest, Redraws, shown}
+use Rattle.vt_screen.specs.Shown.{IsPlain, IsReader, IsReaderOf, KeepsRest, Redraws, display}
 use Rattle.vt_screen.proofs.Viewing.{same_shown}
-use Rattle.vt100.specs.Parser.{Parsing}
+use Rattle.vt100.specs.Parser.{ParserValue}
 use Rattle.vt100.specs.Pieces.{HasRead, IsPlainParser}
 use Rattle.vt100.proofs.Pieces.{read_pieces}
 use Rattle.vt_mirror.specs.Calls.{Asks, Drawn, IsDiff, IsFull, IsFullAfter, IsOfKind, IsUpdate, JoinsMirror, Kind}
@@ -65,19 +65,19 @@ before_join number old new (Err error) j = before_same number old new j.refused
 
 -- ---- a viewer reads
 
-same_end : {S : Type 0} (text : List ℕ) (p q : Parsing S) (after : ScreenValue) → IsPlainParser p → ReadsText text p q →
-    read (terminal start p.screen) text ≡ Some (terminal start after) → HasRead p (terminal start after) q
+same_end : {S : Type 0} (text : List ℕ) (p q : ParserValue S) (after : ScreenValue) → IsPlainParser p → ReadsText text p q →
+    terminal_after (terminal start p.screen) text ≡ Some (terminal start after) → HasRead p (terminal start after) q
 same_end text p q after plain t reads =
     (read_pieces p q t.calls start (terminal start after) plain.is_failed
-    plain.scanner (ap (read (terminal start p.screen)) t.whole ∙ reads) t.reads).1
+    plain.scanner (ap (terminal_after (terminal start p.screen)) t.whole ∙ reads) t.reads).1
 
 -- The terminal is valid and plain, and displays the given screen.
-record Plainly {S : Type 0} (self : ScreenValue) (viewer : Parsing S) : Type 0 where
+record Plainly {S : Type 0} (self : ScreenValue) (viewer : ParserValue S) : Type 0 where
   pub plain : IsPlainParser viewer
-  pub shows : shown viewer.screen ≡ shown self
+  pub shows : display viewer.screen ≡ display self
 
-reads_redraw : {S : Type 0} (self : ScreenValue) (Reader : ScreenValue → Type 0) (text : List ℕ) (p q : Parsing S) →
-    IsSteady (shown self) → Redraws (shown self) Reader KeepsRest text → IsPlainParser p →
+reads_redraw : {S : Type 0} (self : ScreenValue) (Reader : ScreenValue → Type 0) (text : List ℕ) (p q : ParserValue S) →
+    IsSteady (display self) → Redraws (display self) Reader KeepsRest text → IsPlainParser p →
     Reader p.screen → ReadsText text p q → Plainly self q
 reads_redraw self Reader text p q steady r plain reader t =
     let reads = r.quiet steady p.screen reader in
@@ -86,53 +86,53 @@ reads_redraw self Reader text p q steady r plain reader t =
     record {
       plain =
           record { is_failed = all.is_failed; scanner = all.scanner; screen = subst IsPlain (sym all.screen) made.0 };
-      shows = ap shown all.screen ∙ made.1;
+      shows = ap display all.screen ∙ made.1;
     }
 
-reads_diff : {S : Type 0} (self prev : ScreenValue) (text : List ℕ) (p q : Parsing S)
-    → IsDiff self prev text → IsSteady (shown self)
-    → IsScreen p.screen → IsPlainParser p → shown p.screen ≡ shown prev → ReadsText text p q → Plainly self q
+reads_diff : {S : Type 0} (self prev : ScreenValue) (text : List ℕ) (p q : ParserValue S)
+    → IsDiff self prev text → IsSteady (display self)
+    → IsScreen p.screen → IsPlainParser p → display p.screen ≡ display prev → ReadsText text p q → Plainly self q
 reads_diff self prev text p q diff steady sound plain shows t =
-    reads_redraw self (IsReaderOf (shown self) (shown prev)) text p q steady diff.redraws plain (record {
+    reads_redraw self (IsReaderOf (display self) (display prev)) text p q steady diff.redraws plain (record {
       is = record {
         sound = sound;
         plain = plain.screen;
-        size = subst (SamePictureSize (shown self)) (sym shows) (same_shown self prev diff.size);
+        size = subst (SamePictureSize (display self)) (sym shows) (same_shown self prev diff.size);
       };
       shows = shows;
     }) t
 
 -- The terminal is valid and plain, and has the given size.
-pub record Sized {S : Type 0} (rows cols : ℕ) (q : Parsing S) : Type 0 where
+pub record Sized {S : Type 0} (rows cols : ℕ) (q : ParserValue S) : Type 0 where
   pub sound : IsScreen q.screen
   pub plain : IsPlainParser q
   pub wide : q.screen.page.width ≡ cols
   pub tall : length q.screen.page.rows ≡ rows
 
-pub takes_size : {S : Type 0} (self : ScreenValue) (rows cols : ℕ) (text : List ℕ) (p q : Parsing S) →
+pub takes_size : {S : Type 0} (self : ScreenValue) (rows cols : ℕ) (text : List ℕ) (p q : ParserValue S) →
     IsFull self rows cols text → TakesSize rows cols p q → IsScreen p.screen → IsPlainParser p → Sized rows cols q
 takes_size {S} self rows cols text p q full t sound plain =
     let size = resized_size rows cols p.screen in
-    let same : q.screen ≡ resized rows cols p.screen = ap (λ (r : Parsing S). r.screen) t in
+    let same : q.screen ≡ screen_after_resize rows cols p.screen = ap (λ (r : ParserValue S). r.screen) t in
     record {
       sound =
           subst IsScreen (sym same)
           (resized_is rows cols p.screen full.has_rows full.few_rows full.has_columns full.few_columns sound);
       plain = record {
-        is_failed = ap (λ (r : Parsing S). r.is_failed) t ∙ plain.is_failed;
-        scanner = subst (λ (r : Parsing S). StandsFor r.scanner start) (sym t) plain.scanner;
+        is_failed = ap (λ (r : ParserValue S). r.is_failed) t ∙ plain.is_failed;
+        scanner = subst (λ (r : ParserValue S). StandsFor r.scanner start) (sym t) plain.scanner;
         screen = subst IsPlain (sym same) (resized_plain rows cols p.screen full.has_rows plain.screen);
       };
       wide = ap (λ (s : ScreenValue). s.page.width) same ∙ size.0;
       tall = ap (λ (s : ScreenValue). length s.page.rows) same ∙ size.1;
     }
 
-reads_full : {S : Type 0} (self : ScreenValue) (rows cols : ℕ) (text : List ℕ) (p sized q : Parsing S)
-    → IsFull self rows cols text → IsSteady (shown self)
+reads_full : {S : Type 0} (self : ScreenValue) (rows cols : ℕ) (text : List ℕ) (p sized q : ParserValue S)
+    → IsFull self rows cols text → IsSteady (display self)
     → IsScreen p.screen → IsPlainParser p → TakesSize rows cols p sized → ReadsText text sized q → Plainly self q
 reads_full self rows cols text p sized q full steady sound plain takes t =
     let s = takes_size self rows cols text p sized full takes sound plain in
-    reads_redraw self (IsReader (shown self)) text sized q steady full.redraws s.plain
+    reads_redraw self (IsReader (display self)) text sized q steady full.redraws s.plain
     (record {
       sound = s.sound;
       plain = s.plain.screen;
@@ -141,7 +141,7 @@ reads_full self rows cols text p sized q full steady sound plain takes t =
     })
     t
 
-sound_after : {S : Type 0} (update : Update) (p q : Parsing S) → TakesUpdate update p q → IsScreen q.screen
+sound_after : {S : Type 0} (update : Update) (p q : ParserValue S) → TakesUpdate update p q → IsScreen q.screen
 sound_after (Diff text) p q t = t.sound
 sound_after (Full rows cols text) p q t = t.2.sound
 
@@ -156,9 +156,9 @@ full_after Scrolling self prev rows cols text is = is.1
 
 -- A viewer that displays the recorded screen, if there is one, displays the new screen after it reads an update.
 takes_update : {S : Type 0} (kind : Kind) (self : ScreenValue) (noted : Option ScreenValue)
-    (update : Update) (p q : Parsing S)
-    → ((prev : ScreenValue) → noted ≡ Some prev → shown p.screen ≡ shown prev)
-    → IsUpdate kind self noted update → IsSteady (shown self) → IsScreen p.screen
+    (update : Update) (p q : ParserValue S)
+    → ((prev : ScreenValue) → noted ≡ Some prev → display p.screen ≡ display prev)
+    → IsUpdate kind self noted update → IsSteady (display self) → IsScreen p.screen
     → IsPlainParser p → TakesUpdate update p q → Plainly self q
 takes_update kind self (Some prev) (Diff text) p q shows is steady sound plain t =
     reads_diff self prev (string_bytes text) p q (of_kind kind self prev (string_bytes text) is) steady sound plain
@@ -177,16 +177,16 @@ record Holds {S : Type 0} (number : ℕ) (w : Watching S) : Type 0 where
   pub sound : IsScreen w.viewer.screen
   pub plain : IsPlainParser w.viewer
   pub noted : (screen : ScreenValue) → note_of w.mirror.viewers number ≡ Some screen → w.seen ≡ Some screen
-  pub shows : IfSome w.seen (λ screen. shown w.viewer.screen ≡ shown screen)
+  pub shows : IfSome w.seen (λ screen. display w.viewer.screen ≡ display screen)
 
 holds_left : {S : Type 0} (number : ℕ) (old new : Watching S) →
     NotedBefore number old.mirror new.mirror → IsLeft old new → Holds number old → Holds number new
 holds_left {S} number old new before l h = record {
-  sound = subst (λ (p : Parsing S). IsScreen p.screen) (sym l.viewer) h.sound;
+  sound = subst (λ (p : ParserValue S). IsScreen p.screen) (sym l.viewer) h.sound;
   plain = subst IsPlainParser (sym l.viewer) h.plain;
   noted = λ screen e. l.seen ∙ h.noted screen (before screen e);
-  shows = subst (λ (p : Parsing S). IfSome new.seen (λ screen. shown p.screen ≡ shown screen)) (sym l.viewer)
-      (subst (λ (o : Option ScreenValue). IfSome o (λ screen. shown old.viewer.screen ≡ shown screen))
+  shows = subst (λ (p : ParserValue S). IfSome new.seen (λ screen. display p.screen ≡ display screen)) (sym l.viewer)
+      (subst (λ (o : Option ScreenValue). IfSome o (λ screen. display old.viewer.screen ≡ display screen))
       (sym l.seen) h.shows);
 }
 
@@ -195,8 +195,8 @@ holds_own : {S : Type 0} (kind : Kind) (number : ℕ) (update : Update) (old new
 holds_own {S} kind number update old new t s h =
     let self = old.mirror.parser.screen in
     let shows_prev : (prev : ScreenValue) →
-    note_of old.mirror.viewers number ≡ Some prev → shown old.viewer.screen ≡ shown prev
-    = λ prev e. subst (λ (o : Option ScreenValue). IfSome o (λ screen. shown old.viewer.screen ≡ shown screen))
+    note_of old.mirror.viewers number ≡ Some prev → display old.viewer.screen ≡ display prev
+    = λ prev e. subst (λ (o : Option ScreenValue). IfSome o (λ screen. display old.viewer.screen ≡ display screen))
     (h.noted prev e) h.shows in
     let p = takes_update kind self (note_of old.mirror.viewers number) update
     old.viewer new.viewer shows_prev t.text s.steady h.sound h.plain s.takes in
@@ -205,7 +205,7 @@ holds_own {S} kind number update old new t s h =
       plain = p.plain;
       noted = λ screen e. s.seen ∙ (sym t.puts.note_here ∙ e);
       shows =
-          subst (λ (o : Option ScreenValue). IfSome o (λ screen. shown new.viewer.screen ≡ shown screen))
+          subst (λ (o : Option ScreenValue). IfSome o (λ screen. display new.viewer.screen ≡ display screen))
           (sym s.seen) p.shows;
     }
 
@@ -260,7 +260,7 @@ fresh_holds {S} number w fresh new = record {
       (sym fresh.notes)
       ∙ e));
   shows =
-      subst (λ (o : Option ScreenValue). IfSome o (λ screen. shown w.viewer.screen ≡ shown screen)) (sym new.seen) tt;
+      subst (λ (o : Option ScreenValue). IfSome o (λ screen. display w.viewer.screen ≡ display screen)) (sym new.seen) tt;
 }
 
 pub viewer_shows : {S : Type 0} (number : ℕ) (calls : List MirrorCall) (old new : Watching S) →

@@ -2,9 +2,9 @@
 use Rattle.std.specs.Prelude.{◌≡◌}
 use Rattle.vt_grid.specs.Page.{SameSize}
 use Rattle.vt_screen.specs.Screen.{ScreenValue}
-use Rattle.vt_screen.specs.Shown.{shown}
+use Rattle.vt_screen.specs.Shown.{display}
 
 -- The two screens have the same size and display the same content.
 pub record ShowsAlike (screen copy : ScreenValue) : Type 0 where
-  pub shown : shown copy ≡ shown screen
+  pub shown : display copy ≡ display screen
   pub size : SameSize copy.page screen.page

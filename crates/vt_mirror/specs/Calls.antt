@@ -11,12 +11,12 @@ use Rattle.vt_redraw.specs.Redraw.{difference, redraw}
 use Rattle.vt_redraw.specs.Steady.{IsSteady}
 use Rattle.vt_screen.specs.Again.{KeepsPlain}
 use Rattle.vt_screen.specs.MadeOf.{IsMadeOf, drawing_controls, drawing_finals, scrolling_finals}
-use Rattle.vt_screen.specs.Pages.{has_size, resized}
+use Rattle.vt_screen.specs.Pages.{has_size, screen_after_resize}
 use Rattle.vt_screen.specs.Screen.{IsColored, IsScreen, ScreenValue}
-use Rattle.vt_screen.specs.Shown.{IsReader, IsReaderOf, IsSameIfEmpty, KeepsRest, Redraws, shown}
+use Rattle.vt_screen.specs.Shown.{IsReader, IsReaderOf, IsSameIfEmpty, KeepsRest, Redraws, display}
 use Rattle.vt_screen.specs.Touched.{TouchesNear}
 use Rattle.vt100.specs.Calls.{ParserProcesses}
-use Rattle.vt100.specs.Parser.{quietly}
+use Rattle.vt100.specs.Parser.{does_nothing}
 use Rattle.vt_mirror.specs.Mirror.{MirrorValue}
 use Rattle.vt_mirror.specs.Viewers.{Puts, PutsAmong, ViewersValue, is_viewer, next_number, note_of}
 use Rattle.vt_mirror.specs.declared.update.Update.{Update}
@@ -28,7 +28,7 @@ pub record MirrorProcesses (old : MirrorValue) (bytes : List ℕ)
     (answer : Result (Unit {0}) Error) (new : MirrorValue) : Type 0 where
   pub viewers : new.viewers ≡ old.viewers
   pub size : SameSize new.parser.screen.page old.parser.screen.page
-  pub parser : ParserProcesses quietly old.parser bytes answer new.parser
+  pub parser : ParserProcesses does_nothing old.parser bytes answer new.parser
   pub current : new.current ≡ []
 
 -- The effect of `set_size`: the screen is resized, and the recorded screens of all viewers are dropped. A resize to
@@ -39,7 +39,7 @@ pub record Resizes (old : MirrorValue) (rows cols : ℕ)
   pub other : has_size rows cols old.parser.screen ≡ false →
       IfOk answer (λ _. new
       ≡ record {
-        parser = record (old.parser) { screen = resized rows cols old.parser.screen };
+        parser = record (old.parser) { screen = screen_after_resize rows cols old.parser.screen };
         viewers = record (old.viewers) { notes = [] };
         current = [];
       })
@@ -74,8 +74,8 @@ pub record IsFull (self : ScreenValue) (rows cols : ℕ) (text : List ℕ) : Typ
   pub few_rows : rows < 2 ^ 16
   pub has_columns : 0 < cols
   pub few_columns : cols < 2 ^ 16
-  pub is : text ≡ bytes_of_all (redraw (shown self))
-  pub redraws : Redraws (shown self) (IsReader (shown self)) KeepsRest text
+  pub is : text ≡ bytes_of_all (redraw (display self))
+  pub redraws : Redraws (display self) (IsReader (display self)) KeepsRest text
   pub controls : IsMadeOf drawing_finals drawing_controls text
   pub again : KeepsPlain text
 
@@ -83,8 +83,8 @@ pub record IsFull (self : ScreenValue) (rows cols : ℕ) (text : List ℕ) : Typ
 -- empty; conversely, if the text is empty and the screen `self` is steady, both display the same content.
 pub record IsDiff (self prev : ScreenValue) (text : List ℕ) : Type 0 where
   pub size : SameSize self.page prev.page
-  pub redraws : Redraws (shown self) (IsReaderOf (shown self) (shown prev)) KeepsRest text
-  pub none : shown self ≡ shown prev → text ≡ []
+  pub redraws : Redraws (display self) (IsReaderOf (display self) (display prev)) KeepsRest text
+  pub none : display self ≡ display prev → text ≡ []
   pub empty : IsSameIfEmpty prev self text
   pub again : KeepsPlain text
 
@@ -97,7 +97,7 @@ pub data Kind : Type 0 where
 -- near rows that differ, as `IsLocal` defines.
 pub record IsDrawn (self prev : ScreenValue) (text : List ℕ) : Type 0 where
   pub diff : IsDiff self prev text
-  pub is : text ≡ bytes_of_all (difference (shown self) (shown prev))
+  pub is : text ≡ bytes_of_all (difference (display self) (display prev))
   pub controls : IsMadeOf drawing_finals drawing_controls text
   pub touches : TouchesNear prev self text
 
@@ -105,10 +105,10 @@ pub record IsDrawn (self prev : ScreenValue) (text : List ℕ) : Type 0 where
 -- than the difference that moves nothing.
 pub record Scrolls (self prev : ScreenValue) (text : List ℕ) : Type 0 where
   pub diff : IsDiff self prev text
-  pub from_steady : IsSteady (shown prev)
-  pub is : IsMoving (shown self) (shown prev) text
+  pub from_steady : IsSteady (display prev)
+  pub is : IsMoving (display self) (display prev) text
   pub controls : IsMadeOf scrolling_finals drawing_controls text
-  pub shorter : length text ≤ length (bytes_of_all (difference (shown self) (shown prev)))
+  pub shorter : length text ≤ length (bytes_of_all (difference (display self) (display prev)))
 
 abbrev pub IsOfKind : Kind → (self prev : ScreenValue) → (text : List ℕ) → Type 0
 IsOfKind Drawn self prev text = IsDrawn self prev text
@@ -122,7 +122,7 @@ IsFullUpdate self (Diff text) = ⊥
 -- `Scrolling`, and only if the recorded screen is not steady.
 abbrev pub IsFullAfter : Kind → (self prev : ScreenValue) → (rows cols : ℕ) → (text : List ℕ) → Type 0
 IsFullAfter Drawn self prev rows cols text = ⊥
-IsFullAfter Scrolling self prev rows cols text = (IsSteady (shown prev) → ⊥) × IsFull self rows cols text
+IsFullAfter Scrolling self prev rows cols text = (IsSteady (display prev) → ⊥) × IsFull self rows cols text
 
 -- The update is a full redraw if no screen is recorded for the viewer. Otherwise, the update is a difference of the
 -- given kind from the recorded screen, or a full redraw as `IsFullAfter` describes.

@@ -5,8 +5,8 @@ use Rattle.std.specs.List.{FoldsTo}
 use Rattle.vt_redraw.specs.Steady.{IsSteady}
 use Rattle.vt_screen.specs.Run.{CallRelation}
 use Rattle.vt_screen.specs.Screen.{IsScreen}
-use Rattle.vt_screen.specs.Shown.{shown}
-use Rattle.vt100.specs.Parser.{Parsing, Ran, pieces_joined}
+use Rattle.vt_screen.specs.Shown.{display}
+use Rattle.vt100.specs.Parser.{ParserValue, Ran, pieces_joined}
 use Rattle.vt100.specs.Pieces.{IsPlainParser}
 use Rattle.vt_mirror.specs.Calls.{Kind, Scrolling}
 use Rattle.vt_mirror.specs.Watching.{Ask, IsLeft, Join, Leave, MirrorCall, MirrorDoes, Process, SetSize, TakesSize, Watching}
@@ -15,7 +15,7 @@ use Rattle.vt_mirror.specs.declared.update.Update.TheVariants.{Diff, Full}
 
 -- A terminal reads `text` through a list of calls to `process` that all return `Ok` and whose bytes concatenate to
 -- `text`.
-pub record ReadsFine {S : Type 0} (does : CallRelation S) (text : List ℕ) (old new : Parsing S) : Type 0 where
+pub record ReadsFine {S : Type 0} (does : CallRelation S) (text : List ℕ) (old new : ParserValue S) : Type 0 where
   pub sound : IsScreen new.screen
   pub chunks : List (List ℕ)
   pub whole : pieces_joined chunks ≡ text
@@ -24,10 +24,10 @@ pub record ReadsFine {S : Type 0} (does : CallRelation S) (text : List ℕ) (old
 
 -- A terminal applies an update through calls to `process` that all return `Ok`. For a full redraw, the terminal is
 -- resized first.
-abbrev pub TakesFine : {S : Type 0} → CallRelation S → Update → Parsing S → Parsing S → Type 0
+abbrev pub TakesFine : {S : Type 0} → CallRelation S → Update → ParserValue S → ParserValue S → Type 0
 TakesFine {S} does (Diff text) old new = ReadsFine does (string_bytes text) old new
 TakesFine {S} does (Full rows cols text) old new =
-    (sized : Parsing S) × TakesSize rows cols old sized × ReadsFine does (string_bytes text) sized new
+    (sized : ParserValue S) × TakesSize rows cols old sized × ReadsFine does (string_bytes text) sized new
 
 -- A terminal applies an update of `Mirror::update_scrolling`; nothing is assumed about the mirror's screen.
 pub record SeesAny {S : Type 0} (does : CallRelation S) (kind : Kind) (update : Update) (old new : Watching S) : Type 0 where
@@ -63,4 +63,4 @@ GoesAny {S} does number old call new = MirrorDoes old.mirror call new.mirror × 
 -- the terminal displays that screen.
 pub record ShowsSteady {S : Type 0} (watching : Watching S) : Type 0 where
   pub plain : IsPlainParser watching.viewer
-  pub shows : IfSome watching.seen (λ screen. IsSteady (shown screen) → shown watching.viewer.screen ≡ shown screen)
+  pub shows : IfSome watching.seen (λ screen. IsSteady (display screen) → display watching.viewer.screen ≡ display screen)

@@ -7,7 +7,7 @@ use Rattle.vt_grid.specs.Page.{SameSize}
 use Rattle.vt_scan.specs.Automaton.{start}
 use Rattle.vt_scan.specs.Scanner.{StandsFor}
 use Rattle.vt_screen.specs.Chain.{last_screen}
-use Rattle.vt100.specs.Parser.{Ran, quietly}
+use Rattle.vt100.specs.Parser.{Ran, does_nothing}
 use Rattle.vt_mirror.specs.Calls.{Drawn, GivesUpdate}
 use Rattle.vt_mirror.specs.Mirror.{MirrorValue}
 use Rattle.vt_mirror.specs.Runs.{IsUpdatedAfter, screens_on_way, text_on_way}
@@ -40,7 +40,7 @@ pub record WritesUpdatePart (old : MirrorValue) (viewer : ℕ) (new : MirrorValu
 -- unchanged.
 pub record ReadsBytes (bytes : List ℕ) (old new : MirrorValue) (left rest : Option (List ℕ)) : Type 0 where
   pub reads : Consumes left rest bytes
-  pub ran : Ran quietly old.parser bytes new.parser
+  pub ran : Ran does_nothing old.parser bytes new.parser
   pub viewers : new.viewers ≡ old.viewers
   pub size : SameSize new.parser.screen.page old.parser.screen.page
 
@@ -59,7 +59,7 @@ pub record ReadsStretch (every : ℕ) (is_whole : Bool)
 pub record InStretch (every still : ℕ) (old new : MirrorValue) (left rest : Option (List ℕ)) : Type 0 where
   pub bytes : List ℕ
   pub reads : ReadsBytes bytes old new left rest
-  pub some : 0 < still
+  pub nonempty : 0 < still
   pub count : length bytes + still ≡ every
 
 -- A read failed before `every` bytes were read for the next update. The input was `left` before and is `rest` now.
@@ -89,7 +89,7 @@ pub record IsWritten (every viewer : ℕ) (old new : MirrorValue) (left rest wri
   pub count : ℕ
   pub length_is : length input ≡ count * every
   pub reads : Consumes left rest input
-  pub ran : Ran quietly old.parser input new.parser
+  pub ran : Ran does_nothing old.parser input new.parser
   pub size : SameSize new.parser.screen.page old.parser.screen.page
   pub views : is_viewer new.viewers viewer ≡ true
   pub note : note_of new.viewers viewer ≡ Some new.parser.screen

@@ -2,11 +2,11 @@
 use Rattle.std.specs.Prelude.{◌≡◌, ℕ, Bool, List, Some}
 use Rattle.vt_grid.specs.Page.{SameSize}
 use Rattle.vt_screen.specs.Screen.{ScreenValue}
-use Rattle.vt100.specs.Parser.{HasFreshScreen, Parsing}
+use Rattle.vt100.specs.Parser.{HasFreshScreen, ParserValue}
 use Rattle.vt_mirror.specs.Viewers.{ViewersValue, is_among, note_of}
 
 pub record MirrorValue : Type 0 where
-  pub parser : Parsing (Unit {0})
+  pub parser : ParserValue (Unit {0})
   pub viewers : ViewersValue
   -- The numbers of the viewers that received an update after the last input and the last resize.
   pub current : List ℕ

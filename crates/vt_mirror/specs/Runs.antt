@@ -11,7 +11,7 @@ use Rattle.vt_screen.specs.Chain.{chain_text}
 use Rattle.vt_screen.specs.MadeOf.{IsMadeOf, drawing_controls, drawing_finals}
 use Rattle.vt_screen.specs.Screen.{IsColored, IsScreen, ScreenValue}
 use Rattle.vt_screen.specs.CallsOfRun.{screen_in}
-use Rattle.vt_screen.specs.Shown.{shown_change, shown_text}
+use Rattle.vt_screen.specs.Shown.{display_change, shown_text}
 use Rattle.vt_show.specs.declared.faults.Fault.{Fault}
 use Rattle.vt_show.specs.declared.faults.Fault.TheVariants.{Memory, Read, Write}
 use Rattle.vt_show.specs.Shown.{AppendsPart}
@@ -108,9 +108,9 @@ pub record FailsLater (first : ScreenValue) (every : ℕ) (left rest written gro
   pub due : (length last ≡ every) ⊎ ((length last < every) × IsAtEnd rest)
   pub reads : Consumes left rest (input ++ last)
   pub part : AppendsThenPart (text_on_way first every input)
-      (shown_change (screen_in start first input) (screen_in start first (input ++ last))) written grown
+      (display_change (screen_in start first input) (screen_in start first (input ++ last))) written grown
   pub controls : IsMadeOf drawing_finals drawing_controls (text_on_way first every input
-      ++ shown_change (screen_in start first input) (screen_in start first (input ++ last)))
+      ++ display_change (screen_in start first input) (screen_in start first (input ++ last)))
 
 -- Writing an update failed after a prefix of its text was written. The input was `left` before and is `rest` now;
 -- the output was `written` before and is `grown` now.

@@ -5,22 +5,22 @@ use Rattle.vt_redraw.specs.Redraw.{redraw}
 use Rattle.vt_screen.specs.Again.{KeepsPlain}
 use Rattle.vt_screen.specs.MadeOf.{IsMadeOf, drawing_controls, drawing_finals}
 use Rattle.vt_screen.specs.Screen.{ScreenValue}
-use Rattle.vt_screen.specs.Shown.{IsReader, KeepsRest, Redraws, shown}
-use Rattle.vt100.specs.Parser.{Parsing}
+use Rattle.vt_screen.specs.Shown.{IsReader, KeepsRest, Redraws, display}
+use Rattle.vt100.specs.Parser.{ParserValue}
 use Rattle.vt_mirror.specs.Calls.{IsDrawn, Scrolls}
 use Rattle.vt_mirror.specs.Kept.{KeptValue}
 use Rattle.vt_mirror.specs.Mirror.{IsMirror}
 
 -- The text is the redraw of a screen.
 pub record IsRedraw (self : ScreenValue) (text : List ℕ) : Type 0 where
-  pub is : text ≡ bytes_of_all (redraw (shown self))
-  pub redraws : Redraws (shown self) (IsReader (shown self)) KeepsRest text
+  pub is : text ≡ bytes_of_all (redraw (display self))
+  pub redraws : Redraws (display self) (IsReader (display self)) KeepsRest text
   pub controls : IsMadeOf drawing_finals drawing_controls text
   pub again : KeepsPlain text
 
 -- The recorded screens have the mirror's size, and the copy of the current screen and the stored texts belong to the
 -- mirror's screen.
-pub record IsSharing (parser : Parsing (Unit {0})) (kept : KeptValue) : Type 0 where
+pub record IsSharing (parser : ParserValue (Unit {0})) (kept : KeptValue) : Type 0 where
   pub sized : IsMirror (record { parser = parser; viewers = kept.viewers; current = kept.current_viewers })
   pub current : IfSome kept.current (λ screen. screen ≡ parser.screen)
   pub diff : IfSome kept.diff (λ diff. IsDrawn parser.screen diff.0 diff.1)

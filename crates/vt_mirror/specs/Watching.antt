@@ -5,10 +5,10 @@ use Rattle.std.specs.List.{FoldsTo}
 use Rattle.std.specs.declared.result.Result.{Result}
 use Rattle.vt_cells.specs.declared.error.Error.{Error}
 use Rattle.vt_redraw.specs.Steady.{IsSteady}
-use Rattle.vt_screen.specs.Pages.{resized}
+use Rattle.vt_screen.specs.Pages.{screen_after_resize}
 use Rattle.vt_screen.specs.Screen.{IsScreen, ScreenValue}
-use Rattle.vt_screen.specs.Shown.{shown}
-use Rattle.vt100.specs.Parser.{Parsing}
+use Rattle.vt_screen.specs.Shown.{display}
+use Rattle.vt100.specs.Parser.{ParserValue}
 use Rattle.vt100.specs.Pieces as pieces
 use Rattle.vt100.specs.Pieces.{IsPlainParser, Processing, bytes_in}
 use Rattle.vt_mirror.specs.Calls.{Asks, JoinsMirror, Kind, Leaves, MirrorProcesses, Resizes}
@@ -56,15 +56,15 @@ CountUp n (x ∷ xs) = (x ≡ n) × CountUp (n + 1) xs
 -- A mirror, the terminal of one of its viewers, and the mirror's screen at the time of that viewer's last update.
 pub record Watching (S : Type 0) : Type 0 where
   pub mirror : MirrorValue
-  pub viewer : Parsing S
+  pub viewer : ParserValue S
   pub seen : Option ScreenValue
 
 -- The terminal is resized as by a call to `Parser::set_size` that returns `Ok`.
-abbrev pub TakesSize : {S : Type 0} → (rows cols : ℕ) → (old new : Parsing S) → Type 0
-TakesSize rows cols old new = new ≡ record old { screen = resized rows cols old.screen; callbacks = new.callbacks }
+abbrev pub TakesSize : {S : Type 0} → (rows cols : ℕ) → (old new : ParserValue S) → Type 0
+TakesSize rows cols old new = new ≡ record old { screen = screen_after_resize rows cols old.screen; callbacks = new.callbacks }
 
 -- The terminal reads `text` through a list of calls to `process` whose bytes concatenate to `text`.
-pub record ReadsText {S : Type 0} (text : List ℕ) (old new : Parsing S) : Type 0 where
+pub record ReadsText {S : Type 0} (text : List ℕ) (old new : ParserValue S) : Type 0 where
   pub sound : IsScreen new.screen
   pub calls : List Processing
   pub whole : bytes_in calls ≡ text
@@ -72,14 +72,14 @@ pub record ReadsText {S : Type 0} (text : List ℕ) (old new : Parsing S) : Type
 
 -- The terminal applies an update: the terminal is resized first if the update is a full redraw, and then reads the
 -- update's text.
-abbrev pub TakesUpdate : {S : Type 0} → Update → Parsing S → Parsing S → Type 0
+abbrev pub TakesUpdate : {S : Type 0} → Update → ParserValue S → ParserValue S → Type 0
 TakesUpdate {S} (Diff text) old new = ReadsText (string_bytes text) old new
 TakesUpdate {S} (Full rows cols text) old new =
-    (sized : Parsing S) × TakesSize rows cols old sized × ReadsText (string_bytes text) sized new
+    (sized : ParserValue S) × TakesSize rows cols old sized × ReadsText (string_bytes text) sized new
 
 -- The terminal applies an update that was requested while the mirror's screen was steady.
 pub record Sees {S : Type 0} (update : Update) (old new : Watching S) : Type 0 where
-  pub steady : IsSteady (shown old.mirror.parser.screen)
+  pub steady : IsSteady (display old.mirror.parser.screen)
   pub takes : TakesUpdate update old.viewer new.viewer
   pub seen : new.seen ≡ Some old.mirror.parser.screen
 
@@ -117,4 +117,4 @@ pub record IsNew {S : Type 0} (watching : Watching S) : Type 0 where
 -- The viewer's terminal is plain. If it has received an update, it displays the screen of the last update.
 pub record ShowsSeen {S : Type 0} (watching : Watching S) : Type 0 where
   pub plain : IsPlainParser watching.viewer
-  pub shows : IfSome watching.seen (λ screen. shown watching.viewer.screen ≡ shown screen)
+  pub shows : IfSome watching.seen (λ screen. display watching.viewer.screen ≡ display screen)

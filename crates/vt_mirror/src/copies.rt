@@ -5,7 +5,7 @@ ghost use Rattle.vt_cells.specs.Refusals.{OnlyOutOfMemory};
 ghost use Rattle.vt_mirror.specs.Alike.{ShowsAlike};
 ghost use Rattle.vt_mirror.specs.Kept.{AreOfOneVersion, have_one_version};
 ghost use Rattle.vt_redraw.specs.Steady.{IsSteady};
-ghost use Rattle.vt_screen.specs.Shown.{shown};
+ghost use Rattle.vt_screen.specs.Shown.{display};
 
 use std::alloc::Global;
 use std::marker::Model;
@@ -28,14 +28,14 @@ impl Model for DisplayCopy {
     ghost use Rattle.vt_mirror.specs.Alike.{ShowsAlike};
     ghost use Rattle.vt_redraw.specs.Steady.{IsSteady};
     ghost use Rattle.vt_screen.specs.Screen.{ScreenValue};
-    ghost use Rattle.vt_screen.specs.Shown.{shown};
+    ghost use Rattle.vt_screen.specs.Shown.{display};
 
     ghost Value = { ScreenValue };
 
     ghost view = { λ c. c.of.value };
 
     ghost invariant = { λ c.
-        ShowsAlike c.of.value c.copy × (IsTrue c.is_steady ↔ IsSteady (shown c.of.value)) };
+        ShowsAlike c.of.value c.copy × (IsTrue c.is_steady ↔ IsSteady (display c.of.value)) };
 }
 
 impl DisplayCopy {
@@ -68,7 +68,7 @@ impl DisplayCopy {
     /// Returns whether the screen that was copied is steady, which was
     /// determined when the copy was made.
     fn is_steady(&self) -> bool
-        ensures { IsTrue result ↔ IsSteady (shown self.now) }
+        ensures { IsTrue result ↔ IsSteady (display self.now) }
     {
         self.is_steady
     }
@@ -128,7 +128,7 @@ impl SharedCopy {
     /// Returns whether the screen that was copied is steady, without reading
     /// its cells.
     pub(crate) fn is_steady(&self) -> bool
-        ensures { IsTrue result ↔ IsSteady (shown self.now) }
+        ensures { IsTrue result ↔ IsSteady (display self.now) }
     {
         self.shared.is_steady()
     }

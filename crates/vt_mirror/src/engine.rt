@@ -103,7 +103,7 @@ fn run_viewer<R: Read, W: Write>(
     writer: &mut W,
     every: usize,
 ) -> Result<(), Fault>
-    requires some { 0 < every }
+    requires nonempty { 0 < every }
     requires begun { IsBegun mirror.old viewer }
     ensures { UpdatesOrFails (λ fault. fault) mirror.old.parser.screen every
         (R.remaining reader.old) (R.remaining reader.new) (W.contents writer.old) (W.contents writer.new) result }

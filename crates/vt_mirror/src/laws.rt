@@ -13,9 +13,9 @@ ghost use Rattle.vt_mirror.specs.Watching.{ShowsSeen, Watching, numbers_given};
 ghost use Rattle.vt_redraw.specs.Steady.{IsSteady};
 ghost use Rattle.vt_scan.specs.Automaton.{start};
 ghost use Rattle.vt_screen.specs.Screen.{IsScreen, ScreenValue};
-ghost use Rattle.vt_screen.specs.Shown.{shown};
+ghost use Rattle.vt_screen.specs.Shown.{display};
 ghost use Rattle.vt_screen.specs.CallsOfRun.{screen_in};
-ghost use Rattle.vt100.specs.Parser.{Parsing};
+ghost use Rattle.vt100.specs.Parser.{ParserValue};
 ghost use Rattle.vt100.specs.Pieces.{IsFine, IsPlainParser, Processes, Processing, ShowsLast, bytes_in};
 
 use vt100::Callbacks;
@@ -72,10 +72,10 @@ pub fn heals<CB: Callbacks>()
 /// premise `IsUpdatedAfter`, which says that each of these screens is valid and
 /// that all have the same size, is guaranteed by a successful run.
 pub fn runs<CB: Callbacks>()
-    ensures shows { (first : ScreenValue) (every : ℕ) (input : List ℕ) (p q : Parsing CB) (calls : List Processing) →
+    ensures shows { (first : ScreenValue) (every : ℕ) (input : List ℕ) (p q : ParserValue CB) (calls : List Processing) →
         IsScreen p.screen → IsPlainParser p → SameSize first.page p.screen.page →
         AllByRecursion (IsUpdatedAfter first) (first ∷ screens_to_end first every input) →
-        AllByRecursion (λ screen. IsSteady (shown screen)) (first ∷ screens_to_end first every input) →
+        AllByRecursion (λ screen. IsSteady (display screen)) (first ∷ screens_to_end first every input) →
         bytes_in calls ≡ text_to_end first every input → FoldsTo Processes p calls q →
         AllByRecursion IsFine calls × ShowsLast p (screen_in start first input) q }
 {}

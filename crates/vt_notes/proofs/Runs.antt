@@ -16,7 +16,7 @@ use Rattle.vt_screen.specs.Steps.{Step, Print, LineFeed, ScrollUp, OnPage, SaveC
 use Rattle.vt_screen.specs.Steps.{EnterFresh, LeaveAlternate, LeaveRestoring, Reset, EraseScrollback, Render}
 use Rattle.vt_screen.specs.Steps.{HideCursor, SetMode, CallBack, reports, screen_after, display_after}
 use Rattle.vt_screen.specs.CallsOfRun.{calls_of, calls_of_all, screen_after_all, steps_of_all, steps_in, calls_in, screen_in}
-use Rattle.vt100.specs.Parser.{Parsing, Ran, pieces_joined, parsing, stage}
+use Rattle.vt100.specs.Parser.{ParserValue, Ran, pieces_joined, parser_value, stage}
 use Rattle.vt_rows.proofs.Folds.{folds_then}
 use Rattle.vt100.proofs.Running.{ran_joined}
 use Rattle.vt_notes.specs.Noting.{Noted, NotesIt, nothing_noted, with_call, with_gap}
@@ -134,7 +134,7 @@ same_steps (event ∷ events) a b t =
 
 -- ---- Parsers
 
-pub done_run : (old new : Parsing Noted) (bytes : List ℕ) (scan : State) →
+pub done_run : (old new : ParserValue Noted) (bytes : List ℕ) (scan : State) →
     Ran NotesIt old bytes new → StandsFor old.scanner scan →
     Done (stage old) (calls_in scan old.screen bytes) (screen_in scan old.screen bytes) (stage new)
 done_run old new bytes scan ran stands =
@@ -143,23 +143,23 @@ done_run old new bytes scan ran stands =
 
 -- ---- A new parser that parsed chunks
 
-pub record HasRead (screen : ScreenValue) (bytes : List ℕ) (new : Parsing Noted) : Type 0 where
+pub record HasRead (screen : ScreenValue) (bytes : List ℕ) (new : ParserValue Noted) : Type 0 where
   pub shown : new.screen ≡ screen_in start screen bytes
   pub noted : new.callbacks.is_complete ≡ true → new.callbacks.calls ≡ calls_in start screen bytes
 
-pub has_read : (old new : Parsing Noted) (screen : ScreenValue) (pieces : List (List ℕ)) →
-    old ≡ parsing old.scanner screen nothing_noted → StandsFor old.scanner start →
+pub has_read : (old new : ParserValue Noted) (screen : ScreenValue) (pieces : List (List ℕ)) →
+    old ≡ parser_value old.scanner screen nothing_noted → StandsFor old.scanner start →
     FoldsTo (Ran NotesIt) old pieces new → HasRead screen (pieces_joined pieces) new
 has_read old new screen pieces fresh stands runs =
     let done = done_run old new (pieces_joined pieces) start (ran_joined NotesIt old new pieces runs) stands in
     record {
-      shown = done.shown ∙ ap (λ (p : Parsing Noted). screen_in start p.screen (pieces_joined pieces)) fresh;
+      shown = done.shown ∙ ap (λ (p : ParserValue Noted). screen_in start p.screen (pieces_joined pieces)) fresh;
       noted =
           λ all. done.noted all
-          ∙ ap (λ (p : Parsing Noted). p.callbacks.calls ++ calls_in start p.screen (pieces_joined pieces)) fresh;
+          ∙ ap (λ (p : ParserValue Noted). p.callbacks.calls ++ calls_in start p.screen (pieces_joined pieces)) fresh;
     }
 
-pub read_more : (old mid new : Parsing Noted) (pieces : List (List ℕ)) (piece : List ℕ) →
+pub read_more : (old mid new : ParserValue Noted) (pieces : List (List ℕ)) (piece : List ℕ) →
     FoldsTo (Ran NotesIt) old pieces mid → Ran NotesIt mid piece new →
     FoldsTo (Ran NotesIt) old (pieces ++ piece ∷ []) new
 read_more old mid new pieces piece runs ran =

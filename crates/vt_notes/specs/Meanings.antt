@@ -3,7 +3,7 @@ use Rattle.std.specs.Prelude.{◌≡◌, map, string_bytes}
 use Rattle.vt_notes.specs.declared.note.KeptRow.{KeptRow}
 use Rattle.vt_notes.specs.declared.note.Note.{Note}
 use Rattle.vt_notes.specs.declared.note.Note.TheVariants as note
-use Rattle.vt_rows.specs.Basic.{basic_text, unwritten}
+use Rattle.vt_rows.specs.Basic.{basic_text, nothing_written}
 use Rattle.vt_rows.specs.Row.{RowValue}
 use Rattle.vt_screen.specs.Calls as value
 use Rattle.vt_screen.specs.Calls.{CallValue}
@@ -31,5 +31,5 @@ value_of (note.OnScroll row alternate) = value.OnScroll (row_of row) alternate
 
 -- If the note is about a reported row, the note stores the text that this row has as the first row of a capture.
 abbrev pub HasText : Note → Type 0
-HasText (note.OnScroll row alternate) = string_bytes row.text ≡ basic_text unwritten (row_of row)
+HasText (note.OnScroll row alternate) = string_bytes row.text ≡ basic_text nothing_written (row_of row)
 HasText _ = Unit {0}

@@ -1,6 +1,6 @@
 -- The effect of callbacks that append the reported rows to a capture.
 use Rattle.std.specs.Prelude.{◌≡◌, ◌⊎◌, ℕ, Bool, true, false, List, [], ◌++◌}
-use Rattle.vt_rows.specs.Basic.{Written, unwritten}
+use Rattle.vt_rows.specs.Basic.{Written, nothing_written}
 use Rattle.vt_rows.specs.Row.{RowValue}
 use Rattle.vt_screen.specs.Calls.{CallValue}
 use Rattle.vt_screen.specs.Capture.{basic_texts, written_after_all}
@@ -15,7 +15,7 @@ pub record Recorded : Type 0 where
 
 -- The initial state: an empty capture with nothing missing.
 abbrev pub nothing_recorded : Recorded
-nothing_recorded = record { text = []; state = unwritten; is_whole = true }
+nothing_recorded = record { text = []; state = nothing_written; is_whole = true }
 
 -- The capture after the given rows are appended.
 abbrev pub with_rows : List RowValue → Recorded → Recorded

@@ -3,7 +3,7 @@
 
 ghost use Rattle.std.specs.List.{FoldsTo};
 ghost use Rattle.std.specs.Prelude.{◌≡◌, ℕ, List, ◌++◌, false, true};
-ghost use Rattle.vt100.specs.Parser.{Parsing, Ran};
+ghost use Rattle.vt100.specs.Parser.{ParserValue, Ran};
 ghost use Rattle.vt100.specs.Streams.{IsFreshParser, IsRecorder, MakesCall, ParserCall, bytes_of_calls, whole_text};
 ghost use Rattle.vt_notes.specs.Noting.{Noted, NotesIt};
 ghost use Rattle.vt_notes.specs.Recording.{Recorded, Records, nothing_recorded};
@@ -17,11 +17,11 @@ ghost use Rattle.vt_screen.specs.CallsOfRun.{calls_in, screen_in};
 /// produce. If no note is missing, the new notes are exactly the calls that the bytes cause, each
 /// once and in order.
 pub fn runs()
-    ensures shown { (old new : Parsing Noted) (bytes : List ℕ) (scan : State) → Ran NotesIt old bytes new →
+    ensures shown { (old new : ParserValue Noted) (bytes : List ℕ) (scan : State) → Ran NotesIt old bytes new →
         StandsFor old.scanner scan → new.screen ≡ screen_in scan old.screen bytes }
-    ensures complete { (old new : Parsing Noted) (bytes : List ℕ) (scan : State) → Ran NotesIt old bytes new →
+    ensures complete { (old new : ParserValue Noted) (bytes : List ℕ) (scan : State) → Ran NotesIt old bytes new →
         StandsFor old.scanner scan → new.callbacks.is_complete ≡ true → old.callbacks.is_complete ≡ true }
-    ensures noted { (old new : Parsing Noted) (bytes : List ℕ) (scan : State) →
+    ensures noted { (old new : ParserValue Noted) (bytes : List ℕ) (scan : State) →
         Ran NotesIt old bytes new → StandsFor old.scanner scan → new.callbacks.is_complete ≡ true →
         new.callbacks.calls ≡ old.callbacks.calls ++ calls_in scan old.screen bytes }
 {}
@@ -34,7 +34,7 @@ pub fn runs()
 pub fn recorded()
     ensures recorder { IsRecorder Records (λ recorded. recorded.text)
         (λ recorded. recorded.state) (λ recorded. recorded.is_whole) }
-    ensures text { (rows cols capacity : ℕ) (p q : Parsing Recorded) (calls : List ParserCall) →
+    ensures text { (rows cols capacity : ℕ) (p q : ParserValue Recorded) (calls : List ParserCall) →
         IsFreshParser rows cols capacity p → p.callbacks ≡ nothing_recorded → HasNoRis start (bytes_of_calls calls) →
         FoldsTo (MakesCall Records) p calls q → q.screen.is_alternate ≡ false → q.callbacks.is_whole ≡ true →
         q.callbacks.text ++ basic_texts q.callbacks.state (all_rows q.screen)

@@ -60,13 +60,13 @@ fn cells_of(
     Ok(cells)
 }
 
-/// Creates the contents of a row with the given cells. The row is wrapped if `goes_on` is true and
+/// Creates the contents of a row with the given cells. The row is wrapped if `is_wrapped` is true and
 /// its last column is not blank.
-fn row_of(cells: &[Cell], goes_on: bool) -> RowContents<'_>
+fn row_of(cells: &[Cell], is_wrapped: bool) -> RowContents<'_>
     requires paired { IsPaired cells.now }
     requires sound { All IsCell cells.now }
 {
-    lent(cells, cells::flag_left(cells, goes_on))
+    lent(cells, cells::flag_left(cells, is_wrapped))
 }
 
 /// Returns the concatenated basic text of consecutive rows.

@@ -1,7 +1,7 @@
 //! Tests of cells: their text, combining characters, equality and attributes.
 
 use std::test::Fail;
-use vt_cells::runs::same_run;
+use vt_cells::cell_runs::same_run;
 use vt_cells::{Attrs, Cell, Color, Intensity, cell, columns};
 
 /// Returns the cell that holds the character and the combining characters in `text`.

@@ -197,19 +197,19 @@ fn lends_numbers(rt: HostRuntime) -> Result<(), Fail> {
 #[test]
 fn reads_runs(rt: HostRuntime) -> Result<(), Fail> {
     let mut scanner = Scanner::new(rt.alloc());
-    assert_eq!(rt; scanner.lead_in(b"\x1B[1;22mA"), 6);
-    assert!(rt; !scanner.final_byte(b' '));
-    assert!(rt; scanner.final_byte(b'm'));
+    assert_eq!(rt; scanner.take_introducer(b"\x1B[1;22mA"), 6);
+    assert!(rt; !scanner.take_final_byte(b' '));
+    assert!(rt; scanner.take_final_byte(b'm'));
     assert_eq!(rt; scanner.parameters().number(1), 22);
-    assert_eq!(rt; scanner.lead_in(b"\x1B(B"), 2);
-    assert!(rt; !scanner.escape_byte(b'(') && scanner.escape_byte(b'B'));
+    assert_eq!(rt; scanner.take_introducer(b"\x1B(B"), 2);
+    assert!(rt; !scanner.take_escape_byte(b'(') && scanner.take_escape_byte(b'B'));
     assert_eq!(rt; scanner.intermediates(), &b"("[..]);
     assert!(rt; scanner.is_control(b'\r') && !scanner.is_control(0x1B));
     let mut text = String::new(rt.alloc());
     feed_all(&mut text, &mut scanner, b"\x1BP")?;
     assert_eq!(rt; scanner.skipped_len(b"a\x9C\r;\x1B\\"), 4);
     feed_all(&mut text, &mut scanner, b"\x1B\\\x1B]")?;
-    assert_eq!(rt; scanner.command_text(b"2;\xC3\xA4\x07")?, 4);
+    assert_eq!(rt; scanner.take_command_text(b"2;\xC3\xA4\x07")?, 4);
     assert_eq!(rt; scanner.pending_len(), 4);
     feed_all(&mut text, &mut scanner, b"\x07")?;
     assert_eq!(rt; scanner.pending_len(), 0);
@@ -221,15 +221,15 @@ fn reads_runs(rt: HostRuntime) -> Result<(), Fail> {
 #[test]
 fn ends_commands(rt: HostRuntime) -> Result<(), Fail> {
     let mut scanner = Scanner::new(rt.alloc());
-    assert_eq!(rt; scanner.lead_in(b"\x1B\x1B\x1B]2;x"), 4);
-    assert_eq!(rt; scanner.command_text(b"2;x\x07")?, 3);
+    assert_eq!(rt; scanner.take_introducer(b"\x1B\x1B\x1B]2;x"), 4);
+    assert_eq!(rt; scanner.take_command_text(b"2;x\x07")?, 3);
     assert!(rt; !scanner.command_byte(b'\n') && scanner.command_byte(0x07));
     let parts = scanner.parts();
     assert_eq!(rt; parts.as_slice().len(), 2);
     assert_eq!(rt; parts.as_slice()[1], &b"x"[..]);
-    assert_eq!(rt; scanner.lead_in(b"\x1B]"), 2);
-    assert!(rt; scanner.command_byte(0x1B) && scanner.escape_byte(b'\\'));
-    assert_eq!(rt; scanner.lead_in(b"\x1B[?25h"), 5);
+    assert_eq!(rt; scanner.take_introducer(b"\x1B]"), 2);
+    assert!(rt; scanner.command_byte(0x1B) && scanner.take_escape_byte(b'\\'));
+    assert_eq!(rt; scanner.take_introducer(b"\x1B[?25h"), 5);
     assert_eq!(rt; scanner.intermediates(), &b"?"[..]);
     Ok(())
 }
@@ -238,16 +238,16 @@ fn ends_commands(rt: HostRuntime) -> Result<(), Fail> {
 #[test]
 fn finds_ends_of_long_strings(rt: HostRuntime) -> Result<(), Fail> {
     let mut scanner = Scanner::new(rt.alloc());
-    assert_eq!(rt; scanner.lead_in(b"\x1B_"), 2);
+    assert_eq!(rt; scanner.take_introducer(b"\x1B_"), 2);
     assert_eq!(rt;
         scanner.skipped_len(b"0123456789abcdef\x19123456789\x19bcdef0123\x1A0123456789abcdef"),
         36
     );
     assert_eq!(rt; scanner.skipped_len(b"0123456789abcdef0\x18"), 17);
     assert!(rt; scanner.feed(0x18)?.second.is_none());
-    assert_eq!(rt; scanner.lead_in(b"\x1B]"), 2);
+    assert_eq!(rt; scanner.take_introducer(b"\x1B]"), 2);
     let text = b"0123456789;bcdef0123456789abcde;0123\x07";
-    assert_eq!(rt; scanner.command_text(text)?, 36);
+    assert_eq!(rt; scanner.take_command_text(text)?, 36);
     let parts = scanner.parts();
     assert_eq!(rt; parts.as_slice().len(), 3);
     assert_eq!(rt; parts.as_slice()[1], &b"bcdef0123456789abcde"[..]);

@@ -54,7 +54,7 @@ down_at width top n rows r h =
 source_up : (height : ℕ) (band : Band) (r : ℕ) → IsBand height band → band.up ≡ true → band.bottom ≡ height → r < height
     → up_source height band.top (height - 1) band.count r ≡ band_source band height r
 source_up height band r is up end h =
-    let a = is.some in
+    let a = is.nonempty in
     let b = is.rows in
     rw up (grind (arith, nat_tests))
 
@@ -66,7 +66,7 @@ source_between_up : (height : ℕ) (band : Band) (r : ℕ) → IsBand height ban
     else height)
     ≡ band_source band height r
 source_between_up height band r is up h =
-    let a = is.some in
+    let a = is.nonempty in
     let b = is.rows in
     let c = is.inside in
     rw up (grind (arith, nat_tests))
@@ -75,7 +75,7 @@ source_between_up height band r is up h =
 source_down : (height : ℕ) (band : Band) (r : ℕ) → IsBand height band → band.up ≡ false → band.bottom ≡ height →
     r < height → down_source height band.top (height - 1) band.count r ≡ band_source band height r
 source_down height band r is up end h =
-    let a = is.some in
+    let a = is.nonempty in
     let b = is.rows in
     rw up (grind (arith, nat_tests))
 
@@ -87,7 +87,7 @@ source_between_down : (height : ℕ) (band : Band) (r : ℕ) → IsBand height b
     else height)
     ≡ band_source band height r
 source_between_down height band r is up h =
-    let a = is.some in
+    let a = is.nonempty in
     let b = is.rows in
     let c = is.inside in
     rw up (grind (arith, nat_tests))
@@ -114,7 +114,7 @@ last_free : (width : ℕ) (rows : List RowValue) (band : Band) (r : ℕ) (b : Bo
     row_or width rows (band_source band (length rows) r)
     ≡ unflagged_if b (row_or width rows (band_source band (length rows) r))
 last_free width rows band r true is up end h e =
-    let a = is.some in
+    let a = is.nonempty in
     let c = is.rows in
     let at_end : r + 1 ≡ length rows = grind (arith, nat_tests) in
     let free : band_source band (length rows) r ≡ length rows = rw up (grind (arith, nat_tests)) in

@@ -5,7 +5,7 @@ use Rattle.std.specs.Prelude.{All}
 use Rattle.std.specs.List.{AllByRecursion}
 use Rattle.std.proofs.lemmas.List.Elements.{recursion_from_All, All-nil, All-cons}
 use Rattle.vt_cells.specs.Cell.{CellValue}
-use Rattle.vt_rows.specs.Cells.{ends_blank, resized}
+use Rattle.vt_rows.specs.Cells.{ends_blank, cells_after_resize}
 use Rattle.vt_rows.specs.Row.{RowValue, IsRow, with_cells}
 use Rattle.vt_rows.proofs.Moves.{length-resized, IsPaired-resized, All-resized, resized-same}
 use Rattle.vt_rows.proofs.Rows.{IsRow-with_cells}
@@ -24,16 +24,16 @@ length_cut width [] = refl
 length_cut width (x ∷ []) = refl
 length_cut width (x ∷ y ∷ rows) = ap suc (length_cut width (y ∷ rows))
 
-cut_row : (width : ℕ) (row : RowValue) → IsAnyRow row → IsRow width (with_cells row (resized width row.cells))
+cut_row : (width : ℕ) (row : RowValue) → IsAnyRow row → IsRow width (with_cells row (cells_after_resize width row.cells))
 cut_row width row is =
-    IsRow-with_cells width row (resized width row.cells) (length-resized width row.cells)
+    IsRow-with_cells width row (cells_after_resize width row.cells) (length-resized width row.cells)
     (IsPaired-resized width row.cells is.paired) (All-resized width row.cells is.sound)
 
 pub cut_are : (width : ℕ) (rows : List RowValue) →
     AllByRecursion IsAnyRow rows → All (IsRow width) (cut_rows width rows)
 cut_are width [] is = All-nil (IsRow width)
 cut_are width (x ∷ []) is =
-    let row : RowValue = record { cells = resized width x.cells; wrapped = false } in
+    let row : RowValue = record { cells = cells_after_resize width x.cells; wrapped = false } in
     All-cons (IsRow width) row [] (record {
       columns = length-resized width x.cells;
       paired = IsPaired-resized width x.cells is.0.paired;
@@ -41,7 +41,7 @@ cut_are width (x ∷ []) is =
       sound = All-resized width x.cells is.0.sound;
     }) (All-nil (IsRow width))
 cut_are width (x ∷ y ∷ rows) is =
-    All-cons (IsRow width) (with_cells x (resized width x.cells))
+    All-cons (IsRow width) (with_cells x (cells_after_resize width x.cells))
     (cut_rows width (y ∷ rows)) (cut_row width x is.0) (cut_are width (y ∷ rows) is.1)
 
 cut_last : (width : ℕ) (rows : List RowValue) →
@@ -50,7 +50,7 @@ cut_last width [] = refl
 cut_last width (x ∷ []) = refl
 cut_last width (x ∷ y ∷ rows) =
     let cut = cut_rows width (y ∷ rows) in
-    let here = with_cells x (resized width x.cells) in
+    let here = with_cells x (cells_after_resize width x.cells) in
     let l = length_cut width (y ∷ rows) in
     let e : suc (length cut) - 1 ≡ suc (length cut - 1) = omega arith in
     ap (λ (k : ℕ). (row_or width (here ∷ cut) k).wrapped) e ∙ cut_last width (y ∷ rows)
@@ -73,7 +73,7 @@ flag_stays : (wrapped blank : Bool) → (wrapped ≡ true → blank ≡ false) �
 flag_stays true blank h = ap not (h refl)
 flag_stays false blank h = refl
 
-same_cells : (width : ℕ) (row : RowValue) → IsRow width row → resized width row.cells ≡ row.cells
+same_cells : (width : ℕ) (row : RowValue) → IsRow width row → cells_after_resize width row.cells ≡ row.cells
 same_cells width row is = resized-same width row.cells is.columns is.paired
 
 pub cut_same : (width : ℕ) (rows : List RowValue) →

@@ -19,7 +19,7 @@ use Rattle.vt_grid.proofs.Drawing.{Draws}
 use Rattle.vt_redraw.proofs.Steps.{at_pen, Reads, Within, changing_draws}
 use Rattle.vt_redraw.specs.Picture.{Picture, IsPicture, picture_of, SamePictureSize, Saved, with_saved, with_picture}
 use Rattle.vt_redraw.specs.Steady.{IsSteadyCell, IsSteady}
-use Rattle.vt_redraw.specs.Redraw.{nearest, rows_written, cursor_written, pen_of, script, hiding, difference}
+use Rattle.vt_redraw.specs.Redraw.{nearest, rows_written, cursor_written, pen_of, script, cursor_visibility_ops, difference}
 use Rattle.vt_redraw.proofs.Halves.{Paired, paired_of}
 use Rattle.vt_redraw.proofs.Flags.{ends_is}
 use Rattle.vt_redraw.proofs.Places.{PrintsCells}
@@ -153,7 +153,7 @@ script_draws self base is steady other plain size =
 -- ---- the difference
 
 hiding_draws : (self : Picture) (any : Canvas) →
-    Draws (hiding self (picture_of any)) any (record any { hidden = self.hidden })
+    Draws (cursor_visibility_ops self (picture_of any)) any (record any { hidden = self.hidden })
 hiding_draws self any =
     cond_both (same_bool self.hidden any.hidden) [] (Hide self.hidden ∷ [])
     (λ (ops : List Op). Draws ops any (record any { hidden = self.hidden }))
@@ -161,7 +161,7 @@ hiding_draws self any =
     (λ (h : Bool). Some (record any { hidden = h })) (sym (bool_of-same self.hidden any.hidden t)))
     (λ _. refl)
 
-hiding_quiet : (self prev : Picture) → AllQuiet (hiding self prev)
+hiding_quiet : (self prev : Picture) → AllQuiet (cursor_visibility_ops self prev)
 hiding_quiet self prev =
     cond_both (same_bool self.hidden prev.hidden) [] (Hide self.hidden ∷ []) AllQuiet (λ _. tt) (λ _. (refl, tt))
 
@@ -185,10 +185,10 @@ difference_in self prev any is steady other size plain e =
     })
     plain (record { width = sizes.width; height = sizes.height }) in
     let goal = with_saved rest.0 (with_picture self any) in
-    subst (λ (p : Picture). Puts (IsLocal self p) (hiding self p ++ script self p) any (with_picture self any)) e (
+    subst (λ (p : Picture). Puts (IsLocal self p) (cursor_visibility_ops self p ++ script self p) any (with_picture self any)) e (
       rest.0,
-      in_then May (hiding self (picture_of any)) (script self (picture_of any)) any base goal
-          (quiet_in May (hiding self (picture_of any)) any base
+      in_then May (cursor_visibility_ops self (picture_of any)) (script self (picture_of any)) any base goal
+          (quiet_in May (cursor_visibility_ops self (picture_of any)) any base
           (hiding_quiet self (picture_of any)) (hiding_draws self any))
           rest.1,
     )

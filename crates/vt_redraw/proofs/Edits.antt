@@ -6,7 +6,7 @@ use Rattle.std.proofs.lemmas.List.{get_or_at, set_at, length-append}
 use Rattle.vt_cells.specs.Attrs.{default_attrs, Attrs}
 use Rattle.vt_cells.specs.Cell.{CellValue, blank, glyph, right_half, default_blank}
 use Rattle.vt_cells.specs.Op.{EraseRest, EraseChars}
-use Rattle.vt_rows.specs.Cells.{blanks, opened, put_narrow, put_wide, erased, ends_blank}
+use Rattle.vt_rows.specs.Cells.{blanks, cells_after_cut, put_narrow, put_wide, cells_after_erase, ends_blank}
 use Rattle.vt_rows.specs.Row.{RowValue, blank_row, with_cells}
 use Rattle.vt_grid.specs.Page.{Page, cursor_row, with_row, row_at}
 use Rattle.vt_grid.specs.Moves.{line_feed}
@@ -65,8 +65,8 @@ pub glyph_put_at : (base : Canvas) (done below : List RowValue) (pre rest : List
     length done ≡ r → length pre ≡ c → Paired pre →
     glyph_put text wide attrs (mid base done below (pre ++ rest) flag (pen_at r c attrs)).page
     ≡ (mid base done below
-    (pre ++ (glyph_cells text wide attrs ++ opened (orphan wide attrs) (drop (glyph_columns wide) rest)))
-    (kept flag (pre ++ (glyph_cells text wide attrs ++ opened (orphan wide attrs) (drop (glyph_columns wide) rest))))
+    (pre ++ (glyph_cells text wide attrs ++ cells_after_cut (orphan wide attrs) (drop (glyph_columns wide) rest)))
+    (kept flag (pre ++ (glyph_cells text wide attrs ++ cells_after_cut (orphan wide attrs) (drop (glyph_columns wide) rest))))
     (pen_at r (c + glyph_columns wide) attrs)).page
 glyph_put_at base done below pre rest flag r c text false attrs e l h =
     ap (λ (page : Page). record page { column = c + 1 })
@@ -90,18 +90,18 @@ erased_at : (base : Canvas) (done below : List RowValue)
     (pre rest : List CellValue) (flag : Bool) (r c n : ℕ) (attrs : Attrs) →
     length done ≡ r → length pre ≡ c → Paired pre →
     erased_columns c n attrs (mid base done below (pre ++ rest) flag (pen_at r c attrs)).page
-    ≡ (mid base done below (pre ++ (blanks attrs n ++ opened default_blank (drop n rest)))
-    (kept flag (pre ++ (blanks attrs n ++ opened default_blank (drop n rest)))) (pen_at r c attrs)).page
+    ≡ (mid base done below (pre ++ (blanks attrs n ++ cells_after_cut default_blank (drop n rest)))
+    (kept flag (pre ++ (blanks attrs n ++ cells_after_cut default_blank (drop n rest)))) (pen_at r c attrs)).page
 erased_at base done below pre rest flag r c n attrs e l h =
     edited_at base done below (pre ++ rest) flag (pen_at r c attrs)
-    (erased c n attrs) _ e (put_at pre rest (blanks attrs n) default_blank c n l h)
+    (cells_after_erase c n attrs) _ e (put_at pre rest (blanks attrs n) default_blank c n l h)
 
 pub chars_erased : (base : Canvas) (done below : List RowValue)
     (pre rest : List CellValue) (flag : Bool) (r c n : ℕ) (attrs : Attrs) →
     length done ≡ r → length pre ≡ c → c + suc n ≤ base.page.width → Paired pre →
     Draws (EraseChars (suc n) ∷ []) (mid base done below (pre ++ rest) flag (pen_at r c attrs))
-    (mid base done below (pre ++ (blanks attrs (suc n) ++ opened default_blank (drop (suc n) rest)))
-    (kept flag (pre ++ (blanks attrs (suc n) ++ opened default_blank (drop (suc n) rest)))) (pen_at r c attrs))
+    (mid base done below (pre ++ (blanks attrs (suc n) ++ cells_after_cut default_blank (drop (suc n) rest)))
+    (kept flag (pre ++ (blanks attrs (suc n) ++ cells_after_cut default_blank (drop (suc n) rest)))) (pen_at r c attrs))
 unfolding erased_chars
 chars_erased base done below pre rest flag r c n attrs e l fits h =
     let start = mid base done below (pre ++ rest) flag (pen_at r c attrs) in
@@ -115,8 +115,8 @@ pub rest_erased : (base : Canvas) (done below : List RowValue)
     (pre rest : List CellValue) (flag : Bool) (r c n : ℕ) (attrs : Attrs) →
     length done ≡ r → length pre ≡ c → c + suc n ≡ base.page.width → Paired pre →
     Draws (EraseRest ∷ []) (mid base done below (pre ++ rest) flag (pen_at r c attrs))
-    (mid base done below (pre ++ (blanks attrs (suc n) ++ opened default_blank (drop (suc n) rest)))
-    (kept flag (pre ++ (blanks attrs (suc n) ++ opened default_blank (drop (suc n) rest)))) (pen_at r c attrs))
+    (mid base done below (pre ++ (blanks attrs (suc n) ++ cells_after_cut default_blank (drop (suc n) rest)))
+    (kept flag (pre ++ (blanks attrs (suc n) ++ cells_after_cut default_blank (drop (suc n) rest)))) (pen_at r c attrs))
 unfolding erased_rest
 rest_erased base done below pre rest flag r c n attrs e l fits h =
     let start = mid base done below (pre ++ rest) flag (pen_at r c attrs) in
@@ -130,8 +130,8 @@ pub run_erased : (base : Canvas) (done below : List RowValue)
     (pre rest more : List CellValue) (flag : Bool) (r c n : ℕ) (attrs : Attrs) →
     length done ≡ r → length pre ≡ c → c + (suc n + length more) ≡ base.page.width → Paired pre →
     Draws (erase_run (suc n) more ∷ []) (mid base done below (pre ++ rest) flag (pen_at r c attrs))
-    (mid base done below (pre ++ (blanks attrs (suc n) ++ opened default_blank (drop (suc n) rest)))
-    (kept flag (pre ++ (blanks attrs (suc n) ++ opened default_blank (drop (suc n) rest)))) (pen_at r c attrs))
+    (mid base done below (pre ++ (blanks attrs (suc n) ++ cells_after_cut default_blank (drop (suc n) rest)))
+    (kept flag (pre ++ (blanks attrs (suc n) ++ cells_after_cut default_blank (drop (suc n) rest)))) (pen_at r c attrs))
 run_erased base done below pre rest [] flag r c n attrs e l fits h =
     rest_erased base done below pre rest flag r c n attrs e l (omega arith) h
 run_erased base done below pre rest (y ∷ more) flag r c n attrs e l fits h =

@@ -13,12 +13,12 @@ use Rattle.std.proofs.lemmas.List.{get_or-take, get_or-replicate, get_or_past}
 use Rattle.vt_cells.specs.Cell.{CellValue, blank, glyph, right_half, default_blank}
 use Rattle.vt_cells.specs.Cell.{attrs_of, is_glyph, is_wide, is_right_half, same_cell}
 use Rattle.vt_cells.specs.Op.{EraseChars, LineFeed, bytes_of_all}
-use Rattle.vt_rows.specs.Cells.{IsPaired, at, moved, moved_at, resized, ends_blank}
+use Rattle.vt_rows.specs.Cells.{IsPaired, at, cells_after_move, moved_at, cells_after_resize, ends_blank}
 use Rattle.vt_rows.proofs.Moves.{moved_is, length-resized}
 use Rattle.vt_rows.specs.Row.{RowValue}
 use Rattle.vt_grid.specs.Page.{row_or}
 use Rattle.vt_redraw.specs.Redraw.{nearest}
-use Rattle.vt_redraw.specs.Internals.{filled, is_split, kept_len, cell_past_cut}
+use Rattle.vt_redraw.specs.Internals.{cells_filled_to, is_split, kept_len, cell_past_cut}
 use Rattle.vt_redraw.specs.Script.{is_nil, is_torn, erase_run, starts_other}
 
 -- Column k is the last column and has a continuation cell exactly if the cells from column k on are a single
@@ -56,29 +56,29 @@ erase_run_counted count end [] h = absurd (omega arith)
 erase_run_counted count zero (x ∷ xs) h = refl
 erase_run_counted count (suc end) (x ∷ xs) h = erase_run_counted count end xs (omega arith)
 
-pub resized_columns : (cols : ℕ) (cells : List CellValue) → length (resized cols cells) ≡ cols
+pub resized_columns : (cols : ℕ) (cells : List CellValue) → length (cells_after_resize cols cells) ≡ cols
 resized_columns cols cells = length-resized cols cells
 
 pub length-filled : (cells : List CellValue) (cols : ℕ) (end : CellValue) →
-    length cells ≤ cols → length (filled cells cols end) ≡ cols
+    length cells ≤ cols → length (cells_filled_to cells cols end) ≡ cols
 length-filled cells cols end h =
     let a = length-append cells (replicate (cols - length cells) end) in
     let b = length-replicate (cols - length cells) end in
     omega arith
 
 pub at-filled : (cells : List CellValue) (cols : ℕ) (end : CellValue) (k : ℕ) →
-    k < length cells → at (filled cells cols end) k ≡ at cells k
+    k < length cells → at (cells_filled_to cells cols end) k ≡ at cells k
 at-filled cells cols end k h = get_or_append_left cells (replicate (cols - length cells) end) default_blank k h
 
 pub at-behind : (cells : List CellValue) (cols : ℕ) (end : CellValue) (k : ℕ) →
-    length cells ≤ k → k < cols → at (filled cells cols end) k ≡ end
+    length cells ≤ k → k < cols → at (cells_filled_to cells cols end) k ≡ end
 at-behind cells cols end k h l =
     get_or-append_right cells (replicate (cols - length cells) end) (length cells) k default_blank refl h
     ∙ get_or-replicate (cols - length cells) (k - length cells) end default_blank (omega arith)
 
 -- The cell at an index of a slice of a row's stored cells.
 pub at-part : (cells : List CellValue) (cols : ℕ) (end : CellValue) (flag : Bool) (start stop k : ℕ) (row : RowValue)
-    → record { cells = filled cells cols end; wrapped = flag } ≡ row → start + k < stop → stop ≤ length cells
+    → record { cells = cells_filled_to cells cols end; wrapped = flag } ≡ row → start + k < stop → stop ≤ length cells
     → at (slice_range cells start stop) k ≡ at row.cells (start + k)
 at-part cells cols end flag start stop k row is below inside =
     get_or-chunk start (stop - start) cells k default_blank (omega arith)
@@ -122,26 +122,26 @@ take_past (x ∷ xs) ys n =
 
 -- Extending the first stored cells to fewer columns gives the first cells of the row extended to all columns.
 pub filled_taken : (cells : List CellValue) (cols stop : ℕ) (end : CellValue) → stop ≤ cols → length cells ≤ cols →
-    filled (take (min (length cells) stop) cells) stop end ≡ take stop (filled cells cols end)
+    cells_filled_to (take (min (length cells) stop) cells) stop end ≡ take stop (cells_filled_to cells cols end)
 filled_taken cells cols stop end h l =
     ⊎_elim
     (λ (low : stop < length cells).
     let least : min (length cells) stop ≡ stop = omega arith in
     let size = length-take-le stop cells (omega arith) in
     let none : stop - length (take stop cells) ≡ 0 = omega arith in
-    ap (λ (n : ℕ). filled (take n cells) stop end) least
+    ap (λ (n : ℕ). cells_filled_to (take n cells) stop end) least
     ∙ (ap (λ (n : ℕ). take stop cells ++ replicate n end) none
     ∙ (append-nil (take stop cells)
     ∙ sym (take-append-le stop cells (replicate (cols - length cells) end) (omega arith)))))
     (λ (high : length cells ≤ stop).
     let least : min (length cells) stop ≡ length cells = omega arith in
     let sum : length cells + (stop - length cells) ≡ stop = omega arith in
-    ap (λ (n : ℕ). filled (take n cells) stop end) least
-    ∙ (ap (λ (zs : List CellValue). filled zs stop end) (take_all (length cells) cells (omega arith))
+    ap (λ (n : ℕ). cells_filled_to (take n cells) stop end) least
+    ∙ (ap (λ (zs : List CellValue). cells_filled_to zs stop end) (take_all (length cells) cells (omega arith))
     ∙ (ap (λ (zs : List CellValue). cells ++ zs)
     (sym (take-replicate (stop - length cells) (cols - length cells) end (omega arith)))
     ∙ (sym (take_past cells (replicate (cols - length cells) end) (stop - length cells))
-    ∙ ap (λ (n : ℕ). take n (filled cells cols end)) sum))))
+    ∙ ap (λ (n : ℕ). take n (cells_filled_to cells cols end)) sum))))
     (cases_lt stop (length cells))
 
 -- ---- a row that is cut or extended
@@ -185,7 +185,7 @@ room cells k paired wide =
 -- The cells of a row that is cut within a wide character, column by column.
 split_columns : (cols : ℕ) (cells : List CellValue) → 0 < cols → IsPaired cells →
     cols < length cells → is_wide (at cells (cols - 1)) ≡ true → (k : ℕ) → k < cols →
-    at (filled (take (cols - 1) cells) cols (blank (attrs_of (at cells (cols - 1))))) k ≡ moved_at cols (λ j. j) cells k
+    at (cells_filled_to (take (cols - 1) cells) cols (blank (attrs_of (at cells (cols - 1))))) k ≡ moved_at cols (λ j. j) cells k
 split_columns cols cells pos paired inside wide k h =
     let kept = take (cols - 1) cells in
     let size : length kept ≡ cols - 1 = length-take-le (cols - 1) cells (omega arith) in
@@ -204,7 +204,7 @@ split_columns cols cells pos paired inside wide k h =
 -- The cells of a row that is cut between characters, column by column.
 whole_columns : (cols : ℕ) (cells : List CellValue) → IsPaired cells →
     is_split cols cells ≡ false → (k : ℕ) → k < cols →
-    at (filled (take cols cells) cols default_blank) k ≡ moved_at cols (λ j. j) cells k
+    at (cells_filled_to (take cols cells) cols default_blank) k ≡ moved_at cols (λ j. j) cells k
 whole_columns cols cells paired whole k h =
     let kept = take cols cells in
     let size = length-take cols cells in
@@ -229,24 +229,24 @@ whole_columns cols cells paired whole k h =
 
 -- The unchanged cells and the cell after them make up the cut or extended row.
 pub filled_resized : (cols : ℕ) (cells : List CellValue) → 0 < cols → IsPaired cells →
-    filled (take (kept_len cols cells) cells) cols (cell_past_cut cols cells) ≡ resized cols cells
-unfolding resized
+    cells_filled_to (take (kept_len cols cells) cells) cols (cell_past_cut cols cells) ≡ cells_after_resize cols cells
+unfolding cells_after_resize
 filled_resized cols cells pos paired = by_split (is_split cols cells) refl where
   by_split : (b : Bool) → is_split cols cells ≡ b →
-      filled (take (if b then cols - 1 else cols) cells) cols
+      cells_filled_to (take (if b then cols - 1 else cols) cells) cols
       (if b then blank (attrs_of (at cells (cols - 1))) else default_blank)
-      ≡ moved cols (λ j. j) cells
+      ≡ cells_after_move cols (λ j. j) cells
   by_split true t =
       let inside : cols < length cells = grind (arith, nat_tests) in
       let wide : is_wide (at cells (cols - 1)) ≡ true = grind (arith, nat_tests) in
       let kept = take (cols - 1) cells in
       let size : length kept ≡ cols - 1 = length-take-le (cols - 1) cells (omega arith) in
       let end = blank (attrs_of (at cells (cols - 1))) in
-      moved_is cols (λ j. j) cells (filled kept cols end)
+      moved_is cols (λ j. j) cells (cells_filled_to kept cols end)
       (length-filled kept cols end (omega arith)) (split_columns cols cells pos paired inside wide)
   by_split false t =
       let size = length-take cols cells in
-      moved_is cols (λ j. j) cells (filled (take cols cells) cols default_blank)
+      moved_is cols (λ j. j) cells (cells_filled_to (take cols cells) cols default_blank)
       (length-filled (take cols cells) cols default_blank (omega arith)) (whole_columns cols cells paired t)
 
 pub kept_inside : (cols : ℕ) (cells : List CellValue) → length (take (kept_len cols cells) cells) ≤ cols

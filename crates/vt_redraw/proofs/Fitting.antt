@@ -25,7 +25,7 @@ use Rattle.vt_redraw.specs.Script.{Scripted, no_ops, ops_then, placed_op, cells_
 use Rattle.vt_redraw.specs.Script.{is_at, pen_behind, behind_last_glyph, Linked, no_link, first_written, starts_other}
 use Rattle.vt_redraw.specs.Script.{ops_then_link, row_link, break_ops, row_break, flag_behind, flag_past}
 use Rattle.vt_redraw.specs.Redraw.{row_written, link_of, rows_below, rows_written, nearest, over_blank}
-use Rattle.vt_redraw.specs.Redraw.{under_last, pending_at, cursor_written, pen_of, script, hiding}
+use Rattle.vt_redraw.specs.Redraw.{under_last, pending_at, cursor_written, pen_of, script, cursor_visibility_ops}
 use Rattle.vt_redraw.specs.Redraw.{difference, blank_like, redraw, pending_alone, cursor_state}
 
 -- ---- lists of operations
@@ -360,7 +360,7 @@ pub difference_fits : (self prev : Picture) → IsPicture self → IsColoredPict
     FitsAttrs prev.attrs → AllByRecursion Fits (difference self prev)
 unfolding difference
 difference_fits self prev is colors was =
-    fits_append (hiding self prev) (script self prev)
+    fits_append (cursor_visibility_ops self prev) (script self prev)
     (cond_both (same_bool self.hidden prev.hidden) [] (Hide self.hidden ∷ []) AllFit (λ _. tt) (λ _. (tt, tt)))
     (script_fits self prev is colors was)
 

@@ -3,7 +3,7 @@ use Rattle.std.proofs.Common.{◌≡◌, ℕ, zero, suc, ◌-◌, ◌&&◌, ◌|
 use Rattle.std.proofs.Common.{◌++◌, length, drop, refl, sym, ap, ◌∙◌, append_assoc, append-nil, arith}
 use Rattle.vt_cells.specs.Cell.{CellValue, blank, glyph, right_half, is_blank}
 use Rattle.vt_cells.specs.Attrs.{Attrs}
-use Rattle.vt_rows.specs.Cells.{at, ends_blank, blanks, opened}
+use Rattle.vt_rows.specs.Cells.{at, ends_blank, blanks, cells_after_cut}
 use Rattle.vt_redraw.specs.Script.{is_nil, is_torn}
 
 -- Whether the last column is blank, by recursion over the cells.
@@ -54,7 +54,7 @@ ends_after n o (blank a ∷ xs) = ends (blank a ∷ xs)
 ends_after n o (glyph text wide a ∷ xs) = ends (glyph text wide a ∷ xs)
 
 ends_new : (xs : List CellValue) (o : CellValue) (rest : List CellValue) →
-    ends (xs ++ opened o rest) ≡ ends_after (ends xs) (is_blank o) rest
+    ends (xs ++ cells_after_cut o rest) ≡ ends_after (ends xs) (is_blank o) rest
 ends_new xs o [] = ap ends (append-nil xs)
 ends_new xs o (blank b ∷ ys) = ends_append xs (blank b) ys
 ends_new xs o (glyph text wide b ∷ ys) = ends_append xs (glyph text wide b) ys
@@ -96,13 +96,13 @@ end_rest n o right_half (z ∷ zs) m h = sym (ends_drop m (z ∷ zs) h)
 -- Whether a row stays wrapped after the cells `new` replace the cell y and the m cells after it.
 pub flag_step : (pre new : List CellValue) (y : CellValue)
     (ys : List CellValue) (q o : CellValue) (m : ℕ) (f b : Bool) →
-    ends (pre ++ new) ≡ b → Sound f (pre ++ opened o (y ∷ ys)) →
-    kept f (pre ++ (new ++ opened q (drop m ys)))
+    ends (pre ++ new) ≡ b → Sound f (pre ++ cells_after_cut o (y ∷ ys)) →
+    kept f (pre ++ (new ++ cells_after_cut q (drop m ys)))
     ≡ (f && not ((is_nil (drop m ys) && b) || (is_torn (drop m ys) && is_blank q)))
 flag_step pre new y ys q o m f b e h =
     let rest = drop m ys in
-    let last : ends (pre ++ (new ++ opened q rest)) ≡ ends_after b (is_blank q) rest =
-    ap ends (sym (append_assoc pre new (opened q rest)))
+    let last : ends (pre ++ (new ++ cells_after_cut q rest)) ≡ ends_after b (is_blank q) rest =
+    ap ends (sym (append_assoc pre new (cells_after_cut q rest)))
     ∙ (ends_new (pre ++ new) q rest ∙ ap (λ (z : Bool). ends_after z (is_blank q) rest) e) in
     ap (λ (z : Bool). f && not z) last
     ∙ flag_after f b (is_blank q) rest

@@ -141,7 +141,7 @@ linked_wrote r xs ys pen p1 link t0 t1 t2 e p h more =
     let first = first_written r (pen_at r 0 default_attrs) false xs over in
     let n : link.settled ≡ first.settled = h.done ∙ ap (λ w. w.settled) same in
     let q : p1 ≡ first.pen = h.stands ∙ ap (λ w. w.pen) same in
-    let f : link.flag ≡ first.flag = h.goes_on ∙ ap (λ w. w.flag) same in
+    let f : link.flag ≡ first.flag = h.is_wrapped ∙ ap (λ w. w.flag) same in
     let cells = cells_written r 0 first.pen first.flag first.settled xs over in
     let zero_settled : cells_from r first.settled first.pen first.flag xs over ≡ cells =
     sym (settled_passed r 0 first.pen first.flag first.settled xs over

@@ -6,7 +6,7 @@ use Rattle.std.proofs.lemmas.List.{length-append}
 use Rattle.vt_cells.specs.Cell.{CellValue, blank, glyph, right_half, default_blank, is_wide, is_right_half}
 use Rattle.vt_cells.specs.Op.{Op, Print, Backspace, EraseChars}
 use Rattle.vt_cells.specs.Attrs.{Attrs}
-use Rattle.vt_rows.specs.Cells.{at, opened}
+use Rattle.vt_rows.specs.Cells.{at, cells_after_cut}
 use Rattle.vt_rows.specs.Row.{RowValue}
 use Rattle.vt_grid.specs.Canvas.{Canvas}
 use Rattle.vt_cells.specs.Glyph.{glyph_columns}
@@ -60,7 +60,7 @@ first_glyph May base done below above on y ys flag r b text wide a e bottom full
     let spot : Spot base top [] default_blank y ys flag (r + 1) 0 wide =
     record { row = n; col = refl; fits = omega arith; front = tt; sound = subst (Sound flag) (sym whole) sound } in
     let there : two base done below above (not (ends above)) (y ∷ ys) flag (pen_at (r + 1) 0 a)
-    ≡ mid base top below (opened default_blank (y ∷ ys)) flag (pen_at (r + 1) 0 a) =
+    ≡ mid base top below (cells_after_cut default_blank (y ∷ ys)) flag (pen_at (r + 1) 0 a) =
     ap (λ (t : Bool). two base done below above (not t) (y ∷ ys) flag (pen_at (r + 1) 0 a)) full
     ∙ (two_mid base done below above true (y ∷ ys) flag (pen_at (r + 1) 0 a)
     ∙ ap (λ (z : List CellValue). mid base top below z flag (pen_at (r + 1) 0 a)) (sym whole)) in
@@ -82,7 +82,7 @@ pub first_blank : (May : ℕ → ℕ → Type 0) (base : Canvas) (done below : L
     length done ≡ r → 0 < base.page.width → Paired (y ∷ ys) → Sound flag (y ∷ ys) → May r 0 →
     DrawsIn May (Backspace ∷ EraseChars 1 ∷ [])
     (mid base done below (with_glyph [] (0x20 ∷ []) false a ys) (flag_behind flag false (drop 1 ys)) (pen_at r 1 a))
-    (mid base done below (blank a ∷ opened (orphan false a) ys) (flag && not (is_nil ys)) (pen_at r 0 a))
+    (mid base done below (blank a ∷ cells_after_cut (orphan false a) ys) (flag && not (is_nil ys)) (pen_at r 0 a))
 first_blank May base done below y ys flag r a e pos paired sound may =
     let row = λ (z : List CellValue). blank a ∷ z in
     let pen = pen_at r 0 a in
@@ -91,18 +91,18 @@ first_blank May base done below y ys flag r a e pos paired sound may =
     let now = flag_behind flag false (drop 1 ys) in
     let start = mid base done below spaced now (pen_at r 1 a) in
     let middle = mid base done below spaced now pen in
-    let goal = mid base done below (row (opened (orphan false a) ys)) (flag && not (is_nil ys)) pen in
+    let goal = mid base done below (row (cells_after_cut (orphan false a) ys)) (flag && not (is_nil ys)) pen in
     in_then May (Backspace ∷ []) (EraseChars 1 ∷ []) start middle
     goal (quiet_in May (Backspace ∷ []) start middle (refl, tt) refl)
     (record {
       draws = chars_erased base done below [] spaced now r 0 0 a e refl (omega arith) tt
           ∙ (ap (λ (f : Bool). Some
-          (mid base done below (row (opened default_blank (opened (orphan false a) ys)))
-          (kept f (row (opened default_blank (opened (orphan false a) ys)))) pen))
+          (mid base done below (row (cells_after_cut default_blank (cells_after_cut (orphan false a) ys)))
+          (kept f (row (cells_after_cut default_blank (cells_after_cut (orphan false a) ys)))) pen))
           (no_tear flag (is_torn (drop 1 ys)))
           ∙ (ap (λ (z : List CellValue). Some (mid base done below (row z) (kept flag (row z)) pen))
           (opened_twice default_blank (orphan false a) ys refl)
-          ∙ ap (λ (f : Bool). Some (mid base done below (row (opened (orphan false a) ys)) f pen))
+          ∙ ap (λ (f : Bool). Some (mid base done below (row (cells_after_cut (orphan false a) ys)) f pen))
           (first_kept y ys flag a whole sound)));
       touches = erase_touches May middle 0 pos refl
           (changes_at May base done below [] spaced now r 0 1 0 a e refl tt
@@ -111,23 +111,23 @@ first_blank May base done below y ys flag r a e pos paired sound may =
     })
   where
     first_kept : (y : CellValue) (ys : List CellValue) (flag : Bool) (a : Attrs) →
-        opened default_blank (y ∷ ys) ≡ y ∷ ys → Sound flag (y ∷ ys) →
-        kept flag (blank a ∷ opened (orphan false a) ys) ≡ (flag && not (is_nil ys))
+        cells_after_cut default_blank (y ∷ ys) ≡ y ∷ ys → Sound flag (y ∷ ys) →
+        kept flag (blank a ∷ cells_after_cut (orphan false a) ys) ≡ (flag && not (is_nil ys))
     first_kept y ys flag a whole sound =
         flag_step [] (blank a ∷ []) y ys (orphan false a) default_blank
         0 flag true refl (subst (Sound flag) (sym whole) sound)
         ∙ first_flag flag (is_nil ys) (is_torn ys)
 
-    not_right : (a : Attrs) (ys : List CellValue) → is_right_half (at (opened (orphan false a) ys) 0) ≡ false
+    not_right : (a : Attrs) (ys : List CellValue) → is_right_half (at (cells_after_cut (orphan false a) ys) 0) ≡ false
     not_right a [] = refl
     not_right a (blank b ∷ ys) = refl
     not_right a (glyph text wide b ∷ ys) = refl
     not_right a (right_half ∷ ys) = refl
 
 pub first_sound : (y : CellValue) (ys : List CellValue) (flag : Bool) (a : Attrs) → Paired (y ∷ ys) →
-    Sound flag (y ∷ ys) → Sound (flag && not (is_nil ys)) (blank a ∷ opened (orphan false a) ys)
+    Sound flag (y ∷ ys) → Sound (flag && not (is_nil ys)) (blank a ∷ cells_after_cut (orphan false a) ys)
 first_sound y ys flag a paired sound =
-    sound_kept flag (blank a ∷ opened (orphan false a) ys) (flag && not (is_nil ys))
+    sound_kept flag (blank a ∷ cells_after_cut (orphan false a) ys) (flag && not (is_nil ys))
     (flag_step [] (blank a ∷ []) y ys (orphan false a) default_blank 0 flag true refl
     (subst (Sound flag) (sym (opened_paired default_blank (y ∷ ys) paired)) sound)
     ∙ first_flag flag (is_nil ys) (is_torn ys))
@@ -183,7 +183,7 @@ first_draws May base done below above (blank a ∷ xs) (y ∷ ys) on flag r
     height b e bottom rows hx hy pos full h k sound prints lets begin second =
     let top = done ++ row_of above true ∷ [] in
     let n : length top ≡ r + 1 = let l = length-append done (row_of above true ∷ []) in omega arith in
-    let goal = blank a ∷ opened (orphan false a) ys in
+    let goal = blank a ∷ cells_after_cut (orphan false a) ys in
     let now = flag && not (is_nil ys) in
     let start = two base done below above on (y ∷ ys) flag (pen_at r base.page.width b) in
     let spaced = mid base top below (with_glyph [] (0x20 ∷ []) false a ys)

@@ -13,7 +13,7 @@ use Rattle.vt_grid.specs.Page.{row_or, moved_rows}
 use Rattle.vt_grid.specs.Shifts.{unflagged}
 use Rattle.vt_grid.proofs.Pages.{length-moved_rows, row_or-moved_rows, All-moved_rows, IsRow-row_or}
 use Rattle.vt_rows.proofs.Rows.{IsRow-wrapped}
-use Rattle.vt_redraw.specs.Moved.{band_source, moved, rows_moved}
+use Rattle.vt_redraw.specs.Moved.{band_source, picture_after_move, rows_moved}
 use Rattle.vt_redraw.specs.Picture.{Picture, SamePictureSize}
 use Rattle.vt_redraw.specs.declared.band.Band.{Band}
 
@@ -76,7 +76,7 @@ row_or-rows_moved width band rows r h =
     ∙ (ap (λ (b : Bool). unflagged_if b (row_or width (moved_rows width source rows) r)) t
     ∙ ap (unflagged_if (r + 1 == length rows)) (row_or-moved_rows width source rows r h))
 
-pub moved_size : (self prev : Picture) (band : Band) → SamePictureSize self prev → SamePictureSize self (moved band prev)
+pub moved_size : (self prev : Picture) (band : Band) → SamePictureSize self prev → SamePictureSize self (picture_after_move band prev)
 moved_size self prev band size = record {
   width = size.width;
   height = size.height ∙ sym (length-rows_moved prev.width band prev.rows);

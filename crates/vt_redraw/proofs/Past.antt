@@ -8,7 +8,7 @@ use Rattle.std.proofs.lemmas.Bool.Decides.{nat_tests}
 use Rattle.std.proofs.lemmas.Grind.{get_or-set_at}
 use Rattle.std.proofs.lemmas.List.{get_or-set_other, length-set}
 use Rattle.vt_cells.specs.Cell.{CellValue, blank, glyph, right_half, default_blank}
-use Rattle.vt_cells.specs.Cell.{is_wide, is_right_half, text_of, marked, widened}
+use Rattle.vt_cells.specs.Cell.{is_wide, is_right_half, text_of, cell_with_mark, cell_made_wide}
 use Rattle.vt_cells.specs.Glyph.{is_selector, is_wide_text, IsMark}
 use Rattle.vt_cells.specs.Attrs.{Attrs}
 use Rattle.vt_rows.specs.Cells.{at, put_cells, column_of, marked_at, narrowed_at, widened_at}
@@ -16,7 +16,7 @@ use Rattle.vt_rows.proofs.Columns.{put_columns, length-put_cells}
 use Rattle.vt_rows.proofs.Pairs.{is_right_half-marked, is_wide-marked}
 use Rattle.vt_grid.specs.Page.{Page}
 use Rattle.vt_grid.specs.Printing.{carries, wraps_for, mark_column, takes_mark, mark_put, made_wide}
-use Rattle.vt_grid.specs.Printing.{made_narrow, carried, width_followed, mark_printed, printed_by}
+use Rattle.vt_grid.specs.Printing.{made_narrow, page_after_wrap, width_followed, mark_printed, printed_by}
 use Rattle.vt_grid.specs.Canvas.{Canvas, and_then, drawn_char, drawn_text}
 use Rattle.vt_redraw.specs.Script.{pen_at}
 use Rattle.vt_redraw.specs.Steady.{blank_line}
@@ -52,7 +52,7 @@ pub record Past (width : ℕ) (attrs : Attrs) (canvas : Canvas) : Type 0 where
 
 -- The column k of the glyph that a combining character joins is neither column 0 nor at or after the cursor.
 record IsBehind (col k : ℕ) : Type 0 where
-  pub some : 1 ≤ k
+  pub nonempty : 1 ≤ k
   pub before : k < col
   pub second : col ≡ 2 → k ≡ 1
 
@@ -67,8 +67,8 @@ behind_first width cells col past =
     omega arith in let s =
     past.second e in let u : is_right_half (at cells 1) ≡ true =
     ap (λ (j : ℕ). is_right_half (at cells j)) (sym i) ∙ t in absurd (cc) in
-    record { some = further col far never; before = omega arith; second = λ e. absurd (never e) })
-    (λ _. record { some = omega arith; before = omega arith; second = λ e. omega arith })
+    record { nonempty = further col far never; before = omega arith; second = λ e. absurd (never e) })
+    (λ _. record { nonempty = omega arith; before = omega arith; second = λ e. omega arith })
   where
     further : (c : ℕ) → 2 ≤ c → (c ≡ 2 → ⊥) → 1 ≤ c - 2
     further zero h k = absurd (omega arith)
@@ -85,7 +85,7 @@ narrow_not_wide right_half e = refl
 past_set : (width : ℕ) (cells : List CellValue) (col k : ℕ) (x : CellValue) → IsPast width cells col →
     IsBehind col k → is_right_half x ≡ is_right_half (at cells k) → IsPast width (set cells k x) col
 past_set width cells col k x past place e =
-    let some = place.some in
+    let some = place.nonempty in
     let before = place.before in
     let inside = past.inside in
     let size = past.size in
@@ -104,7 +104,7 @@ past_put : (width : ℕ) (cells : List CellValue) (col k n to : ℕ) (o x : Cell
     k + n ≤ width → col ≤ to → to ≤ width → (to ≡ 2 → is_right_half x ≡ false) →
     IsPast width (put_cells k o (x ∷ more) n cells) to
 past_put width cells col k n to o x more past place e fits le inside right =
-    let some = place.some in
+    let some = place.nonempty in
     let far = past.far in
     let size = past.size in
     let narrow = narrow_not_wide (at cells 0) past.first in
@@ -122,7 +122,7 @@ past_put width cells col k n to o x more past place e fits le inside right =
           ∙ right two;
     }
 
-is_right_half-widened : (wide : Bool) (x : CellValue) → is_right_half (widened wide x) ≡ is_right_half x
+is_right_half-widened : (wide : Bool) (x : CellValue) → is_right_half (cell_made_wide wide x) ≡ is_right_half x
 is_right_half-widened wide (blank attrs) = refl
 is_right_half-widened wide (glyph text was attrs) = refl
 is_right_half-widened wide right_half = refl
@@ -150,7 +150,7 @@ room_left col width h e = grind (arith, nat_tests)
 past_followed : (width : ℕ) (attrs : Attrs) (cells : List CellValue) (flag : Bool) (col k m : ℕ) →
     is_selector m ≡ true → takes_mark (at cells k) ≡ true → IsPast width cells col → IsBehind col k →
     ((is_selector m && (takes_mark (at cells k) && not (is_wide (at cells k))))
-    && (is_wide_text (text_of (marked m (at cells k))) && (nat_lt 1 width && (col == width))))
+    && (is_wide_text (text_of (cell_with_mark m (at cells k))) && (nat_lt 1 width && (col == width))))
     ≡ false →
     Past width attrs (record (line width attrs cells flag col) {
       page = width_followed k attrs (line width attrs (marked_at k m cells) (kept flag (marked_at k m cells)) col).page;
@@ -162,16 +162,16 @@ past_followed width attrs cells flag col k m selector takes past place never =
     let page = (line width attrs new now col).page in
     let Q = λ (p : Page). Past width attrs (record (line width attrs cells flag col) { page = p }) in
     let wide = is_wide_text (text_of (at new k)) && nat_lt 1 width in
-    let some = place.some in
+    let some = place.nonempty in
     let before = place.before in
     let inside = past.inside in
     let size = past.size in
-    let here : at new k ≡ marked m (at cells k) =
-    get_or-set_at cells k k (marked m (at cells k)) default_blank refl (omega arith) in
-    let after = past_set width cells col k (marked m (at cells k)) past place (is_right_half-marked m (at cells k)) in
+    let here : at new k ≡ cell_with_mark m (at cells k) =
+    get_or-set_at cells k k (cell_with_mark m (at cells k)) default_blank refl (omega arith) in
+    let after = past_set width cells col k (cell_with_mark m (at cells k)) past place (is_right_half-marked m (at cells k)) in
     let same : Q page = past_line width attrs cells new flag col col page refl after in
-    let narrower = put_cells k (glyph (0x20 ∷ []) false attrs) (widened false (at new k) ∷ []) 1 new in
-    let wider = put_cells k (blank attrs) (widened true (at new k) ∷ right_half ∷ []) 2 new in
+    let narrower = put_cells k (glyph (0x20 ∷ []) false attrs) (cell_made_wide false (at new k) ∷ []) 1 new in
+    let wider = put_cells k (blank attrs) (cell_made_wide true (at new k) ∷ right_half ∷ []) 2 new in
     let narrow : Q (made_narrow k attrs page) = record {
       cells = narrower;
       flag = kept now narrower;
@@ -182,7 +182,7 @@ past_followed width attrs cells flag col k m selector takes past place never =
           (pen_at 0 col attrs) (narrowed_at k attrs) narrower refl refl);
       past =
           past_put width new col k 1 col (glyph (0x20 ∷ []) false attrs)
-          (widened false (at new k)) [] after place refl (omega arith) (omega arith) inside
+          (cell_made_wide false (at new k)) [] after place refl (omega arith) (omega arith) inside
           (λ two. is_right_half-widened false (at new k)
           ∙ (ap (λ (j : ℕ). is_right_half (at new j)) (place.second two) ∙ after.second two));
     } in
@@ -192,10 +192,10 @@ past_followed width attrs cells flag col k m selector takes past place never =
     (λ (n : is_wide (at new k) ≡ false). cond_both wide (made_wide k attrs page) page Q
     (λ (t : wide ≡ true).
     let was : is_wide (at cells k) ≡ false = sym (is_wide-marked m (at cells k)) ∙ (ap is_wide (sym here) ∙ n) in
-    let text : (is_wide_text (text_of (marked m (at cells k))) && nat_lt 1 width) ≡ true =
+    let text : (is_wide_text (text_of (cell_with_mark m (at cells k))) && nat_lt 1 width) ≡ true =
     ap (λ (x : CellValue). is_wide_text (text_of x) && nat_lt 1 width) (sym here) ∙ t in
     let lt = room_left col width inside (carried_there (is_selector m) (takes_mark (at cells k)) (is_wide (at cells k))
-    (is_wide_text (text_of (marked m (at cells k)))) (nat_lt 1 width) (col == width) selector takes was text never) in
+    (is_wide_text (text_of (cell_with_mark m (at cells k)))) (nat_lt 1 width) (col == width) selector takes was text never) in
     record {
       cells = wider;
       flag = kept now wider;
@@ -204,7 +204,7 @@ past_followed width attrs cells flag col k m selector takes past place never =
           ap (λ (p : Page). record (line width attrs cells flag col) { page = record p { column = col + 1 } })
           (edited_at (blank_line width attrs) [] [] new now (pen_at 0 col attrs) (widened_at k attrs) wider refl refl);
       past =
-          past_put width new col k 2 (col + 1) (blank attrs) (widened true (at new k)) (right_half ∷ []) after
+          past_put width new col k 2 (col + 1) (blank attrs) (cell_made_wide true (at new k)) (right_half ∷ []) after
           place refl (omega arith) (omega arith) (omega arith) (λ two. let far = past.far in absurd (omega arith));
     })
     (λ _. same))
@@ -226,7 +226,7 @@ mark_past width attrs cells flag col m past never =
     let put : mark_put k m page ≡ (line width attrs new (kept flag new) col).page =
     edited_at (blank_line width attrs) [] [] cells flag (pen_at 0 col attrs) (marked_at k m) new refl refl in
     let put_on : Page = if is_selector m then width_followed k attrs (mark_put k m page) else mark_put k m page in
-    cond_both (carries m page) (carried m attrs page) (if takes_mark (at cells k) then put_on else page) Q
+    cond_both (carries m page) (page_after_wrap m attrs page) (if takes_mark (at cells k) then put_on else page) Q
     (λ (y : carries m page ≡ true). absurd (false≢true (sym never ∙ y)))
     (λ _. cond_both (takes_mark (at cells k)) put_on page Q
     (λ (t : takes_mark (at cells k) ≡ true). cond_both (is_selector m)
@@ -234,7 +234,7 @@ mark_past width attrs cells flag col m past never =
     (λ (s : is_selector m ≡ true). subst (λ (p : Page). Q (width_followed k attrs p))
     (sym put) (past_followed width attrs cells flag col k m s t past place never))
     (λ _. past_line width attrs cells new flag col col (mark_put k m page) put
-    (past_set width cells col k (marked m (at cells k)) past place (is_right_half-marked m (at cells k)))))
+    (past_set width cells col k (cell_with_mark m (at cells k)) past place (is_right_half-marked m (at cells k)))))
     (λ _. record { cells = cells; flag = flag; col = col; is = refl; past = past }))
 
 by_push : (width : ℕ) (attrs : Attrs) (page : Page) (canvas end : Canvas) (b : Bool) →

@@ -6,7 +6,7 @@ use Rattle.std.specs.List.{AllByRecursion}
 use Rattle.vt_cells.specs.Cell.{CellValue, blank, glyph, right_half, default_blank, is_right_half}
 use Rattle.vt_cells.specs.Op.{Op}
 use Rattle.vt_cells.specs.Attrs.{Attrs}
-use Rattle.vt_rows.specs.Cells.{at, blanks, opened}
+use Rattle.vt_rows.specs.Cells.{at, blanks, cells_after_cut}
 use Rattle.vt_rows.specs.Row.{RowValue}
 use Rattle.vt_grid.specs.Canvas.{Canvas}
 use Rattle.vt_redraw.specs.Script.{pen_at, move_ops, attr_ops, erase_run}
@@ -51,7 +51,7 @@ next_place base done below pre x r c height left at =
 -- The terminal's row while it is written: the first k cells of the new row, followed by the cells displayed before, of
 -- which an orphaned continuation cell is mended.
 abbrev pub shown : List CellValue → CellValue → ℕ → List CellValue → List CellValue → List CellValue
-shown pre o k xs ys = pre ++ (take k xs ++ opened o (drop k ys))
+shown pre o k xs ys = pre ++ (take k xs ++ cells_after_cut o (drop k ys))
 
 -- The cells `xs` are to be written over `ys` after the cells `pre`, and the first k of them are written already.
 pub record Ready (xs ys pre : List CellValue) (o : CellValue) (k : ℕ) (flag : Bool) : Type 0 where
@@ -74,7 +74,7 @@ ready_next x xs ys pre o k flag same tail le behind new old sound = record {
   behind = subst Paired (sym (append_assoc pre (x ∷ []) (take k xs))) behind;
   new = new;
   old = old;
-  sound = subst (Sound flag) (sym (append_assoc pre (x ∷ []) (take k xs ++ opened o (drop k ys)))) sound;
+  sound = subst (Sound flag) (sym (append_assoc pre (x ∷ []) (take k xs ++ cells_after_cut o (drop k ys)))) sound;
 }
 
 -- The operations draw the given cells in the row, and leave the wrapped flag and the pen as `w` says.
@@ -148,8 +148,8 @@ run_flag : (f n t : Bool) → (f && not ((n && true) || (t && true))) ≡ (f && 
 run_flag f n t = grind (arith)
 
 pub run_flagged : (pre : List CellValue) (o y : CellValue) (ys : List CellValue) (flag : Bool) (n : ℕ) (attrs : Attrs) →
-    Sound flag (pre ++ opened o (y ∷ ys)) →
-    kept flag (pre ++ (blanks attrs (suc n) ++ opened default_blank (drop n ys))) ≡ flag_past flag (drop n ys)
+    Sound flag (pre ++ cells_after_cut o (y ∷ ys)) →
+    kept flag (pre ++ (blanks attrs (suc n) ++ cells_after_cut default_blank (drop n ys))) ≡ flag_past flag (drop n ys)
 run_flagged pre o y ys flag n attrs sound =
     flag_step pre (blanks attrs (suc n)) y ys default_blank o n flag true
     (ends_append pre (blank attrs) (blanks attrs n) ∙ ends_blanks n attrs) sound
@@ -159,15 +159,15 @@ run_flagged pre o y ys flag n attrs sound =
 pub run_draws : (base : Canvas) (done below : List RowValue) (pre : List CellValue)
     (o y : CellValue) (ys : List CellValue) (flag : Bool) (r c n : ℕ) (attrs : Attrs) →
     length done ≡ r → length pre ≡ c → Paired pre →
-    c + suc (length ys) ≡ base.page.width → n ≤ length ys → Sound flag (pre ++ opened o (y ∷ ys)) →
-    Draws (erase_run (suc n) (drop n ys) ∷ []) (mid base done below (pre ++ opened o (y ∷ ys)) flag (pen_at r c attrs))
-    (mid base done below (pre ++ (blanks attrs (suc n) ++ opened default_blank (drop n ys)))
+    c + suc (length ys) ≡ base.page.width → n ≤ length ys → Sound flag (pre ++ cells_after_cut o (y ∷ ys)) →
+    Draws (erase_run (suc n) (drop n ys) ∷ []) (mid base done below (pre ++ cells_after_cut o (y ∷ ys)) flag (pen_at r c attrs))
+    (mid base done below (pre ++ (blanks attrs (suc n) ++ cells_after_cut default_blank (drop n ys)))
     (flag_past flag (drop n ys)) (pen_at r c attrs))
 run_draws base done below pre o y ys flag r c n attrs e l h fits le sound =
     let pen = pen_at r c attrs in
-    let row = λ (rest : List CellValue). pre ++ (blanks attrs (suc n) ++ opened default_blank rest) in
+    let row = λ (rest : List CellValue). pre ++ (blanks attrs (suc n) ++ cells_after_cut default_blank rest) in
     let d = length-drop n ys in
-    run_erased base done below pre (opened o (y ∷ ys)) (drop n ys) flag r c n attrs e l (omega arith) h
+    run_erased base done below pre (cells_after_cut o (y ∷ ys)) (drop n ys) flag r c n attrs e l (omega arith) h
     ∙ (ap (λ (rest : List CellValue). Some (mid base done below (row rest) (kept flag (row rest)) pen))
     (drop_opened n o (y ∷ ys))
     ∙ ap (λ (f : Bool). Some (mid base done below (row (drop n ys)) f pen))
@@ -178,7 +178,7 @@ at_drop zero ys = refl
 at_drop (suc n) [] = refl
 at_drop (suc n) (y ∷ ys) = at_drop n ys
 
-at_behind : (o y : CellValue) (ys : List CellValue) (n : ℕ) → at (opened o (y ∷ ys)) (suc n) ≡ at (drop n ys) 0
+at_behind : (o y : CellValue) (ys : List CellValue) (n : ℕ) → at (cells_after_cut o (y ∷ ys)) (suc n) ≡ at (drop n ys) 0
 at_behind o (blank a) ys n = sym (at_drop n ys)
 at_behind o (glyph text wide a) ys n = sym (at_drop n ys)
 at_behind o right_half ys n = sym (at_drop n ys)
@@ -200,17 +200,17 @@ run_touches May base done below pre rest (y ∷ more) flag r c n attrs fits h =
 pub run_in : (May : ℕ → ℕ → Type 0) (base : Canvas) (done below : List RowValue) (pre : List CellValue)
     (o y : CellValue) (ys : List CellValue) (flag : Bool) (r c n : ℕ) (attrs : Attrs) →
     length done ≡ r → length pre ≡ c → Paired pre →
-    c + suc (length ys) ≡ base.page.width → n ≤ length ys → Sound flag (pre ++ opened o (y ∷ ys)) →
+    c + suc (length ys) ≡ base.page.width → n ≤ length ys → Sound flag (pre ++ cells_after_cut o (y ∷ ys)) →
     ((k : ℕ) → c ≤ k → k < c + suc n → May r k) → (is_right_half (at (drop n ys) 0) ≡ true → May r (c + suc n)) →
     DrawsIn May (erase_run (suc n) (drop n ys) ∷ [])
-    (mid base done below (pre ++ opened o (y ∷ ys)) flag (pen_at r c attrs))
-    (mid base done below (pre ++ (blanks attrs (suc n) ++ opened default_blank (drop n ys)))
+    (mid base done below (pre ++ cells_after_cut o (y ∷ ys)) flag (pen_at r c attrs))
+    (mid base done below (pre ++ (blanks attrs (suc n) ++ cells_after_cut default_blank (drop n ys)))
     (flag_past flag (drop n ys)) (pen_at r c attrs))
 run_in May base done below pre o y ys flag r c n attrs e l h fits le sound inside behind =
     let d = length-drop n ys in
     record {
       draws = run_draws base done below pre o y ys flag r c n attrs e l h fits le sound;
-      touches = run_touches May base done below pre (opened o (y ∷ ys)) (drop n ys) flag r c n attrs (omega arith)
-          (changes_at May base done below pre (opened o (y ∷ ys)) flag r c (suc n) c attrs
+      touches = run_touches May base done below pre (cells_after_cut o (y ∷ ys)) (drop n ys) flag r c n attrs (omega arith)
+          (changes_at May base done below pre (cells_after_cut o (y ∷ ys)) flag r c (suc n) c attrs
           e l h inside (λ t. behind (sym (ap is_right_half (at_behind o y ys n)) ∙ t)));
     }

@@ -4,11 +4,11 @@ use Rattle.std.proofs.Common.{◌∷◌, ◌++◌, length, drop, Option, Some, r
 use Rattle.std.specs.Prelude.{if◌then◌else◌, chars}
 use Rattle.std.specs.Char.{encode_utf8}
 use Rattle.std.proofs.lemmas.Bool.{lt-ltb, ne_eqb}
-use Rattle.vt_cells.specs.Cell.{CellValue, blank, glyph, right_half, widened}
+use Rattle.vt_cells.specs.Cell.{CellValue, blank, glyph, right_half, cell_made_wide}
 use Rattle.vt_cells.specs.Glyph.{columns_of, glyph_columns, is_selector, is_wide_text, has_room, IsMark}
 use Rattle.vt_cells.specs.Op.{Print}
 use Rattle.vt_cells.specs.Attrs.{Attrs}
-use Rattle.vt_rows.specs.Cells.{opened, put_cells, widened_at}
+use Rattle.vt_rows.specs.Cells.{cells_after_cut, put_cells, widened_at}
 use Rattle.vt_rows.specs.Row.{RowValue}
 use Rattle.vt_grid.specs.Page.{Page}
 use Rattle.vt_grid.specs.Printing.{carries, glyph_put, lacks_room, room_made, wrapped_page, made_wide}
@@ -47,11 +47,11 @@ grown_wide base done below pre o y ys flag r c text attrs at_spot =
     let flagged = flag_behind flag false (drop 1 ys) in
     let col : c + 1 + 1 ≡ c + 2 = omega arith in
     let wider : widened_at c attrs row ≡ new =
-    ap (λ (x : CellValue). put_cells c (blank attrs) (widened true x ∷ right_half ∷ []) 2 row)
-    (glyph_at pre text false attrs (opened (orphan false attrs) ys) c at_spot.col)
-    ∙ (put_at pre (glyph text false attrs ∷ opened (orphan false attrs) ys)
+    ap (λ (x : CellValue). put_cells c (blank attrs) (cell_made_wide true x ∷ right_half ∷ []) 2 row)
+    (glyph_at pre text false attrs (cells_after_cut (orphan false attrs) ys) c at_spot.col)
+    ∙ (put_at pre (glyph text false attrs ∷ cells_after_cut (orphan false attrs) ys)
     (glyph text true attrs ∷ right_half ∷ []) (blank attrs) c 2 at_spot.col at_spot.front
-    ∙ ap (λ (rest : List CellValue). pre ++ (glyph_cells text true attrs ++ opened (blank attrs) rest))
+    ∙ ap (λ (rest : List CellValue). pre ++ (glyph_cells text true attrs ++ cells_after_cut (blank attrs) rest))
     (drop_opened 0 (orphan false attrs) ys)) in
     let flags : kept flagged new ≡ flag_behind flag true (drop 1 ys) =
     ap (λ (f : Bool). kept f new) (no_tear flag (is_torn (drop 1 ys)))
@@ -111,7 +111,7 @@ mark_follows base done below pre o y ys flag r c text wide attrs m is_mark room 
     let longer = text ++ encode_utf8 m in
     let canvas = put base done below pre ys flag r c text wide attrs in
     let made = (put base done below pre ys flag r c longer wide attrs).page in
-    let rest = opened (orphan wide attrs) (rest_behind wide ys) in
+    let rest = cells_after_cut (orphan wide attrs) (rest_behind wide ys) in
     let flagged = flag_behind flag wide (drop 1 ys) in
     let some = some_column wide c in
     let never : carries m canvas.page ≡ false =

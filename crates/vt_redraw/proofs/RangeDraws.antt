@@ -4,7 +4,7 @@ use Rattle.std.proofs.Common.{length, take, drop, refl, sym, ap, ◌∙◌, subs
 use Rattle.std.proofs.lemmas.List.{length-take, length-drop, take-append-drop}
 use Rattle.vt_cells.specs.Attrs.{default_attrs}
 use Rattle.vt_cells.specs.Cell.{CellValue, blank, glyph, right_half, default_blank}
-use Rattle.vt_rows.specs.Cells.{opened}
+use Rattle.vt_rows.specs.Cells.{cells_after_cut}
 use Rattle.vt_rows.specs.Row.{RowValue}
 use Rattle.vt_grid.specs.Canvas.{Canvas}
 use Rattle.vt_redraw.specs.Script.{pen_at}
@@ -76,7 +76,7 @@ pub record IsItem (base : Canvas) (done below : List RowValue)
   pub rows : r + suc (length below) ≡ height
   pub self : length xs ≡ base.page.width
   pub other : length ys ≡ base.page.width
-  pub some : start ≤ stop
+  pub nonempty : start ≤ stop
   pub inside : stop ≤ base.page.width
   pub prints : PrintsCells base.page.width xs
   pub clean : IsClean start stop xs ys
@@ -87,7 +87,7 @@ pub range_draws : (base : Canvas) (done below : List RowValue)
     Wrote Any (range_written r start stop flag xs ys) base done below
     (mid base done below ys flag (pen_at r start default_attrs)) (with_range start stop xs ys) height
 range_draws base done below r start stop height flag xs ys item sound =
-    let some = item.some in
+    let some = item.nonempty in
     let inside = item.inside in
     let self = item.self in
     let other = item.other in
@@ -104,7 +104,7 @@ range_draws base done below r start stop height flag xs ys item sound =
     let tail : drop (length range) rest ≡ drop stop ys =
     drop_more (length range) start ys
     ∙ (let e : start + length range ≡ stop = omega arith in ap (λ (k : ℕ). drop k ys) e) in
-    let whole : pre ++ opened default_blank rest ≡ ys =
+    let whole : pre ++ cells_after_cut default_blank rest ≡ ys =
     ap (λ (z : List CellValue). pre ++ z) (opened_paired default_blank rest clean.there) ∙ take-append-drop start ys in
     let pen = pen_at r start default_attrs in
     let place : Place base done below pre r start height (length rest) =
@@ -126,13 +126,13 @@ range_draws base done below r start stop height flag xs ys item sound =
     done below (mid base done below z flag pen) (with_range start stop xs ys) height)
     whole
     (subst (λ (z : List CellValue). Wrote Any (range_written r start stop flag xs ys) base done below
-    (mid base done below (pre ++ opened default_blank rest) flag pen) (pre ++ (range ++ z)) height)
+    (mid base done below (pre ++ cells_after_cut default_blank rest) flag pen) (pre ++ (range ++ z)) height)
     tail
     (subst (λ (z : List CellValue). Wrote Any (cells_written r start pen flag 0 z (with_whole_start_over range rest))
-    base done below (mid base done below (pre ++ opened default_blank rest) flag pen)
+    base done below (mid base done below (pre ++ cells_after_cut default_blank rest) flag pen)
     (pre ++ (range ++ drop (length range) rest)) height)
     (sym (begun_paired range clean.range))
     (subst (λ (z : List CellValue). Wrote Any (cells_written r start pen flag 0 range z)
-    base done below (mid base done below (pre ++ opened default_blank rest) flag pen)
+    base done below (mid base done below (pre ++ cells_after_cut default_blank rest) flag pen)
     (pre ++ (range ++ drop (length range) rest)) height)
     (sym (begun_over_paired range rest clean.range)) drawn)))

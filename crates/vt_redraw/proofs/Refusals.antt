@@ -8,7 +8,7 @@ use Rattle.std.proofs.lemmas.Result.{on_err_weaker, on_ok_weaker}
 use Rattle.vt_cells.proofs.Buffers.{nothing_gathered}
 use Rattle.vt_cells.proofs.Sinks.{some_among}
 use Rattle.vt_cells.specs.Op.{Op, LineFeed, bytes_of, bytes_of_all}
-use Rattle.vt_cells.specs.BufferInternals.{gathered}
+use Rattle.vt_cells.specs.BufferInternals.{buffered_text}
 use Rattle.vt_cells.specs.Cell.{CellValue}
 use Rattle.vt_rows.specs.Row.{RowValue}
 use Rattle.vt_redraw.specs.Items.{is_whole, item_of_difference, range_written}
@@ -48,17 +48,17 @@ grown before more after e =
     let same : length after ≡ length (before ++ more) = ap (λ (xs : List ℕ). length xs) e in
     omega arith
 
-pub grown_gathered : (before buffer after : List ℕ) → after ≡ gathered before buffer → length before ≤ length after
-unfolding gathered
+pub grown_gathered : (before buffer after : List ℕ) → after ≡ buffered_text before buffer → length before ≤ length after
+unfolding buffered_text
 grown_gathered before buffer after e = grown before buffer after e
 
 -- The whole output is nonempty if the buffer or the output that is still to be written is nonempty.
-pub leads_some : (old mid buffer : List ℕ) (rest whole : Scripted) → Leads (gathered mid buffer) rest old whole →
+pub leads_some : (old mid buffer : List ℕ) (rest whole : Scripted) → Leads (buffered_text mid buffer) rest old whole →
     length old ≤ length mid → 0 < length (buffer ++ bytes_of_all rest.ops) → 0 < length (bytes_of_all whole.ops)
 leads_some old mid buffer rest whole leads le some =
     let size = length-append buffer (bytes_of_all rest.ops) in
     some_among old mid buffer (bytes_of_all rest.ops) [] (bytes_of_all whole.ops)
-    (ap (λ (xs : List ℕ). gathered mid buffer ++ xs) (append-nil (bytes_of_all rest.ops)) ∙ leads.bytes) le
+    (ap (λ (xs : List ℕ). buffered_text mid buffer ++ xs) (append-nil (bytes_of_all rest.ops)) ∙ leads.bytes) le
     (omega arith)
 
 -- With an empty buffer, the whole output is nonempty if the output that is still to be written is nonempty.
@@ -94,7 +94,7 @@ buffer_some [] xs ys more some = more some
 buffer_some (x ∷ buffer) xs ys more some = omega arith
 
 -- The buffer is written before other output, so the output has not become shorter.
-pub grown_behind : (before buffer mid more after : List ℕ) → mid ≡ gathered before buffer → after ≡ mid ++ more →
+pub grown_behind : (before buffer mid more after : List ℕ) → mid ≡ buffered_text before buffer → after ≡ mid ++ more →
     length before ≤ length after
 grown_behind before buffer mid more after e f =
     let first = grown_gathered before buffer mid e in
@@ -103,14 +103,14 @@ grown_behind before buffer mid more after e f =
 
 -- Appending operations after the buffer is flushed has the effect of appending them through the buffer.
 pub gathers_behind : {A E : Type 0} (result : Result A E) (start before mid end behind : List ℕ) (ops : List Op) →
-    mid ≡ gathered start before → behind ≡ [] → AppendsOrStops result mid end ops →
+    mid ≡ buffered_text start before → behind ≡ [] → AppendsOrStops result mid end ops →
     GathersOrStops result start before end behind ops
 gathers_behind result start before mid end behind ops flushed empty appends = record {
   text =
-      on_ok_weaker result (λ more. ap (λ (xs : List ℕ). gathered end xs) empty
+      on_ok_weaker result (λ more. ap (λ (xs : List ℕ). buffered_text end xs) empty
       ∙ (nothing_gathered end ∙ (more ∙ ap (λ (xs : List ℕ). xs ++ bytes_of_all ops) flushed))) appends.text;
   grows = on_ok_weaker result (grown_behind start before mid (bytes_of_all ops) end flushed) appends.text;
-  some = on_err_weaker result (some_behind before (bytes_of_all ops)) appends.some;
+  nonempty = on_err_weaker result (some_behind before (bytes_of_all ops)) appends.nonempty;
 }
 
 -- A text is nonempty if a part after its first part is nonempty.
@@ -128,14 +128,14 @@ text_behind_some old first mid more whole e f some =
 -- If nothing was refused, the output of a row, or of a link, was written in full.
 pub wrote_all : (text : List ℕ) (whole : Scripted) →
     Writes text (text ++ bytes_of_all whole.ops) whole.pen whole.flag whole
-wrote_all text whole = record { bytes = refl; stands = refl; goes_on = refl }
+wrote_all text whole = record { bytes = refl; stands = refl; is_wrapped = refl }
 
 abbrev pub link_made : Linked → Link
 link_made whole = record { flag = whole.flag; settled = whole.settled }
 
 pub linked_all : (text : List ℕ) (whole : Linked) →
     Links text (text ++ bytes_of_all whole.ops) whole.pen (link_made whole) whole
-linked_all text whole = record { bytes = refl; stands = refl; goes_on = refl; done = refl }
+linked_all text whole = record { bytes = refl; stands = refl; is_wrapped = refl; done = refl }
 
 pub row_some : (r k : ℕ) (pen : Pen) (flag : Bool) (x : RowValue) (ys : List CellValue) →
     0 < length (bytes_of_all (cells_from r k pen flag x.cells ys).ops) →

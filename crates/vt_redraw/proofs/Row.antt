@@ -8,7 +8,7 @@ use Rattle.vt_cells.specs.Cell.{CellValue, blank, glyph, right_half, default_bla
 use Rattle.vt_cells.specs.Op.{Print}
 use Rattle.vt_cells.specs.Attrs.{Attrs}
 use Rattle.vt_cells.proofs.SameCells.{cell_of-same}
-use Rattle.vt_rows.specs.Cells.{blanks, opened}
+use Rattle.vt_rows.specs.Cells.{blanks, cells_after_cut}
 use Rattle.vt_rows.specs.Row.{RowValue}
 use Rattle.vt_grid.specs.Canvas.{Canvas}
 use Rattle.vt_cells.specs.Glyph.{glyph_columns}
@@ -57,7 +57,7 @@ pen_within base done below pre r c height left col a at h =
 glyph_spot : (base : Canvas) (done below : List RowValue) (pre : List CellValue)
     (o y : CellValue) (ys : List CellValue) (flag : Bool) (r c height left : ℕ) (wide : Bool) →
     Place base done below pre r c height left → glyph_columns wide ≤ left → Paired pre →
-    Sound flag (pre ++ opened o (y ∷ ys)) → Spot base done pre o y ys flag r c wide
+    Sound flag (pre ++ cells_after_cut o (y ∷ ys)) → Spot base done pre o y ys flag r c wide
 glyph_spot base done below pre o y ys flag r c height left wide at h front sound =
     let columns = at.columns in
     record { row = at.above; col = at.before; fits = omega arith; front = front; sound = sound }
@@ -72,16 +72,16 @@ RowDraws May base done below xs ys pre o r c k pen flag height =
 -- A first cell that the terminal displays already needs no operations.
 same_draws : (May : ℕ → ℕ → Type 0) (w : Scripted) (base : Canvas) (done below : List RowValue)
     (x y : CellValue) (pre ys goal : List CellValue) (o : CellValue) (flag : Bool) (pen : Pen) (height : ℕ) →
-    same_cell x y ≡ true → Loose (y ∷ ys) → opened o (x ∷ ys) ≡ x ∷ ys →
-    Sound flag (pre ++ opened o (y ∷ ys)) →
+    same_cell x y ≡ true → Loose (y ∷ ys) → cells_after_cut o (x ∷ ys) ≡ x ∷ ys →
+    Sound flag (pre ++ cells_after_cut o (y ∷ ys)) →
     (Loose (x ∷ ys) → Sound flag (pre ++ x ∷ ys) →
     Wrote May w base done below (mid base done below (pre ++ x ∷ ys) flag pen) goal height) →
-    Wrote May w base done below (mid base done below (pre ++ opened o (y ∷ ys)) flag pen) goal height
+    Wrote May w base done below (mid base done below (pre ++ cells_after_cut o (y ∷ ys)) flag pen) goal height
 same_draws May w base done below x y pre ys goal o flag pen height t loose whole sound h =
     let e = cell_of-same x y t in
     let P : CellValue → Type 0 =
-    λ z. Loose (z ∷ ys) → Sound flag (pre ++ opened o (z ∷ ys)) →
-    Wrote May w base done below (mid base done below (pre ++ opened o (z ∷ ys)) flag pen) goal height in
+    λ z. Loose (z ∷ ys) → Sound flag (pre ++ cells_after_cut o (z ∷ ys)) →
+    Wrote May w base done below (mid base done below (pre ++ cells_after_cut o (z ∷ ys)) flag pen) goal height in
     let Q : List CellValue → Type 0 =
     λ z. Sound flag (pre ++ z) → Wrote May w base done below (mid base done below (pre ++ z) flag pen) goal height in
     subst P e (λ l. subst Q (sym whole) (h l)) loose sound
@@ -130,7 +130,7 @@ cells_draw May base done below (x ∷ xs) (y ∷ ys) pre o r c (suc k) pen flag 
     let le = h.le in
     let more = lets_next May r c x y xs ys lets in
     shifted May (cells_written r (c + 1) pen flag k xs ys) base done below pre x
-    (take k xs ++ opened o (drop k ys)) (xs ++ drop (length xs) ys) flag pen height
+    (take k xs ++ cells_after_cut o (drop k ys)) (xs ++ drop (length xs) ys) flag pen height
     (cells_draw May base done below xs ys (pre ++ x ∷ []) o r (c + 1) k pen
     flag height (next_place base done below pre x r c height (length ys) at)
     (ready_next x xs ys pre o k flag (omega arith) h.tail (omega arith) h.behind h.new h.old h.sound)
@@ -150,7 +150,7 @@ cells_draw May base done below (blank a ∷ xs) (y ∷ ys) pre o r c zero pen fl
     (ops_then (placed_op pen r c a (erase_run (suc n) (drop n ys)))
     (cells_written r (c + 1) (pen_at r c a) (flag_past flag (drop n ys)) n xs ys))
     (λ (w : Scripted). Wrote May w base done below
-    (mid base done below (pre ++ opened o (y ∷ ys)) flag pen) goal height)
+    (mid base done below (pre ++ cells_after_cut o (y ∷ ys)) flag pen) goal height)
     (λ (t : same_cell (blank a) y ≡ true).
     same_draws May (cells_written r (c + 1) pen flag 0 xs ys) base done below
     (blank a) y pre ys goal o flag pen height t h.old refl h.sound (λ old sound.
@@ -159,7 +159,7 @@ cells_draw May base done below (blank a ∷ xs) (y ∷ ys) pre o r c zero pen fl
     (mid base done below (pre ++ blank a ∷ z) flag pen) goal height)
     (opened_paired o ys old)
     (λ still. shifted May (cells_written r (c + 1) pen flag 0 xs ys) base done
-    below pre (blank a) (opened o ys) (xs ++ drop (length xs) ys) flag pen height
+    below pre (blank a) (cells_after_cut o ys) (xs ++ drop (length xs) ys) flag pen height
     (cells_draw May base done below xs ys (pre ++ blank a ∷ []) o r (c + 1) 0 pen flag height next
     (ready_next (blank a) xs ys pre o 0 flag (omega arith) h.tail (omega arith)
     (paired_append pre (blank a ∷ []) front tt) h.new (paired_loose ys old) still)
@@ -169,16 +169,16 @@ cells_draw May base done below (blank a ∷ xs) (y ∷ ys) pre o r c zero pen fl
     let q = pen_at r c a in
     let now = flag_past flag (drop n ys) in
     let taken : blanks a n ≡ take n xs = sym (run_blanks a xs) in
-    let row = λ (z : List CellValue). pre ++ blank a ∷ (z ++ opened default_blank (drop n ys)) in
+    let row = λ (z : List CellValue). pre ++ blank a ∷ (z ++ cells_after_cut default_blank (drop n ys)) in
     let sound : Sound now (row (take n xs)) =
     subst (λ (z : List CellValue). Sound now (row z)) taken
     (sound_kept flag (row (blanks a n)) now (run_flagged pre o y ys flag n a h.sound)) in
     wrote_after May (placed_op pen r c a (erase_run (suc n) (drop n ys))) (cells_written r (c + 1) q now n xs ys)
-    base done below (mid base done below (pre ++ opened o (y ∷ ys)) flag pen)
+    base done below (mid base done below (pre ++ cells_after_cut o (y ∷ ys)) flag pen)
     (mid base done below (row (take n xs)) now q) goal height
-    (doing_draws May base done below (pre ++ opened o (y ∷ ys)) flag r c height pen a (erase_run (suc n) (drop n ys))
+    (doing_draws May base done below (pre ++ cells_after_cut o (y ∷ ys)) flag r c height pen a (erase_run (suc n) (drop n ys))
     (mid base done below (row (take n xs)) now q) at.reads at.above at.rows (omega arith) within
-    (in_to May (erase_run (suc n) (drop n ys) ∷ []) (mid base done below (pre ++ opened o (y ∷ ys)) flag q)
+    (in_to May (erase_run (suc n) (drop n ys) ∷ []) (mid base done below (pre ++ cells_after_cut o (y ∷ ys)) flag q)
     (mid base done below (row (blanks a n)) now q) (mid base done below (row (take n xs)) now q)
     (run_in May base done below pre o y ys flag r c n a at.above at.before front here (omega arith)
     h.sound (λ k low high. blank_may May r c a xs ys k lets.0 more (omega arith) low high)
@@ -187,7 +187,7 @@ cells_draw May base done below (blank a ∷ xs) (y ∷ ys) pre o r c zero pen fl
     (drops_le n xs ys (omega arith)) (subst Paired (drop_both n xs ys le) h.tail) t))
     (ap (λ (z : List CellValue). mid base done below (row z) now q) taken)))
     (shifted May (cells_written r (c + 1) q now n xs ys) base done below pre (blank a)
-    (take n xs ++ opened default_blank (drop n ys)) (xs ++ drop (length xs) ys) now q height
+    (take n xs ++ cells_after_cut default_blank (drop n ys)) (xs ++ drop (length xs) ys) now q height
     (cells_draw May base done below xs ys (pre ++ blank a ∷ []) default_blank r (c + 1) n q now height next
     (ready_next (blank a) xs ys pre default_blank n now (omega arith) h.tail le
     (paired_append pre (blank a ∷ take n xs) front (subst Paired taken (paired_blanks n a)))
@@ -207,7 +207,7 @@ cells_draw May base done below (glyph text false a ∷ xs) (y ∷ ys)
     cond_both (same_cell x y) (cells_written r (c + 1) pen flag 0 xs ys)
     (ops_then (placed_op pen r c a (Print text)) (cells_written r (c + 1) q now 0 xs ys))
     (λ (w : Scripted). Wrote May w base done below
-    (mid base done below (pre ++ opened o (y ∷ ys)) flag pen) goal height)
+    (mid base done below (pre ++ cells_after_cut o (y ∷ ys)) flag pen) goal height)
     (λ (t : same_cell x y ≡ true).
     same_draws May (cells_written r (c + 1) pen flag 0 xs ys) base done below
     x y pre ys goal o flag pen height t h.old refl h.sound (λ old sound.
@@ -216,7 +216,7 @@ cells_draw May base done below (glyph text false a ∷ xs) (y ∷ ys)
     below (mid base done below (pre ++ x ∷ z) flag pen) goal height)
     (opened_paired o ys old)
     (λ still. shifted May (cells_written r (c + 1) pen flag 0 xs ys) base
-    done below pre x (opened o ys) (xs ++ drop (length xs) ys) flag pen height
+    done below pre x (cells_after_cut o ys) (xs ++ drop (length xs) ys) flag pen height
     (cells_draw May base done below xs ys (pre ++ x ∷ []) o r (c + 1) 0 pen flag height next
     (ready_next x xs ys pre o 0 flag (omega arith) h.tail (omega arith)
     (paired_append pre (x ∷ []) front tt) h.new (paired_loose ys old) still)
@@ -226,14 +226,14 @@ cells_draw May base done below (glyph text false a ∷ xs) (y ∷ ys)
     let spot =
     glyph_spot base done below pre o y ys flag r c height (suc (length ys)) false at (omega arith) front h.sound in
     wrote_after May (placed_op pen r c a (Print text)) (cells_written r (c + 1) q now 0 xs ys)
-    base done below (mid base done below (pre ++ opened o (y ∷ ys)) flag pen)
+    base done below (mid base done below (pre ++ cells_after_cut o (y ∷ ys)) flag pen)
     (mid base done below (with_glyph pre text false a ys) now q) goal height
-    (doing_draws May base done below (pre ++ opened o (y ∷ ys)) flag r c height pen a (Print text)
+    (doing_draws May base done below (pre ++ cells_after_cut o (y ∷ ys)) flag r c height pen a (Print text)
     (mid base done below (with_glyph pre text false a ys) now q) at.reads at.above at.rows (omega arith) within
     (print_in May base done below pre o y ys flag r c text false a prints.0
     spot (narrow_may May r c text a y xs ys f lets h.new (omega arith) h.tail)))
     (shifted May (cells_written r (c + 1) q now 0 xs ys) base done below pre
-    x (opened (orphan false a) ys) (xs ++ drop (length xs) ys) now q height
+    x (cells_after_cut (orphan false a) ys) (xs ++ drop (length xs) ys) now q height
     (cells_draw May base done below xs ys (pre ++ x ∷ []) (orphan false a) r (c + 1) 0 q now height next
     (ready_next x xs ys pre (orphan false a) 0 now (omega arith) h.tail
     (omega arith) (paired_append pre (x ∷ []) front tt) h.new (loose_step y ys h.old)
@@ -263,7 +263,7 @@ cells_draw May base done below (glyph text true a ∷ right_half ∷ xs)
     let w2 = cells_written r (c + 1) q now 1 xr (y2 ∷ ys) in
     cond_both (same_cell x y) w1 (ops_then (placed_op pen r c a (Print text)) w2)
     (λ (w : Scripted). Wrote May w base done below
-    (mid base done below (pre ++ opened o (y ∷ y2 ∷ ys)) flag pen) goal height)
+    (mid base done below (pre ++ cells_after_cut o (y ∷ y2 ∷ ys)) flag pen) goal height)
     (λ (t : same_cell x y ≡ true).
     same_draws May w1 base done below x y pre (y2 ∷ ys) goal o flag pen height t h.old refl h.sound (λ old sound.
     let pair = behind_wide text a y2 ys old in
@@ -271,7 +271,7 @@ cells_draw May base done below (glyph text true a ∷ right_half ∷ xs)
     Wrote May w1 base done below (mid base done below (pre ++ x ∷ z) flag pen) goal height)
     (ap (λ (z : List CellValue). right_half ∷ z) (opened_paired o ys pair.1)
     ∙ ap (λ (z : CellValue). z ∷ ys) (sym pair.0))
-    (λ still. shifted May w1 base done below pre x (right_half ∷ opened o ys)
+    (λ still. shifted May w1 base done below pre x (right_half ∷ cells_after_cut o ys)
     (right_half ∷ (xs ++ drop (length xs) ys)) flag pen height
     (cells_draw May base done below xr (y2 ∷ ys) (pre ++ x ∷ []) o r (c + 1) 1 pen flag height next
     (ready_next x xr (y2 ∷ ys) pre o 1 flag (omega arith) h.tail (omega arith)
@@ -282,13 +282,13 @@ cells_draw May base done below (glyph text true a ∷ right_half ∷ xs)
     let spot = glyph_spot base done below pre o y (y2 ∷ ys) flag r c
     height (suc (suc (length ys))) true at (omega arith) front h.sound in
     wrote_after May (placed_op pen r c a (Print text)) w2 base done below
-    (mid base done below (pre ++ opened o (y ∷ y2 ∷ ys)) flag pen)
+    (mid base done below (pre ++ cells_after_cut o (y ∷ y2 ∷ ys)) flag pen)
     (mid base done below (with_glyph pre text true a (y2 ∷ ys)) now q) goal height
-    (doing_draws May base done below (pre ++ opened o (y ∷ y2 ∷ ys)) flag r c height pen a (Print text)
+    (doing_draws May base done below (pre ++ cells_after_cut o (y ∷ y2 ∷ ys)) flag r c height pen a (Print text)
     (mid base done below (with_glyph pre text true a (y2 ∷ ys)) now q) at.reads at.above at.rows (omega arith) within
     (print_in May base done below pre o y (y2 ∷ ys) flag r c text true a prints.0
     spot (wide_may May r c text a y y2 xs ys f lets h.new (omega arith) h.tail)))
-    (shifted May w2 base done below pre x (right_half ∷ opened (orphan true a) ys)
+    (shifted May w2 base done below pre x (right_half ∷ cells_after_cut (orphan true a) ys)
     (right_half ∷ (xs ++ drop (length xs) ys)) now q height
     (cells_draw May base done below xr (y2 ∷ ys) (pre ++ x ∷ []) (orphan true a) r (c + 1) 1 q now height next
     (ready_next x xr (y2 ∷ ys) pre (orphan true a) 1 now (omega arith) h.tail (omega arith)

@@ -48,7 +48,7 @@ row_writes r k pen p1 p2 flag f1 on x ys t0 t1 t2 e f g h =
     record {
       bytes = joined_bytes t0 t1 t2 cells.ops (row_break r cells.pen cells.flag x.wrapped x.cells).ops text last.bytes;
       stands = last.stands;
-      goes_on = last.goes_on;
+      is_wrapped = last.is_wrapped;
     }
 
 -- ---- rows in sequence
@@ -73,7 +73,7 @@ first_leads width pen p1 on xs ys t0 t1 some same h =
     (ap (λ (zs : List RowValue). rows_written pen zs ys) (first_row width xs some)
     ∙ (ap (λ (zs : List RowValue). rows_written pen (x ∷ drop 1 xs) zs) (first_row width ys (omega arith))
     ∙ (ap (λ (p : Pen). ops_then row.ops (rows_below 0 p x row.flag (drop 1 xs) (drop 1 ys))) (sym h.stands)
-    ∙ ap (λ (b : Bool). ops_then row.ops (rows_below 0 p1 x b (drop 1 xs) (drop 1 ys))) (sym h.goes_on))))
+    ∙ ap (λ (b : Bool). ops_then row.ops (rows_below 0 p1 x b (drop 1 xs) (drop 1 ys))) (sym h.is_wrapped))))
 
 pub top_leads : (width : ℕ) (pen p1 : Pen) (on : Bool) (xs ys : List RowValue) (x y : RowValue) (t0 t1 : List ℕ) →
     0 < length xs → length xs ≡ length ys → x ≡ row_or width xs 0 → y ≡ row_or width ys 0 →
@@ -100,7 +100,7 @@ below_leads width r pen p1 p2 on next link xs ys above x y t0 t1 t2 inside same 
     let reads : row_written (r + 1) link.settled p1 link.flag x y.cells ≡ row =
     ap (λ (n : ℕ). row_written (r + 1) n p1 link.flag x y.cells) h.done
     ∙ (ap (λ (p : Pen). row_written (r + 1) whole.settled p link.flag x y.cells) h.stands
-    ∙ ap (λ (b : Bool). row_written (r + 1) whole.settled whole.pen b x y.cells) h.goes_on) in
+    ∙ ap (λ (b : Bool). row_written (r + 1) whole.settled whole.pen b x y.cells) h.is_wrapped) in
     let wrote = subst (Writes t1 t2 p2 next) reads l in
     let two : r + 1 + 1 ≡ r + 2 = omega arith in
     let here : drop (r + 1) xs ≡ x ∷ drop (r + 2) xs =
@@ -118,7 +118,7 @@ below_leads width r pen p1 p2 on next link xs ys above x y t0 t1 t2 inside same 
     ∙ (ap (λ (zs : List RowValue). rows_below r pen above on zs (drop (r + 1) ys)) here
     ∙ (ap (λ (zs : List RowValue). rows_below r pen above on (x ∷ drop (r + 2) xs) zs) there
     ∙ (ap (λ (p : Pen). ops_then (whole.ops ++ row.ops) (rest p row.flag)) (sym wrote.stands)
-    ∙ (ap (λ (b : Bool). ops_then (whole.ops ++ row.ops) (rest p2 b)) (sym wrote.goes_on)
+    ∙ (ap (λ (b : Bool). ops_then (whole.ops ++ row.ops) (rest p2 b)) (sym wrote.is_wrapped)
     ∙ ap (ops_then (whole.ops ++ row.ops)) (sym after_it))))))
 
 pub rows_end : (width r : ℕ) (pen : Pen) (on : Bool) (xs ys : List RowValue) →

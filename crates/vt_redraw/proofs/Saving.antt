@@ -18,7 +18,7 @@ use Rattle.vt_redraw.specs.Script.{cells_written, last_column, last_glyph, is_at
 use Rattle.vt_redraw.specs.Script.{Scripted, no_link, first_written, starts_other, ops_then_link, row_link}
 use Rattle.vt_redraw.specs.Script.{break_ops, row_break, flag_behind, flag_past}
 use Rattle.vt_redraw.specs.Redraw.{row_written, link_of, rows_below, rows_written, nearest, over_blank, under_last}
-use Rattle.vt_redraw.specs.Redraw.{blank_passed, pending_at, cursor_written, pen_of, script, hiding, difference}
+use Rattle.vt_redraw.specs.Redraw.{blank_passed, pending_at, cursor_written, pen_of, script, cursor_visibility_ops, difference}
 use Rattle.vt_redraw.specs.Redraw.{blank_like, redraw, pending_alone, cursor_state}
 
 -- Whether the cursor has been saved after an operation, given whether it was saved before.
@@ -228,7 +228,7 @@ script_safe self prev =
 pub difference_safe : (self prev : Picture) → IsSafe (difference self prev)
 unfolding difference
 difference_safe self prev =
-    safe_append (hiding self prev) (script self prev)
+    safe_append (cursor_visibility_ops self prev) (script self prev)
     (cond_both (same_bool self.hidden prev.hidden) [] (Hide self.hidden ∷ []) IsSafe (λ _. λ s. tt) (λ _. λ s. (tt, tt)))
     (script_safe self prev)
 

@@ -44,7 +44,7 @@ page_when false shift page e is row col =
 pub page_shifted : (shift : RowShift) (page : Page) → IsPage page → IsRowShift (length page.rows) page.width shift →
     IsPage (shifted_page shift page)
 page_shifted shift page is inside =
-    page_when shift.insert shift page refl is inside.row (omega (arith, inside.some, inside.columns))
+    page_when shift.insert shift page refl is inside.row (omega (arith, inside.nonempty, inside.columns))
 
 -- The shifts are also valid for a page of the same height.
 pub inside_next : (shift : RowShift) (shifts : List RowShift) (page : Page) →
@@ -133,7 +133,7 @@ size_so_far first shift start text before after so_far inside =
     ap (λ (p : Page). length p.rows) so_far.page ∙ length_pages shifts before in
     let width : after.width ≡ before.width = ap (λ (p : Page). p.width) so_far.page ∙ width_pages shifts before in
     record {
-      some = inside.some;
+      nonempty = inside.nonempty;
       row = subst (λ (n : ℕ). shift.row < n) (sym height) inside.row;
       columns = subst (λ (n : ℕ). shift.col + shift.count ≤ n) (sym width) inside.columns;
     }

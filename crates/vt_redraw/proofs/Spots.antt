@@ -6,10 +6,10 @@ use Rattle.std.specs.Char.{encode_utf8}
 use Rattle.vt_cells.specs.Cell.{CellValue, glyph, right_half}
 use Rattle.vt_cells.specs.Glyph.{columns_of, glyph_columns}
 use Rattle.vt_cells.specs.Attrs.{Attrs}
-use Rattle.vt_rows.specs.Cells.{opened}
+use Rattle.vt_rows.specs.Cells.{cells_after_cut}
 use Rattle.vt_rows.specs.Row.{RowValue}
 use Rattle.vt_grid.specs.Page.{Page}
-use Rattle.vt_grid.specs.Printing.{glyph_put, printed_by, printed, wraps_for}
+use Rattle.vt_grid.specs.Printing.{glyph_put, printed_by, page_after_print, wraps_for}
 use Rattle.vt_grid.specs.Moves.{feeds_out}
 use Rattle.vt_grid.specs.Canvas.{Canvas, drawn_char}
 use Rattle.vt_redraw.specs.Script.{pen_at}
@@ -26,7 +26,7 @@ rest_behind true ys = drop 1 ys
 -- The cells of a row after a glyph is printed over the cells `ys`, directly after the cells `pre`.
 abbrev pub with_glyph : List CellValue → List ℕ → Bool → Attrs → List CellValue → List CellValue
 with_glyph pre text wide attrs ys =
-    pre ++ (glyph_cells text wide attrs ++ opened (orphan wide attrs) (rest_behind wide ys))
+    pre ++ (glyph_cells text wide attrs ++ cells_after_cut (orphan wide attrs) (rest_behind wide ys))
 
 -- There is room for a glyph of the given width at a boundary, over the cells y and ys, the first of which may be an
 -- orphaned continuation cell.
@@ -36,12 +36,12 @@ pub record Spot (base : Canvas) (done : List RowValue) (pre : List CellValue) (o
   pub col : length pre ≡ c
   pub fits : c + glyph_columns wide ≤ base.page.width
   pub front : Paired pre
-  pub sound : Sound flag (pre ++ opened o (y ∷ ys))
+  pub sound : Sound flag (pre ++ cells_after_cut o (y ∷ ys))
 
 -- The canvas on which a glyph is about to be printed after the cells `pre`, over the cells y and ys.
 abbrev pub spot : Canvas → (done below : List RowValue) → (pre : List CellValue) →
     (o y : CellValue) → (ys : List CellValue) → Bool → (r c : ℕ) → Attrs → Canvas
-spot base done below pre o y ys flag r c attrs = mid base done below (pre ++ opened o (y ∷ ys)) flag (pen_at r c attrs)
+spot base done below pre o y ys flag r c attrs = mid base done below (pre ++ cells_after_cut o (y ∷ ys)) flag (pen_at r c attrs)
 
 abbrev pub put : Canvas → (done below : List RowValue) → (pre : List CellValue) →
     (ys : List CellValue) → Bool → (r c : ℕ) → (text : List ℕ) → (wide : Bool) → Attrs → Canvas
@@ -57,7 +57,7 @@ wide_flag f n t = grind (arith)
 
 pub glyph_flag : (pre : List CellValue) (o y : CellValue) (ys : List CellValue)
     (flag : Bool) (text : List ℕ) (wide : Bool) (attrs : Attrs) →
-    Sound flag (pre ++ opened o (y ∷ ys)) →
+    Sound flag (pre ++ cells_after_cut o (y ∷ ys)) →
     kept flag (with_glyph pre text wide attrs ys) ≡ flag_behind flag wide (drop 1 ys)
 glyph_flag pre o y ys flag text false attrs sound =
     flag_step pre (glyph text false attrs ∷ []) y ys (orphan false attrs)
@@ -69,7 +69,7 @@ glyph_flag pre o y ys flag text true attrs sound =
     ∙ wide_flag flag (is_nil (drop 1 ys)) (is_torn (drop 1 ys))
 
 behind_opened : (wide : Bool) (o y : CellValue) (ys : List CellValue) →
-    drop (glyph_columns wide) (opened o (y ∷ ys)) ≡ rest_behind wide ys
+    drop (glyph_columns wide) (cells_after_cut o (y ∷ ys)) ≡ rest_behind wide ys
 behind_opened false o y ys = drop_opened 0 o (y ∷ ys)
 behind_opened true o y ys = drop_opened 1 o (y ∷ ys)
 
@@ -80,8 +80,8 @@ pub glyph_put_here : (base : Canvas) (done below : List RowValue) (pre : List Ce
     ≡ (put base done below pre ys flag r c text wide attrs).page
 glyph_put_here base done below pre o y ys flag r c text wide attrs at =
     let pen = pen_at r (c + glyph_columns wide) attrs in
-    let row = λ (rest : List CellValue). pre ++ (glyph_cells text wide attrs ++ opened (orphan wide attrs) rest) in
-    glyph_put_at base done below pre (opened o (y ∷ ys)) flag r c text wide attrs at.row at.col at.front
+    let row = λ (rest : List CellValue). pre ++ (glyph_cells text wide attrs ++ cells_after_cut (orphan wide attrs) rest) in
+    glyph_put_at base done below pre (cells_after_cut o (y ∷ ys)) flag r c text wide attrs at.row at.col at.front
     ∙ (ap (λ (rest : List CellValue). (mid base done below (row rest) (kept flag (row rest)) pen).page)
     (behind_opened wide o y ys)
     ∙ ap (λ (f : Bool). (mid base done below (with_glyph pre text wide attrs ys) f pen).page)
@@ -95,7 +95,7 @@ pub char_drawn : (c : ℕ) (w : Option ℕ) (canvas : Canvas) (page : Page) → 
 char_drawn c w canvas page e f h =
     let never : (wraps_for (columns_of c) c canvas.page && feeds_out canvas.page) ≡ false =
     ap (λ (z : Option ℕ). wraps_for z c canvas.page && feeds_out canvas.page) e ∙ f in
-    let is : printed c canvas.attrs canvas.page ≡ page =
+    let is : page_after_print c canvas.attrs canvas.page ≡ page =
     ap (λ (z : Option ℕ). printed_by z c canvas.attrs canvas.page) e ∙ h in
     rw (never, is) refl
 

@@ -11,7 +11,7 @@ use Rattle.vt_cells.specs.Glyph.{has_room, IsMark, Joins, IsGlyphText}
 use Rattle.vt_cells.proofs.Glyphs.{IsGlyphText-chars}
 use Rattle.vt_cells.proofs.Widths.{columns_of-le}
 use Rattle.vt_cells.specs.Attrs.{Attrs, default_attrs}
-use Rattle.vt_rows.specs.Cells.{at, blanks, opened, narrowed_at}
+use Rattle.vt_rows.specs.Cells.{at, blanks, cells_after_cut, narrowed_at}
 use Rattle.vt_rows.proofs.Columns.{length-opened}
 use Rattle.std.proofs.lemmas.List.{length-drop, length-replicate}
 use Rattle.vt_grid.specs.Page.{Page, row_at}
@@ -62,7 +62,7 @@ narrowed n text attrs h =
     let canvas = alone n text true attrs in
     let row = with_glyph [] text true attrs (blanks default_attrs n) in
     let new =
-    glyph text false attrs ∷ (glyph (0x20 ∷ []) false attrs ∷ opened (blank attrs) (drop 1 (blanks default_attrs n))) in
+    glyph text false attrs ∷ (glyph (0x20 ∷ []) false attrs ∷ cells_after_cut (blank attrs) (drop 1 (blanks default_attrs n))) in
     record {
       cells = new;
       flag = kept false new;

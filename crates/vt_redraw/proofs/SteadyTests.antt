@@ -15,13 +15,13 @@ use Rattle.std.proofs.lemmas.Str.{chars-nil, length-encode}
 use lib.Bits.{and_le_l, and_le_r, or_add_and}
 use Rattle.vt_cells.specs.Attrs.{Attrs}
 use Rattle.vt_cells.specs.Cell.{CellValue, blank, glyph, right_half, is_blank, is_glyph, is_right_half, is_wide, text_of}
-use Rattle.vt_cells.specs.Cell.{attrs_of, default_blank, marked, IsCell}
+use Rattle.vt_cells.specs.Cell.{attrs_of, default_blank, cell_with_mark, IsCell}
 use Rattle.vt_cells.specs.Glyph.{columns_of, glyph_columns, has_room, is_selector, is_wide_text, IsGlyphText}
 use Rattle.vt_cells.specs.Glyph.{IsMark, Joins}
 use Rattle.vt_cells.proofs.Widths.{columns_of-le}
 use Rattle.vt_cells.proofs.Glyphs.{IsGlyphText-chars, IsGlyphText-length, encode_bounds}
 use Rattle.vt_cells.proofs.Glyphs.{selector_columns}
-use Rattle.vt_rows.specs.Cells.{IsPaired, at, resized}
+use Rattle.vt_rows.specs.Cells.{IsPaired, at, cells_after_resize}
 use Rattle.vt_rows.specs.Row.{RowValue}
 use Rattle.vt_redraw.specs.Internals.{FitsColumns, IsSteadyRow, IsWithin, cell_past_cut, is_split, kept_len}
 use Rattle.vt_redraw.specs.Steady.{has_selector, IsSteadyCell, IsSteadyGlyph}
@@ -104,7 +104,7 @@ pub steady_grows_so : (width : ℕ) (text : List ℕ) (wide : Bool) (attrs : Att
     IsSteadyGlyph width text wide attrs ↔ Grows width start (encode_utf8 first) marks wide text
 steady_grows_so zero text wide attrs first marks start g le is columns = absurd (some wide le)
   where
-    some : (wide : Bool) → glyph_columns wide ≤ 0 → ⊥
+    nonempty : (wide : Bool) → glyph_columns wide ≤ 0 → ⊥
     some true h = omega arith
     some false h = omega arith
 steady_grows_so (suc n) text wide attrs first marks start g le is columns = (
@@ -250,18 +250,18 @@ width_then width wide printed mark =
     if is_selector mark then is_wide_text (text_of printed) && nat_lt 1 width else wide
 
 marked_longer : (printed : CellValue) (mark : ℕ) → is_glyph printed ≡ true → has_room (text_of printed) ≡ true →
-    text_of (marked mark printed) ≡ text_of printed ++ encode_utf8 mark
+    text_of (cell_with_mark mark printed) ≡ text_of printed ++ encode_utf8 mark
 marked_longer (blank a) mark t room = absurd (cc)
 marked_longer right_half mark t room = absurd (cc)
 marked_longer (glyph text wide a) mark t room = rw room refl
 
-marked_glyph : (printed : CellValue) (mark : ℕ) → is_glyph printed ≡ true → is_glyph (marked mark printed) ≡ true
+marked_glyph : (printed : CellValue) (mark : ℕ) → is_glyph printed ≡ true → is_glyph (cell_with_mark mark printed) ≡ true
 marked_glyph (blank a) mark t = absurd (cc)
 marked_glyph right_half mark t = absurd (cc)
 marked_glyph (glyph text wide a) mark t = refl
 
 pub printed_mark : (width : ℕ) (cell printed after : CellValue) (wide follows : Bool) (mark : ℕ) (rest : List ℕ) →
-    IsPrintedTo width cell printed wide (mark ∷ rest) → after ≡ marked mark printed →
+    IsPrintedTo width cell printed wide (mark ∷ rest) → after ≡ cell_with_mark mark printed →
     follows ≡ width_then width wide after mark → (wide ≡ true → follows ≡ true) →
     IsPrintedTo width cell after follows rest
 printed_mark width cell printed after wide follows mark rest h is by kept =
@@ -289,7 +289,7 @@ printed_mark width cell printed after wide follows mark rest h is by kept =
 
 -- A glyph that is made narrow while it is printed isn't steady.
 pub printed_narrowed : (width : ℕ) (cell printed after : CellValue) (wide follows : Bool) (mark : ℕ)
-    (rest : List ℕ) → IsPrintedTo width cell printed wide (mark ∷ rest) → after ≡ marked mark printed →
+    (rest : List ℕ) → IsPrintedTo width cell printed wide (mark ∷ rest) → after ≡ cell_with_mark mark printed →
     follows ≡ width_then width wide after mark → wide ≡ true → follows ≡ false → IsSteadyCell width cell → ⊥
 printed_narrowed width cell printed after wide follows mark rest h is by was not_now steady =
     let longer : text_of after ≡ text_of printed ++ encode_utf8 mark =
@@ -417,7 +417,7 @@ past_cut false attrs = refl
 -- A row that is truncated or extended has no U+FE0F if the original row has none.
 pub none_resized : (width : ℕ) (cells : List CellValue) → 0 < width → IsPaired cells →
     All (λ (cell : CellValue). has_selector cell ≡ false) cells →
-    All (λ (cell : CellValue). has_selector cell ≡ false) (resized width cells)
+    All (λ (cell : CellValue). has_selector cell ≡ false) (cells_after_resize width cells)
 none_resized width cells some paired all =
     let None = λ (cell : CellValue). has_selector cell ≡ false in
     let kept = take (kept_len width cells) cells in

@@ -4,7 +4,7 @@ use Rattle.std.proofs.Common.{not, List, [], ◌∷◌, ◌++◌, length, set, S
 use Rattle.std.specs.Prelude.{if◌then◌else◌, chars}
 use Rattle.std.specs.Char.{encode_utf8}
 use Rattle.std.proofs.lemmas.List.{get_or_at, set_at}
-use Rattle.vt_cells.specs.Cell.{CellValue, glyph, right_half, default_blank, is_wide, is_right_half, text_of, marked}
+use Rattle.vt_cells.specs.Cell.{CellValue, glyph, right_half, default_blank, is_wide, is_right_half, text_of, cell_with_mark}
 use Rattle.vt_cells.specs.Glyph.{columns_of, glyph_columns, is_selector, is_wide_text, has_room, IsMark}
 use Rattle.vt_cells.specs.Attrs.{Attrs}
 use Rattle.vt_rows.specs.Cells.{at, marked_at}
@@ -108,7 +108,7 @@ pub stays : (m : ℕ) (page : Page) (k : ℕ) (text : List ℕ) (wide : Bool) (a
 unfolding carries
 stays m page k text wide attrs e x room h =
     let test = λ (cell : CellValue). (is_selector m && (takes_mark cell && not (is_wide cell)))
-    && (is_wide_text (text_of (marked m cell)) && (nat_lt 1 page.width && (page.column == page.width))) in
+    && (is_wide_text (text_of (cell_with_mark m cell)) && (nat_lt 1 page.width && (page.column == page.width))) in
     ap (λ (j : ℕ). test (at (cursor_row page).cells j)) e
     ∙ (ap test x
     ∙ rw room (never_carried (is_selector m) wide (is_wide_text (text ++ encode_utf8 m))
@@ -126,7 +126,7 @@ put_marked base done below pre text wide attrs rest flag r c m e l room =
     edited_at base done below (pre ++ (glyph_cells text wide attrs ++ rest))
     flag (pen_at r (c + glyph_columns wide) attrs) (marked_at c m)
     (pre ++ (glyph_cells (text ++ encode_utf8 m) wide attrs ++ rest)) e
-    (ap (λ (x : CellValue). set (pre ++ (glyph_cells text wide attrs ++ rest)) c (marked m x))
+    (ap (λ (x : CellValue). set (pre ++ (glyph_cells text wide attrs ++ rest)) c (cell_with_mark m x))
     (glyph_at pre text wide attrs rest c l)
     ∙ (ap (λ (t : Bool). set (pre ++ (glyph_cells text wide attrs ++ rest))
     c (glyph (if t then text ++ encode_utf8 m else text) wide attrs))

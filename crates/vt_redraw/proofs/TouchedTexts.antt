@@ -9,7 +9,7 @@ use Rattle.vt_cells.specs.Cell.{CellValue, blank, glyph, right_half, is_wide, is
 use Rattle.vt_cells.specs.Glyph.{columns_of, glyph_columns, is_selector, is_wide_text, has_room, IsMark}
 use Rattle.vt_cells.specs.Op.{Print}
 use Rattle.vt_cells.specs.Attrs.{Attrs}
-use Rattle.vt_rows.specs.Cells.{at, opened}
+use Rattle.vt_rows.specs.Cells.{at, cells_after_cut}
 use Rattle.vt_rows.specs.Row.{RowValue}
 use Rattle.vt_grid.specs.Page.{Page, cursor_row}
 use Rattle.vt_grid.specs.Printing.{room_made, lacks_room}
@@ -31,12 +31,12 @@ pub record MayGlyph (May : ℕ → ℕ → Type 0) (r c : ℕ) (wide : Bool) (ys
   pub second : wide ≡ true → May r (c + 1)
   pub torn : is_right_half (at (rest_behind wide ys) 0) ≡ true → May r (c + glyph_columns wide)
 
-at_opened : (o y : CellValue) (ys : List CellValue) (k : ℕ) → at (opened o (y ∷ ys)) (suc k) ≡ at ys k
+at_opened : (o y : CellValue) (ys : List CellValue) (k : ℕ) → at (cells_after_cut o (y ∷ ys)) (suc k) ≡ at ys k
 at_opened o (blank a) ys k = refl
 at_opened o (glyph text wide a) ys k = refl
 at_opened o right_half ys k = refl
 
-at_second : (o : CellValue) (ys : List CellValue) → at (opened o ys) 1 ≡ at ys 1
+at_second : (o : CellValue) (ys : List CellValue) → at (cells_after_cut o ys) 1 ≡ at ys 1
 at_second o [] = refl
 at_second o (blank a ∷ ys) = refl
 at_second o (glyph text wide a ∷ ys) = refl
@@ -67,7 +67,7 @@ first_touches May base done below pre o y ys flag r c first false false attrs e 
     let fits = at_spot.fits in
     subst (λ (w : Option ℕ). CharTouches May w first attrs page) (sym e)
     (subst (λ (p : Page). Changes May p.column 1 p) (sym (room_is 1 page (omega arith)))
-    (changes_at May base done below pre (opened o (y ∷ ys)) flag r c 1 c attrs at_spot.row at_spot.col at_spot.front
+    (changes_at May base done below pre (cells_after_cut o (y ∷ ys)) flag r c 1 c attrs at_spot.row at_spot.col at_spot.front
     (λ k le lt. within_one May r c k may.first le lt)
     (λ t. may.torn (sym (ap is_right_half (at_opened o y ys 0)) ∙ t))))
 first_touches May base done below pre o y ys flag r c first false true attrs e grows at_spot may =
@@ -75,14 +75,14 @@ first_touches May base done below pre o y ys flag r c first false true attrs e g
     let fits = at_spot.fits in
     subst (λ (w : Option ℕ). CharTouches May w first attrs page) (sym e)
     (subst (λ (p : Page). Changes May p.column 1 p) (sym (room_is 1 page (omega arith)))
-    (changes_at May base done below pre (opened o (y ∷ ys)) flag r c 1 c attrs at_spot.row at_spot.col at_spot.front
+    (changes_at May base done below pre (cells_after_cut o (y ∷ ys)) flag r c 1 c attrs at_spot.row at_spot.col at_spot.front
     (λ k le lt. within_one May r c k may.first le lt) (λ t. may.second refl)))
 first_touches May base done below pre o y ys flag r c first true true attrs e grows at_spot may =
     let page = (spot base done below pre o y ys flag r c attrs).page in
     let fits = at_spot.fits in
     subst (λ (w : Option ℕ). CharTouches May w first attrs page) (sym e)
     (λ _. subst (λ (p : Page). Changes May p.column 2 p) (sym (room_is 2 page (omega arith)))
-    (changes_at May base done below pre (opened o (y ∷ ys)) flag r c 2 c attrs at_spot.row at_spot.col at_spot.front
+    (changes_at May base done below pre (cells_after_cut o (y ∷ ys)) flag r c 2 c attrs at_spot.row at_spot.col at_spot.front
     (λ k le lt. within_two May r c k may.first (may.second refl) le lt)
     (λ t. may.torn (ap is_right_half (at_drop ys) ∙ (sym (ap is_right_half (at_opened o y ys 1)) ∙ t)))))
 first_touches May base done below pre o y ys flag r c first true false attrs e grows at_spot may =
@@ -95,13 +95,13 @@ wide_touches : (May : ℕ → ℕ → Type 0) (base : Canvas) (done below : List
     was ≡ false → wide ≡ true →
     Spot base done pre o y ys flag r c wide → MayGlyph May r c wide ys →
     WideTouches May c attrs
-    (marking base done below pre text was attrs (opened (orphan was attrs) (rest_behind was ys)) now r c)
+    (marking base done below pre text was attrs (cells_after_cut (orphan was attrs) (rest_behind was ys)) now r c)
 wide_touches May base done below pre o y ys now flag r c text true wide attrs w v at_spot may = absurd (cc)
 wide_touches May base done below pre o y ys now flag r c text false false attrs w v at_spot may = absurd (cc)
 wide_touches May base done below pre o y ys now flag r c text false true attrs w v at_spot may =
     let fits = at_spot.fits in
     let lt : nat_lt (c + 1) base.page.width ≡ true = lt-ltb (c + 1) base.page.width (omega arith) in (
-      (λ _. changes_at May base done below pre (glyph text false attrs ∷ opened (orphan false attrs) ys)
+      (λ _. changes_at May base done below pre (glyph text false attrs ∷ cells_after_cut (orphan false attrs) ys)
           now r c 2 (c + 1) attrs at_spot.row at_spot.col at_spot.front
           (λ k le lt. within_two May r c k may.first (may.second refl) le lt)
           (λ t. may.torn
@@ -120,7 +120,7 @@ mark_touches : (May : ℕ → ℕ → Type 0) (base : Canvas) (done below : List
 mark_touches May base done below pre o y ys flag r c text was wide attrs m is_mark room grows more at_spot may =
     let page = (put base done below pre ys flag r c text was attrs).page in
     let longer = text ++ encode_utf8 m in
-    let rest = opened (orphan was attrs) (rest_behind was ys) in
+    let rest = cells_after_cut (orphan was attrs) (rest_behind was ys) in
     let flagged = flag_behind flag was (drop 1 ys) in
     let now = kept flagged (pre ++ (glyph_cells longer was attrs ++ rest)) in
     let made = marking base done below pre longer was attrs rest now r c in

@@ -17,7 +17,7 @@ use Rattle.vt_grid.specs.Page.{Page, IsPage, row_or}
 use Rattle.vt_grid.specs.Scrollback.{Scrollback, IsScrollback, last_of, visible}
 use Rattle.vt_grid.specs.Canvas.{Canvas}
 use Rattle.vt_redraw.specs.Internals.{IsSource, cut_row, row_seen, picture_of_source}
-use Rattle.vt_redraw.specs.Moved.{band_source, last_moved, moved, rows_moved}
+use Rattle.vt_redraw.specs.Moved.{band_source, last_moved, picture_after_move, rows_moved}
 use Rattle.vt_redraw.specs.declared.band.Band.{Band}
 use Rattle.vt_redraw.specs.declared.view.Source.{Source}
 use Rattle.vt_redraw.specs.declared.view.Source.TheVariants.{InView, Blank, Moved}
@@ -272,7 +272,7 @@ pub moved_is : (above : Scrollback) (page : Page) (rows : List RowValue) (width 
     rows ≡ page.rows → width ≡ page.width → height ≡ length page.rows →
     row ≡ last_moved height band → drawn ≡ default_attrs →
     picture_of_source (Moved band) above rows width (pen_at row 0 drawn) hidden
-    ≡ moved band (picture_over (visible above page.rows)
+    ≡ picture_after_move band (picture_over (visible above page.rows)
     (record { page = page; attrs = attrs; saved_attrs = attrs; hidden = hidden }))
 moved_is above page rows width height row attrs drawn hidden band e f g h k =
     let cut = cut_rows page.width (visible above page.rows) in

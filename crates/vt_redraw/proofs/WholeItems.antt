@@ -8,7 +8,7 @@ use Rattle.std.proofs.lemmas.List.{length-append, length-replicate, drop_all}
 use Rattle.vt_cells.specs.Attrs.{default_attrs, Attrs}
 use Rattle.vt_cells.specs.Cell.{CellValue, blank, glyph, right_half, default_blank}
 use Rattle.vt_cells.specs.Op.{Print, Backspace, EraseChars}
-use Rattle.vt_rows.specs.Cells.{blanks, opened}
+use Rattle.vt_rows.specs.Cells.{blanks, cells_after_cut}
 use Rattle.vt_rows.specs.Row.{RowValue}
 use Rattle.vt_grid.specs.Canvas.{Canvas}
 use Rattle.vt_cells.specs.Glyph.{glyph_columns}
@@ -182,7 +182,7 @@ begin_draws base done below (blank a ∷ xs) (y ∷ ys) flag r height b e rows h
     let d1 = mid base done below (y ∷ ys) flag (pen_at r 0 a) in
     let spaced =
     mid base done below (with_glyph [] (0x20 ∷ []) false a ys) (flag_behind flag false (drop 1 ys)) (pen_at r 1 a) in
-    let goal = mid base done below (blank a ∷ opened (orphan false a) ys) (flag && not (is_nil ys)) (pen_at r 0 a) in
+    let goal = mid base done below (blank a ∷ cells_after_cut (orphan false a) ys) (flag && not (is_nil ys)) (pen_at r 0 a) in
     let spot : Spot base done [] default_blank y ys flag r 0 false =
     record { row = e; col = refl; fits = omega arith; front = tt; sound = subst (Sound flag) (sym whole) sound } in
     record {

@@ -5,7 +5,7 @@ use Rattle.std.proofs.lemmas.Bool.{cond_both}
 use Rattle.vt_cells.proofs.Same.{two_parts}
 use Rattle.vt_cells.specs.Attrs.{same_attrs, Attrs}
 use Rattle.vt_cells.specs.Cell.{CellValue, blank, glyph, right_half, is_blank, attrs_of}
-use Rattle.vt_cells.specs.Op.{Op, ChangeAttrs, bytes_of_all, change_text, moving}
+use Rattle.vt_cells.specs.Op.{Op, ChangeAttrs, bytes_of_all, change_text, cursor_move_ops}
 use Rattle.vt_redraw.specs.Script.{attr_ops, move_ops, is_at, is_blank_of}
 use Rattle.vt_redraw.specs.declared.pen.Pen.{Pen}
 
@@ -29,7 +29,7 @@ pub change_none : (was new : Attrs) → same_attrs was new ≡ true → bytes_of
 unfolding attr_ops
 change_none was new t = rw t refl
 
-here : (r c row col : ℕ) → r ≡ row → c ≡ col → moving r c row col ≡ []
+here : (r c row col : ℕ) → r ≡ row → c ≡ col → cursor_move_ops r c row col ≡ []
 here r c row col e f = grind (arith, nat_tests)
 
 -- A move to the pen's own position has no output.

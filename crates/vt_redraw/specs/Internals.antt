@@ -7,9 +7,9 @@ use Rattle.vt_cells.specs.Cell.{CellValue, blank, default_blank, is_blank, is_wi
 use Rattle.vt_cells.specs.Cell.{same_cell, text_of, IsCell}
 use Rattle.vt_cells.specs.Glyph.{glyph_columns}
 use Rattle.vt_cells.specs.Op.{Op, Print, bytes_of_all}
-use Rattle.vt_cells.specs.BufferInternals.{gathered}
+use Rattle.vt_cells.specs.BufferInternals.{buffered_text}
 use Rattle.vt_cells.specs.declared.pos.Pos.{Pos}
-use Rattle.vt_rows.specs.Cells.{IsPaired, at, ends_blank, resized}
+use Rattle.vt_rows.specs.Cells.{IsPaired, at, ends_blank, cells_after_resize}
 use Rattle.vt_rows.specs.Row.{RowValue, IsRow, blank_row}
 use Rattle.vt_grid.specs.Scrollback.{Scrollback, IsScrollback, visible}
 use Rattle.vt_redraw.specs.Picture.{Picture, cut_rows}
@@ -27,8 +27,8 @@ use Rattle.vt_redraw.specs.declared.view.Source.{Source}
 use Rattle.vt_redraw.specs.declared.view.Source.TheVariants.{InView, Blank, Moved}
 
 -- A row's stored cells, extended to `cols` columns with copies of the cell `end`.
-abbrev pub filled : List CellValue → ℕ → CellValue → List CellValue
-filled cells cols end = cells ++ replicate (cols - length cells) end
+abbrev pub cells_filled_to : List CellValue → ℕ → CellValue → List CellValue
+cells_filled_to cells cols end = cells ++ replicate (cols - length cells) end
 
 -- The stored cells of a picture's row fit in the row's `cols` columns, and the cell `end`, which fills the other
 -- columns, is a blank.
@@ -61,7 +61,7 @@ pub record IsRange (cells over : List CellValue) : Type 0 where
 -- The cells of a row can be drawn over the displayed cells `over`: both lists have the same nonzero length, and no wide
 -- character is split.
 pub record IsRowOver (cells over : List CellValue) : Type 0 where
-  pub some : 0 < length cells
+  pub nonempty : 0 < length cells
   pub same : length cells ≡ length over
   pub paired : IsPaired cells
 
@@ -81,8 +81,8 @@ pub record IsRowUnder (r : ℕ) (upper cells over : List CellValue) : Type 0 whe
 -- blank or if the row is the last one.
 abbrev pub cut_row : (is_last : Bool) → ℕ → RowValue → RowValue
 cut_row is_last width row = record {
-  cells = resized width row.cells;
-  wrapped = not is_last && (row.wrapped && not (ends_blank (resized width row.cells)));
+  cells = cells_after_resize width row.cells;
+  wrapped = not is_last && (row.wrapped && not (ends_blank (cells_after_resize width row.cells)));
 }
 
 -- A picture can be built from the page, its scrollback and the pen: all rows are valid, the page has at least one
@@ -101,7 +101,7 @@ pub record IsPageUnder (scrollback : Scrollback) (full : ℕ) (rows : List RowVa
   pub above : IsScrollback scrollback
   pub page : All (IsRow full) rows
   pub width : full ≡ columns
-  pub some : 0 < columns
+  pub nonempty : 0 < columns
 
 -- Row `r` of the picture made of the given displayed rows, or a blank row if `r` is past the end.
 abbrev pub row_seen : (is_last : Bool) → ℕ → List RowValue → ℕ → RowValue
@@ -185,23 +185,23 @@ pub record Passes (c next : ℕ) (xs ys : List CellValue) : Type 0 where
 -- The effect of appending the output of `ops`. The call fails only if the sink rejects some nonempty output.
 pub record AppendsOrStops {A E : Type 0} (result : Result A E) (start end : List ℕ) (ops : List Op) : Type 0 where
   pub text : OnOk result (end ≡ start ++ bytes_of_all ops)
-  pub some : RefusedOnlyIfSome result (bytes_of_all ops)
+  pub nonempty : RefusedOnlyIfSome result (bytes_of_all ops)
 
 -- The effect of appending the output of `ops` through a buffer for small writes. The call fails only if the sink
 -- rejects some nonempty output.
 pub record GathersOrStops {A E : Type 0} (result : Result A E) (start before end behind : List ℕ)
     (ops : List Op) : Type 0 where
-  pub text : OnOk result (gathered end behind ≡ gathered start before ++ bytes_of_all ops)
+  pub text : OnOk result (buffered_text end behind ≡ buffered_text start before ++ bytes_of_all ops)
   pub grows : OnOk result (length start ≤ length end)
-  pub some : RefusedOnlyIfSome result (before ++ bytes_of_all ops)
+  pub nonempty : RefusedOnlyIfSome result (before ++ bytes_of_all ops)
 
 -- The effect of writing the output for the cells at a position. The call returns the number of columns that it
 -- completed, and fails only if the sink rejects some nonempty output.
 pub record SettlesOrStops {E : Type 0} (result : Result ℕ E) (start before end behind : List ℕ)
     (pen : Pen) (flag : Bool) (pos : Pos) (x y : RowValue) (whole : Scripted) : Type 0 where
-  pub leads : IfOk result (λ n. Leads (gathered end behind)
-      (cells_from pos.row (pos.col + n) pen flag x.cells y.cells) (gathered start before) whole)
-  pub some : IfOk result (λ n. 0 < n)
+  pub leads : IfOk result (λ n. Leads (buffered_text end behind)
+      (cells_from pos.row (pos.col + n) pen flag x.cells y.cells) (buffered_text start before) whole)
+  pub nonempty : IfOk result (λ n. 0 < n)
   pub inside : IfOk result (λ n. pos.col + n ≤ length y.cells)
   pub grows : OnOk result (length start ≤ length end)
   pub refused : RefusedOnlyIfSome result (before ++ bytes_of_all whole.ops)
@@ -211,7 +211,7 @@ pub record SettlesOrStops {E : Type 0} (result : Result ℕ E) (start before end
 pub record Links (start text : List ℕ) (pen : Pen) (link : Link) (whole : Linked) : Type 0 where
   pub bytes : text ≡ start ++ bytes_of_all whole.ops
   pub stands : pen ≡ whole.pen
-  pub goes_on : link.flag ≡ whole.flag
+  pub is_wrapped : link.flag ≡ whole.flag
   pub done : link.settled ≡ whole.settled
 
 -- The effect of writing a link, which is the output that joins a row to the wrapped row above it. The call fails only
@@ -219,14 +219,14 @@ pub record Links (start text : List ℕ) (pen : Pen) (link : Link) (whole : Link
 pub record LinksOrStops {E : Type 0} (result : Result Link E)
     (start text : List ℕ) (pen : Pen) (whole : Linked) : Type 0 where
   pub links : IfOk result (λ link. Links start text pen link whole)
-  pub some : RefusedOnlyIfSome result (bytes_of_all whole.ops)
+  pub nonempty : RefusedOnlyIfSome result (bytes_of_all whole.ops)
 
 -- `text` is `start` followed by the output of a row, and the pen and the wrapped flag after the row are those of
 -- `whole`.
 pub record Writes (start text : List ℕ) (pen : Pen) (flag : Bool) (whole : Scripted) : Type 0 where
   pub bytes : text ≡ start ++ bytes_of_all whole.ops
   pub stands : pen ≡ whole.pen
-  pub goes_on : flag ≡ whole.flag
+  pub is_wrapped : flag ≡ whole.flag
 
 -- The output for row `r` after the link that joins this row to the row above was written.
 abbrev pub row_behind : ℕ → Link → Pen → (x y : RowValue) → Scripted

@@ -13,7 +13,7 @@ use Rattle.vt_redraw.specs.declared.band.Band.{Band}
 
 -- The band is valid for a picture of this many rows, and not all of its rows are pushed out when it moves.
 pub record IsBand (height : ℕ) (band : Band) : Type 0 where
-  pub some : 0 < band.count
+  pub nonempty : 0 < band.count
   pub rows : band.top + band.count < band.bottom
   pub inside : band.bottom ≤ height
 
@@ -42,8 +42,8 @@ last_moved height band =
 
 -- The picture after a band has moved. The cursor is where the last sequence left it. The attributes are the default
 -- ones, because a terminal may fill blank rows with the current background colour.
-abbrev pub moved : Band → Picture → Picture
-moved band picture = record picture {
+abbrev pub picture_after_move : Band → Picture → Picture
+picture_after_move band picture = record picture {
   rows = rows_moved picture.width band picture.rows;
   row = last_moved (length picture.rows) band;
   column = 0;
@@ -84,7 +84,7 @@ moving_text band prev = bytes_of_all (attr_ops prev.attrs default_attrs) ++ band
 
 -- The sequences that move a band, followed by the difference from the picture displayed after that.
 abbrev pub scrolling_text : Band → (self prev : Picture) → List ℕ
-scrolling_text band self prev = moving_text band prev ++ bytes_of_all (difference self (moved band prev))
+scrolling_text band self prev = moving_text band prev ++ bytes_of_all (difference self (picture_after_move band prev))
 
 -- The text is a difference that moves no rows, or one that moves a band first.
 abbrev pub IsScrolling : (self prev : Picture) → List ℕ → Type 0

@@ -93,11 +93,11 @@ script self prev =
     written.ops
     ++ (cursor_written written.pen self.width self.rows self.row self.column ++ attr_ops written.pen.attrs self.attrs)
 
-abbrev pub hiding : (self prev : Picture) → List Op
-hiding self prev = if same_bool self.hidden prev.hidden then [] else Hide self.hidden ∷ []
+abbrev pub cursor_visibility_ops : (self prev : Picture) → List Op
+cursor_visibility_ops self prev = if same_bool self.hidden prev.hidden then [] else Hide self.hidden ∷ []
 
 unfoldable pub difference : (self prev : Picture) → List Op
-difference self prev = hiding self prev ++ script self prev
+difference self prev = cursor_visibility_ops self prev ++ script self prev
 
 -- The blank picture of the same size as the given picture.
 abbrev pub blank_like : Picture → Picture

@@ -7,7 +7,7 @@ use Rattle.vt_cells.specs.Cell.{CellValue, blank, glyph, right_half, is_glyph}
 use Rattle.vt_cells.specs.Cell.{is_right_half, same_cell, text_of, attrs_of}
 use Rattle.std.specs.List.{prefix_len}
 use Rattle.vt_cells.specs.Attrs.{same_attrs, Attrs}
-use Rattle.vt_cells.specs.Op.{Op, Backspace, ChangeAttrs, EraseChars, EraseRest, Print, moving}
+use Rattle.vt_cells.specs.Op.{Op, Backspace, ChangeAttrs, EraseChars, EraseRest, Print, cursor_move_ops}
 use Rattle.vt_rows.specs.Cells.{at}
 use Rattle.vt_redraw.specs.declared.pen.Pen.{Pen}
 
@@ -16,7 +16,7 @@ pen_at row col attrs = record { row = row; col = col; attrs = attrs }
 
 -- The operations that move the pen to a position.
 unfoldable pub move_ops : Pen → ℕ → ℕ → List Op
-move_ops pen row col = moving pen.row pen.col row col
+move_ops pen row col = cursor_move_ops pen.row pen.col row col
 
 -- The operations that change the pen's attributes; none if they are equal.
 unfoldable pub attr_ops : Attrs → Attrs → List Op

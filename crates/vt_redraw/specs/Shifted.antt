@@ -10,13 +10,13 @@ use Rattle.vt_redraw.specs.Picture.{Picture}
 use Rattle.vt_redraw.specs.Redraw.{difference}
 use Rattle.vt_redraw.specs.Script.{attr_ops}
 use Rattle.vt_redraw.specs.Moved.{IsBand, IsScrolling}
-use Rattle.vt_redraw.specs.declared.guess.Move.{Move}
-use Rattle.vt_redraw.specs.declared.guess.Move.TheVariants.{Rows, Columns}
+use Rattle.vt_redraw.specs.declared.band_guess.Move.{Move}
+use Rattle.vt_redraw.specs.declared.band_guess.Move.TheVariants.{Rows, Columns}
 use Rattle.vt_redraw.specs.declared.row_shift.RowShift.{RowShift}
 
 -- The shift moves columns and lies within a picture of this size.
 pub record IsRowShift (height width : ℕ) (shift : RowShift) : Type 0 where
-  pub some : 0 < shift.count
+  pub nonempty : 0 < shift.count
   pub row : shift.row < height
   pub columns : shift.col + shift.count ≤ width
 

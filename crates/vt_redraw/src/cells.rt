@@ -35,7 +35,7 @@ pub fn columns(cell: &Cell) -> u16
 /// Returns the sink's error.
 pub fn write_text<S: Sink>(sink: &mut S, text: &str) -> Result<(), S::Error>
     ensures text { OnOk result (S.text sink.new ≡ S.text sink.old ++ text.now) }
-    ensures some { RefusedOnlyIfSome result text.now }
+    ensures nonempty { RefusedOnlyIfSome result text.now }
 {
     if text.is_empty() {
         return Ok(());
@@ -110,7 +110,7 @@ fn write_erase<S: Sink>(
     requires { end ≤ length over.now.cells }
     ensures text { OnOk result
         (S.text sink.new ≡ S.text sink.old ++ bytes_of (erase_run count (drop end over.now.cells))) }
-    ensures some { RefusedOnlyIfSome result (bytes_of (erase_run count (drop end over.now.cells))) }
+    ensures nonempty { RefusedOnlyIfSome result (bytes_of (erase_run count (drop end over.now.cells))) }
 {
     if end == over.cols() {
         ClearRowForward.write_buf(sink)
@@ -279,7 +279,7 @@ pub fn write_cells<S: Sink>(
     requires range { IsRange cells.now.cells over.now.cells }
     ensures writes { OnOk result (Writes (S.text sink.old) (S.text sink.new) pen.new flag.new
         (cells_over pos pen.old flag.old cells.now over.now)) }
-    ensures some { RefusedOnlyIfSome result (bytes_of_all (cells_over pos pen.old flag.old cells.now over.now).ops) }
+    ensures nonempty { RefusedOnlyIfSome result (bytes_of_all (cells_over pos pen.old flag.old cells.now over.now).ops) }
 {
     let Pos { row, col } = pos;
     let first = next_other(cells, over, col);
@@ -303,7 +303,7 @@ fn write_others<S: Sink>(
     requires range { IsRange cells.now.cells over.now.cells }
     ensures writes { OnOk result (Writes (S.text sink.old) (S.text sink.new) pen.new flag.new
         (cells_over pos pen.old flag.old cells.now over.now)) }
-    ensures some { RefusedOnlyIfSome result (bytes_of_all (cells_over pos pen.old flag.old cells.now over.now).ops) }
+    ensures nonempty { RefusedOnlyIfSome result (bytes_of_all (cells_over pos pen.old flag.old cells.now over.now).ops) }
 {
     let cols = cells.cols().min(over.cols());
     let mut buffer = Buffer::new();

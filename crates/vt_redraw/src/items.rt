@@ -35,7 +35,7 @@ fn write_begin<S: Sink>(
     requires range { IsRange cells.now.cells over.now.cells }
     ensures leads { IfOk result (λ col. LeadsOn (S.text sink.new) (cells_from pos.row col pen.new flag.new
         cells.now.cells over.now.cells) (S.text sink.old) (range_over pos pen.old flag.old cells.now over.now)) }
-    ensures some { RefusedOnlyIfSome result (bytes_of_all (range_over pos pen.old flag.old cells.now over.now).ops) }
+    ensures nonempty { RefusedOnlyIfSome result (bytes_of_all (range_over pos pen.old flag.old cells.now over.now).ops) }
 {
     let Pos { row: _, col } = pos;
     if col >= cells.cols().min(over.cols()) {
@@ -68,7 +68,7 @@ fn write_range<S: Sink>(
     requires range { IsRange cells.now.cells over.now.cells }
     ensures writes { OnOk result (Writes (S.text sink.old) (S.text sink.new) pen.new flag.new
         (range_over pos pen.old flag.old cells.now over.now)) }
-    ensures some { RefusedOnlyIfSome result (bytes_of_all (range_over pos pen.old flag.old cells.now over.now).ops) }
+    ensures nonempty { RefusedOnlyIfSome result (bytes_of_all (range_over pos pen.old flag.old cells.now over.now).ops) }
 {
     let row = pos.row;
     let col = write_begin(sink, pen, flag, pos, cells, over)?;
@@ -85,7 +85,7 @@ fn write_mark<S: Sink>(
     flag: bool,
     cells: &PictureRow<'_>,
 ) -> Result<(), S::Error>
-    requires some { 0 < length cells.now.cells }
+    requires nonempty { 0 < length cells.now.cells }
     requires paired { IsPaired cells.now.cells }
     ensures { AppendsOrStops result (S.text sink.old) (S.text sink.new)
         (mark_of row pen.old flag cells.now.wrapped cells.now.cells) }
@@ -110,7 +110,7 @@ fn write_end<S: Sink>(
     flag: bool,
     cells: &PictureRow<'_>,
 ) -> Result<(), S::Error>
-    requires some { 0 < length cells.now.cells }
+    requires nonempty { 0 < length cells.now.cells }
     requires paired { IsPaired cells.now.cells }
     ensures { AppendsOrStops result (S.text sink.old) (S.text sink.new) (end_ops row pen.old flag cells.now) }
 {
@@ -144,7 +144,7 @@ pub fn write_row_diff<S: Sink>(
     requires stop { stop ≤ view.now.width }
     ensures text { OnOk result
         (S.text sink.new ≡ S.text sink.old ++ changed_row_text row start stop view.now prev.now) }
-    ensures some { RefusedOnlyIfSome result (changed_row_text row start stop view.now prev.now) }
+    ensures nonempty { RefusedOnlyIfSome result (changed_row_text row start stop view.now prev.now) }
 {
     let cells = view.row(row);
     let over = prev.row(row);
@@ -173,7 +173,7 @@ fn is_whole(start: u16, stop: u16, cells: &PictureRow<'_>) -> bool
 /// even if it is blank, so that a wrap that is pending in the row above takes
 /// effect.
 fn write_linked<S: Sink>(sink: &mut S, row: u16, cells: &PictureRow<'_>) -> Result<(), S::Error>
-    requires some { 0 < length cells.now.cells }
+    requires nonempty { 0 < length cells.now.cells }
     requires paired { IsPaired cells.now.cells }
     ensures { AppendsOrStops result (S.text sink.old) (S.text sink.new) (linked_item row cells.now.cells).ops }
 {
@@ -254,7 +254,7 @@ pub fn write_row_formatted<S: Sink>(
     requires order { start ≤ stop }
     requires stop { stop ≤ view.now.width }
     ensures text { OnOk result (S.text sink.new ≡ S.text sink.old ++ formatted_row_text row start stop view.now) }
-    ensures some { RefusedOnlyIfSome result (formatted_row_text row start stop view.now) }
+    ensures nonempty { RefusedOnlyIfSome result (formatted_row_text row start stop view.now) }
 {
     let cells = view.row(row);
     if needs_link(view, row, start, stop, &cells) {

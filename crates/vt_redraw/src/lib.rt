@@ -3,12 +3,12 @@
 #![tactic(auto)]
 
 pub mod band;
+pub mod band_guess;
+pub mod band_moves;
 mod cells;
 mod cursor_rule;
-pub mod guess;
 mod items;
 pub mod laws;
-pub mod lines;
 mod links;
 pub mod pen;
 pub mod picture_row;
@@ -21,9 +21,9 @@ pub mod steadiness;
 pub mod view;
 
 pub use band::Band;
-pub use guess::{Move, likely_move};
+pub use band_guess::{Move, likely_move};
+pub use band_moves::write_moves;
 pub use items::{write_row_diff, write_row_formatted};
-pub use lines::write_moves;
 pub use pen::Pen;
 pub use picture_row::PictureRow;
 pub use redraw::{write_contents_diff, write_contents_formatted, write_cursor_state};

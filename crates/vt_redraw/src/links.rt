@@ -41,7 +41,7 @@ pub fn write_last<S: Sink>(
     row: u16,
     cells: &PictureRow<'_>,
 ) -> Result<(), S::Error>
-    requires some { 0 < length cells.now.cells }
+    requires nonempty { 0 < length cells.now.cells }
     requires paired { IsPaired cells.now.cells }
     ensures ops { AppendsOrStops result (S.text sink.old) (S.text sink.new)
         (behind_last_glyph row pen.old cells.now.cells).ops }
@@ -78,14 +78,14 @@ fn write_first_blank<S: Sink>(
     pen.row = row;
     pen.col = 0;
     Ok(Link {
-        flag: goes_on(flag, over),
+        flag: is_wrapped(flag, over),
         settled: 1,
     })
 }
 
 /// Returns whether the terminal's row is still wrapped after its first cell has been erased.
 /// Erasing the only cell of a row clears the row's wrapped flag.
-fn goes_on(flag: bool, over: &PictureRow<'_>) -> bool
+fn is_wrapped(flag: bool, over: &PictureRow<'_>) -> bool
     ensures { result ≡ (flag && not (nat_le (length over.now.cells) 1)) }
 {
     flag && !(over.cols() <= 1)
@@ -147,7 +147,7 @@ pub fn write_first<S: Sink>(
 
 /// Returns whether the row `cells` begins with a glyph that the row `over` does not begin with.
 fn starts_other(cells: &PictureRow<'_>, over: &PictureRow<'_>) -> bool
-    requires some { 0 < length cells.now.cells }
+    requires nonempty { 0 < length cells.now.cells }
     requires over { 0 < length over.now.cells }
     ensures { result ≡ starts_other cells.now.cells over.now.cells }
 {
@@ -166,7 +166,7 @@ fn needs_link(
     cells: &PictureRow<'_>,
     over: &PictureRow<'_>,
 ) -> bool
-    requires some { 0 < length cells.now.cells }
+    requires nonempty { 0 < length cells.now.cells }
     requires over { 0 < length over.now.cells }
     ensures { result
         ≡ (not on || (is_at pen.now row (length above.now.cells) && starts_other cells.now.cells over.now.cells)) }
@@ -222,11 +222,11 @@ pub fn write_break<S: Sink>(
     flag: bool,
     cells: &PictureRow<'_>,
 ) -> Result<bool, S::Error>
-    requires some { 0 < length cells.now.cells }
+    requires nonempty { 0 < length cells.now.cells }
     requires paired { IsPaired cells.now.cells }
     ensures writes { IfOk result (λ on. Writes (S.text sink.old) (S.text sink.new)
         pen.new on (break_of row pen.old flag cells.now)) }
-    ensures some { RefusedOnlyIfSome result (bytes_of_all (break_of row pen.old flag cells.now).ops) }
+    ensures nonempty { RefusedOnlyIfSome result (bytes_of_all (break_of row pen.old flag cells.now).ops) }
 {
     if !flag {
         return Ok(flag);

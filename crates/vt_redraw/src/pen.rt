@@ -4,7 +4,7 @@ ghost use Rattle.std.specs.Prelude.{◌≡◌, ◌≤◌, ◌++◌, OnOk, length
 ghost use Rattle.vt_cells.specs.Attrs.{default_attrs};
 ghost use Rattle.vt_cells.specs.Cell.{attrs_of};
 ghost use Rattle.vt_cells.specs.Op.{bytes_of_all};
-ghost use Rattle.vt_cells.specs.BufferInternals.{gathered};
+ghost use Rattle.vt_cells.specs.BufferInternals.{buffered_text};
 ghost use Rattle.vt_redraw.specs.Internals.{AppendsOrStops, GathersOrStops};
 ghost use Rattle.vt_redraw.specs.Refusals.{RefusedOnlyIfSome};
 ghost use Rattle.vt_redraw.specs.Script.{attr_ops, move_ops, is_at, pen_at};
@@ -158,11 +158,11 @@ impl Pen {
         buffer: &mut Buffer,
         cell: &Cell,
     ) -> Result<(), S::Error>
-        ensures text { OnOk result (gathered (S.text sink.new) buffer.new
-            ≡ gathered (S.text sink.old) buffer.old ++ bytes_of_all (attr_ops self.old.attrs (attrs_of cell.now))) }
+        ensures text { OnOk result (buffered_text (S.text sink.new) buffer.new
+            ≡ buffered_text (S.text sink.old) buffer.old ++ bytes_of_all (attr_ops self.old.attrs (attrs_of cell.now))) }
         ensures pen { OnOk result (self.new ≡ pen_at self.old.row self.old.col (attrs_of cell.now)) }
         ensures grows { OnOk result (length (S.text sink.old) ≤ length (S.text sink.new)) }
-        ensures some { RefusedOnlyIfSome result (bytes_of_all (attr_ops self.old.attrs (attrs_of cell.now))) }
+        ensures nonempty { RefusedOnlyIfSome result (bytes_of_all (attr_ops self.old.attrs (attrs_of cell.now))) }
     {
         if cell::has_attrs(cell, &self.attrs) {
             return Ok(());
@@ -184,10 +184,10 @@ fn add_change<S: Sink>(
     was: Attrs,
     new: Attrs,
 ) -> Result<(), S::Error>
-    ensures text { OnOk result (gathered (S.text sink.new) buffer.new
-        ≡ gathered (S.text sink.old) buffer.old ++ bytes_of_all (attr_ops was new)) }
+    ensures text { OnOk result (buffered_text (S.text sink.new) buffer.new
+        ≡ buffered_text (S.text sink.old) buffer.old ++ bytes_of_all (attr_ops was new)) }
     ensures grows { OnOk result (length (S.text sink.old) ≤ length (S.text sink.new)) }
-    ensures some { RefusedOnlyIfSome result (bytes_of_all (attr_ops was new)) }
+    ensures nonempty { RefusedOnlyIfSome result (bytes_of_all (attr_ops was new)) }
 {
     ChangeAttrs { was, new }.add(sink, buffer)
 }

@@ -4,13 +4,13 @@ ghost use Rattle.std.specs.Prelude.{◌≡◌, ◌+◌, ◌<◌, ◌≤◌, ◌&
 ghost use Rattle.std.specs.Prelude.{All, length, not, take, true};
 ghost use Rattle.vt_cells.specs.Attrs.{default_attrs};
 ghost use Rattle.vt_cells.specs.Cell.{is_blank};
-ghost use Rattle.vt_rows.specs.Cells.{IsPaired, at, ends_blank, resized};
+ghost use Rattle.vt_rows.specs.Cells.{IsPaired, at, ends_blank, cells_after_resize};
 ghost use Rattle.vt_rows.specs.Row.{RowValue, blank_row};
 ghost use Rattle.vt_redraw.specs.Internals.{cut_row, cell_past_cut, kept_len};
 ghost use Rattle.vt_redraw.specs.Script.{is_blank_of, is_torn, last_column, blank_run};
 
 use std::marker::Model;
-use vt_cells::runs::same_run;
+use vt_cells::cell_runs::same_run;
 use vt_cells::{Attrs, Cell, cell};
 use vt_rows::RowContents;
 use vt_rows::capture::cells_of;
@@ -29,12 +29,12 @@ pub struct PictureRow<'a> {
 }
 
 impl<'a> Model for PictureRow<'a> {
-    ghost use Rattle.vt_redraw.specs.Internals.{IsFilled, filled};
+    ghost use Rattle.vt_redraw.specs.Internals.{IsFilled, cells_filled_to};
     ghost use Rattle.vt_rows.specs.Row.{RowValue};
 
     ghost Value = { RowValue };
 
-    ghost view = { λ r. record { cells = filled r.cells.now r.cols r.end; wrapped = r.wrapped } };
+    ghost view = { λ r. record { cells = cells_filled_to r.cells.now r.cols r.end; wrapped = r.wrapped } };
 
     ghost invariant = { λ r. IsFilled r.cells.now r.cols r.end };
 }
@@ -57,13 +57,13 @@ impl<'a> PictureRow<'a> {
     /// blank after the cut or it is the last row of the picture (`is_last`).
     #[tactic(auto, using(crate::proofs::Filling::resized_columns))]
     pub fn cut(row: &RowContents<'a>, cols: u16, is_last: bool) -> PictureRow<'a>
-        requires some { 0 < cols }
+        requires nonempty { 0 < cols }
         requires paired { IsPaired row.now.cells }
         ensures { result ≡ cut_row is_last cols row.now }
     {
         let mut cut = PictureRow::unwrapped(cells_of(row), cols);
-        let goes_on = cut.keeps_flag(row.wrapped(), is_last);
-        cut.wrapped = goes_on;
+        let is_wrapped = cut.keeps_flag(row.wrapped(), is_last);
+        cut.wrapped = is_wrapped;
         cut
     }
 
@@ -81,9 +81,9 @@ impl<'a> PictureRow<'a> {
     /// columns.
     #[tactic(auto, using(crate::proofs::Filling::filled_resized, crate::proofs::Filling::kept_inside))]
     fn unwrapped(cells: &'a [Cell], cols: u16) -> PictureRow<'a>
-        requires some { 0 < cols }
+        requires nonempty { 0 < cols }
         requires paired { IsPaired cells.now }
-        ensures cells { result.cells ≡ resized cols cells.now }
+        ensures cells { result.cells ≡ cells_after_resize cols cells.now }
         ensures flag { result.wrapped ≡ false }
     {
         let kept = kept_cells(cells, cols);
@@ -189,7 +189,7 @@ impl<'a> PictureRow<'a> {
     /// Returns the first column of the glyph or blank that covers the last
     /// column.
     pub fn last_col(&self) -> u16
-        requires some { 0 < length self.now.cells }
+        requires nonempty { 0 < length self.now.cells }
         requires paired { IsPaired self.now.cells }
         ensures value { result ≡ last_column self.now.cells }
         ensures inside { result < length self.now.cells }

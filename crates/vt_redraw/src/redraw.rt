@@ -4,7 +4,7 @@ ghost use Rattle.std.specs.Prelude.{◌≡◌, ◌++◌, OnOk};
 ghost use Rattle.vt_cells.specs.Op.{bytes_of_all};
 ghost use Rattle.vt_redraw.specs.Picture.{SamePictureSize};
 ghost use Rattle.vt_redraw.specs.Refusals.{RefusedOnlyIfSome};
-ghost use Rattle.vt_redraw.specs.Redraw.{cursor_state, difference, hiding, redraw};
+ghost use Rattle.vt_redraw.specs.Redraw.{cursor_state, difference, cursor_visibility_ops, redraw};
 
 use crate::cursor_rule::write_cursor_alone;
 use crate::script::write_script;
@@ -46,7 +46,7 @@ pub fn write_contents_diff<S: Sink>(
 ) -> Result<(), S::Error>
     requires { SamePictureSize view.now prev.now }
     ensures text { OnOk result (S.text sink.new ≡ S.text sink.old ++ bytes_of_all (difference view.now prev.now)) }
-    ensures some { RefusedOnlyIfSome result (bytes_of_all (difference view.now prev.now)) }
+    ensures nonempty { RefusedOnlyIfSome result (bytes_of_all (difference view.now prev.now)) }
 {
     write_hiding(sink, view, prev)?;
     write_script(sink, view, prev)
@@ -55,8 +55,8 @@ pub fn write_contents_diff<S: Sink>(
 /// Writes the sequence that hides or shows the cursor if the cursor is hidden
 /// in only one of the two pictures.
 fn write_hiding<S: Sink>(sink: &mut S, view: &View<'_>, prev: &View<'_>) -> Result<(), S::Error>
-    ensures text { OnOk result (S.text sink.new ≡ S.text sink.old ++ bytes_of_all (hiding view.now prev.now)) }
-    ensures some { RefusedOnlyIfSome result (bytes_of_all (hiding view.now prev.now)) }
+    ensures text { OnOk result (S.text sink.new ≡ S.text sink.old ++ bytes_of_all (cursor_visibility_ops view.now prev.now)) }
+    ensures nonempty { RefusedOnlyIfSome result (bytes_of_all (cursor_visibility_ops view.now prev.now)) }
 {
     let state = view.hidden();
     if state == prev.hidden() {

@@ -30,7 +30,7 @@ fn write_row<S: Sink>(
     requires { IsRowOver cells.now.cells over.now.cells }
     ensures writes { IfOk result (λ on. Writes (S.text sink.old) (S.text sink.new) pen.new on
         (row_behind row link pen.old cells.now over.now)) }
-    ensures some { RefusedOnlyIfSome result (bytes_of_all (row_behind row link pen.old cells.now over.now).ops) }
+    ensures nonempty { RefusedOnlyIfSome result (bytes_of_all (row_behind row link pen.old cells.now over.now).ops) }
 {
     let mut flag = link.flag;
     let pos = Pos {
@@ -55,7 +55,7 @@ fn write_top<S: Sink>(
     requires { IsRowOver cells.now.cells over.now.cells }
     ensures writes { IfOk result (λ on. Writes (S.text sink.old) (S.text sink.new) pen.new on
         (row_written 0 0 pen.old over.now.wrapped cells.now over.now.cells)) }
-    ensures some { RefusedOnlyIfSome result
+    ensures nonempty { RefusedOnlyIfSome result
         (bytes_of_all (row_written 0 0 pen.old over.now.wrapped cells.now over.now.cells).ops) }
 {
     let link = Link {

@@ -3,10 +3,10 @@
 ghost use Rattle.std.specs.Prelude.{◌≡◌, ◌<◌, ◌+◌, ◌==◌, IfSome, length};
 ghost use Rattle.vt_grid.specs.Page.{IsPage, row_or};
 ghost use Rattle.vt_grid.specs.Scrollback.{IsScrollback, visible};
-ghost use Rattle.vt_rows.specs.Cells.{IsPaired, resized};
+ghost use Rattle.vt_rows.specs.Cells.{IsPaired, cells_after_resize};
 ghost use Rattle.vt_rows.specs.Row.{IsRow};
 ghost use Rattle.vt_redraw.specs.Internals.{IsPageUnder, row_seen};
-ghost use Rattle.vt_redraw.specs.Moved.{IsBand, moved, rows_moved};
+ghost use Rattle.vt_redraw.specs.Moved.{IsBand, picture_after_move, rows_moved};
 ghost use Rattle.vt_redraw.specs.Picture.{IsPicture, cut_rows, picture_over};
 ghost use Rattle.vt_redraw.specs.Redraw.{blank_like, pen_of};
 
@@ -89,7 +89,7 @@ impl<'a> View<'a> {
         requires page { IsPage grid.now }
         requires band { IsBand (length grid.now.rows) band }
         ensures { (attrs : Attrs) → result
-            ≡ moved band (picture_over (visible above.now grid.now.rows)
+            ≡ picture_after_move band (picture_over (visible above.now grid.now.rows)
             (record { page = grid.now; attrs = attrs; saved_attrs = attrs; hidden = hidden })) }
     {
         let size = grid.size();
@@ -127,7 +127,7 @@ impl<'a> View<'a> {
     #[inline]
     pub fn rows(&self) -> u16
         ensures value { result ≡ length self.now.rows }
-        ensures some { 0 < length self.now.rows }
+        ensures nonempty { 0 < length self.now.rows }
     {
         self.rows.len() as u16
     }
@@ -136,7 +136,7 @@ impl<'a> View<'a> {
     #[inline]
     pub fn cols(&self) -> u16
         ensures value { result ≡ self.now.width }
-        ensures some { 0 < self.now.width }
+        ensures nonempty { 0 < self.now.width }
     {
         self.cols
     }
@@ -163,7 +163,7 @@ impl<'a> View<'a> {
         requires { row < length self.now.rows }
         ensures value { result ≡ row_or self.now.width self.now.rows row }
         ensures sound { IsRow self.now.width result }
-        ensures some { 0 < length result.cells }
+        ensures nonempty { 0 < length result.cells }
     {
         match self.source {
             Source::InView => row_seen(self.above, self.rows, self.cols, row, false),
@@ -178,10 +178,10 @@ impl<'a> View<'a> {
     pub(crate) fn uncut_cells(&self, row: u16) -> Option<&[Cell]>
         requires { row < length self.now.rows }
         ensures cells { IfSome result (λ cells.
-            (row_or self.now.width self.now.rows row).cells ≡ resized self.now.width cells.now) }
+            (row_or self.now.width self.now.rows row).cells ≡ cells_after_resize self.now.width cells.now) }
         ensures paired { IfSome result (λ cells. IsPaired cells.now) }
         ensures sound { IsRow self.now.width (row_or self.now.width self.now.rows row) }
-        ensures some { 0 < self.now.width }
+        ensures nonempty { 0 < self.now.width }
     {
         match self.source {
             Source::InView => {}

@@ -5,7 +5,7 @@ use Rattle.std.proofs.lemmas.Bool.{cond_both}
 use Rattle.vt_cells.specs.Cell.{CellValue, blank, glyph, right_half, attrs_of, is_default_blank, is_right_half}
 use Rattle.vt_cells.specs.Attrs.{same_attrs, Attrs}
 use Rattle.vt_cells.specs.Op.{change_text}
-use Rattle.vt_cells.specs.BufferInternals.{gathered}
+use Rattle.vt_cells.specs.BufferInternals.{buffered_text}
 use Rattle.vt_cells.specs.Sinks.{IsStopped}
 use Rattle.vt_cells.proofs.Sinks.{stopped_before, stopped_behind}
 use Rattle.vt_cells.proofs.Same.{attrs_of-same, same_attrs-itself}
@@ -76,7 +76,7 @@ change_stopped refuses before buffer attrs new cell after e stopped =
 -- If writing a cell stopped after its change of attributes was written, writing the cell's whole text stopped there.
 pub shown_stopped : (refuses : List ℕ → List ℕ → List ℕ → Type 0) (old mid was buffer : List ℕ) (attrs new : Attrs)
     (cell : CellValue) (shown after : List ℕ) → attrs_after attrs cell ≡ new → shown ≡ shown_text cell
-    → gathered mid buffer ≡ gathered old was ++ change_text attrs new → length old ≤ length mid
+    → buffered_text mid buffer ≡ buffered_text old was ++ change_text attrs new → length old ≤ length mid
     → IsStopped refuses mid (buffer ++ shown) after
     → IsStopped refuses old (was ++ cell_text attrs cell) after
 shown_stopped refuses old mid was buffer attrs new cell shown after e s g le stopped =

@@ -3,10 +3,10 @@ use Rattle.std.proofs.Common.{◌≡◌, ℕ, true, false, List, [], ◌∷◌, 
 use Rattle.vt_cells.specs.Attrs.{default_attrs, same_attrs, same_color, Attrs}
 use Rattle.vt_cells.specs.Cell.{CellValue, blank, glyph, right_half, default_blank}
 use Rattle.vt_cells.specs.declared.color.Color.TheVariants.{Idx}
-use Rattle.vt_rows.specs.Cells.{put_cells, put_narrow, put_wide, erased, widened_at}
-use Rattle.vt_rows.specs.Cells.{narrowed_at, moved, inserted, deleted, resized}
+use Rattle.vt_rows.specs.Cells.{put_cells, put_narrow, put_wide, cells_after_erase, widened_at}
+use Rattle.vt_rows.specs.Cells.{narrowed_at, cells_after_move, cells_after_insert, cells_after_delete, cells_after_resize}
 use Rattle.vt_rows.specs.Plain.{plain_text}
-use Rattle.vt_rows.specs.Row.{with_cells, trimmed, resized_row}
+use Rattle.vt_rows.specs.Row.{with_cells, cells_without_end, resized_row}
 
 -- The narrow cell of an ASCII letter. In the examples, x and y are narrow letters, U+4E2D and U+56FD are wide
 -- characters, `a` are the attributes before an edit, and `b` are those of the edit.
@@ -42,11 +42,11 @@ wide_within_wide : (a b : Attrs) →
 unfolding put_cells
 wide_within_wide a b = refl
 
-left_half_erased : (a b : Attrs) → erased 0 1 b (wide a ∷ right_half ∷ []) ≡ blank b ∷ default_blank ∷ []
+left_half_erased : (a b : Attrs) → cells_after_erase 0 1 b (wide a ∷ right_half ∷ []) ≡ blank b ∷ default_blank ∷ []
 unfolding put_cells
 left_half_erased a b = refl
 
-right_half_erased : (a b : Attrs) → erased 1 1 b (wide a ∷ right_half ∷ []) ≡ blank a ∷ blank b ∷ []
+right_half_erased : (a b : Attrs) → cells_after_erase 1 1 b (wide a ∷ right_half ∷ []) ≡ blank a ∷ blank b ∷ []
 unfolding put_cells
 right_half_erased a b = refl
 
@@ -63,57 +63,57 @@ wide_made_narrow a b = refl
 -- If a move brings the first cell of one wide glyph next to the continuation cell of another, they do not form a wide
 -- glyph.
 two_pairs_torn : (a b : Attrs) →
-    deleted 1 2 (wide a ∷ right_half ∷ other b ∷ right_half ∷ letter 0x78 b ∷ [])
+    cells_after_delete 1 2 (wide a ∷ right_half ∷ other b ∷ right_half ∷ letter 0x78 b ∷ [])
     ≡ blank a ∷ default_blank ∷ letter 0x78 b ∷ default_blank ∷ default_blank ∷ []
-unfolding deleted moved
+unfolding cells_after_delete cells_after_move
 two_pairs_torn a b = refl
 
 right_half_deleted : (a : Attrs) →
-    deleted 2 1 (letter 0x61 a ∷ wide a ∷ right_half ∷ letter 0x62 a ∷ default_blank ∷ [])
+    cells_after_delete 2 1 (letter 0x61 a ∷ wide a ∷ right_half ∷ letter 0x62 a ∷ default_blank ∷ [])
     ≡ letter 0x61 a ∷ blank a ∷ letter 0x62 a ∷ default_blank ∷ default_blank ∷ []
-unfolding deleted moved
+unfolding cells_after_delete cells_after_move
 right_half_deleted a = refl
 
 inserted_before_pair : (a : Attrs) →
-    inserted 1 1 (letter 0x61 a ∷ wide a ∷ right_half ∷ default_blank ∷ [])
+    cells_after_insert 1 1 (letter 0x61 a ∷ wide a ∷ right_half ∷ default_blank ∷ [])
     ≡ letter 0x61 a ∷ default_blank ∷ wide a ∷ right_half ∷ []
-unfolding inserted moved
+unfolding cells_after_insert cells_after_move
 inserted_before_pair a = refl
 
 pair_torn_at_end : (a : Attrs) →
-    inserted 1 2 (letter 0x61 a ∷ wide a ∷ right_half ∷ default_blank ∷ [])
+    cells_after_insert 1 2 (letter 0x61 a ∷ wide a ∷ right_half ∷ default_blank ∷ [])
     ≡ letter 0x61 a ∷ default_blank ∷ default_blank ∷ blank a ∷ []
-unfolding inserted moved
+unfolding cells_after_insert cells_after_move
 pair_torn_at_end a = refl
 
 inserted_behind_pair : (a : Attrs) →
-    inserted 1 1 (wide a ∷ right_half ∷ letter 0x61 a ∷ letter 0x62 a ∷ [])
+    cells_after_insert 1 1 (wide a ∷ right_half ∷ letter 0x61 a ∷ letter 0x62 a ∷ [])
     ≡ wide a ∷ right_half ∷ default_blank ∷ letter 0x61 a ∷ []
-unfolding inserted moved
+unfolding cells_after_insert cells_after_move
 inserted_behind_pair a = refl
 
-cut_in_pair : (a : Attrs) → resized 2 (letter 0x61 a ∷ wide a ∷ right_half ∷ []) ≡ letter 0x61 a ∷ blank a ∷ []
-unfolding resized moved
+cut_in_pair : (a : Attrs) → cells_after_resize 2 (letter 0x61 a ∷ wide a ∷ right_half ∷ []) ≡ letter 0x61 a ∷ blank a ∷ []
+unfolding cells_after_resize cells_after_move
 cut_in_pair a = refl
 
 grown : (a : Attrs) →
     resized_row 3 (record { cells = letter 0x61 a ∷ []; wrapped = true })
     ≡ record { cells = letter 0x61 a ∷ default_blank ∷ default_blank ∷ []; wrapped = false }
-unfolding resized moved
+unfolding cells_after_resize cells_after_move
 grown a = refl
 
 abbrev coloured : CellValue
 coloured = blank (record default_attrs { bgcolor = Idx 1 })
 
 coloured_stays : (a : Attrs) →
-    trimmed (letter 0x61 a ∷ default_blank ∷ coloured ∷ default_blank ∷ default_blank ∷ [])
+    cells_without_end (letter 0x61 a ∷ default_blank ∷ coloured ∷ default_blank ∷ default_blank ∷ [])
     ≡ letter 0x61 a ∷ default_blank ∷ coloured ∷ []
 unfolding same_attrs same_color
 coloured_stays a = refl
 
 -- The wrapped flag is cleared if the last column becomes a blank, and stays if a space is written there.
 flag_falls : (a b : Attrs) →
-    with_cells (record { cells = wide a ∷ right_half ∷ []; wrapped = true }) (erased 0 1 b (wide a ∷ right_half ∷ []))
+    with_cells (record { cells = wide a ∷ right_half ∷ []; wrapped = true }) (cells_after_erase 0 1 b (wide a ∷ right_half ∷ []))
     ≡ record { cells = blank b ∷ default_blank ∷ []; wrapped = false }
 unfolding put_cells
 flag_falls a b = refl

@@ -9,23 +9,23 @@ use Rattle.std.proofs.lemmas.List.FromFn.{fill_by_all, length-map-range_with_len
 use Rattle.std.proofs.lemmas.List.Elements.{All-from_get_or, All-get_or}
 use Rattle.vt_cells.specs.Cell.{CellValue, blank, glyph, right_half, default_blank}
 use Rattle.vt_cells.specs.Cell.{is_wide, is_right_half, attrs_of, IsCell}
-use Rattle.vt_rows.specs.Cells.{at, IsPaired, ends_blank, moved, moved_at, inserted, deleted}
-use Rattle.vt_rows.specs.Cells.{resized, insert_source, delete_source, insert_column}
+use Rattle.vt_rows.specs.Cells.{at, IsPaired, ends_blank, cells_after_move, moved_at, cells_after_insert, cells_after_delete}
+use Rattle.vt_rows.specs.Cells.{cells_after_resize, insert_source, delete_source, insert_column}
 use Rattle.vt_rows.specs.Row.{RowValue, IsRow, inserted_row, deleted_row, resized_row}
 use Rattle.vt_rows.proofs.Columns.{at-past}
 
-pub length-moved : (n : ℕ) (source : ℕ → ℕ) (cells : List CellValue) → length (moved n source cells) ≡ n
-unfolding moved
+pub length-moved : (n : ℕ) (source : ℕ → ℕ) (cells : List CellValue) → length (cells_after_move n source cells) ≡ n
+unfolding cells_after_move
 length-moved n source cells = length-map-range_with_len (moved_at n source cells) 0 n
 
 pub at-moved : (n : ℕ) (source : ℕ → ℕ) (cells : List CellValue) (k : ℕ) →
-    k < n → at (moved n source cells) k ≡ moved_at n source cells k
-unfolding moved
+    k < n → at (cells_after_move n source cells) k ≡ moved_at n source cells k
+unfolding cells_after_move
 at-moved n source cells k h = get_or-map-range_with_len (moved_at n source cells) 0 n k k default_blank h (zero-add k)
 
 pub moved_is : (n : ℕ) (source : ℕ → ℕ) (cells ys : List CellValue) → length ys ≡ n →
-    ((k : ℕ) → k < n → at ys k ≡ moved_at n source cells k) → ys ≡ moved n source cells
-unfolding moved
+    ((k : ℕ) → k < n → at ys k ≡ moved_at n source cells k) → ys ≡ cells_after_move n source cells
+unfolding cells_after_move
 moved_is n source cells ys e f = fill_by_all (moved_at n source cells) ys n default_blank e f
 
 -- ---- Wide glyphs
@@ -65,10 +65,10 @@ neighbours cells i j room p r = elim (cases_eq j (i + 1)) [
 ]
 
 pub IsPaired-moved : (n : ℕ) (source : ℕ → ℕ) (cells : List CellValue) →
-    IsPaired cells → IsPaired (moved n source cells)
+    IsPaired cells → IsPaired (cells_after_move n source cells)
 IsPaired-moved n source cells p = record { halves = halves; first = first } where
   wide : (k : ℕ) → k < n →
-      is_wide (at (moved n source cells) k)
+      is_wide (at (cells_after_move n source cells) k)
       ≡ (is_wide (at cells (source k)) && (nat_lt (k + 1) n && (source (k + 1) == source k + 1)))
   wide k h =
       ap is_wide (at-moved n source cells k h)
@@ -76,38 +76,38 @@ IsPaired-moved n source cells p = record { halves = halves; first = first } wher
       (source k == source (k - 1) + 1) (at cells (source k))
 
   right : (k : ℕ) → k < n →
-      is_right_half (at (moved n source cells) k)
+      is_right_half (at (cells_after_move n source cells) k)
       ≡ (is_right_half (at cells (source k)) && (source k == source (k - 1) + 1))
   right k h =
       ap is_right_half (at-moved n source cells k h)
       ∙ right_moved (nat_lt (k + 1) n && (source (k + 1) == source k + 1))
       (source k == source (k - 1) + 1) (at cells (source k))
 
-  past : (k : ℕ) → n ≤ k → at (moved n source cells) k ≡ default_blank
-  past k h = let l = length-moved n source cells in at-past (moved n source cells) k (omega arith)
+  past : (k : ℕ) → n ≤ k → at (cells_after_move n source cells) k ≡ default_blank
+  past k h = let l = length-moved n source cells in at-past (cells_after_move n source cells) k (omega arith)
 
-  halves : (k : ℕ) → is_wide (at (moved n source cells) k) ≡ is_right_half (at (moved n source cells) (k + 1))
+  halves : (k : ℕ) → is_wide (at (cells_after_move n source cells) k) ≡ is_right_half (at (cells_after_move n source cells) (k + 1))
   halves k = elim (cases_lt (k + 1) n) [
     | inl lt ↦
         let i : k + 1 - 1 ≡ k = omega arith in
-        let r : is_right_half (at (moved n source cells) (k + 1))
+        let r : is_right_half (at (cells_after_move n source cells) (k + 1))
         ≡ (is_right_half (at cells (source (k + 1))) && (source (k + 1) == source k + 1)) =
         right (k + 1) lt
         ∙ ap (λ (m : ℕ). is_right_half (at cells (source (k + 1))) && (source (k + 1) == source m + 1)) i in
         let t : nat_lt (k + 1) n ≡ true = grind (arith, nat_tests) in
         wide k (omega arith) ∙ (neighbours cells (source k) (source (k + 1)) (nat_lt (k + 1) n) p t ∙ sym r)
     | inr ge ↦
-        let r : is_right_half (at (moved n source cells) (k + 1)) ≡ false = ap is_right_half (past (k + 1) ge) in
+        let r : is_right_half (at (cells_after_move n source cells) (k + 1)) ≡ false = ap is_right_half (past (k + 1) ge) in
         elim (cases_lt k n) [
           | inl lt ↦ let w = wide k lt in grind (arith, nat_tests)
           | inr over ↦ ap is_wide (past k over) ∙ sym r
         ]
   ]
 
-  first : is_right_half (at (moved n source cells) 0) ≡ false
+  first : is_right_half (at (cells_after_move n source cells) 0) ≡ false
   first = elim (cases_lt 0 n) [
     | inl lt ↦
-        let r : is_right_half (at (moved n source cells) 0)
+        let r : is_right_half (at (cells_after_move n source cells) 0)
         ≡ (is_right_half (at cells (source 0)) && (source 0 == source 0 + 1)) = right 0 lt in
         grind (arith, nat_tests)
     | inr over ↦ ap is_right_half (past 0 over)
@@ -121,9 +121,9 @@ IsCell-at cells k all = elim (cases_lt k (length cells)) [
   | inr past ↦ subst IsCell (sym (at-past cells k past)) tt
 ]
 
-pub All-moved : (n : ℕ) (source : ℕ → ℕ) (cells : List CellValue) → All IsCell cells → All IsCell (moved n source cells)
-All-moved n source cells all = All-from_get_or IsCell (moved n source cells) default_blank each where
-  each : (k : ℕ) → k < length (moved n source cells) → IsCell (at (moved n source cells) k)
+pub All-moved : (n : ℕ) (source : ℕ → ℕ) (cells : List CellValue) → All IsCell cells → All IsCell (cells_after_move n source cells)
+All-moved n source cells all = All-from_get_or IsCell (cells_after_move n source cells) default_blank each where
+  each : (k : ℕ) → k < length (cells_after_move n source cells) → IsCell (at (cells_after_move n source cells) k)
   each k h =
       let l = length-moved n source cells in
       let x = at cells (source k) in
@@ -135,8 +135,8 @@ All-moved n source cells all = All-from_get_or IsCell (moved n source cells) def
 
 -- ---- The number of columns
 
-pub resized-same : (n : ℕ) (cells : List CellValue) → length cells ≡ n → IsPaired cells → resized n cells ≡ cells
-unfolding resized
+pub resized-same : (n : ℕ) (cells : List CellValue) → length cells ≡ n → IsPaired cells → cells_after_resize n cells ≡ cells
+unfolding cells_after_resize
 resized-same n cells e p = sym (moved_is n (λ k. k) cells cells e same) where
   same : (k : ℕ) → k < n → at cells k ≡ moved_at n (λ k. k) cells k
   same k h =
@@ -154,41 +154,41 @@ resized-same n cells e p = sym (moved_is n (λ k. k) cells cells e same) where
 
 -- ---- Inserted, deleted, resized
 
-pub length-inserted : (c n : ℕ) (cells : List CellValue) → length (inserted c n cells) ≡ length cells
-unfolding inserted
+pub length-inserted : (c n : ℕ) (cells : List CellValue) → length (cells_after_insert c n cells) ≡ length cells
+unfolding cells_after_insert
 length-inserted c n cells = length-moved (length cells) (insert_source (length cells) (insert_column c cells) n) cells
 
-pub IsPaired-inserted : (c n : ℕ) (cells : List CellValue) → IsPaired cells → IsPaired (inserted c n cells)
-unfolding inserted
+pub IsPaired-inserted : (c n : ℕ) (cells : List CellValue) → IsPaired cells → IsPaired (cells_after_insert c n cells)
+unfolding cells_after_insert
 IsPaired-inserted c n cells p =
     IsPaired-moved (length cells) (insert_source (length cells) (insert_column c cells) n) cells p
 
-pub All-inserted : (c n : ℕ) (cells : List CellValue) → All IsCell cells → All IsCell (inserted c n cells)
-unfolding inserted
+pub All-inserted : (c n : ℕ) (cells : List CellValue) → All IsCell cells → All IsCell (cells_after_insert c n cells)
+unfolding cells_after_insert
 All-inserted c n cells all = All-moved (length cells) (insert_source (length cells) (insert_column c cells) n) cells all
 
-pub length-deleted : (c n : ℕ) (cells : List CellValue) → length (deleted c n cells) ≡ length cells
-unfolding deleted
+pub length-deleted : (c n : ℕ) (cells : List CellValue) → length (cells_after_delete c n cells) ≡ length cells
+unfolding cells_after_delete
 length-deleted c n cells = length-moved (length cells) (delete_source c n) cells
 
-pub IsPaired-deleted : (c n : ℕ) (cells : List CellValue) → IsPaired cells → IsPaired (deleted c n cells)
-unfolding deleted
+pub IsPaired-deleted : (c n : ℕ) (cells : List CellValue) → IsPaired cells → IsPaired (cells_after_delete c n cells)
+unfolding cells_after_delete
 IsPaired-deleted c n cells p = IsPaired-moved (length cells) (delete_source c n) cells p
 
-pub All-deleted : (c n : ℕ) (cells : List CellValue) → All IsCell cells → All IsCell (deleted c n cells)
-unfolding deleted
+pub All-deleted : (c n : ℕ) (cells : List CellValue) → All IsCell cells → All IsCell (cells_after_delete c n cells)
+unfolding cells_after_delete
 All-deleted c n cells all = All-moved (length cells) (delete_source c n) cells all
 
-pub length-resized : (n : ℕ) (cells : List CellValue) → length (resized n cells) ≡ n
-unfolding resized
+pub length-resized : (n : ℕ) (cells : List CellValue) → length (cells_after_resize n cells) ≡ n
+unfolding cells_after_resize
 length-resized n cells = length-moved n (λ k. k) cells
 
-pub IsPaired-resized : (n : ℕ) (cells : List CellValue) → IsPaired cells → IsPaired (resized n cells)
-unfolding resized
+pub IsPaired-resized : (n : ℕ) (cells : List CellValue) → IsPaired cells → IsPaired (cells_after_resize n cells)
+unfolding cells_after_resize
 IsPaired-resized n cells p = IsPaired-moved n (λ k. k) cells p
 
-pub All-resized : (n : ℕ) (cells : List CellValue) → All IsCell cells → All IsCell (resized n cells)
-unfolding resized
+pub All-resized : (n : ℕ) (cells : List CellValue) → All IsCell cells → All IsCell (cells_after_resize n cells)
+unfolding cells_after_resize
 All-resized n cells all = All-moved n (λ k. k) cells all
 
 -- ---- Rows
@@ -233,7 +233,7 @@ resized_row-same n row e p =
       kept false = refl
 
 -- A row resized to a different width is not wrapped.
-pub resized_row-other : (n : ℕ) (row : RowValue) (cells : List CellValue) → cells ≡ resized n row.cells →
+pub resized_row-other : (n : ℕ) (row : RowValue) (cells : List CellValue) → cells ≡ cells_after_resize n row.cells →
     (length row.cells ≡ n → ⊥) → record { cells = cells; wrapped = false } ≡ resized_row n row
 resized_row-other n row cells e d =
     let t : (length row.cells == n) ≡ false = grind (arith, nat_tests) in

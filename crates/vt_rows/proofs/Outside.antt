@@ -35,9 +35,9 @@ later_stretch b k text s = (suc s.0, omega (arith, s.1), s.2, later) where
   later zero low lt = absurd (omega (arith, low))
   later (suc j) low lt = s.3 j (omega (arith, low)) (omega (arith, lt))
 
-goes_on : (within : Bool) (b : ℕ) → is_within_after within b ≡ true → ((b ≡ 0x1B) ⊎ (within ≡ true)) × (b ≢ 0x6D)
-goes_on true b e = (inr refl, λ same. absurd (grind (arith, nat_tests)))
-goes_on false b e = (inl (eqb-true b 0x1B e), λ same. absurd (grind (arith, nat_tests)))
+is_wrapped : (within : Bool) (b : ℕ) → is_within_after within b ≡ true → ((b ≡ 0x1B) ⊎ (within ≡ true)) × (b ≢ 0x6D)
+is_wrapped true b e = (inr refl, λ same. absurd (grind (arith, nat_tests)))
+is_wrapped false b e = (inl (eqb-true b 0x1B e), λ same. absurd (grind (arith, nat_tests)))
 
 goes_on_from : (within : Bool) (b : ℕ) → (b ≡ 0x1B) ⊎ (within ≡ true) → b ≢ 0x6D → is_within_after within b ≡ true
 goes_on_from true b e ne = rw (ne_eqb b 0x6D ne) refl
@@ -55,7 +55,7 @@ told within (b ∷ text) (suc k) lt e = by (told (is_within_after within b) text
   by : IsInStretch text k ⊎ ((is_within_after within b ≡ true) × NoEnd text k) →
       IsInStretch (b ∷ text) (suc k) ⊎ ((within ≡ true) × NoEnd (b ∷ text) (suc k))
   by (inl s) = inl (later_stretch b k text s)
-  by (inr s) = begun (goes_on within b s.0) where
+  by (inr s) = begun (is_wrapped within b s.0) where
     begun : ((b ≡ 0x1B) ⊎ (within ≡ true)) × (b ≢ 0x6D) →
         IsInStretch (b ∷ text) (suc k) ⊎ ((within ≡ true) × NoEnd (b ∷ text) (suc k))
     begun (inl esc, ne) = inl (0, omega arith, esc, λ j low high. end_first b k text ne s.1 j high)

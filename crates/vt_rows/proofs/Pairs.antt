@@ -6,10 +6,10 @@ use Rattle.std.proofs.lemmas.Bool.{cases_lt, cases_eq}
 use Rattle.std.proofs.lemmas.Bool.Decides.{nat_tests}
 use Rattle.std.proofs.lemmas.List.{length-replicate, get_or-set_same, get_or-set_other, set_past}
 use Rattle.vt_cells.specs.Cell.{CellValue, blank, glyph, right_half, default_blank, is_wide}
-use Rattle.vt_cells.specs.Cell.{is_blank, is_right_half, attrs_of, marked, widened}
+use Rattle.vt_cells.specs.Cell.{is_blank, is_right_half, attrs_of, cell_with_mark, cell_made_wide}
 use Rattle.vt_cells.specs.Attrs.{Attrs}
 use Rattle.vt_rows.specs.Cells.{at, IsPaired, put_cells, column_of, put_narrow, put_wide}
-use Rattle.vt_rows.specs.Cells.{erased, blanks, marked_at, widened_at, narrowed_at}
+use Rattle.vt_rows.specs.Cells.{cells_after_erase, blanks, marked_at, widened_at, narrowed_at}
 use Rattle.vt_rows.proofs.Columns.{put_columns, at-past}
 
 -- ---- Wide glyphs after a column was prepared for an overwrite
@@ -184,12 +184,12 @@ IsPaired-put_wide c text attrs cells h p =
     cells refl (omega arith) refl refl (IsPaired-two (glyph text true attrs) refl) p
 
 pub IsPaired-erased : (c n : ℕ) (attrs : Attrs) (cells : List CellValue) →
-    c + n ≤ length cells → IsPaired cells → IsPaired (erased c n attrs cells)
+    c + n ≤ length cells → IsPaired cells → IsPaired (cells_after_erase c n attrs cells)
 IsPaired-erased c n attrs cells h p =
     IsPaired-put_cells c n default_blank (blanks attrs n) cells
     (length-replicate n (blank attrs)) h refl refl (IsPaired-blanks attrs n) p
 
-is_wide-widened : (x : CellValue) → is_blank x ≡ false → is_right_half x ≡ false → is_wide (widened true x) ≡ true
+is_wide-widened : (x : CellValue) → is_blank x ≡ false → is_right_half x ≡ false → is_wide (cell_made_wide true x) ≡ true
 is_wide-widened (blank attrs) b r = cc
 is_wide-widened (glyph text wide attrs) b r = refl
 is_wide-widened right_half b r = cc
@@ -198,15 +198,15 @@ pub IsPaired-widened_at : (k : ℕ) (attrs : Attrs) (cells : List CellValue) →
     k + 1 < length cells → is_blank (at cells k) ≡ false → is_right_half (at cells k) ≡ false →
     IsPaired cells → IsPaired (widened_at k attrs cells)
 IsPaired-widened_at k attrs cells h b r p =
-    IsPaired-put_cells k 2 (blank attrs) (widened true (at cells k) ∷ right_half ∷ []) cells refl
-    (omega arith) refl refl (IsPaired-two (widened true (at cells k)) (is_wide-widened (at cells k) b r)) p
+    IsPaired-put_cells k 2 (blank attrs) (cell_made_wide true (at cells k) ∷ right_half ∷ []) cells refl
+    (omega arith) refl refl (IsPaired-two (cell_made_wide true (at cells k)) (is_wide-widened (at cells k) b r)) p
 
-is_wide-narrowed : (x : CellValue) → is_wide (widened false x) ≡ false
+is_wide-narrowed : (x : CellValue) → is_wide (cell_made_wide false x) ≡ false
 is_wide-narrowed (blank attrs) = refl
 is_wide-narrowed (glyph text wide attrs) = refl
 is_wide-narrowed right_half = refl
 
-is_right_half-widened : (wide : Bool) (x : CellValue) → is_right_half (widened wide x) ≡ is_right_half x
+is_right_half-widened : (wide : Bool) (x : CellValue) → is_right_half (cell_made_wide wide x) ≡ is_right_half x
 is_right_half-widened wide (blank attrs) = refl
 is_right_half-widened wide (glyph text was attrs) = refl
 is_right_half-widened wide right_half = refl
@@ -215,8 +215,8 @@ pub IsPaired-narrowed_at : (k : ℕ) (attrs : Attrs) (cells : List CellValue) �
     is_right_half (at cells k) ≡ false → IsPaired cells → IsPaired (narrowed_at k attrs cells)
 IsPaired-narrowed_at k attrs cells h r p =
     IsPaired-put_cells k 1 (glyph (0x20 ∷ []) false attrs)
-    (widened false (at cells k) ∷ []) cells refl (omega arith) refl refl
-    (IsPaired-one (widened false (at cells k)) (is_wide-narrowed (at cells k))
+    (cell_made_wide false (at cells k) ∷ []) cells refl (omega arith) refl refl
+    (IsPaired-one (cell_made_wide false (at cells k)) (is_wide-narrowed (at cells k))
     (is_right_half-widened false (at cells k) ∙ r))
     p
 
@@ -236,17 +236,17 @@ IsPaired-set k x cells w r p = record {
     | inr other ↦ ap f (get_or-set_other cells k j x default_blank other)
   ]
 
-pub is_wide-marked : (mark : ℕ) (x : CellValue) → is_wide (marked mark x) ≡ is_wide x
+pub is_wide-marked : (mark : ℕ) (x : CellValue) → is_wide (cell_with_mark mark x) ≡ is_wide x
 is_wide-marked mark (blank attrs) = refl
 is_wide-marked mark (glyph text wide attrs) = refl
 is_wide-marked mark right_half = refl
 
-pub is_right_half-marked : (mark : ℕ) (x : CellValue) → is_right_half (marked mark x) ≡ is_right_half x
+pub is_right_half-marked : (mark : ℕ) (x : CellValue) → is_right_half (cell_with_mark mark x) ≡ is_right_half x
 is_right_half-marked mark (blank attrs) = refl
 is_right_half-marked mark (glyph text wide attrs) = refl
 is_right_half-marked mark right_half = refl
 
 pub IsPaired-marked_at : (k mark : ℕ) (cells : List CellValue) → IsPaired cells → IsPaired (marked_at k mark cells)
 IsPaired-marked_at k mark cells p =
-    IsPaired-set k (marked mark (at cells k)) cells
+    IsPaired-set k (cell_with_mark mark (at cells k)) cells
     (is_wide-marked mark (at cells k)) (is_right_half-marked mark (at cells k)) p

@@ -7,7 +7,7 @@ use Rattle.std.proofs.lemmas.List.{append_assoc, take_rest, replicate_more, repl
 use Rattle.vt_cells.specs.Attrs.{default_attrs, Attrs}
 use Rattle.vt_cells.specs.Cell.{CellValue, blank, glyph, right_half, default_blank, is_glyph, is_right_half}
 use Rattle.vt_rows.specs.Basic.{shown_text}
-use Rattle.vt_rows.specs.Cells.{opened}
+use Rattle.vt_rows.specs.Cells.{cells_after_cut}
 use Rattle.vt_rows.specs.Internals.{plain_behind}
 use Rattle.vt_rows.specs.Plain.{up_to_last_glyph}
 
@@ -69,7 +69,7 @@ is_spread n (right_half ∷ cells) = is_spread n cells ∙ sym (behind_half n ce
 
 -- If the first cell is no continuation cell, the plain text of cells is the text of each cell up to the last glyph.
 pub plain_whole : (cells : List CellValue) → is_right_half (slice_index_or cells 0 default_blank) ≡ false →
-    plain_behind 0 cells ≡ flat_map shown_text (up_to_last_glyph (opened default_blank cells))
+    plain_behind 0 cells ≡ flat_map shown_text (up_to_last_glyph (cells_after_cut default_blank cells))
 plain_whole [] e = refl
 plain_whole (blank attrs ∷ cells) e = is_spread 0 (blank attrs ∷ cells) ∙ no_gap (blank attrs ∷ cells)
 plain_whole (glyph text wide attrs ∷ cells) e =
@@ -77,7 +77,7 @@ plain_whole (glyph text wide attrs ∷ cells) e =
 plain_whole (right_half ∷ cells) e = cc
 
 plain_opened : (cells : List CellValue) → is_right_half (slice_index_or cells 0 default_blank) ≡ true →
-    plain_behind 1 (drop 1 cells) ≡ flat_map shown_text (up_to_last_glyph (opened default_blank cells))
+    plain_behind 1 (drop 1 cells) ≡ flat_map shown_text (up_to_last_glyph (cells_after_cut default_blank cells))
 plain_opened [] e = cc
 plain_opened (blank attrs ∷ cells) e = cc
 plain_opened (glyph text wide attrs ∷ cells) e = cc
@@ -86,7 +86,7 @@ plain_opened (right_half ∷ cells) e =
 
 pub plain_cut : (cells : List CellValue) → is_right_half (slice_index_or cells 0 default_blank) ≡ true →
     plain_behind 1 (take (length cells - 1) (drop 1 cells))
-    ≡ flat_map shown_text (up_to_last_glyph (opened default_blank cells))
+    ≡ flat_map shown_text (up_to_last_glyph (cells_after_cut default_blank cells))
 plain_cut cells e = ap (plain_behind 1) (take_rest cells 1) ∙ plain_opened cells e
 
 -- Writing sixteen of the remaining spaces, and then the others, writes all remaining spaces.

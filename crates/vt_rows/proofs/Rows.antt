@@ -7,11 +7,11 @@ use Rattle.std.proofs.lemmas.Bool.Decides.{nat_tests}
 use Rattle.std.proofs.lemmas.List.{length-set, length-replicate}
 use Rattle.std.proofs.lemmas.List.Elements.{All-replicate}
 use Rattle.vt_cells.specs.Cell.{CellValue, blank, glyph, right_half, default_blank}
-use Rattle.vt_cells.specs.Cell.{is_blank, is_right_half, marked, widened, IsCell}
+use Rattle.vt_cells.specs.Cell.{is_blank, is_right_half, cell_with_mark, cell_made_wide, IsCell}
 use Rattle.vt_cells.specs.Glyph.{IsGlyphText}
 use Rattle.vt_cells.specs.Attrs.{Attrs}
 use Rattle.vt_rows.specs.Cells.{at, IsPaired, ends_blank, blanks, put_cells, column_of, put_narrow}
-use Rattle.vt_rows.specs.Cells.{put_wide, erased, marked_at, widened_at, narrowed_at}
+use Rattle.vt_rows.specs.Cells.{put_wide, cells_after_erase, marked_at, widened_at, narrowed_at}
 use Rattle.vt_rows.specs.Row.{RowValue, IsRow, blank_row, with_cells}
 use Rattle.vt_rows.proofs.Columns.{put_columns, length-put_cells}
 use Rattle.vt_rows.proofs.Pairs.{IsPaired-put_narrow, IsPaired-put_wide, IsPaired-erased, IsPaired-marked_at}
@@ -32,22 +32,22 @@ length-put_wide c text attrs cells h =
     length-put_cells c 2 (blank attrs) (glyph text true attrs ∷ right_half ∷ []) cells refl (omega arith)
 
 pub length-erased : (c n : ℕ) (attrs : Attrs) (cells : List CellValue) →
-    c + n ≤ length cells → length (erased c n attrs cells) ≡ length cells
+    c + n ≤ length cells → length (cells_after_erase c n attrs cells) ≡ length cells
 length-erased c n attrs cells h =
     length-put_cells c n default_blank (blanks attrs n) cells (length-replicate n (blank attrs)) h
 
 pub length-marked_at : (k mark : ℕ) (cells : List CellValue) → length (marked_at k mark cells) ≡ length cells
-length-marked_at k mark cells = length-set cells k (marked mark (at cells k))
+length-marked_at k mark cells = length-set cells k (cell_with_mark mark (at cells k))
 
 pub length-widened_at : (k : ℕ) (attrs : Attrs) (cells : List CellValue) →
     k + 1 < length cells → length (widened_at k attrs cells) ≡ length cells
 length-widened_at k attrs cells h =
-    length-put_cells k 2 (blank attrs) (widened true (at cells k) ∷ right_half ∷ []) cells refl (omega arith)
+    length-put_cells k 2 (blank attrs) (cell_made_wide true (at cells k) ∷ right_half ∷ []) cells refl (omega arith)
 
 pub length-narrowed_at : (k : ℕ) (attrs : Attrs) (cells : List CellValue) →
     k < length cells → length (narrowed_at k attrs cells) ≡ length cells
 length-narrowed_at k attrs cells h =
-    length-put_cells k 1 (glyph (0x20 ∷ []) false attrs) (widened false (at cells k) ∷ []) cells refl (omega arith)
+    length-put_cells k 1 (glyph (0x20 ∷ []) false attrs) (cell_made_wide false (at cells k) ∷ []) cells refl (omega arith)
 
 -- ---- The last column
 
@@ -141,13 +141,13 @@ IsRow-put_wide width row c text attrs h t r =
     (IsPaired-put_wide c text attrs row.cells (omega arith) r.paired) (All-put_wide c text attrs row.cells t r.sound)
 
 pub IsRow-erased : (width : ℕ) (row : RowValue) (c n : ℕ) (attrs : Attrs) → c + n ≤ width →
-    IsRow width row → IsRow width (with_cells row (erased c n attrs row.cells))
+    IsRow width row → IsRow width (with_cells row (cells_after_erase c n attrs row.cells))
 IsRow-erased width row c n attrs h r =
     let l = r.columns in
-    IsRow-with_cells width row (erased c n attrs row.cells) (length-erased c n attrs row.cells (omega arith) ∙ l)
+    IsRow-with_cells width row (cells_after_erase c n attrs row.cells) (length-erased c n attrs row.cells (omega arith) ∙ l)
     (IsPaired-erased c n attrs row.cells (omega arith) r.paired) (All-erased c n attrs row.cells r.sound)
 
-pub IsRow-marked_at : (width : ℕ) (row : RowValue) (k mark : ℕ) → IsCell (marked mark (at row.cells k)) →
+pub IsRow-marked_at : (width : ℕ) (row : RowValue) (k mark : ℕ) → IsCell (cell_with_mark mark (at row.cells k)) →
     IsRow width row → IsRow width (with_cells row (marked_at k mark row.cells))
 IsRow-marked_at width row k mark h r =
     IsRow-with_cells width row (marked_at k mark row.cells) (length-marked_at k mark row.cells ∙ r.columns)
@@ -155,7 +155,7 @@ IsRow-marked_at width row k mark h r =
 
 pub IsRow-widened_at : (width : ℕ) (row : RowValue) (k : ℕ) (attrs : Attrs) →
     k + 1 < width → is_blank (at row.cells k) ≡ false →
-    is_right_half (at row.cells k) ≡ false → IsCell (widened true (at row.cells k)) →
+    is_right_half (at row.cells k) ≡ false → IsCell (cell_made_wide true (at row.cells k)) →
     IsRow width row → IsRow width (with_cells row (widened_at k attrs row.cells))
 IsRow-widened_at width row k attrs h b e t r =
     let l = r.columns in
@@ -163,7 +163,7 @@ IsRow-widened_at width row k attrs h b e t r =
     (IsPaired-widened_at k attrs row.cells (omega arith) b e r.paired) (All-widened_at k attrs row.cells t r.sound)
 
 pub IsRow-narrowed_at : (width : ℕ) (row : RowValue) (k : ℕ) (attrs : Attrs) → k < width →
-    is_right_half (at row.cells k) ≡ false → IsCell (widened false (at row.cells k)) →
+    is_right_half (at row.cells k) ≡ false → IsCell (cell_made_wide false (at row.cells k)) →
     IsRow width row → IsRow width (with_cells row (narrowed_at k attrs row.cells))
 IsRow-narrowed_at width row k attrs h e t r =
     let l = r.columns in

@@ -9,8 +9,8 @@ use Rattle.std.proofs.lemmas.List.{length-append, get_or_append_left, get_or-app
 use Rattle.std.proofs.lemmas.List.{length-set, length-replicate, get_or-replicate}
 use Rattle.vt_cells.specs.Attrs.{default_attrs}
 use Rattle.vt_cells.specs.Cell.{CellValue, blank, glyph, right_half, default_blank, is_wide, is_right_half, attrs_of}
-use Rattle.vt_rows.specs.Cells.{at, IsPaired, blanks, moved, moved_at, inserted, deleted}
-use Rattle.vt_rows.specs.Cells.{resized, insert_source, delete_source, insert_column}
+use Rattle.vt_rows.specs.Cells.{at, IsPaired, blanks, cells_after_move, moved_at, cells_after_insert, cells_after_delete}
+use Rattle.vt_rows.specs.Cells.{cells_after_resize, insert_source, delete_source, insert_column}
 use Rattle.vt_rows.specs.Internals.{left_blanked, right_replaced, end_blanked}
 use Rattle.vt_rows.proofs.Columns.{at-past, at-blanks}
 use Rattle.vt_rows.proofs.Pairs.{not_both, wide_mended}
@@ -96,8 +96,8 @@ settle last t s right_half a b r = let e = r refl in grind (arith)
 -- ---- Cut or extended
 
 pub resized_is : (n : ℕ) (cells ys : List CellValue) → IsPaired cells → length ys ≡ n →
-    ((k : ℕ) → k < n → at ys k ≡ at cells k) → end_blanked ys ≡ resized n cells
-unfolding resized
+    ((k : ℕ) → k < n → at ys k ≡ at cells k) → end_blanked ys ≡ cells_after_resize n cells
+unfolding cells_after_resize
 resized_is n cells ys p e f = moved_is n (λ k. k) cells (end_blanked ys) (length-end_blanked ys ∙ e) column where
   column : (k : ℕ) → k < n → at (end_blanked ys) k ≡ moved_at n (λ k. k) cells k
   column k h =
@@ -122,7 +122,7 @@ at-grown n k cells = elim (cases_lt k (length cells)) [
 
 -- Appending default blanks to a row gives the row resized to a greater width.
 pub grown_is : (n : ℕ) (cells : List CellValue) → IsPaired cells → length cells ≤ n →
-    cells ++ blanks default_attrs (n - length cells) ≡ resized n cells
+    cells ++ blanks default_attrs (n - length cells) ≡ cells_after_resize n cells
 grown_is n cells p le =
     let ys = cells ++ blanks default_attrs (n - length cells) in
     let l : length ys ≡ n = omega (
@@ -151,7 +151,7 @@ inserted_behind c cells p = by_half (is_right_half (at cells c)) refl where
 pub insert_steps : (s n : ℕ) (cells ys : List CellValue) → IsPaired cells →
     s ≤ length cells → is_right_half (at cells s) ≡ false → length ys ≡ length cells →
     ((k : ℕ) → k < length cells → at ys k ≡ at cells (insert_source (length cells) s n k)) →
-    end_blanked ys ≡ moved (length cells) (insert_source (length cells) s n) cells
+    end_blanked ys ≡ cells_after_move (length cells) (insert_source (length cells) s n) cells
 insert_steps s n cells ys p le rs e f =
     moved_is (length cells) (insert_source (length cells) s n)
     cells (end_blanked ys) (length-end_blanked ys ∙ e) column where
@@ -261,8 +261,8 @@ pub insert_code : (c n s m : ℕ) (cells slid new : List CellValue) → IsPaired
     ((j : ℕ) → j < s → at slid j ≡ at cells j) →
     ((j : ℕ) → s + m ≤ j → j < length cells → at slid j ≡ at cells (s + (j - (s + m)))) →
     new ≡ blanks default_attrs m →
-    end_blanked (put_mid s m slid new) ≡ inserted c n cells
-unfolding inserted
+    end_blanked (put_mid s m slid new) ≡ cells_after_insert c n cells
+unfolding cells_after_insert
 insert_code c n s m cells slid new p is le e l before behind b =
     let rs : is_right_half (at cells s) ≡ false =
     ap (λ (j : ℕ). is_right_half (at cells j)) is ∙ inserted_behind c cells p in
@@ -270,13 +270,13 @@ insert_code c n s m cells slid new p is le e l before behind b =
     let fits : s + m ≤ length slid = omega arith in
     insert_steps s n cells (put_mid s m slid new) p le rs (length-put_mid s m slid new size fits ∙ l)
     (λ k h. inserted_column s n m k cells slid new le e l h before behind b)
-    ∙ ap (λ (j : ℕ). moved (length cells) (insert_source (length cells) j n) cells) is
+    ∙ ap (λ (j : ℕ). cells_after_move (length cells) (insert_source (length cells) j n) cells) is
 
 -- ---- Deleted
 
 pub deleted-none : (c n : ℕ) (cells : List CellValue) → IsPaired cells →
-    c ≤ length cells → min n (length cells - c) ≡ 0 → cells ≡ deleted c n cells
-unfolding deleted
+    c ≤ length cells → min n (length cells - c) ≡ 0 → cells ≡ cells_after_delete c n cells
+unfolding cells_after_delete
 deleted-none c n cells p le e = moved_is (length cells) (delete_source c n) cells cells refl column where
   nothing : (n ≡ 0) ⊎ (c ≡ length cells)
   nothing = elim (cases_eq n 0) [ inl z ↦ inl z | inr some ↦ inr (omega arith) ]
@@ -372,8 +372,8 @@ pub delete_code : (c n m : ℕ) (cells slid new : List CellValue) → IsPaired c
     ((j : ℕ) → c ≤ j → j < length cells - m →
     at slid j ≡ at (right_replaced (c + m - 1) default_blank (left_blanked c cells)) (c + m + (j - c))) →
     new ≡ blanks default_attrs m →
-    put_mid (length cells - m) m slid new ≡ deleted c n cells
-unfolding deleted
+    put_mid (length cells - m) m slid new ≡ cells_after_delete c n cells
+unfolding cells_after_delete
 delete_code c n m cells slid new p le e pos l before behind b =
     let size : length new ≡ m = ap length b ∙ length-replicate m default_blank in
     let fits : length cells - m + m ≤ length slid = omega arith in

@@ -5,24 +5,24 @@ use Rattle.std.proofs.lemmas.List.Elements.{All-nil, All-cons, All-head, All-tai
 use Rattle.std.proofs.lemmas.List.Elements.{All-take, All-drop, All-replicate, All-set}
 use Rattle.vt_cells.specs.Glyph.{IsGlyphText}
 use Rattle.vt_cells.proofs.Cells.{IsCell-space}
-use Rattle.vt_cells.specs.Cell.{CellValue, blank, glyph, right_half, default_blank, marked, widened, IsCell}
+use Rattle.vt_cells.specs.Cell.{CellValue, blank, glyph, right_half, default_blank, cell_with_mark, cell_made_wide, IsCell}
 use Rattle.vt_cells.specs.Attrs.{Attrs}
-use Rattle.vt_rows.specs.Cells.{at, mended, shut, opened, put_cells, put_narrow, put_wide}
-use Rattle.vt_rows.specs.Cells.{erased, blanks, marked_at, widened_at, narrowed_at}
+use Rattle.vt_rows.specs.Cells.{at, cell_cut_from_right_half, cells_before_cut, cells_after_cut, put_cells, put_narrow, put_wide}
+use Rattle.vt_rows.specs.Cells.{cells_after_erase, blanks, marked_at, widened_at, narrowed_at}
 
-IsCell-mended : (x : CellValue) → IsCell x → IsCell (mended x)
+IsCell-mended : (x : CellValue) → IsCell x → IsCell (cell_cut_from_right_half x)
 IsCell-mended (blank attrs) h = tt
 IsCell-mended (glyph text true attrs) h = tt
 IsCell-mended (glyph text false attrs) h = h
 IsCell-mended right_half h = tt
 
-All-shut : (cells : List CellValue) → All IsCell cells → All IsCell (shut cells)
+All-shut : (cells : List CellValue) → All IsCell cells → All IsCell (cells_before_cut cells)
 All-shut [] h = h
-All-shut (x ∷ []) h = All-cons IsCell (mended x) [] (IsCell-mended x (All-head IsCell x [] h)) (All-nil IsCell)
+All-shut (x ∷ []) h = All-cons IsCell (cell_cut_from_right_half x) [] (IsCell-mended x (All-head IsCell x [] h)) (All-nil IsCell)
 All-shut (x ∷ y ∷ xs) h =
-    All-cons IsCell x (shut (y ∷ xs)) (All-head IsCell x (y ∷ xs) h) (All-shut (y ∷ xs) (All-tail IsCell x (y ∷ xs) h))
+    All-cons IsCell x (cells_before_cut (y ∷ xs)) (All-head IsCell x (y ∷ xs) h) (All-shut (y ∷ xs) (All-tail IsCell x (y ∷ xs) h))
 
-All-opened : (o : CellValue) (cells : List CellValue) → IsCell o → All IsCell cells → All IsCell (opened o cells)
+All-opened : (o : CellValue) (cells : List CellValue) → IsCell o → All IsCell cells → All IsCell (cells_after_cut o cells)
 All-opened o [] i h = h
 All-opened o (right_half ∷ xs) i h = All-cons IsCell o xs i (All-tail IsCell right_half xs h)
 All-opened o (blank attrs ∷ xs) i h = h
@@ -33,8 +33,8 @@ pub All-put_cells : (c n : ℕ) (o : CellValue) (new cells : List CellValue) →
 unfolding put_cells
 All-put_cells c n o new cells i h all =
     let rest = drop n (drop c cells) in
-    All-append IsCell (shut (take c cells)) _ (All-shut (take c cells) (All-take IsCell c cells all))
-    (All-append IsCell new (opened o rest) h
+    All-append IsCell (cells_before_cut (take c cells)) _ (All-shut (take c cells) (All-take IsCell c cells all))
+    (All-append IsCell new (cells_after_cut o rest) h
     (All-opened o rest i (All-drop IsCell n (drop c cells) (All-drop IsCell c cells all))))
 
 -- ---- The edits
@@ -55,22 +55,22 @@ All-put_wide c text attrs cells h all =
     cells tt (All-two (glyph text true attrs) h) all
 
 pub All-erased : (c n : ℕ) (attrs : Attrs) (cells : List CellValue) →
-    All IsCell cells → All IsCell (erased c n attrs cells)
+    All IsCell cells → All IsCell (cells_after_erase c n attrs cells)
 All-erased c n attrs cells all =
     All-put_cells c n default_blank (blanks attrs n) cells tt (All-replicate IsCell n (blank attrs) tt) all
 
 pub All-marked_at : (k mark : ℕ) (cells : List CellValue) →
-    IsCell (marked mark (at cells k)) → All IsCell cells → All IsCell (marked_at k mark cells)
-All-marked_at k mark cells h all = All-set IsCell cells k (marked mark (at cells k)) h all
+    IsCell (cell_with_mark mark (at cells k)) → All IsCell cells → All IsCell (marked_at k mark cells)
+All-marked_at k mark cells h all = All-set IsCell cells k (cell_with_mark mark (at cells k)) h all
 
 pub All-widened_at : (k : ℕ) (attrs : Attrs) (cells : List CellValue) →
-    IsCell (widened true (at cells k)) → All IsCell cells → All IsCell (widened_at k attrs cells)
+    IsCell (cell_made_wide true (at cells k)) → All IsCell cells → All IsCell (widened_at k attrs cells)
 All-widened_at k attrs cells h all =
-    All-put_cells k 2 (blank attrs) (widened true (at cells k) ∷ right_half ∷ [])
-    cells tt (All-two (widened true (at cells k)) h) all
+    All-put_cells k 2 (blank attrs) (cell_made_wide true (at cells k) ∷ right_half ∷ [])
+    cells tt (All-two (cell_made_wide true (at cells k)) h) all
 
 pub All-narrowed_at : (k : ℕ) (attrs : Attrs) (cells : List CellValue) →
-    IsCell (widened false (at cells k)) → All IsCell cells → All IsCell (narrowed_at k attrs cells)
+    IsCell (cell_made_wide false (at cells k)) → All IsCell cells → All IsCell (narrowed_at k attrs cells)
 All-narrowed_at k attrs cells h all =
-    All-put_cells k 1 (glyph (0x20 ∷ []) false attrs) (widened false (at cells k) ∷ []) cells
-    (IsCell-space attrs) (All-cons IsCell (widened false (at cells k)) [] h (All-nil IsCell)) all
+    All-put_cells k 1 (glyph (0x20 ∷ []) false attrs) (cell_made_wide false (at cells k) ∷ []) cells
+    (IsCell-space attrs) (All-cons IsCell (cell_made_wide false (at cells k)) [] h (All-nil IsCell)) all

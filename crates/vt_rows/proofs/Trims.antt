@@ -13,7 +13,7 @@ use Rattle.vt_cells.specs.Cell.{is_blank, is_right_half, is_default_blank, attrs
 use Rattle.vt_cells.proofs.Same.{attrs_of-same, same_attrs-itself}
 use Rattle.vt_rows.specs.Cells.{at, IsPaired, blanks, ends_blank}
 use Rattle.vt_rows.proofs.Columns.{at-blanks, at-past, blanks_is}
-use Rattle.vt_rows.specs.Row.{RowValue, IsRow, trimmed, trimmed_row}
+use Rattle.vt_rows.specs.Row.{RowValue, IsRow, cells_without_end, trimmed_row}
 
 pub default_is : (x : CellValue) → is_blank x ≡ true → same_attrs (attrs_of x) default_attrs ≡ is_default_blank x
 default_is (blank attrs) e = refl
@@ -53,47 +53,47 @@ not_all cells k h e =
 -- The first n cells of a row are its trimmed cells if all later cells are default blanks and cell n - 1, if any, is
 -- not.
 pub trimmed_is : (cells : List CellValue) (n : ℕ) → n ≤ length cells → ((k : ℕ) → n ≤ k → at cells k ≡ default_blank) →
-    ((j : ℕ) → n ≡ suc j → is_default_blank (at cells j) ≡ false) → take n cells ≡ trimmed cells
+    ((j : ℕ) → n ≡ suc j → is_default_blank (at cells j) ≡ false) → take n cells ≡ cells_without_end cells
 trimmed_is [] zero h f g = refl
 trimmed_is [] (suc n) h f g = absurd (omega arith)
 trimmed_is (x ∷ xs) zero h f g = sym (rw (all_default (x ∷ xs) (λ k. f k (omega arith))) refl)
 trimmed_is (x ∷ xs) (suc n) h f g =
     let no : list_all is_default_blank (x ∷ xs) ≡ false = not_all (x ∷ xs) n (omega arith) (g n refl) in
-    let ih : take n xs ≡ trimmed xs =
+    let ih : take n xs ≡ cells_without_end xs =
     trimmed_is xs n (omega arith) (λ k le. f (suc k) (omega arith)) (λ j e. g (suc j) (ap suc e)) in
     rw no (ap (λ (ys : List CellValue). x ∷ ys) ih)
 
-pub at-trimmed : (cells : List CellValue) (k : ℕ) → at (trimmed cells) k ≡ at cells k
+pub at-trimmed : (cells : List CellValue) (k : ℕ) → at (cells_without_end cells) k ≡ at cells k
 at-trimmed [] k = refl
 at-trimmed (x ∷ xs) k = by_all (λ j. at-trimmed xs j) (list_all is_default_blank (x ∷ xs)) refl k where
-  by_all : ((j : ℕ) → at (trimmed xs) j ≡ at xs j) → (b : Bool) → list_all is_default_blank (x ∷ xs) ≡ b →
-      (k : ℕ) → at (if b then [] else x ∷ trimmed xs) k ≡ at (x ∷ xs) k
+  by_all : ((j : ℕ) → at (cells_without_end xs) j ≡ at xs j) → (b : Bool) → list_all is_default_blank (x ∷ xs) ≡ b →
+      (k : ℕ) → at (if b then [] else x ∷ cells_without_end xs) k ≡ at (x ∷ xs) k
   by_all ih true e k = sym (all_default-at (x ∷ xs) k e)
   by_all ih false e zero = refl
   by_all ih false e (suc k) = ih k
 
-pub length-trimmed : (cells : List CellValue) → length (trimmed cells) ≤ length cells
+pub length-trimmed : (cells : List CellValue) → length (cells_without_end cells) ≤ length cells
 length-trimmed [] = omega arith
 length-trimmed (x ∷ xs) =
     let ih = length-trimmed xs in
-    cond_both (list_all is_default_blank (x ∷ xs)) [] (x ∷ trimmed xs)
+    cond_both (list_all is_default_blank (x ∷ xs)) [] (x ∷ cells_without_end xs)
     (λ (ys : List CellValue). length ys ≤ length (x ∷ xs)) (λ _. omega arith) (λ _. omega arith)
 
-pub IsPaired-trimmed : (cells : List CellValue) → IsPaired cells → IsPaired (trimmed cells)
+pub IsPaired-trimmed : (cells : List CellValue) → IsPaired cells → IsPaired (cells_without_end cells)
 IsPaired-trimmed cells p = record {
   halves = λ k. ap is_wide (at-trimmed cells k) ∙ (p.halves k ∙ sym (ap is_right_half (at-trimmed cells (k + 1))));
   first = ap is_right_half (at-trimmed cells 0) ∙ p.first;
 }
 
-pub All-trimmed : (cells : List CellValue) → All IsCell cells → All IsCell (trimmed cells)
+pub All-trimmed : (cells : List CellValue) → All IsCell cells → All IsCell (cells_without_end cells)
 All-trimmed [] all = all
 All-trimmed (x ∷ xs) all =
     let ih = All-trimmed xs (All-tail IsCell x xs all) in
-    cond_both (list_all is_default_blank (x ∷ xs)) [] (x ∷ trimmed xs) (All IsCell)
-    (λ _. All-nil IsCell) (λ _. All-cons IsCell x (trimmed xs) (All-head IsCell x xs all) ih)
+    cond_both (list_all is_default_blank (x ∷ xs)) [] (x ∷ cells_without_end xs) (All IsCell)
+    (λ _. All-nil IsCell) (λ _. All-cons IsCell x (cells_without_end xs) (All-head IsCell x xs all) ih)
 
 -- If the last cell is not a blank, trimming changes nothing.
-pub trimmed-none : (cells : List CellValue) → ends_blank cells ≡ false → trimmed cells ≡ cells
+pub trimmed-none : (cells : List CellValue) → ends_blank cells ≡ false → cells_without_end cells ≡ cells
 trimmed-none cells e =
     sym (trimmed_is cells (length cells) (omega arith) (λ k le. at-past cells k le) (λ j l. last j l))
     ∙ take_all (length cells) cells (omega arith) where
@@ -103,7 +103,7 @@ trimmed-none cells e =
           no_default (at cells j) (ap (λ (m : ℕ). is_blank (at cells m)) (sym i) ∙ e)
 
 pub IsRow-trimmed_row : (width : ℕ) (row : RowValue) → IsRow width row →
-    IsRow (length (trimmed row.cells)) (trimmed_row row)
+    IsRow (length (cells_without_end row.cells)) (trimmed_row row)
 IsRow-trimmed_row width row r = record {
   columns = refl;
   paired = IsPaired-trimmed row.cells r.paired;

@@ -3,7 +3,7 @@ use Rattle.std.specs.Prelude.{◌||◌, ℕ, not, Bool, false, List, [], ◌∷�
 use Rattle.vt_cells.specs.Attrs.{default_attrs, Attrs}
 use Rattle.vt_cells.specs.Cell.{CellValue, blank, glyph, right_half, is_default_blank, is_right_half, attrs_of}
 use Rattle.vt_cells.specs.Op.{change_text}
-use Rattle.vt_rows.specs.Row.{RowValue, trimmed}
+use Rattle.vt_rows.specs.Row.{RowValue, cells_without_end}
 
 -- The state of a capture between two rows: the current attributes, and whether a line end is due before the next row.
 pub record Written : Type 0 where
@@ -11,8 +11,8 @@ pub record Written : Type 0 where
   pub is_due : Bool
 
 -- The initial state of a capture, before any text is written.
-abbrev pub unwritten : Written
-unwritten = record { attrs = default_attrs; is_due = false }
+abbrev pub nothing_written : Written
+nothing_written = record { attrs = default_attrs; is_due = false }
 
 -- The cell has no attributes of its own, because it is a default blank or a continuation cell.
 abbrev pub is_bare : CellValue → Bool
@@ -42,9 +42,9 @@ attrs_after_all attrs (cell ∷ cells) = attrs_after_all (attrs_after attrs cell
 
 -- The basic text of a row: a line end if one is due, followed by the text of the cells without trailing default blanks.
 abbrev pub basic_text : Written → RowValue → List ℕ
-basic_text written row = (if written.is_due then 0x0A ∷ [] else []) ++ cells_text written.attrs (trimmed row.cells)
+basic_text written row = (if written.is_due then 0x0A ∷ [] else []) ++ cells_text written.attrs (cells_without_end row.cells)
 
 -- The state of a capture after a row is written: a line end is due unless the row is wrapped.
 abbrev pub written_after : Written → RowValue → Written
 written_after written row =
-    record { attrs = attrs_after_all written.attrs (trimmed row.cells); is_due = not row.wrapped }
+    record { attrs = attrs_after_all written.attrs (cells_without_end row.cells); is_due = not row.wrapped }

@@ -3,7 +3,7 @@ use Rattle.std.specs.Prelude.{◌≡◌, ℕ, ◌+◌, ◌-◌, ◌&&◌, ◌==�
 use Rattle.std.specs.Prelude.{length, take, drop, replicate, map, slice_index_or, slice_set, if◌then◌else◌}
 use Rattle.std.specs.List.{range_with_len}
 use Rattle.vt_cells.specs.Cell.{CellValue, blank, glyph, right_half, default_blank, is_wide}
-use Rattle.vt_cells.specs.Cell.{is_blank, is_right_half, attrs_of, marked, widened}
+use Rattle.vt_cells.specs.Cell.{is_blank, is_right_half, attrs_of, cell_with_mark, cell_made_wide}
 use Rattle.vt_cells.specs.Attrs.{Attrs}
 
 -- The cell at a column, or a default blank if the column is past the end.
@@ -30,31 +30,31 @@ blanks attrs n = replicate n (blank attrs)
 -- ---- Edits that replace columns
 
 -- The cell itself, or a blank with the same attributes if the cell is the first cell of a wide glyph.
-abbrev pub mended : CellValue → CellValue
-mended (glyph text true attrs) = blank attrs
-mended (glyph text false attrs) = glyph text false attrs
-mended (blank attrs) = blank attrs
-mended right_half = right_half
+abbrev pub cell_cut_from_right_half : CellValue → CellValue
+cell_cut_from_right_half (glyph text true attrs) = blank attrs
+cell_cut_from_right_half (glyph text false attrs) = glyph text false attrs
+cell_cut_from_right_half (blank attrs) = blank attrs
+cell_cut_from_right_half right_half = right_half
 
 -- The first cells of a row, after the cells to their right are cut off. If the last of the remaining cells is the first
 -- cell of a wide glyph, it becomes a blank.
-abbrev pub shut : List CellValue → List CellValue
-shut [] = []
-shut (x ∷ []) = mended x ∷ []
-shut (x ∷ y ∷ xs) = x ∷ shut (y ∷ xs)
+abbrev pub cells_before_cut : List CellValue → List CellValue
+cells_before_cut [] = []
+cells_before_cut (x ∷ []) = cell_cut_from_right_half x ∷ []
+cells_before_cut (x ∷ y ∷ xs) = x ∷ cells_before_cut (y ∷ xs)
 
 -- The last cells of a row, after the cells to their left are cut off. If the first of the remaining cells is a
 -- continuation cell, it becomes `orphan`.
-abbrev pub opened : CellValue → List CellValue → List CellValue
-opened orphan [] = []
-opened orphan (right_half ∷ xs) = orphan ∷ xs
-opened orphan (blank attrs ∷ xs) = blank attrs ∷ xs
-opened orphan (glyph text wide attrs ∷ xs) = glyph text wide attrs ∷ xs
+abbrev pub cells_after_cut : CellValue → List CellValue → List CellValue
+cells_after_cut orphan [] = []
+cells_after_cut orphan (right_half ∷ xs) = orphan ∷ xs
+cells_after_cut orphan (blank attrs ∷ xs) = blank attrs ∷ xs
+cells_after_cut orphan (glyph text wide attrs ∷ xs) = glyph text wide attrs ∷ xs
 
 -- The cells of a row after `n` of them, starting at column `c`, are replaced by the cells `new`. A wide glyph that
 -- loses its continuation cell becomes a blank, and a continuation cell that loses its wide glyph becomes `orphan`.
 unfoldable pub put_cells : ℕ → CellValue → List CellValue → ℕ → List CellValue → List CellValue
-put_cells c orphan new n cells = shut (take c cells) ++ (new ++ opened orphan (drop n (drop c cells)))
+put_cells c orphan new n cells = cells_before_cut (take c cells) ++ (new ++ cells_after_cut orphan (drop n (drop c cells)))
 
 -- The cell at column `k` of the result of `put_cells c orphan new n cells`, in terms of the old cells.
 abbrev pub column_of : ℕ → ℕ → CellValue → List CellValue → List CellValue → ℕ → CellValue
@@ -77,22 +77,22 @@ put_wide c text attrs cells = put_cells c (blank attrs) (glyph text true attrs �
 -- The cells of a row after `n` columns, starting at column `c`, are erased. If only one cell of a wide glyph is erased,
 -- the other cell becomes a blank: with the glyph's attributes if it was the first cell, and with default attributes if
 -- it was the continuation cell.
-abbrev pub erased : ℕ → ℕ → Attrs → List CellValue → List CellValue
-erased c n attrs cells = put_cells c default_blank (blanks attrs n) n cells
+abbrev pub cells_after_erase : ℕ → ℕ → Attrs → List CellValue → List CellValue
+cells_after_erase c n attrs cells = put_cells c default_blank (blanks attrs n) n cells
 
 -- The cells after a combining character is added to the cell at column `k`. The width of that cell is unchanged.
 abbrev pub marked_at : ℕ → ℕ → List CellValue → List CellValue
-marked_at k mark cells = slice_set cells k (marked mark (at cells k))
+marked_at k mark cells = slice_set cells k (cell_with_mark mark (at cells k))
 
 -- The cells after the narrow glyph at column `k` becomes wide. If the new continuation cell overwrites the first cell
 -- of another wide glyph, that glyph's continuation cell becomes a blank with the attributes `attrs`.
 abbrev pub widened_at : ℕ → Attrs → List CellValue → List CellValue
-widened_at k attrs cells = put_cells k (blank attrs) (widened true (at cells k) ∷ right_half ∷ []) 2 cells
+widened_at k attrs cells = put_cells k (blank attrs) (cell_made_wide true (at cells k) ∷ right_half ∷ []) 2 cells
 
 -- The cells after the wide glyph at column `k` becomes narrow. The glyph's continuation cell becomes a space with the
 -- attributes `attrs`.
 abbrev pub narrowed_at : ℕ → Attrs → List CellValue → List CellValue
-narrowed_at k attrs cells = put_cells k (glyph (0x20 ∷ []) false attrs) (widened false (at cells k) ∷ []) 1 cells
+narrowed_at k attrs cells = put_cells k (glyph (0x20 ∷ []) false attrs) (cell_made_wide false (at cells k) ∷ []) 1 cells
 
 -- ---- Edits that move columns: column `k` was column `source k`, or is a default blank if that is past the end
 
@@ -107,8 +107,8 @@ moved_at n source cells k =
 
 -- The cells of a row of `n` columns after columns moved: column `k` gets the cell that was in column `source k`. A cell
 -- that is no longer next to the other cell of its wide glyph becomes a blank.
-unfoldable pub moved : ℕ → (ℕ → ℕ) → List CellValue → List CellValue
-moved n source cells = by_column n (moved_at n source cells)
+unfoldable pub cells_after_move : ℕ → (ℕ → ℕ) → List CellValue → List CellValue
+cells_after_move n source cells = by_column n (moved_at n source cells)
 
 -- The column at which blanks are inserted: the given column, or the next one if the given column holds a continuation
 -- cell.
@@ -126,14 +126,14 @@ delete_source c n k = if nat_lt k c then k else k + n
 
 -- The cells of a row after `n` default blanks are inserted at column `c` (ICH). Cells that are pushed past the end are
 -- lost.
-unfoldable pub inserted : ℕ → ℕ → List CellValue → List CellValue
-inserted c n cells = moved (length cells) (insert_source (length cells) (insert_column c cells) n) cells
+unfoldable pub cells_after_insert : ℕ → ℕ → List CellValue → List CellValue
+cells_after_insert c n cells = cells_after_move (length cells) (insert_source (length cells) (insert_column c cells) n) cells
 
 -- The cells of a row after `n` columns, starting at column `c`, are deleted (DCH). Default blanks fill the end of the
 -- row.
-unfoldable pub deleted : ℕ → ℕ → List CellValue → List CellValue
-deleted c n cells = moved (length cells) (delete_source c n) cells
+unfoldable pub cells_after_delete : ℕ → ℕ → List CellValue → List CellValue
+cells_after_delete c n cells = cells_after_move (length cells) (delete_source c n) cells
 
 -- The cells of a row, truncated or extended to `n` columns.
-unfoldable pub resized : ℕ → List CellValue → List CellValue
-resized n cells = moved n (λ k. k) cells
+unfoldable pub cells_after_resize : ℕ → List CellValue → List CellValue
+cells_after_resize n cells = cells_after_move n (λ k. k) cells

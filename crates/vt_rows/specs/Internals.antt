@@ -5,7 +5,7 @@ use Rattle.std.specs.Prelude.{length, replicate, slice_set, chars, encode_utf8_a
 use Rattle.vt_cells.specs.Attrs.{Attrs}
 use Rattle.vt_cells.specs.Cell.{CellValue, blank, glyph, right_half, is_wide, is_right_half, attrs_of}
 use Rattle.vt_cells.specs.Op.{change_text}
-use Rattle.vt_cells.specs.BufferInternals.{gathered}
+use Rattle.vt_cells.specs.BufferInternals.{buffered_text}
 use Rattle.vt_rows.specs.Basic.{attrs_after, shown_text}
 use Rattle.vt_rows.specs.CaptureRows.{ends_row, overflows}
 use Rattle.vt_rows.specs.Cells.{at}
@@ -35,14 +35,14 @@ end_blanked cells =
     then slice_set cells (length cells - 1) (blank (attrs_of (at cells (length cells - 1)))) else cells
 
 -- The index that item `k` of a list had before the range `from..to` was rotated left by `n`.
-abbrev pub turn_source : ℕ → ℕ → ℕ → ℕ → ℕ
-turn_source from to n k =
+abbrev pub rotation_source : ℕ → ℕ → ℕ → ℕ → ℕ
+rotation_source from to n k =
     if nat_le from k && nat_lt k to then (if nat_lt (k + n) to then k + n else k + n - (to - from)) else k
 
 -- `text` was written to a sink through a buffer. The sink's contents changed from `before` to `after` without
 -- becoming shorter, and the buffer's contents changed from `buffer` to `left`.
 pub record Gathers (before buffer text after left : List ℕ) : Type 0 where
-  pub bytes : gathered after left ≡ gathered before buffer ++ text
+  pub bytes : buffered_text after left ≡ buffered_text before buffer ++ text
   pub grows : length before ≤ length after
 
 -- The SGR change from the current attributes to those of a cell, followed by the text of the cell.

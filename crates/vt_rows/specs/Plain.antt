@@ -3,12 +3,12 @@ use Rattle.std.specs.Prelude.{ℕ, Bool, List, [], ◌∷◌, take, drop, if◌t
 use Rattle.std.specs.List.{flat_map, list_any}
 use Rattle.vt_cells.specs.Cell.{CellValue, default_blank, is_glyph}
 use Rattle.vt_rows.specs.Basic.{shown_text}
-use Rattle.vt_rows.specs.Cells.{opened}
+use Rattle.vt_rows.specs.Cells.{cells_after_cut}
 
 -- The cells of a row in the columns `start..stop`, as far as the row has these columns. If the first of these cells is
 -- a continuation cell, it becomes a default blank.
 abbrev pub columns_between : (start stop : ℕ) → List CellValue → List CellValue
-columns_between start stop cells = opened default_blank (drop start (take stop cells))
+columns_between start stop cells = cells_after_cut default_blank (drop start (take stop cells))
 
 -- The cells up to and including the last glyph.
 abbrev pub up_to_last_glyph : List CellValue → List CellValue

@@ -3,7 +3,7 @@ use Rattle.std.specs.Prelude.{◌≡◌, ℕ, ◌&&◌, ◌==◌, not, Bool, tru
 use Rattle.std.specs.List.{list_all}
 use Rattle.vt_cells.specs.Cell.{CellValue, IsCell, is_default_blank}
 use Rattle.vt_cells.specs.Attrs.{Attrs}
-use Rattle.vt_rows.specs.Cells.{IsPaired, blanks, ends_blank, inserted, deleted, resized}
+use Rattle.vt_rows.specs.Cells.{IsPaired, blanks, ends_blank, cells_after_insert, cells_after_delete, cells_after_resize}
 
 -- The value of a row: its cells, and whether the row is wrapped.
 pub record RowValue : Type 0 where
@@ -28,21 +28,21 @@ pub record IsRow (width : ℕ) (row : RowValue) : Type 0 where
 
 -- The row after `n` default blanks are inserted at column `c` (ICH); its wrapped flag is cleared.
 abbrev pub inserted_row : ℕ → ℕ → RowValue → RowValue
-inserted_row c n row = record { cells = inserted c n row.cells; wrapped = false }
+inserted_row c n row = record { cells = cells_after_insert c n row.cells; wrapped = false }
 
 -- The row after `n` columns, starting at column `c`, are deleted (DCH); its wrapped flag is cleared.
 abbrev pub deleted_row : ℕ → ℕ → RowValue → RowValue
-deleted_row c n row = record { cells = deleted c n row.cells; wrapped = false }
+deleted_row c n row = record { cells = cells_after_delete c n row.cells; wrapped = false }
 
 -- The row, truncated or extended to `n` columns. Its wrapped flag is cleared if its width changes.
 abbrev pub resized_row : ℕ → RowValue → RowValue
-resized_row n row = record { cells = resized n row.cells; wrapped = row.wrapped && (length row.cells == n) }
+resized_row n row = record { cells = cells_after_resize n row.cells; wrapped = row.wrapped && (length row.cells == n) }
 
 -- The cells without their trailing default blanks.
-abbrev pub trimmed : List CellValue → List CellValue
-trimmed [] = []
-trimmed (cell ∷ cells) = if list_all is_default_blank (cell ∷ cells) then [] else cell ∷ trimmed cells
+abbrev pub cells_without_end : List CellValue → List CellValue
+cells_without_end [] = []
+cells_without_end (cell ∷ cells) = if list_all is_default_blank (cell ∷ cells) then [] else cell ∷ cells_without_end cells
 
 -- The row without its trailing default blanks.
 abbrev pub trimmed_row : RowValue → RowValue
-trimmed_row row = record { cells = trimmed row.cells; wrapped = row.wrapped }
+trimmed_row row = record { cells = cells_without_end row.cells; wrapped = row.wrapped }

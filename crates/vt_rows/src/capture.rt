@@ -11,8 +11,8 @@ mod range;
 mod rows;
 mod state;
 
-use crate::cuts;
 use crate::row::Row;
+use crate::trimming;
 pub use leaving::Leaving;
 pub use plain::{
     BasicFormattedToPlain, BasicFormattedToPlainIndexed, basic_formatted_to_plain,
@@ -103,7 +103,7 @@ pub fn trimmed<'a>(row: &RowContents<'a>) -> RowContents<'a>
     ensures { result ≡ trimmed_row row.now }
 {
     RowContents {
-        cells: &row.cells[..cuts::trimmed_len(row.cells)],
+        cells: &row.cells[..trimming::trimmed_len(row.cells)],
         wrapped: row.wrapped,
     }
 }

@@ -8,9 +8,9 @@ ghost use Rattle.std.specs.Prelude.{◌≡◌, ◌≢◌, ◌<◌, ◌≤◌, �
 ghost use Rattle.std.specs.Prelude.{Some, encode_utf8, false, true, length, not};
 ghost use Rattle.vt_cells.specs.Attrs.{default_attrs};
 ghost use Rattle.vt_cells.specs.Cell.{IsCell, attrs_of, blank, glyph, is_blank};
-ghost use Rattle.vt_cells.specs.Cell.{is_right_half, is_wide, text_of, widened};
+ghost use Rattle.vt_cells.specs.Cell.{is_right_half, is_wide, text_of, cell_made_wide};
 ghost use Rattle.vt_cells.specs.Glyph.{columns_of};
-ghost use Rattle.vt_rows.specs.Cells.{IsPaired, at, blanks, ends_blank, erased, marked_at};
+ghost use Rattle.vt_rows.specs.Cells.{IsPaired, at, blanks, ends_blank, cells_after_erase, marked_at};
 ghost use Rattle.vt_rows.specs.Cells.{narrowed_at, put_narrow, put_wide, widened_at};
 ghost use Rattle.vt_rows.specs.Internals.{HasRoom, left_blanked, right_replaced};
 ghost use Rattle.vt_rows.specs.Texts.{IsNarrowText, IsPrintableAscii, glyphs_of, put_text};
@@ -57,7 +57,7 @@ pub fn put_narrow(cells: &mut [Cell], column: usize, c: char, attrs: Attrs)
 #[inline]
 pub fn put_text(cells: &mut [Cell], column: usize, text: &[u8], attrs: Attrs)
     requires paired { IsPaired cells.old }
-    requires some { 0 < length text.now }
+    requires nonempty { 0 < length text.now }
     requires inside { column + length text.now ≤ length cells.old }
     requires printable { IsPrintableAscii text.now }
     ensures value { cells.new ≡ put_text column text.now attrs cells.old }
@@ -111,7 +111,7 @@ fn write_each(cells: &mut [Cell], text: &[u8], attrs: Attrs)
 #[inline]
 pub fn put_narrow_text(cells: &mut [Cell], column: usize, text: &[char], attrs: Attrs)
     requires paired { IsPaired cells.old }
-    requires some { 0 < length text.now }
+    requires nonempty { 0 < length text.now }
     requires inside { column + length text.now ≤ length cells.old }
     requires narrow { IsNarrowText text.now }
     ensures value { cells.new ≡ put_text column text.now attrs cells.old }
@@ -183,7 +183,7 @@ pub fn put_wide_cell(cells: &mut [Cell], column: usize, cell: Cell)
 #[inline]
 pub fn put_wide_text(cells: &mut [Cell], column: usize, text: &[char], attrs: Attrs)
     requires paired { IsPaired cells.old }
-    requires some { 0 < length text.now }
+    requires nonempty { 0 < length text.now }
     requires inside { column + 2 * length text.now ≤ length cells.old }
     requires wide { IsWideText text.now }
     ensures value { cells.new ≡ put_wide_text column text.now attrs cells.old }
@@ -219,7 +219,7 @@ pub fn lift(cells: &mut [Cell], column: usize, attrs: Attrs) -> Cell
     requires paired { IsPaired cells.old }
     requires inside { column < length cells.old }
     ensures lifted { result ≡ at cells.old column }
-    ensures value { cells.new ≡ erased column 1 attrs cells.old }
+    ensures value { cells.new ≡ cells_after_erase column 1 attrs cells.old }
     ensures paired { IsPaired cells.new }
     ensures sound { All IsCell cells.old → All IsCell cells.new }
 {
@@ -253,7 +253,7 @@ pub fn widen(cells: &mut [Cell], column: usize, attrs: Attrs)
     requires inside { column + 1 < length cells.old }
     requires glyph { is_blank (at cells.old column) ≡ false }
     requires shown { is_right_half (at cells.old column) ≡ false }
-    requires fits { IsCell (widened true (at cells.old column)) }
+    requires fits { IsCell (cell_made_wide true (at cells.old column)) }
     ensures value { cells.new ≡ widened_at column attrs cells.old }
     ensures paired { IsPaired cells.new }
     ensures sound { All IsCell cells.old → All IsCell cells.new }
@@ -270,7 +270,7 @@ pub fn narrow(cells: &mut [Cell], column: usize, attrs: Attrs)
     requires paired { IsPaired cells.old }
     requires inside { column < length cells.old }
     requires shown { is_right_half (at cells.old column) ≡ false }
-    requires fits { IsCell (widened false (at cells.old column)) }
+    requires fits { IsCell (cell_made_wide false (at cells.old column)) }
     ensures value { cells.new ≡ narrowed_at column attrs cells.old }
     ensures paired { IsPaired cells.new }
     ensures sound { All IsCell cells.old → All IsCell cells.new }
@@ -325,9 +325,9 @@ fn clear_each(cells: &mut [Cell], attrs: Attrs)
 /// attributes.
 pub fn erase(cells: &mut [Cell], start: usize, end: usize, attrs: Attrs)
     requires paired { IsPaired cells.old }
-    requires some { start < end }
+    requires nonempty { start < end }
     requires inside { end ≤ length cells.old }
-    ensures value { cells.new ≡ erased start (end - start) attrs cells.old }
+    ensures value { cells.new ≡ cells_after_erase start (end - start) attrs cells.old }
     ensures paired { IsPaired cells.new }
     ensures sound { All IsCell cells.old → All IsCell cells.new }
 {

@@ -4,11 +4,11 @@
 pub mod capture;
 pub mod cells;
 pub mod copies;
-pub mod cuts;
 pub mod laws;
 pub mod plain;
 pub mod row;
 pub mod shifts;
+pub mod trimming;
 
 pub use capture::{BasicFormattedCaptureRange, BasicFormattedCaptureState, Leaving, RowContents};
 pub use row::Row;

@@ -29,7 +29,7 @@ pub fn write_contents<S: Sink>(
     stop: usize,
 ) -> Result<(), S::Error>
     ensures text { OnOk result (S.text sink.new ≡ S.text sink.old ++ plain_text start stop cells.now) }
-    ensures some { OnErr result (0 < length (plain_text start stop cells.now)) }
+    ensures nonempty { OnErr result (0 < length (plain_text start stop cells.now)) }
 {
     let columns = columns_between(cells, start, stop);
     if !columns.is_empty() && columns[0].is_wide_continuation() {
@@ -67,7 +67,7 @@ fn columns_between(cells: &[Cell], start: usize, stop: usize) -> &[Cell]
 fn write_behind<S: Sink>(sink: &mut S, cells: &[Cell], gap: usize) -> Result<(), S::Error>
     requires { gap + length cells.now ≤ 18446744073709551615 }
     ensures text { OnOk result (S.text sink.new ≡ S.text sink.old ++ plain_behind gap cells.now) }
-    ensures some { OnErr result (0 < length (plain_behind gap cells.now)) }
+    ensures nonempty { OnErr result (0 < length (plain_behind gap cells.now)) }
 {
     let mut buffer = Buffer::new();
     let mut gap = gap;
@@ -92,7 +92,7 @@ fn add_cell<S: Sink>(
     ensures added { OnOk result
         (Gathers (S.text sink.old) buffer.old (text_behind gap cell.now) (S.text sink.new) buffer.new) }
     ensures gap { IfOk result (λ new. new ≡ gap_behind gap cell.now) }
-    ensures some { OnErr result (0 < length (text_behind gap cell.now)) }
+    ensures nonempty { OnErr result (0 < length (text_behind gap cell.now)) }
 {
     if cell.has_contents() {
         add_spaces(sink, buffer, gap)?;
@@ -110,7 +110,7 @@ fn add_cell<S: Sink>(
 fn add_spaces<S: Sink>(sink: &mut S, buffer: &mut Buffer, count: usize) -> Result<(), S::Error>
     ensures added { OnOk result
         (Gathers (S.text sink.old) buffer.old (replicate count 0x20) (S.text sink.new) buffer.new) }
-    ensures some { IsErr result → 0 < count }
+    ensures nonempty { IsErr result → 0 < count }
 {
     if count == 0 {
         return Ok(());
@@ -123,7 +123,7 @@ fn add_spaces<S: Sink>(sink: &mut S, buffer: &mut Buffer, count: usize) -> Resul
 fn add_gap<S: Sink>(sink: &mut S, buffer: &mut Buffer, count: usize) -> Result<(), S::Error>
     ensures added { OnOk result
         (Gathers (S.text sink.old) buffer.old (replicate count 0x20) (S.text sink.new) buffer.new) }
-    ensures some { IsErr result → 0 < count }
+    ensures nonempty { IsErr result → 0 < count }
 {
     let mut left = count;
     while left >= SPACES.len() {

@@ -4,11 +4,11 @@ ghost use Rattle.std.specs.Prelude.{◌≡◌, ◌&&◌, ◌<◌, IfOk, IsErr, O
 ghost use Rattle.vt_cells.specs.Attrs.{default_attrs};
 ghost use Rattle.vt_cells.specs.Refusals.{OnlyOutOfMemory};
 ghost use Rattle.vt_rows.specs.Cells.{IsPaired};
-ghost use Rattle.vt_rows.specs.Row.{IsRow, blank_row, resized_row, trimmed, trimmed_row};
+ghost use Rattle.vt_rows.specs.Row.{IsRow, blank_row, resized_row, cells_without_end, trimmed_row};
 
 use crate::capture::Leaving;
 use crate::copies::{blank_cells, copied, push_copies};
-use crate::cuts;
+use crate::trimming;
 use std::alloc::Global;
 use std::marker::Model;
 use vt_cells::{Cell, Error};
@@ -70,7 +70,7 @@ impl Row {
         ensures ok { IfOk result (λ row. row ≡ trimmed_row (record { cells = cells.now; wrapped = wrapped })) }
         ensures memory { OnlyOutOfMemory result }
     {
-        let kept = &cells[..cuts::trimmed_len(cells)];
+        let kept = &cells[..trimming::trimmed_len(cells)];
         let cells = copied(alloc, kept)?;
         Ok(Row { cells, wrapped })
     }
@@ -116,10 +116,10 @@ impl Row {
         ensures row { OnOk result (self.new ≡ trimmed_row (record { cells = cells.now; wrapped = wrapped })) }
         ensures reported { OnOk result (L.leaves leaving.old self.old leaving.new) }
         ensures err { OnErr result ((self.new ≡ self.old) × (leaving.new ≡ leaving.old)) }
-        ensures grows { IsErr result → length self.old.cells < length (trimmed cells.now) }
+        ensures grows { IsErr result → length self.old.cells < length (cells_without_end cells.now) }
         ensures memory { OnlyOutOfMemory result }
     {
-        let kept = &cells[..cuts::trimmed_len(cells)];
+        let kept = &cells[..trimming::trimmed_len(cells)];
         let more = kept.len().saturating_sub(self.cells.len());
         self.cells.reserve_exact(more)?;
         leaving.leave(self.contents());
@@ -141,7 +141,7 @@ impl Row {
         ensures { self.new ≡ resized_row (length self.old.cells) from }
     {
         self.wrapped = flag_kept(from.wrapped, from.cells.len() == self.cells.len());
-        cuts::refit(&mut self.cells, &from.cells);
+        trimming::refit(&mut self.cells, &from.cells);
     }
 }
 

@@ -2,10 +2,10 @@
 
 ghost use Rattle.std.specs.Prelude.{◌≡◌, ◌≤◌, ◌<◌, ◌+◌, ◌-◌, ℕ, All, length, slice_index_or};
 ghost use Rattle.vt_cells.specs.Cell.{IsCell};
-ghost use Rattle.vt_rows.specs.Cells.{IsPaired, at, deleted, insert_column, inserted};
-ghost use Rattle.vt_rows.specs.Internals.{turn_source};
+ghost use Rattle.vt_rows.specs.Cells.{IsPaired, at, cells_after_delete, insert_column, cells_after_insert};
+ghost use Rattle.vt_rows.specs.Internals.{rotation_source};
 
-use crate::{cells, cuts};
+use crate::{cells, trimming};
 use vt_cells::{Attrs, Cell};
 
 /// Inserts `count` default blanks at a column (ICH). Cells that are pushed past the end of the row
@@ -17,7 +17,7 @@ use vt_cells::{Attrs, Cell};
 pub fn insert(cells: &mut [Cell], column: usize, count: usize)
     requires paired { IsPaired cells.old }
     requires inside { column ≤ length cells.old }
-    ensures value { cells.new ≡ inserted column count cells.old }
+    ensures value { cells.new ≡ cells_after_insert column count cells.old }
     ensures paired { IsPaired cells.new }
     ensures sound { All IsCell cells.old → All IsCell cells.new }
 {
@@ -26,7 +26,7 @@ pub fn insert(cells: &mut [Cell], column: usize, count: usize)
     let count = count.min(len - start);
     open_gap(cells, start, count);
     cells::clear(&mut cells[start..start + count], Attrs::new());
-    cuts::blank_end(cells);
+    trimming::blank_end(cells);
 }
 
 /// Deletes `count` columns starting at `column`, stopping at the end of the row (DCH). The cells
@@ -37,7 +37,7 @@ pub fn insert(cells: &mut [Cell], column: usize, count: usize)
 pub fn delete(cells: &mut [Cell], column: usize, count: usize)
     requires paired { IsPaired cells.old }
     requires inside { column ≤ length cells.old }
-    ensures value { cells.new ≡ deleted column count cells.old }
+    ensures value { cells.new ≡ cells_after_delete column count cells.old }
     ensures paired { IsPaired cells.new }
     ensures sound { All IsCell cells.old → All IsCell cells.new }
 {
@@ -97,7 +97,7 @@ pub fn turn<T>(items: &mut [T], from: usize, to: usize, count: usize)
     requires inside { to ≤ length items.old }
     ensures len { length items.new ≡ length items.old }
     ensures by_index { (k : ℕ) (d : T) →
-        slice_index_or items.new k d ≡ slice_index_or items.old (turn_source from to count k) d }
+        slice_index_or items.new k d ≡ slice_index_or items.old (rotation_source from to count k) d }
 {
     items[from..to].rotate_left(count);
 }

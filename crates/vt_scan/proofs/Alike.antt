@@ -2,19 +2,19 @@
 use Rattle.std.proofs.Common.{◌≡◌, ◌≢◌, ℕ, Bool, true, false, not, ◌⊎◌, List, [], ◌∷◌, ◌++◌}
 use Rattle.std.proofs.Common.{take, filter, inl, inr, refl, sym, subst, ◌∙◌, ap, rules}
 use Rattle.std.proofs.Math.Logic.{⊎_elim}
-use Rattle.vt_scan.specs.Table.{turn_of, class_of}
+use Rattle.vt_scan.specs.Table.{transition_of, class_of}
 use Rattle.vt_scan.specs.Parameters.{GroupTable, table_of}
 use Rattle.vt_scan.specs.Automaton.{State, Step, EscDispatch, CsiDispatch, OscDispatch, Executed, is_parameter}
-use Rattle.vt_scan.specs.Automaton.{parameter_text, intermediates_of, parts_of, given, step_after, step_in}
+use Rattle.vt_scan.specs.Automaton.{parameter_text, intermediates_of, parts_of, events_at_end, step_after, step_in}
 use Rattle.vt_scan.specs.Run.{run}
-use Rattle.vt_scan.specs.Scanner.{Held, Reads, ReadsSequence, StandsFor}
+use Rattle.vt_scan.specs.Scanner.{ScannerValue, Reads, ReadsSequence, StandsFor}
 use Rattle.vt_scan.specs.Internals.{Fits, FitsEnding}
 use Rattle.vt_scan.specs.declared.table.Kind.{Kind}
 use Rattle.vt_scan.specs.declared.table.Kind.TheVariants.{Ground, Escape, EscapeIntermediate, CsiEntry, CsiParam}
 use Rattle.vt_scan.specs.declared.table.Kind.TheVariants.{CsiIntermediate, CsiIgnore, OscString, Skip}
 use Rattle.vt_scan.specs.declared.table.Class.{Class}
-use Rattle.vt_scan.specs.declared.table.Turn.{Turn}
-use Rattle.vt_scan.specs.declared.table.Turn.TheVariants.{Collect, Drop, Execute, End}
+use Rattle.vt_scan.specs.declared.table.Transition.{Transition}
+use Rattle.vt_scan.specs.declared.table.Transition.TheVariants.{Collect, Drop, Execute, End}
 use Rattle.vt_scan.specs.declared.table.Ending as ending
 use Rattle.vt_scan.specs.declared.table.Ending.TheVariants as ends
 use Rattle.vt_scan.proofs.Collecting.{filter-yes, filter-no, sequence_from, sequence_to}
@@ -25,7 +25,7 @@ abbrev pub at : Kind → List ℕ → State
 at kind collected = record { kind = kind; collected = collected }
 
 -- The data that a scanner holds after it has read exactly the bytes collected in the given state.
-abbrev pub held_of : State → Held
+abbrev pub held_of : State → ScannerValue
 held_of state = record {
   kind = state.kind;
   unfinished = state.collected;
@@ -55,7 +55,7 @@ reads_itself Skip a = tt
 pub itself : (s : State) → Alike s s
 itself s = record { kind = refl; reads = reads_itself s.kind s.collected }
 
-both_read : (kind : Kind) (held : Held) (a b : List ℕ) → Reads held kind a → Reads held kind b → AlikeIn kind a b
+both_read : (kind : Kind) (held : ScannerValue) (a b : List ℕ) → Reads held kind a → Reads held kind b → AlikeIn kind a b
 both_read Ground held a b r q = sym r ∙ q
 both_read Escape held a b r q = record { table = sym r.table ∙ q.table; intermediates = sym r.intermediates ∙ q.intermediates }
 both_read EscapeIntermediate held a b r q = record { table = sym r.table ∙ q.table; intermediates = sym r.intermediates ∙ q.intermediates }
@@ -66,7 +66,7 @@ both_read CsiIgnore held a b r q = tt
 both_read OscString held a b r q = sym r ∙ q
 both_read Skip held a b r q = tt
 
-other_reads : (kind : Kind) (held : Held) (a b : List ℕ) → AlikeIn kind a b → Reads held kind a → Reads held kind b
+other_reads : (kind : Kind) (held : ScannerValue) (a b : List ℕ) → AlikeIn kind a b → Reads held kind a → Reads held kind b
 other_reads Ground held a b e r = r ∙ e
 other_reads Escape held a b e r = record { table = r.table ∙ e.table; intermediates = r.intermediates ∙ e.intermediates }
 other_reads EscapeIntermediate held a b e r = record { table = r.table ∙ e.table; intermediates = r.intermediates ∙ e.intermediates }
@@ -78,7 +78,7 @@ other_reads OscString held a b e r = r ∙ e
 other_reads Skip held a b e r = tt
 
 -- States that one scanner may be in are equivalent.
-pub both_stand : (held : Held) (s t : State) → StandsFor held s → StandsFor held t → Alike s t
+pub both_stand : (held : ScannerValue) (s t : State) → StandsFor held s → StandsFor held t → Alike s t
 both_stand held s t p q =
     record {
       kind = sym p.kind ∙ q.kind;
@@ -88,7 +88,7 @@ both_stand held s t p q =
     }
 
 -- A scanner that may be in a state may be in every equivalent one.
-pub other_stands : (held : Held) (s t : State) → Alike s t → StandsFor held s → StandsFor held t
+pub other_stands : (held : ScannerValue) (s t : State) → Alike s t → StandsFor held s → StandsFor held t
 other_stands held s t e p =
     record {
       kind = p.kind ∙ e.kind;
@@ -108,7 +108,7 @@ same_itself : (x : Step) → Same x x
 same_itself x = record { alike = itself x.state; events = refl }
 
 -- Every transition of the table is consistent.
-turn_fits : (kind : Kind) (class : Class) → Fits kind (turn_of kind class)
+turn_fits : (kind : Kind) (class : Class) → Fits kind (transition_of kind class)
 turn_fits kind class = search rules
 
 -- Two equivalent texts inside a sequence stay equivalent when the same byte is appended to both.
@@ -146,7 +146,7 @@ collects_alike kind next a b x (inr (old, new)) r =
     (same_text kind a b old r) (reads_itself next (a ++ x ∷ []))
 
 given_alike : (kind next : Kind) (end : ending.Ending) (a b : List ℕ) (x : ℕ) →
-    FitsEnding kind next end → AlikeIn kind a b → given end a x ≡ given end b x
+    FitsEnding kind next end → AlikeIn kind a b → events_at_end end a x ≡ events_at_end end b x
 given_alike kind next ends.Nothing a b x fits r = refl
 given_alike kind next ends.Character a b x fits r = refl
 given_alike kind next ends.Executed a b x fits r = refl
@@ -162,7 +162,7 @@ given_alike kind next ends.OscDispatch a b x fits r =
 given_alike kind next ends.OscDispatchAndExecuted a b x fits r =
     ap (λ text. OscDispatch (parts_of text) ∷ Executed x ∷ []) (same_text kind a b fits.0 r)
 
-after_alike : (kind : Kind) (a b : List ℕ) (x : ℕ) (turn : Turn) → Fits kind turn →
+after_alike : (kind : Kind) (a b : List ℕ) (x : ℕ) (turn : Transition) → Fits kind turn →
     AlikeIn kind a b → Same (step_after kind a x turn) (step_after kind b x turn)
 after_alike kind a b x (Collect next) fits r =
     record { alike = record { kind = refl; reads = collects_alike kind next a b x fits r }; events = refl }
@@ -175,7 +175,7 @@ in_table : (kind : Kind) (a b : List ℕ) (x : ℕ) → kind ≢ Ground →
     AlikeIn kind a b → Same (step_in kind a x) (step_in kind b x)
 in_table kind a b x other r =
     rw (step_in-table kind a x other, step_in-table kind b x other)
-    (after_alike kind a b x (turn_of kind (class_of x)) (turn_fits kind (class_of x)) r)
+    (after_alike kind a b x (transition_of kind (class_of x)) (turn_fits kind (class_of x)) r)
 
 ground_or_not : (kind : Kind) → (kind ≡ Ground) ⊎ (kind ≢ Ground)
 ground_or_not kind = search rules

@@ -5,15 +5,15 @@ use Rattle.std.proofs.lemmas.List.{append-nil}
 use Rattle.std.proofs.lemmas.List.Elements.{filter-append}
 use Rattle.vt_scan.specs.Parameters.{table_of}
 use Rattle.vt_scan.specs.Automaton.{is_parameter}
-use Rattle.vt_scan.specs.Scanner.{Held, Reads, ReadsSequence}
+use Rattle.vt_scan.specs.Scanner.{ScannerValue, Reads, ReadsSequence}
 use Rattle.vt_scan.specs.Internals.{InSequence, Fits}
 use Rattle.vt_scan.specs.declared.table.Kind.{Kind}
 use Rattle.vt_scan.specs.declared.table.Kind.TheVariants.{Ground, Escape, EscapeIntermediate, CsiEntry, CsiParam}
 use Rattle.vt_scan.specs.declared.table.Kind.TheVariants.{CsiIntermediate, CsiIgnore, OscString, Skip}
-use Rattle.vt_scan.specs.declared.table.Turn.TheVariants.{Collect}
+use Rattle.vt_scan.specs.declared.table.Transition.TheVariants.{Collect}
 
 -- In every kind of state inside a sequence, the scanner holds the numbers and intermediates of the collected bytes.
-pub sequence_from : (kind : Kind) (held : Held) (text : List ℕ) →
+pub sequence_from : (kind : Kind) (held : ScannerValue) (text : List ℕ) →
     InSequence kind → Reads held kind text → ReadsSequence held text
 sequence_from Ground held text s r = absurd s
 sequence_from Escape held text s r = r
@@ -25,7 +25,7 @@ sequence_from CsiIgnore held text s r = absurd s
 sequence_from OscString held text s r = absurd s
 sequence_from Skip held text s r = absurd s
 
-pub sequence_to : (kind : Kind) (held : Held) (text : List ℕ) →
+pub sequence_to : (kind : Kind) (held : ScannerValue) (text : List ℕ) →
     InSequence kind → ReadsSequence held text → Reads held kind text
 sequence_to Ground held text s r = absurd s
 sequence_to Escape held text s r = r
@@ -49,7 +49,7 @@ in_sequence : (old new : Kind) → Fits old (Collect new) → old ≢ OscString 
 in_sequence old new (inl s) other = s
 in_sequence old new (inr s) other = absurd (other s.0)
 
-pub collect_intermediate : (old new : Held) (kind : Kind) (b : ℕ)
+pub collect_intermediate : (old new : ScannerValue) (kind : Kind) (b : ℕ)
     → Fits old.kind (Collect kind) → old.kind ≢ OscString → is_parameter b ≡ false
     → new.table ≡ old.table → ((all : List ℕ) → old.intermediates ≡ take 2 all → new.intermediates ≡ take 2 (all ++ b ∷ []))
     → (text : List ℕ) → Reads old old.kind text → Reads new kind (text ++ b ∷ [])
@@ -63,7 +63,7 @@ collect_intermediate old new kind b fits other is same pushed text reads =
           ∙ ap (take 2) (sym (filter-yes (λ x. not (is_parameter x)) text b (ap not is)));
     })
 
-pub collect_parameter : (old new : Held) (kind : Kind) (b : ℕ) → Fits old.kind (Collect kind) → old.kind ≢ OscString
+pub collect_parameter : (old new : ScannerValue) (kind : Kind) (b : ℕ) → Fits old.kind (Collect kind) → old.kind ≢ OscString
     → is_parameter b ≡ true → new.intermediates ≡ old.intermediates
     → ((text : List ℕ) → old.table ≡ table_of text → new.table ≡ table_of (text ++ b ∷ []))
     → (text : List ℕ) → Reads old old.kind text → Reads new kind (text ++ b ∷ [])

@@ -8,12 +8,12 @@ use Rattle.vt_scan.specs.Characters.{is_beginning, character_of}
 use Rattle.vt_scan.specs.Automaton as automaton
 use Rattle.vt_scan.specs.Automaton.{Step, parameter_text, parts_of, step_after, fresh_step, step_in}
 use Rattle.vt_scan.specs.Parameters.{GroupTable, table_of}
-use Rattle.vt_scan.specs.Table.{class_of, turn_of}
-use Rattle.vt_scan.specs.Scanner.{Feeds, Held, Reads, StandsFor, Follows, event_of, events_in}
+use Rattle.vt_scan.specs.Table.{class_of, transition_of}
+use Rattle.vt_scan.specs.Scanner.{Feeds, ScannerValue, Reads, StandsFor, Follows, event_of, events_in}
 use Rattle.vt_scan.specs.Internals.{Begins, Extends, Fits, FitsEnding, answer_of}
 use Rattle.vt_scan.specs.declared.table.Kind.{Kind}
 use Rattle.vt_scan.specs.declared.table.Kind.TheVariants.{Ground, Escape}
-use Rattle.vt_scan.specs.declared.table.Turn.TheVariants.{End}
+use Rattle.vt_scan.specs.declared.table.Transition.TheVariants.{End}
 use Rattle.vt_scan.specs.declared.table.Ending as ending
 use Rattle.vt_scan.specs.declared.table.Ending.TheVariants as ends
 use Rattle.vt_scan.specs.declared.event.Event as event
@@ -36,16 +36,16 @@ pub some_from : (text : List ℕ) → false ≡ (length text == 0) → text ≢ 
 some_from text e none = false≢true (e ∙ ap (λ (t : List ℕ). length t == 0) none)
 
 -- A result that follows a step follows every step equal to it.
-pub follows_as : (new : Held) (answer : Events) (step known : Step) →
+pub follows_as : (new : ScannerValue) (answer : Events) (step known : Step) →
     step ≡ known → Follows new answer known → Follows new answer step
 follows_as new answer step known e f = subst (λ (s : Step). Follows new answer s) (sym e) f
 
 -- A scanner in the ground state stands for the ground state with the bytes of its incomplete character.
-pub stands_at : (held : Held) (text : List ℕ) → held.kind ≡ Ground →
+pub stands_at : (held : ScannerValue) (text : List ℕ) → held.kind ≡ Ground →
     held.unfinished ≡ text → StandsFor held (record { kind = Ground; collected = text })
 stands_at held text is same = record { kind = is; reads = subst (λ (k : Kind). Reads held k text) (sym is) same }
 
-further : (unfinished : List ℕ) (new : Held) (b : ℕ) (answer : Events)
+further : (unfinished : List ℕ) (new : ScannerValue) (b : ℕ) (answer : Events)
     → unfinished ≢ [] → new.kind ≡ Ground → Extends unfinished b Further new.unfinished
     → answer ≡ no_event → Follows new answer (step_in Ground unfinished b)
 further unfinished new b answer some is extends e =
@@ -53,14 +53,14 @@ further unfinished new b answer some is extends e =
     (step_in-character unfinished b some ∙ character_step-further unfinished b extends.0 extends.1)
     (record { stands = stands_at new (unfinished ++ b ∷ []) is extends.2; means = ap (events_in new) e })
 
-pub fed_further : (unfinished now : List ℕ) (new : Held) (b : ℕ) (answer : Events) → unfinished ≡ now
+pub fed_further : (unfinished now : List ℕ) (new : ScannerValue) (b : ℕ) (answer : Events) → unfinished ≡ now
     → unfinished ≢ [] → new.kind ≡ Ground → Extends unfinished b Further new.unfinished
     → answer ≡ no_event → Follows new answer (step_in Ground now b)
 fed_further unfinished now new b answer same some is extends e =
     subst (λ (l : List ℕ). Follows new answer (step_in Ground l b))
     same (further unfinished new b answer some is extends e)
 
-character : (unfinished : List ℕ) (new : Held) (b code : ℕ) (answer : Events) → unfinished ≢ []
+character : (unfinished : List ℕ) (new : ScannerValue) (b code : ℕ) (answer : Events) → unfinished ≢ []
     → new.kind ≡ Ground → Extends unfinished b (Character code) new.unfinished
     → answer ≡ one_event (given.Character code) → Follows new answer (step_in Ground unfinished b)
 character unfinished new b code answer some is extends e =
@@ -72,7 +72,7 @@ character unfinished new b code answer some is extends e =
       means = ap (events_in new) e ∙ ap (λ k. automaton.Character k ∷ []) extends.1;
     })
 
-pub fed_character : (unfinished now : List ℕ) (new : Held) (b code : ℕ) (answer : Events)
+pub fed_character : (unfinished now : List ℕ) (new : ScannerValue) (b code : ℕ) (answer : Events)
     → unfinished ≡ now → unfinished ≢ [] → new.kind ≡ Ground
     → Extends unfinished b (Character code) new.unfinished
     → answer ≡ one_event (given.Character code) → Follows new answer (step_in Ground now b)
@@ -82,14 +82,14 @@ fed_character unfinished now new b code answer same some is extends e =
 
 -- Prepending an event to the first event of a result gives the same list as prepending it to all its events, if it has
 -- no second event.
-alone : (held : Held) (e : automaton.Event) (events : Events) → events.second ≡ None
+alone : (held : ScannerValue) (e : automaton.Event) (events : Events) → events.second ≡ None
     → e ∷ map (event_of held) (option_to_list events.first) ≡ e ∷ events_in held events
 alone held e events s =
     ap (λ l. e ∷ map (event_of held) l)
     (sym (ap (λ o. option_to_list events.first ++ option_to_list o) s ∙ append-nil (option_to_list events.first)))
 
 -- A byte that breaks an incomplete character issues a U+FFFD, followed by the event of the byte itself.
-pub fed_broken : (unfinished : List ℕ) (new : Held) (b : ℕ) (events answer : Events) (left : List ℕ)
+pub fed_broken : (unfinished : List ℕ) (new : ScannerValue) (b : ℕ) (events answer : Events) (left : List ℕ)
     → unfinished ≢ [] → Extends unfinished b Broken left
     → Follows new events (fresh_step b) → events.second ≡ None
     → answer ≡ record { first = Some (given.Character 0xFFFD); second = events.first }
@@ -106,7 +106,7 @@ fed_broken unfinished new b events answer left some extends f single e =
     })
 
 -- If no character is incomplete, the step for a printable byte issues that character.
-pub fresh_character : (held : Held) (b code : ℕ) (answer : Events)
+pub fresh_character : (held : ScannerValue) (b code : ℕ) (answer : Events)
     → held.kind ≡ Ground → held.unfinished ≡ [] → 0x20 ≤ b → b < 0x80 → code ≡ b
     → answer ≡ one_event (given.Character code) → Follows held answer (fresh_step b)
 fresh_character held b code answer is none low high same e =
@@ -117,7 +117,7 @@ fresh_character held b code answer is none low high same e =
     (subst (λ (a : Events). Follows held a (gives Ground [] (automaton.Character b ∷ [])))
     (sym (e ∙ ap (λ k. one_event (given.Character k)) same)) known)
 
-pub fresh_control : (held : Held) (b : ℕ) (answer : Events)
+pub fresh_control : (held : ScannerValue) (b : ℕ) (answer : Events)
     → held.kind ≡ Ground → held.unfinished ≡ [] → b < 0x20 → b ≢ 0x1B
     → answer ≡ one_event (given.Executed b) → Follows held answer (fresh_step b)
 fresh_control held b answer is none high other e =
@@ -127,7 +127,7 @@ fresh_control held b answer is none high other e =
     (gives Ground [] (automaton.Executed b ∷ [])) (fresh_step-control b high other)
     (subst (λ (a : Events). Follows held a (gives Ground [] (automaton.Executed b ∷ []))) (sym e) known)
 
-pub fresh_escape : (old new : Held) (b : ℕ) (answer : Events) → b ≡ 0x1B →
+pub fresh_escape : (old new : ScannerValue) (b : ℕ) (answer : Events) → b ≡ 0x1B →
     Begins old new Escape → answer ≡ no_event → Follows new answer (fresh_step b)
 fresh_escape old new b answer is begun e =
     let known : Follows new no_event (gives Escape [] []) = record {
@@ -137,7 +137,7 @@ fresh_escape old new b answer is begun e =
     follows_as new answer (fresh_step b) (gives Escape [] []) (ap fresh_step is ∙ fresh_step-escape)
     (subst (λ (a : Events). Follows new a (gives Escape [] [])) (sym e) known)
 
-pub fresh_begun : (held : Held) (b : ℕ) (answer : Events) → held.kind ≡ Ground
+pub fresh_begun : (held : ScannerValue) (b : ℕ) (answer : Events) → held.kind ≡ Ground
     → held.unfinished ≡ b ∷ [] → 0x80 ≤ b → is_beginning (b ∷ []) ≡ true
     → answer ≡ no_event → Follows held answer (fresh_step b)
 fresh_begun held b answer is same high begins e =
@@ -146,7 +146,7 @@ fresh_begun held b answer is same high begins e =
     follows_as held answer (fresh_step b) (gives Ground (b ∷ []) []) (fresh_step-begun b high begins)
     (subst (λ (a : Events). Follows held a (gives Ground (b ∷ []) [])) (sym e) known)
 
-pub fresh_broken : (held : Held) (b : ℕ) (answer : Events) → held.kind ≡ Ground
+pub fresh_broken : (held : ScannerValue) (b : ℕ) (answer : Events) → held.kind ≡ Ground
     → held.unfinished ≡ [] → 0x80 ≤ b → is_beginning (b ∷ []) ≡ false
     → answer ≡ one_event (given.Character 0xFFFD) → Follows held answer (fresh_step b)
 fresh_broken held b answer is none high broken e =
@@ -157,7 +157,7 @@ fresh_broken held b answer is none high broken e =
     (subst (λ (a : Events). Follows held a (gives Ground [] (automaton.Character 0xFFFD ∷ []))) (sym e) known)
 
 -- A printable byte in the ground state leaves the data of the scanner unchanged.
-pub text_feeds : (held : Held) (b : ℕ) → held.kind ≡ Ground → held.unfinished ≡ [] →
+pub text_feeds : (held : ScannerValue) (b : ℕ) → held.kind ≡ Ground → held.unfinished ≡ [] →
     0x20 ≤ b → b < 0x80 → Feeds held b held (one_event (given.Character b))
 text_feeds held b is none low high = λ s stands.
     let kind : s.kind ≡ Ground = sym stands.kind ∙ is in
@@ -168,7 +168,7 @@ text_feeds held b is none low high = λ s stands.
     (fresh_character held b b (one_event (given.Character b)) is none low high refl refl))
 
 -- A control character in the ground state leaves the data of the scanner unchanged.
-pub control_feeds : (held : Held) (b : ℕ) → held.kind ≡ Ground → held.unfinished ≡ [] →
+pub control_feeds : (held : ScannerValue) (b : ℕ) → held.kind ≡ Ground → held.unfinished ≡ [] →
     b < 0x20 → b ≢ 0x1B → Feeds held b held (one_event (given.Executed b))
 control_feeds held b is none low other = λ s stands.
     let kind : s.kind ≡ Ground = sym stands.kind ∙ is in
@@ -180,9 +180,9 @@ control_feeds held b is none low other = λ s stands.
 
 -- The events at the end of a sequence are those of the automaton, because entering the next state clears nothing that
 -- they refer to.
-given_by : (old new : Held) (next : Kind) (end : ending.Ending) (text : List ℕ) (b : ℕ) → old.kind ≢ Ground
+given_by : (old new : ScannerValue) (next : Kind) (end : ending.Ending) (text : List ℕ) (b : ℕ) → old.kind ≢ Ground
     → FitsEnding old.kind next end → Begins old new next → Reads old old.kind text
-    → events_in new (answer_of end b) ≡ automaton.given end text b
+    → events_in new (answer_of end b) ≡ automaton.events_at_end end text b
 given_by old new next ends.Nothing text b other fits begun reads = refl
 given_by old new next ends.Character text b other fits begun reads = absurd (other fits.0)
 given_by old new next ends.Executed text b other fits begun reads = refl
@@ -202,13 +202,13 @@ given_by old new next ends.OscDispatchAndExecuted text b other fits begun reads 
     ap (λ t. automaton.OscDispatch (parts_of t) ∷ automaton.Executed b ∷ []) (begun.text (inl fits.1) ∙ was)
 
 -- Feeding a byte that ends a sequence according to the table performs the automaton's step.
-pub fed_end : (old new : Held) (next : Kind) (end : ending.Ending) (b : ℕ) (answer : Events) → old.kind ≢ Ground
-    → turn_of old.kind (class_of b) ≡ End next end → Fits old.kind (End next end) → Begins old new next
+pub fed_end : (old new : ScannerValue) (next : Kind) (end : ending.Ending) (b : ℕ) (answer : Events) → old.kind ≢ Ground
+    → transition_of old.kind (class_of b) ≡ End next end → Fits old.kind (End next end) → Begins old new next
     → answer ≡ answer_of end b → Feeds old b new answer
 fed_end old new next end b answer other turn fits begun e = λ s stands.
     follows_as new answer (step_in s.kind s.collected b) (step_after s.kind s.collected b (End next end))
     (step_in-table s.kind s.collected b (λ is. other (stands.kind ∙ is))
-    ∙ ap (step_after s.kind s.collected b) (ap (λ k. turn_of k (class_of b)) (sym stands.kind) ∙ turn))
+    ∙ ap (step_after s.kind s.collected b) (ap (λ k. transition_of k (class_of b)) (sym stands.kind) ∙ turn))
     (record {
       stands = record { kind = begun.kind; reads = subst (λ (k : Kind). Reads new k []) (sym begun.kind) begun.reads };
       means = ap (events_in new) e ∙ given_by old new next end s.collected b other fits begun stands.reads;

@@ -14,15 +14,15 @@ use Rattle.vt_scan.specs.Automaton.{Step, is_parameter, step_after, step_in}
 use Rattle.vt_scan.specs.Internals.{Begins, Fits, IsUnended, Opens}
 use Rattle.vt_scan.specs.Parameters.{table_of}
 use Rattle.vt_scan.specs.Run.{run}
-use Rattle.vt_scan.specs.Scanner.{EndsEscape, Feeds, FeedsAll, Held, Reads, ReadsSequence, Follows, StandsFor}
+use Rattle.vt_scan.specs.Scanner.{EndsEscape, Feeds, FeedsAll, ScannerValue, Reads, ReadsSequence, Follows, StandsFor}
 use Rattle.vt_scan.specs.Scanner.{is_final, is_intermediate, is_marker, starts_skipped}
 use Rattle.vt_scan.specs.Texts.{IsParameterText}
-use Rattle.vt_scan.specs.Table.{class_of, turn_of}
+use Rattle.vt_scan.specs.Table.{class_of, transition_of}
 use Rattle.vt_scan.specs.declared.table.Kind.{Kind}
 use Rattle.vt_scan.specs.declared.table.Kind.TheVariants.{Ground, Escape, EscapeIntermediate, CsiEntry, CsiParam}
 use Rattle.vt_scan.specs.declared.table.Kind.TheVariants.{OscString, Skip}
 use Rattle.vt_scan.specs.declared.event.Event.TheVariants as event
-use Rattle.vt_scan.specs.declared.table.Turn.TheVariants.{Collect, End}
+use Rattle.vt_scan.specs.declared.table.Transition.TheVariants.{Collect, End}
 use Rattle.vt_scan.specs.declared.table.Ending.TheVariants.{CsiDispatch, EscDispatch, Nothing, OscDispatch}
 use Rattle.vt_scan.proofs.Collecting.{collect_intermediate}
 use Rattle.vt_scan.proofs.Feeding.{fed_end, follows_as, no_event, one_event, fresh_escape}
@@ -31,7 +31,7 @@ use Rattle.vt_scan.proofs.Running.{run-append}
 use Rattle.vt_scan.proofs.Sequences.{class_of-final, class_of-parameter, no_intermediates, parameters_only, step_parameter}
 use Rattle.vt_scan.proofs.Stepping.{gives, either, class_of-control, class_of-text, step_in-table}
 
-pub escape_feeds : (old new : Held) (b : ℕ) → old.kind ≡ Ground →
+pub escape_feeds : (old new : ScannerValue) (b : ℕ) → old.kind ≡ Ground →
     old.unfinished ≡ [] → b ≡ 0x1B → Begins old new Escape → Feeds old b new no_event
 escape_feeds old new b is none same begun = λ s stands.
     let kind : s.kind ≡ Ground = sym stands.kind ∙ is in
@@ -41,7 +41,7 @@ escape_feeds old new b is none same begun = λ s stands.
     (subst (λ (c : List ℕ). Follows new no_event (step_in Ground c b)) (sym collected)
     (fresh_escape old new b no_event same begun refl))
 
-bracket : (new : Held) (text : List ℕ) → new.kind ≡ CsiEntry →
+bracket : (new : ScannerValue) (text : List ℕ) → new.kind ≡ CsiEntry →
     Reads new CsiEntry [] → Follows new no_event (step_in Escape text 0x5B)
 unfolding class_of
 bracket new text is reads = record {
@@ -49,19 +49,19 @@ bracket new text is reads = record {
   means = refl;
 }
 
-pub bracket_feeds : (old new : Held) (b : ℕ) → old.kind ≡ Escape →
+pub bracket_feeds : (old new : ScannerValue) (b : ℕ) → old.kind ≡ Escape →
     b ≡ 0x5B → Begins old new CsiEntry → Feeds old b new no_event
 bracket_feeds old new b is same begun = λ s stands.
     subst (λ (k : Kind). Follows new no_event (step_in k s.collected b)) (sym (sym stands.kind ∙ is))
     (subst (λ (x : ℕ). Follows new no_event (step_in Escape s.collected x)) (sym same)
     (bracket new s.collected begun.kind begun.reads))
 
-intermediate_turn : (b : ℕ) → 0x20 ≤ b → b ≤ 0x2F → turn_of Escape (class_of b) ≡ Collect EscapeIntermediate
+intermediate_turn : (b : ℕ) → 0x20 ≤ b → b ≤ 0x2F → transition_of Escape (class_of b) ≡ Collect EscapeIntermediate
 intermediate_turn b low high =
     let t0 : nat_lt b 0x30 ≡ true = grind (arith, nat_tests) in
-    class_of-text (λ k. turn_of Escape k ≡ Collect EscapeIntermediate) b low (rw t0 refl)
+    class_of-text (λ k. transition_of Escape k ≡ Collect EscapeIntermediate) b low (rw t0 refl)
 
-pub intermediate_feeds : (old new : Held) (b : ℕ) → old.kind ≡ Escape → is_intermediate b ≡ true →
+pub intermediate_feeds : (old new : ScannerValue) (b : ℕ) → old.kind ≡ Escape → is_intermediate b ≡ true →
     new.kind ≡ EscapeIntermediate → new.table ≡ old.table →
     ((all : List ℕ) → old.intermediates ≡ take 2 all → new.intermediates ≡ take 2 (all ++ b ∷ [])) →
     Feeds old b new no_event
@@ -76,20 +76,20 @@ intermediate_feeds old new b was tells is same pushed = λ s stands.
     collect_intermediate old new EscapeIntermediate b fits (λ e. cc) other same pushed s.collected stands.reads in
     follows_as new no_event (step_in s.kind s.collected b) (gives EscapeIntermediate (s.collected ++ b ∷ []) [])
     (step_in-table s.kind s.collected b (λ e. cc)
-    ∙ ap (step_after s.kind s.collected b) (ap (λ k. turn_of k (class_of b)) kind ∙ intermediate_turn b low high))
+    ∙ ap (step_after s.kind s.collected b) (ap (λ k. transition_of k (class_of b)) kind ∙ intermediate_turn b low high))
     (record {
       stands = record { kind = is; reads = subst (λ (k : Kind). Reads new k (s.collected ++ b ∷ [])) (sym is) reads };
       means = refl;
     })
 
-marker_turn : (b : ℕ) → 0x3C ≤ b → b ≤ 0x3F → turn_of CsiEntry (class_of b) ≡ Collect CsiParam
+marker_turn : (b : ℕ) → 0x3C ≤ b → b ≤ 0x3F → transition_of CsiEntry (class_of b) ≡ Collect CsiParam
 marker_turn b low high =
     let t0 : nat_lt b 0x30 ≡ false = grind (arith, nat_tests) in
     let t1 : nat_lt b 0x3C ≡ false = grind (arith, nat_tests) in
     let t2 : nat_lt b 0x40 ≡ true = grind (arith, nat_tests) in
-    class_of-text (λ k. turn_of CsiEntry k ≡ Collect CsiParam) b (omega (arith, low)) (rw (t0, t1, t2) refl)
+    class_of-text (λ k. transition_of CsiEntry k ≡ Collect CsiParam) b (omega (arith, low)) (rw (t0, t1, t2) refl)
 
-pub marker_feeds : (old new : Held) (b : ℕ) → old.kind ≡ CsiEntry → is_marker b ≡ true →
+pub marker_feeds : (old new : ScannerValue) (b : ℕ) → old.kind ≡ CsiEntry → is_marker b ≡ true →
     new.kind ≡ CsiParam → new.table ≡ old.table →
     ((all : List ℕ) → old.intermediates ≡ take 2 all → new.intermediates ≡ take 2 (all ++ b ∷ [])) →
     Feeds old b new no_event
@@ -104,7 +104,7 @@ marker_feeds old new b was tells is same pushed = λ s stands.
     collect_intermediate old new CsiParam b fits (λ e. cc) other same pushed s.collected stands.reads in
     follows_as new no_event (step_in s.kind s.collected b) (gives CsiParam (s.collected ++ b ∷ []) [])
     (step_in-table s.kind s.collected b (λ e. cc)
-    ∙ ap (step_after s.kind s.collected b) (ap (λ k. turn_of k (class_of b)) kind ∙ marker_turn b low high))
+    ∙ ap (step_after s.kind s.collected b) (ap (λ k. transition_of k (class_of b)) kind ∙ marker_turn b low high))
     (record {
       stands = record { kind = is; reads = subst (λ (k : Kind). Reads new k (s.collected ++ b ∷ [])) (sym is) reads };
       means = refl;
@@ -112,17 +112,17 @@ marker_feeds old new b was tells is same pushed = λ s stands.
 
 -- ---- The introducers of strings
 
-begun_feeds : (old new : Held) (next : Kind) (b : ℕ) → old.kind ≡ Escape →
-    turn_of Escape (class_of b) ≡ End next Nothing → Begins old new next → Feeds old b new no_event
+begun_feeds : (old new : ScannerValue) (next : Kind) (b : ℕ) → old.kind ≡ Escape →
+    transition_of Escape (class_of b) ≡ End next Nothing → Begins old new next → Feeds old b new no_event
 begun_feeds old new next b is turn begun =
     fed_end old new next Nothing b no_event (subst (λ (k : Kind). k ≢ Ground) (sym is) (λ e. cc))
-    (ap (λ k. turn_of k (class_of b)) is ∙ turn) tt begun refl
+    (ap (λ k. transition_of k (class_of b)) is ∙ turn) tt begun refl
 
-command_start : turn_of Escape (class_of 0x5D) ≡ End OscString Nothing
+command_start : transition_of Escape (class_of 0x5D) ≡ End OscString Nothing
 unfolding class_of
 command_start = refl
 
-skip_turn : (b : ℕ) → starts_skipped b ≡ true → turn_of Escape (class_of b) ≡ End Skip Nothing
+skip_turn : (b : ℕ) → starts_skipped b ≡ true → transition_of Escape (class_of b) ≡ End Skip Nothing
 skip_turn b is =
     let low : 0x50 ≤ b = grind (arith, nat_tests) in
     let high : b ≤ 0x5F = grind (arith, nat_tests) in
@@ -132,14 +132,14 @@ skip_turn b is =
     let t3 : nat_lt b 0x7F ≡ true = grind (arith, nat_tests) in
     let t4 : (b == 0x5B) ≡ false = grind (arith, nat_tests) in
     let t5 : (b == 0x5D) ≡ false = grind (arith, nat_tests) in
-    class_of-text (λ k. turn_of Escape k ≡ End Skip Nothing) b (omega (arith, low)) (rw (t0, t1, t2, t3, t4, t5, is) refl)
+    class_of-text (λ k. transition_of Escape k ≡ End Skip Nothing) b (omega (arith, low)) (rw (t0, t1, t2, t3, t4, t5, is) refl)
 
-pub command_begins : (old new : Held) (b : ℕ) → old.kind ≡ Escape → b ≡ 0x5D → Begins old new OscString →
+pub command_begins : (old new : ScannerValue) (b : ℕ) → old.kind ≡ Escape → b ≡ 0x5D → Begins old new OscString →
     Feeds old b new no_event
 command_begins old new b is same begun =
-    begun_feeds old new OscString b is (ap (λ (x : ℕ). turn_of Escape (class_of x)) same ∙ command_start) begun
+    begun_feeds old new OscString b is (ap (λ (x : ℕ). transition_of Escape (class_of x)) same ∙ command_start) begun
 
-pub skip_begins : (old new : Held) (b : ℕ) → old.kind ≡ Escape → starts_skipped b ≡ true → Begins old new Skip →
+pub skip_begins : (old new : ScannerValue) (b : ℕ) → old.kind ≡ Escape → starts_skipped b ≡ true → Begins old new Skip →
     Feeds old b new no_event
 skip_begins old new b is starts begun = begun_feeds old new Skip b is (skip_turn b starts) begun
 
@@ -159,7 +159,7 @@ run_escapes text (b ∷ next ∷ bytes) all some =
     (escape_again text b all.0)
     ∙ run_escapes [] (next ∷ bytes) all.1 (omega arith)
 
-pub escapes_feed : (old new : Held) (bytes : List ℕ) → old.kind ≡ Escape → AllByRecursion (λ b. b ≡ 0x1B) bytes →
+pub escapes_feed : (old new : ScannerValue) (bytes : List ℕ) → old.kind ≡ Escape → AllByRecursion (λ b. b ≡ 0x1B) bytes →
     0 < length bytes → Begins old new Escape → FeedsAll old bytes new []
 escapes_feed old new bytes is all some begun = λ s stands.
     let kind : s.kind ≡ Escape = sym stands.kind ∙ is in
@@ -177,7 +177,7 @@ step_entry : (text : List ℕ) (b : ℕ) → 0x30 ≤ b → b ≤ 0x3B →
     step_in CsiEntry text b ≡ gives CsiParam (text ++ b ∷ []) []
 step_entry text b low high =
     class_of-parameter
-    (λ k. step_after CsiEntry text b (turn_of CsiEntry k) ≡ gives CsiParam (text ++ b ∷ []) []) b low high refl
+    (λ k. step_after CsiEntry text b (transition_of CsiEntry k) ≡ gives CsiParam (text ++ b ∷ []) []) b low high refl
 
 run_parameters : (before text : List ℕ) → IsParameterText text →
     run (record { kind = CsiParam; collected = before }) text ≡ gives CsiParam (before ++ text) []
@@ -205,17 +205,17 @@ run_from kind before b text (inr is) byte =
     subst (λ (k : Kind). run (record { kind = k; collected = before }) (b ∷ text)
     ≡ gives CsiParam (before ++ b ∷ text) []) (sym is) (run_parameters before (b ∷ text) byte)
 
-sequence_read : (held : Held) (kind : Kind) (text : List ℕ) → InParameters kind →
+sequence_read : (held : ScannerValue) (kind : Kind) (text : List ℕ) → InParameters kind →
     Reads held kind text → ReadsSequence held text
 sequence_read held kind text (inl is) reads = subst (λ (k : Kind). Reads held k text) is reads
 sequence_read held kind text (inr is) reads = subst (λ (k : Kind). Reads held k text) is reads
 
-reads_sequence : (held : Held) (kind : Kind) (text : List ℕ) → InParameters kind →
+reads_sequence : (held : ScannerValue) (kind : Kind) (text : List ℕ) → InParameters kind →
     ReadsSequence held text → Reads held kind text
 reads_sequence held kind text (inl is) reads = subst (λ (k : Kind). Reads held k text) (sym is) reads
 reads_sequence held kind text (inr is) reads = subst (λ (k : Kind). Reads held k text) (sym is) reads
 
-sequence_more : (old new : Held) (before text : List ℕ) → IsParameterText text → ReadsSequence old before →
+sequence_more : (old new : ScannerValue) (before text : List ℕ) → IsParameterText text → ReadsSequence old before →
     new.intermediates ≡ old.intermediates →
     ((all : List ℕ) → old.table ≡ table_of all → new.table ≡ table_of (all ++ text)) →
     ReadsSequence new (before ++ text)
@@ -229,7 +229,7 @@ sequence_more old new before text is reads same pushed = record {
       ∙ append-nil (filter (λ x. not (is_parameter x)) before)));
 }
 
-pub parameters_feed : (old new : Held) (text : List ℕ) → InParameters old.kind → IsParameterText text →
+pub parameters_feed : (old new : ScannerValue) (text : List ℕ) → InParameters old.kind → IsParameterText text →
     0 < length text → new.kind ≡ CsiParam → new.intermediates ≡ old.intermediates →
     ((all : List ℕ) → old.table ≡ table_of all → new.table ≡ table_of (all ++ text)) → FeedsAll old text new []
 parameters_feed old new [] within is some kind same pushed = absurd (omega (arith, some))
@@ -246,7 +246,7 @@ parameters_feed old new (b ∷ text) within is some kind same pushed = λ s stan
       refl,
     )
 
-pub parameters_none : (old new : Held) → InParameters old.kind → new.kind ≡ old.kind → new.intermediates ≡ old.intermediates →
+pub parameters_none : (old new : ScannerValue) → InParameters old.kind → new.kind ≡ old.kind → new.intermediates ≡ old.intermediates →
     ((all : List ℕ) → old.table ≡ table_of all → new.table ≡ table_of (all ++ [])) → FeedsAll old [] new []
 parameters_none old new within kind same pushed = λ s stands.
     let reads = sequence_read old old.kind s.collected within stands.reads in
@@ -264,17 +264,17 @@ parameters_none old new within kind same pushed = λ s stands.
 -- ---- The final byte
 
 final_turn : (kind : Kind) (b : ℕ) → InParameters kind → is_final b ≡ true →
-    turn_of kind (class_of b) ≡ End Ground CsiDispatch
+    transition_of kind (class_of b) ≡ End Ground CsiDispatch
 final_turn kind b (inl is) final =
     let low : 0x40 ≤ b = grind (arith, nat_tests) in
     let high : b ≤ 0x7E = grind (arith, nat_tests) in
-    subst (λ (k : Kind). turn_of k (class_of b) ≡ End Ground CsiDispatch) (sym is)
-    (class_of-final (λ c. turn_of CsiEntry c ≡ End Ground CsiDispatch) b low high refl refl refl refl)
+    subst (λ (k : Kind). transition_of k (class_of b) ≡ End Ground CsiDispatch) (sym is)
+    (class_of-final (λ c. transition_of CsiEntry c ≡ End Ground CsiDispatch) b low high refl refl refl refl)
 final_turn kind b (inr is) final =
     let low : 0x40 ≤ b = grind (arith, nat_tests) in
     let high : b ≤ 0x7E = grind (arith, nat_tests) in
-    subst (λ (k : Kind). turn_of k (class_of b) ≡ End Ground CsiDispatch) (sym is)
-    (class_of-final (λ c. turn_of CsiParam c ≡ End Ground CsiDispatch) b low high refl refl refl refl)
+    subst (λ (k : Kind). transition_of k (class_of b) ≡ End Ground CsiDispatch) (sym is)
+    (class_of-final (λ c. transition_of CsiParam c ≡ End Ground CsiDispatch) b low high refl refl refl refl)
 
 final_fits : (kind : Kind) → InParameters kind → (kind ≢ Ground) × Fits kind (End Ground CsiDispatch)
 final_fits kind (inl is) =
@@ -282,7 +282,7 @@ final_fits kind (inl is) =
 final_fits kind (inr is) =
     subst (λ (k : Kind). (k ≢ Ground) × Fits k (End Ground CsiDispatch)) (sym is) ((λ e. cc), (tt, refl))
 
-pub final_feeds : (old new : Held) (b : ℕ) → InParameters old.kind → is_final b ≡ true → Begins old new Ground →
+pub final_feeds : (old new : ScannerValue) (b : ℕ) → InParameters old.kind → is_final b ≡ true → Begins old new Ground →
     Feeds old b new (one_event (event.Csi b))
 final_feeds old new b within final begun =
     let fits = final_fits old.kind within in
@@ -296,43 +296,43 @@ escape_other kind fits = λ is.
     let none : Fits Ground (End Ground EscDispatch) = subst (λ (k : Kind). Fits k (End Ground EscDispatch)) is fits in
     none.0
 
-pub escape_byte_feeds : (old new : Held) (b : ℕ) → EndsEscape old.kind b → Fits old.kind (End Ground EscDispatch) →
+pub escape_byte_feeds : (old new : ScannerValue) (b : ℕ) → EndsEscape old.kind b → Fits old.kind (End Ground EscDispatch) →
     Begins old new Ground → Feeds old b new (one_event (event.Escape b))
 escape_byte_feeds old new b ends fits begun =
     fed_end old new Ground EscDispatch b (one_event (event.Escape b)) (escape_other old.kind fits) ends fits begun refl
 
 -- ---- The byte that ends an operating system command
 
-command_bell : turn_of OscString (class_of 0x07) ≡ End Ground OscDispatch
+command_bell : transition_of OscString (class_of 0x07) ≡ End Ground OscDispatch
 unfolding class_of
 command_bell = refl
 
-command_escape : turn_of OscString (class_of 0x1B) ≡ End Escape OscDispatch
+command_escape : transition_of OscString (class_of 0x1B) ≡ End Escape OscDispatch
 unfolding class_of
 command_escape = refl
 
 command_other : (kind : Kind) → kind ≡ OscString → kind ≢ Ground
 command_other kind is = subst (λ (k : Kind). k ≢ Ground) (sym is) (λ e. cc)
 
-pub bell_feeds : (old new : Held) (b : ℕ) → old.kind ≡ OscString → b ≡ 0x07 → Begins old new Ground →
+pub bell_feeds : (old new : ScannerValue) (b : ℕ) → old.kind ≡ OscString → b ≡ 0x07 → Begins old new Ground →
     Feeds old b new (one_event event.Osc)
 bell_feeds old new b is same begun =
     fed_end old new Ground OscDispatch b (one_event event.Osc) (command_other old.kind is)
-    (ap (λ k. turn_of k (class_of b)) is ∙ (ap (λ (x : ℕ). turn_of OscString (class_of x)) same ∙ command_bell))
+    (ap (λ k. transition_of k (class_of b)) is ∙ (ap (λ (x : ℕ). transition_of OscString (class_of x)) same ∙ command_bell))
     (is, inl refl) begun refl
 
-pub escape_ends : (old new : Held) (b : ℕ) → old.kind ≡ OscString → b ≡ 0x1B → Begins old new Escape →
+pub escape_ends : (old new : ScannerValue) (b : ℕ) → old.kind ≡ OscString → b ≡ 0x1B → Begins old new Escape →
     Feeds old b new (one_event event.Osc)
 escape_ends old new b is same begun =
     fed_end old new Escape OscDispatch b (one_event event.Osc) (command_other old.kind is)
-    (ap (λ k. turn_of k (class_of b)) is ∙ (ap (λ (x : ℕ). turn_of OscString (class_of x)) same ∙ command_escape))
+    (ap (λ k. transition_of k (class_of b)) is ∙ (ap (λ (x : ℕ). transition_of OscString (class_of x)) same ∙ command_escape))
     (is, inr refl) begun refl
 
 -- ---- Strings that are ignored
 
 skip_step : (text : List ℕ) (b : ℕ) → IsUnended b → step_in Skip text b ≡ gives Skip text []
 skip_step text b (can, sub, esc) =
-    let P : Class → Type 0 = λ k. step_after Skip text b (turn_of Skip k) ≡ gives Skip text [] in
+    let P : Class → Type 0 = λ k. step_after Skip text b (transition_of Skip k) ≡ gives Skip text [] in
     let t0 : (b == 0x18 || b == 0x1A) ≡ false = grind (arith, nat_tests) in
     ⊎_elim
     (λ low. class_of-control P b low esc
@@ -352,7 +352,7 @@ run_skip text (b ∷ bytes) all =
     run-known (record { kind = Skip; collected = text }) b bytes (gives Skip text []) (skip_step text b all.0)
     ∙ run_skip text bytes all.1
 
-pub skip_feeds : (held : Held) (bytes : List ℕ) → held.kind ≡ Skip → AllByRecursion IsUnended bytes →
+pub skip_feeds : (held : ScannerValue) (bytes : List ℕ) → held.kind ≡ Skip → AllByRecursion IsUnended bytes →
     FeedsAll held bytes held []
 skip_feeds held bytes is all = λ s stands.
     let kind : s.kind ≡ Skip = sym stands.kind ∙ is in
@@ -363,9 +363,9 @@ skip_feeds held bytes is all = λ s stands.
 
 -- ---- The text of an operating system command
 
-text_turn : (b : ℕ) → 0x20 ≤ b → turn_of OscString (class_of b) ≡ Collect OscString
+text_turn : (b : ℕ) → 0x20 ≤ b → transition_of OscString (class_of b) ≡ Collect OscString
 text_turn b low =
-    let P : Class → Type 0 = λ k. turn_of OscString k ≡ Collect OscString in
+    let P : Class → Type 0 = λ k. transition_of OscString k ≡ Collect OscString in
     class_of-text P b low
     (either P (nat_lt b 0x30) _ _ refl
     (either P (nat_lt b 0x3C) _ _ refl (either P (nat_lt b 0x40) _ _ refl (either P (nat_lt b 0x7F) _ _
@@ -382,7 +382,7 @@ run_text text (b ∷ bytes) all =
     ∙ run_text (text ++ b ∷ []) bytes all.1
     ∙ ap (λ t. gives OscString t []) (append_assoc text (b ∷ []) bytes)
 
-pub command_feeds : (old new : Held) (bytes : List ℕ) → old.kind ≡ OscString → new.kind ≡ OscString →
+pub command_feeds : (old new : ScannerValue) (bytes : List ℕ) → old.kind ≡ OscString → new.kind ≡ OscString →
     new.text ≡ old.text ++ bytes → AllByRecursion (λ b. 0x20 ≤ b) bytes → FeedsAll old bytes new []
 command_feeds old new bytes was is more all = λ s stands.
     let kind : s.kind ≡ OscString = sym stands.kind ∙ was in
@@ -396,18 +396,18 @@ command_feeds old new bytes was is more all = λ s stands.
 
 pub command_turn : (kind : Kind) (bytes : List ℕ) (n : ℕ) → kind ≡ OscString → 0 < n → n ≤ length bytes →
     AllByRecursion (λ b. 0x20 ≤ b) (take n bytes) →
-    (0 < length bytes) × (turn_of kind (class_of (get_or bytes 0 0)) ≡ Collect OscString)
+    (0 < length bytes) × (transition_of kind (class_of (get_or bytes 0 0)) ≡ Collect OscString)
 command_turn kind [] n is some inside all = absurd (omega (arith, some, inside))
 command_turn kind (b ∷ bytes) zero is some inside all = absurd (omega (arith, some))
 command_turn kind (b ∷ bytes) (suc n) is some inside all =
-    (omega arith, ap (λ (k : Kind). turn_of k (class_of b)) is ∙ text_turn b all.0)
+    (omega arith, ap (λ (k : Kind). transition_of k (class_of b)) is ∙ text_turn b all.0)
 
 -- ---- Several bytes
 
-pub feeds_none : (held : Held) → FeedsAll held [] held []
+pub feeds_none : (held : ScannerValue) → FeedsAll held [] held []
 feeds_none held = λ s stands. (stands, refl)
 
-pub feeds_first : (old middle new : Held) (b : ℕ) (bytes : List ℕ) → Feeds old b middle no_event →
+pub feeds_first : (old middle new : ScannerValue) (b : ℕ) (bytes : List ℕ) → Feeds old b middle no_event →
     FeedsAll middle bytes new [] → FeedsAll old (b ∷ bytes) new []
 feeds_first old middle new b bytes first second = λ s stands.
     let follows = first s stands in
@@ -415,7 +415,7 @@ feeds_first old middle new b bytes first second = λ s stands.
     let rest = second step.state follows.stands in
     (rest.0, ap (λ (l : List automaton.Event). l ++ (run step.state bytes).events) (sym follows.means) ∙ rest.1)
 
-pub feeds_then : (old middle new : Held) (a b : List ℕ) → FeedsAll old a middle [] → FeedsAll middle b new [] →
+pub feeds_then : (old middle new : ScannerValue) (a b : List ℕ) → FeedsAll old a middle [] → FeedsAll middle b new [] →
     FeedsAll old (a ++ b) new []
 feeds_then old middle new a b first second = λ s stands.
     let begun = first s stands in
@@ -424,7 +424,7 @@ feeds_then old middle new a b first second = λ s stands.
     (done.0, ap (λ (l : List automaton.Event). l ++ (run (run s a).state b).events) begun.1 ∙ done.1)
 
 -- What is held after ESC, between ESC and `[`.
-abbrev pub opened : Held → Held
+abbrev pub opened : ScannerValue → ScannerValue
 opened old = record {
   kind = Escape;
   unfinished = old.unfinished;
@@ -433,7 +433,7 @@ opened old = record {
   text = old.text;
 }
 
-begins_opened : (old : Held) → Begins old (opened old) Escape
+begins_opened : (old : ScannerValue) → Begins old (opened old) Escape
 begins_opened old = record {
   kind = refl;
   reads = record { table = refl; intermediates = refl };
@@ -442,7 +442,7 @@ begins_opened old = record {
   intermediates = λ e. absurd cc;
 }
 
-begins_behind : (old led : Held) → Begins old led CsiEntry → Begins (opened old) led CsiEntry
+begins_behind : (old led : ScannerValue) → Begins old led CsiEntry → Begins (opened old) led CsiEntry
 begins_behind old led begun = record {
   kind = begun.kind;
   reads = begun.reads;
@@ -451,7 +451,7 @@ begins_behind old led begun = record {
   intermediates = λ e. absurd cc;
 }
 
-pub opening_feeds : (old led new : Held) (bytes : List ℕ) (n : ℕ) → old.kind ≡ Ground → old.unfinished ≡ [] →
+pub opening_feeds : (old led new : ScannerValue) (bytes : List ℕ) (n : ℕ) → old.kind ≡ Ground → old.unfinished ≡ [] →
     Opens bytes → Begins old led CsiEntry → FeedsAll led (take n (drop 2 bytes)) new [] →
     FeedsAll old (take (suc (suc n)) bytes) new []
 opening_feeds old led new [] n is none opens begun fed = absurd (omega (arith, opens.long))

@@ -13,7 +13,7 @@ use Rattle.vt_cells.specs.Glyph.{columns_of}
 use Rattle.vt_scan.specs.Characters.{character_of, continues, is_character, is_second}
 use Rattle.vt_scan.specs.NarrowTexts.{AreNarrow, IsNarrowCharacter, IsNarrowCoded}
 use Rattle.vt_scan.specs.Run.{run}
-use Rattle.vt_scan.specs.Scanner.{FeedsAll, Held}
+use Rattle.vt_scan.specs.Scanner.{FeedsAll, ScannerValue}
 use Rattle.vt_scan.specs.Texts.{back_with}
 use Rattle.vt_scan.specs.declared.table.Kind.TheVariants.{Ground}
 use Rattle.vt_scan.proofs.Feeding.{stands_at}
@@ -94,7 +94,7 @@ narrow_then a b xs ys first second = record {
   narrow = All-append IsNarrowCharacter xs ys first.narrow second.narrow;
 }
 
-pub narrow_fed : (held : Held) (bytes text : List ℕ) → held.kind ≡ Ground → held.unfinished ≡ [] →
+pub narrow_fed : (held : ScannerValue) (bytes text : List ℕ) → held.kind ≡ Ground → held.unfinished ≡ [] →
     AreNarrow bytes text → FeedsAll held bytes held (map Character text)
 narrow_fed held bytes text is none narrow = λ s stands.
     rw (ap (λ (z : State). run z bytes) (at_start held s is none stands) ∙ narrow.read)

@@ -7,7 +7,7 @@ use Rattle.std.proofs.lemmas.Bool.{cases_lt}
 use Rattle.std.specs.Char.{IsScalar, encode_utf8}
 use Rattle.std.specs.List.{AllByRecursion}
 use lib.Utf8.{next, scalar_cases}
-use Rattle.vt_scan.specs.Table.{turn_of}
+use Rattle.vt_scan.specs.Table.{transition_of}
 use Rattle.vt_scan.specs.Characters.{is_second, is_character, is_beginning, character_of}
 use Rattle.vt_scan.specs.Automaton.{State, Step, Character, Executed, EscDispatch, start, step_after, step_in}
 use Rattle.vt_scan.specs.Run.{run}
@@ -41,7 +41,7 @@ read_escape_start bytes = run-known start 0x1B bytes (gives Escape [] []) fresh_
 pub read_escape : (b : ℕ) → 0x30 ≤ b → b ≤ 0x7E → b ≢ 0x5B → b ≢ 0x5D → b ≢ 0x50 → b ≢ 0x58 →
     b ≢ 0x5E → b ≢ 0x5F → run start (0x1B ∷ b ∷ []) ≡ back_with (EscDispatch [] b ∷ [])
 read_escape b low high csi osc dcs sos pm apc =
-    let P : Class → Type 0 = λ k. step_after Escape [] b (turn_of Escape k) ≡ gives Ground [] (EscDispatch [] b ∷ []) in
+    let P : Class → Type 0 = λ k. step_after Escape [] b (transition_of Escape k) ≡ gives Ground [] (EscDispatch [] b ∷ []) in
     let t0 : nat_lt b 0x30 ≡ false = grind (arith, nat_tests) in
     let t1 : nat_lt b 0x7F ≡ true = grind (arith, nat_tests) in
     let t2 : (b == 0x5B) ≡ false = grind (arith, nat_tests) in

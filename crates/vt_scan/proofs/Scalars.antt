@@ -6,17 +6,17 @@ use Rattle.std.specs.List.{AllByRecursion}
 use Rattle.std.specs.Prelude.{if◌then◌else◌}
 use Rattle.std.proofs.lemmas.Bool.Decides.{nat_tests}
 use lib.Utf8.{scalar, low_scalar}
-use Rattle.vt_scan.specs.Automaton.{State, Event, Step, Character, step_after, given, fresh_step, character_step, step_in}
+use Rattle.vt_scan.specs.Automaton.{State, Event, Step, Character, step_after, events_at_end, fresh_step, character_step, step_in}
 use Rattle.vt_scan.specs.Characters.{is_character, is_beginning, character_of}
 use Rattle.vt_scan.specs.Run.{run}
-use Rattle.vt_scan.specs.Table.{class_of, turn_of}
+use Rattle.vt_scan.specs.Table.{class_of, transition_of}
 use Rattle.vt_scan.specs.declared.table.Class.{Class}
 use Rattle.vt_scan.specs.declared.table.Ending.TheVariants as ends
 use Rattle.vt_scan.specs.declared.table.Kind.{Kind}
 use Rattle.vt_scan.specs.declared.table.Kind.TheVariants.{Ground, Escape, EscapeIntermediate, CsiEntry, CsiParam}
 use Rattle.vt_scan.specs.declared.table.Kind.TheVariants.{CsiIntermediate, CsiIgnore, OscString, Skip}
-use Rattle.vt_scan.specs.declared.table.Turn.{Turn}
-use Rattle.vt_scan.specs.declared.table.Turn.TheVariants.{Collect, Drop, Execute, End}
+use Rattle.vt_scan.specs.declared.table.Transition.{Transition}
+use Rattle.vt_scan.specs.declared.table.Transition.TheVariants.{Collect, Drop, Execute, End}
 use Rattle.vt_scan.proofs.Stepping.{step_in-table}
 
 -- If the event is a character, that character is a Unicode scalar value.
@@ -60,15 +60,15 @@ coded_character (a ∷ b ∷ c ∷ d ∷ x ∷ xs) e = low_scalar 0 (omega arith
 -- ---- One byte
 
 -- The transition prints a character only in the ground state.
-abbrev PrintsIn : Kind → Turn → Type 0
+abbrev PrintsIn : Kind → Transition → Type 0
 PrintsIn kind (End next ends.Character) = kind ≡ Ground
 PrintsIn kind _ = Unit {0}
 
-turn_prints : (kind : Kind) (class : Class) → PrintsIn kind (turn_of kind class)
+turn_prints : (kind : Kind) (class : Class) → PrintsIn kind (transition_of kind class)
 turn_prints kind class = search rules
 
 coded_given : (kind : Kind) (end : _) (text : List ℕ) (b : ℕ) (next : Kind) →
-    PrintsIn kind (End next end) → (kind ≡ Ground → b < 0x80) → AreCoded (given end text b)
+    PrintsIn kind (End next end) → (kind ≡ Ground → b < 0x80) → AreCoded (events_at_end end text b)
 coded_given kind ends.Nothing text b next p h = tt
 coded_given kind ends.Character text b next p h = (low_scalar b (let l = h p in omega arith), tt)
 coded_given kind ends.Executed text b next p h = (tt, tt)
@@ -77,7 +77,7 @@ coded_given kind ends.CsiDispatch text b next p h = (tt, tt)
 coded_given kind ends.OscDispatch text b next p h = (tt, tt)
 coded_given kind ends.OscDispatchAndExecuted text b next p h = (tt, (tt, tt))
 
-coded_after : (kind : Kind) (text : List ℕ) (b : ℕ) (turn : Turn) → PrintsIn kind turn →
+coded_after : (kind : Kind) (text : List ℕ) (b : ℕ) (turn : Transition) → PrintsIn kind turn →
     (kind ≡ Ground → b < 0x80) → AreCoded (step_after kind text b turn).events
 coded_after kind text b (Collect next) p h = tt
 coded_after kind text b Drop p h = tt
@@ -95,7 +95,7 @@ replacement = high_scalar 0xFFFD (omega arith) (omega arith)
 coded_fresh : (b : ℕ) → AreCoded (fresh_step b).events
 unfolding fresh_step
 coded_fresh b =
-    coded_if (nat_lt b 0x80) _ _ (λ small. coded_after Ground [] b (turn_of Ground (class_of b))
+    coded_if (nat_lt b 0x80) _ _ (λ small. coded_after Ground [] b (transition_of Ground (class_of b))
     (turn_prints Ground (class_of b)) (λ e. grind (arith, nat_tests)))
     (λ large. coded_if (is_beginning (b ∷ [])) _ _ (λ begins. tt) (λ other. (replacement, tt)))
 
@@ -108,7 +108,7 @@ coded_more text b =
 coded_table : (kind : Kind) (text : List ℕ) (b : ℕ) → kind ≢ Ground → AreCoded (step_in kind text b).events
 coded_table kind text b other =
     subst (λ (step : Step). AreCoded step.events) (sym (step_in-table kind text b other))
-    (coded_after kind text b (turn_of kind (class_of b)) (turn_prints kind (class_of b)) (λ e. absurd (other e)))
+    (coded_after kind text b (transition_of kind (class_of b)) (turn_prints kind (class_of b)) (λ e. absurd (other e)))
 
 coded_step : (kind : Kind) (text : List ℕ) (b : ℕ) → AreCoded (step_in kind text b).events
 coded_step Ground [] b = coded_fresh b

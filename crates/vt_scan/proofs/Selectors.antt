@@ -5,19 +5,19 @@ use Rattle.std.specs.List.{AllByRecursion}
 use Rattle.std.specs.Prelude.{if◌then◌else◌}
 use Rattle.std.proofs.lemmas.Bool.Decides.{nat_tests}
 use Rattle.std.proofs.lemmas.List.{append_assoc}
-use Rattle.vt_scan.specs.Automaton.{State, Event, Step, Character, step_after, given, start}
+use Rattle.vt_scan.specs.Automaton.{State, Event, Step, Character, step_after, events_at_end, start}
 use Rattle.vt_scan.specs.Automaton.{fresh_step, character_step, step_in}
 use Rattle.vt_scan.specs.Characters.{is_character, is_beginning, character_of}
 use Rattle.vt_scan.specs.Run.{run}
 use Rattle.vt_scan.specs.Selectors.{ReadsNoSelector, SpellsNoSelector}
-use Rattle.vt_scan.specs.Table.{class_of, turn_of}
+use Rattle.vt_scan.specs.Table.{class_of, transition_of}
 use Rattle.vt_scan.specs.declared.table.Class.{Class}
 use Rattle.vt_scan.specs.declared.table.Ending.TheVariants as ends
 use Rattle.vt_scan.specs.declared.table.Kind.{Kind}
 use Rattle.vt_scan.specs.declared.table.Kind.TheVariants.{Ground, Escape, EscapeIntermediate, CsiEntry, CsiParam}
 use Rattle.vt_scan.specs.declared.table.Kind.TheVariants.{CsiIntermediate, CsiIgnore, OscString, Skip}
-use Rattle.vt_scan.specs.declared.table.Turn.{Turn}
-use Rattle.vt_scan.specs.declared.table.Turn.TheVariants.{Collect, Drop, Execute, End}
+use Rattle.vt_scan.specs.declared.table.Transition.{Transition}
+use Rattle.vt_scan.specs.declared.table.Transition.TheVariants.{Collect, Drop, Execute, End}
 use Rattle.vt_scan.proofs.Stepping.{step_in-table}
 
 abbrev IsOther : Event → Type 0
@@ -85,16 +85,16 @@ abbrev GoesOn : Step → List ℕ → Type 0
 GoesOn step bytes = AreOthers step.events × IsFree step.state bytes
 
 -- The transition prints only in the ground state, and collects no bytes of a character.
-abbrev TurnsIn : Kind → Turn → Type 0
-TurnsIn kind (End next ends.Character) = kind ≡ Ground
-TurnsIn kind (Collect next) = next ≢ Ground
-TurnsIn kind _ = Unit {0}
+abbrev TransitionsIn : Kind → Transition → Type 0
+TransitionsIn kind (End next ends.Character) = kind ≡ Ground
+TransitionsIn kind (Collect next) = next ≢ Ground
+TransitionsIn kind _ = Unit {0}
 
-turns_in : (kind : Kind) (class : Class) → TurnsIn kind (turn_of kind class)
-turns_in kind class = search rules
+transitions_in : (kind : Kind) (class : Class) → TransitionsIn kind (transition_of kind class)
+transitions_in kind class = search rules
 
-given_others : (kind next : Kind) (end : _) (text : List ℕ) (b : ℕ) → TurnsIn kind (End next end) →
-    (kind ≡ Ground → b < 0x80) → AreOthers (given end text b)
+given_others : (kind next : Kind) (end : _) (text : List ℕ) (b : ℕ) → TransitionsIn kind (End next end) →
+    (kind ≡ Ground → b < 0x80) → AreOthers (events_at_end end text b)
 given_others kind next ends.Nothing text b p low = tt
 given_others kind next ends.Character text b p low = (differs b (λ e. absurd (omega (arith, e, low p))), tt)
 given_others kind next ends.Executed text b p low = (λ e. cc, tt)
@@ -103,7 +103,7 @@ given_others kind next ends.CsiDispatch text b p low = (λ e. cc, tt)
 given_others kind next ends.OscDispatch text b p low = (λ e. cc, tt)
 given_others kind next ends.OscDispatchAndExecuted text b p low = (λ e. cc, (λ e. cc, tt))
 
-goes_after : (kind : Kind) (text : List ℕ) (b : ℕ) (bytes : List ℕ) (turn : Turn) → TurnsIn kind turn →
+goes_after : (kind : Kind) (text : List ℕ) (b : ℕ) (bytes : List ℕ) (turn : Transition) → TransitionsIn kind turn →
     (kind ≡ Ground → (b < 0x80) × (text ≡ [])) → SpellsNoSelector bytes → GoesOn (step_after kind text b turn) bytes
 goes_after kind text b bytes (Collect next) p fresh h =
     (tt, record { rest = h; begun = λ e. absurd (p e) })
@@ -125,7 +125,7 @@ fresh_goes : (b : ℕ) (bytes : List ℕ) → SpellsNoSelector (b ∷ bytes) →
 unfolding fresh_step
 fresh_goes b bytes h =
     goes_if (nat_lt b 0x80) _ _ bytes
-    (λ small. goes_after Ground [] b bytes (turn_of Ground (class_of b)) (turns_in Ground (class_of b))
+    (λ small. goes_after Ground [] b bytes (transition_of Ground (class_of b)) (transitions_in Ground (class_of b))
     (λ e. (grind (arith, nat_tests), refl)) (behind b bytes h))
     (λ large. goes_if (is_beginning (b ∷ [])) _ _ bytes
     (λ begins. (tt, record { rest = behind b bytes h; begun = λ e. h }))
@@ -158,7 +158,7 @@ table_goes : (kind : Kind) (text : List ℕ) (b : ℕ) (bytes : List ℕ) → ki
     GoesOn (step_in kind text b) bytes
 table_goes kind text b bytes other h =
     subst (λ (step : Step). GoesOn step bytes) (sym (step_in-table kind text b other))
-    (goes_after kind text b bytes (turn_of kind (class_of b)) (turns_in kind (class_of b)) (λ e. absurd (other e)) h)
+    (goes_after kind text b bytes (transition_of kind (class_of b)) (transitions_in kind (class_of b)) (λ e. absurd (other e)) h)
 
 step_goes : (kind : Kind) (text : List ℕ) (b : ℕ) (bytes : List ℕ) → SpellsNoSelector (b ∷ bytes) →
     (kind ≡ Ground → SpellsNoSelector (text ++ b ∷ bytes)) → GoesOn (step_in kind text b) bytes

@@ -3,7 +3,7 @@ use Rattle.std.proofs.Common.{◌≡◌, ℕ, ◌≤◌, ◌==◌, ◌||◌, nat
 use Rattle.std.proofs.Common.{[], ◌∷◌, ◌++◌, filter, take, refl, sym, ◌∙◌, ap, arith}
 use Rattle.std.proofs.lemmas.Bool.Decides.{nat_tests}
 use Rattle.std.proofs.lemmas.List.{append_assoc, append-nil}
-use Rattle.vt_scan.specs.Table.{class_of, turn_of}
+use Rattle.vt_scan.specs.Table.{class_of, transition_of}
 use Rattle.vt_scan.specs.Parameters.{table_of}
 use Rattle.vt_scan.specs.Automaton.{Event, CsiDispatch, start, step_after, step_in, is_parameter, parameter_text, intermediates_of}
 use Rattle.vt_scan.specs.Run.{run}
@@ -39,20 +39,20 @@ pub step_parameter : (text : List ℕ) (b : ℕ) → 0x30 ≤ b → b ≤ 0x3B �
     step_in CsiParam text b ≡ gives CsiParam (text ++ b ∷ []) []
 step_parameter text b low high =
     class_of-parameter
-    (λ k. step_after CsiParam text b (turn_of CsiParam k) ≡ gives CsiParam (text ++ b ∷ []) []) b low high refl
+    (λ k. step_after CsiParam text b (transition_of CsiParam k) ≡ gives CsiParam (text ++ b ∷ []) []) b low high refl
 
 step_first : (b : ℕ) → 0x30 ≤ b → b ≤ 0x3B → step_in CsiEntry [] b ≡ gives CsiParam (b ∷ []) []
 step_first b low high =
-    class_of-parameter (λ k. step_after CsiEntry [] b (turn_of CsiEntry k) ≡ gives CsiParam (b ∷ []) []) b low high refl
+    class_of-parameter (λ k. step_after CsiEntry [] b (transition_of CsiEntry k) ≡ gives CsiParam (b ∷ []) []) b low high refl
 
 step_final : (text : List ℕ) (b : ℕ) → 0x40 ≤ b → b ≤ 0x7E → step_in CsiParam text b ≡ gives Ground [] (sequence text b)
 step_final text b low high =
-    class_of-final (λ k. step_after CsiParam text b (turn_of CsiParam k) ≡ gives Ground [] (sequence text b))
+    class_of-final (λ k. step_after CsiParam text b (transition_of CsiParam k) ≡ gives Ground [] (sequence text b))
     b low high refl refl refl refl
 
 step_final_at_once : (b : ℕ) → 0x40 ≤ b → b ≤ 0x7E → step_in CsiEntry [] b ≡ gives Ground [] (sequence [] b)
 step_final_at_once b low high =
-    class_of-final (λ k. step_after CsiEntry [] b (turn_of CsiEntry k) ≡ gives Ground [] (sequence [] b))
+    class_of-final (λ k. step_after CsiEntry [] b (transition_of CsiEntry k) ≡ gives Ground [] (sequence [] b))
     b low high refl refl refl refl
 
 -- Reading the remaining bytes of a control sequence dispatches the sequence with all of its bytes.

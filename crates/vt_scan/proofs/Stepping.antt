@@ -2,7 +2,7 @@
 use Rattle.std.proofs.Common.{◌≡◌, ◌≢◌, ℕ, ◌<◌, ◌≤◌, ◌==◌, ◌||◌, nat_lt, Bool, true}
 use Rattle.std.proofs.Common.{false, cond, List, [], ◌∷◌, ◌++◌, refl, ◌∙◌, ap, arith}
 use Rattle.std.proofs.lemmas.Bool.Decides.{nat_tests}
-use Rattle.vt_scan.specs.Table.{class_of, turn_of}
+use Rattle.vt_scan.specs.Table.{class_of, transition_of}
 use Rattle.vt_scan.specs.Characters.{is_character, is_beginning, character_of}
 use Rattle.vt_scan.specs.Automaton.{Step, Event, Character, Executed, step_after, fresh_step, character_step, step_in}
 use Rattle.vt_scan.specs.declared.table.Kind.{Kind}
@@ -40,14 +40,14 @@ class_of-control P b h n p =
     let other : (b == 0x1B) ≡ false = grind (arith, nat_tests) in
     rw (test, other) p
 
-pub fresh_step-low : (b : ℕ) → b < 0x80 → fresh_step b ≡ step_after Ground [] b (turn_of Ground (class_of b))
+pub fresh_step-low : (b : ℕ) → b < 0x80 → fresh_step b ≡ step_after Ground [] b (transition_of Ground (class_of b))
 unfolding fresh_step
 fresh_step-low b h = let test : nat_lt b 0x80 ≡ true = grind (arith, nat_tests) in rw test refl
 
 -- If no character is incomplete, a byte from 20 to 7F is read as that character.
 pub fresh_step-character : (b : ℕ) → 0x20 ≤ b → b < 0x80 → fresh_step b ≡ gives Ground [] (Character b ∷ [])
 fresh_step-character b low high =
-    let P : Class → Type 0 = λ k. step_after Ground [] b (turn_of Ground k) ≡ gives Ground [] (Character b ∷ []) in
+    let P : Class → Type 0 = λ k. step_after Ground [] b (transition_of Ground k) ≡ gives Ground [] (Character b ∷ []) in
     fresh_step-low b high
     ∙ class_of-text P b low
     (either P (nat_lt b 0x30) _ _ refl
@@ -59,7 +59,7 @@ fresh_step-character b low high =
 -- If no character is incomplete, a control character other than ESC is executed.
 pub fresh_step-control : (b : ℕ) → b < 0x20 → b ≢ 0x1B → fresh_step b ≡ gives Ground [] (Executed b ∷ [])
 fresh_step-control b high other =
-    let P : Class → Type 0 = λ k. step_after Ground [] b (turn_of Ground k) ≡ gives Ground [] (Executed b ∷ []) in
+    let P : Class → Type 0 = λ k. step_after Ground [] b (transition_of Ground k) ≡ gives Ground [] (Executed b ∷ []) in
     fresh_step-low b (omega arith)
     ∙ class_of-control P b high other (either P (b == 0x07) _ _ refl (either P (b == 0x18 || b == 0x1A) _ _ refl refl))
 
@@ -101,7 +101,7 @@ step_in-character (x ∷ xs) b n = refl
 
 -- Outside the ground state, steps follow the table.
 pub step_in-table : (kind : Kind) (text : List ℕ) (b : ℕ) → kind ≢ Ground →
-    step_in kind text b ≡ step_after kind text b (turn_of kind (class_of b))
+    step_in kind text b ≡ step_after kind text b (transition_of kind (class_of b))
 step_in-table Ground text b n = absurd (n refl)
 step_in-table Escape text b n = refl
 step_in-table EscapeIntermediate text b n = refl

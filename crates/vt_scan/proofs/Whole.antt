@@ -8,7 +8,7 @@ use Rattle.std.proofs.lemmas.List.{length-take-le, take-append-drop, take-take}
 use Rattle.vt_scan.specs.Automaton.{State, Step, Character, start}
 use Rattle.vt_scan.specs.Characters.{character_of, continues, is_beginning, is_character, is_second}
 use Rattle.vt_scan.specs.Run.{run}
-use Rattle.vt_scan.specs.Scanner.{FeedsAll, HasNoEvent, Held, Reads, StandsFor}
+use Rattle.vt_scan.specs.Scanner.{FeedsAll, HasNoEvent, ScannerValue, Reads, StandsFor}
 use Rattle.vt_scan.specs.Texts.{back_with}
 use Rattle.vt_scan.specs.declared.table.Kind.{Kind}
 use Rattle.vt_scan.specs.declared.table.Kind.TheVariants.{Ground}
@@ -60,7 +60,7 @@ read_whole (a ∷ b ∷ c ∷ []) e = three a b c e
 read_whole (a ∷ b ∷ c ∷ d ∷ []) e = four a b c d e
 read_whole (a ∷ b ∷ c ∷ d ∷ x ∷ xs) e = absurd (false≢true e)
 
-pub whole_fed : (held : Held) (text : List ℕ) (code : ℕ) → held.kind ≡ Ground → held.unfinished ≡ [] →
+pub whole_fed : (held : ScannerValue) (text : List ℕ) (code : ℕ) → held.kind ≡ Ground → held.unfinished ≡ [] →
     is_character text ≡ true → code ≡ character_of text → FeedsAll held text held (Character code ∷ [])
 whole_fed held text code is none e means = λ s stands.
     let kind : s.kind ≡ Ground = sym stands.kind ∙ is in
@@ -70,7 +70,7 @@ whole_fed held text code is none e means = λ s stands.
     rw (ap (λ (z : State). run z text) at ∙ read_whole text e)
     (stands_at held [] is none, ap (λ (k : ℕ). Character k ∷ []) (sym means))
 
-pub found_fed : (held : Held) (bytes : List ℕ) (found : Option (ℕ × ℕ)) → held.kind ≡ Ground → held.unfinished ≡ []
+pub found_fed : (held : ScannerValue) (bytes : List ℕ) (found : Option (ℕ × ℕ)) → held.kind ≡ Ground → held.unfinished ≡ []
     → IfSome found (λ f. is_character (take f.1 bytes) ≡ true) → IfSome found (λ f. f.0 ≡ character_of (take f.1 bytes))
     → IfSome found (λ f. FeedsAll held (take f.1 bytes) held (Character f.0 ∷ []))
 found_fed held bytes None is none e means = tt
@@ -103,14 +103,14 @@ read_before (a ∷ b ∷ c ∷ d ∷ []) e =
     (read_first a (b ∷ c ∷ []) high b1 ∙ read_next [] a b (c ∷ []) n2 b2 ∙ read_next (b ∷ []) a c [] n3 b3)
 read_before (a ∷ b ∷ c ∷ d ∷ x ∷ xs) e = absurd (false≢true e)
 
-pub at_start : (held : Held) (s : State) → held.kind ≡ Ground → held.unfinished ≡ [] → StandsFor held s → s ≡ start
+pub at_start : (held : ScannerValue) (s : State) → held.kind ≡ Ground → held.unfinished ≡ [] → StandsFor held s → s ≡ start
 at_start held s is none stands =
     let kind : s.kind ≡ Ground = sym stands.kind ∙ is in
     let read : Reads held Ground s.collected = subst (λ (k : Kind). Reads held k s.collected) is stands.reads in
     let collected : s.collected ≡ [] = sym read ∙ none in
     λ i. record { kind = kind i; collected = collected i }
 
-before_fed : (held : Held) (bytes : List ℕ) (n : ℕ) → held.kind ≡ Ground → held.unfinished ≡ []
+before_fed : (held : ScannerValue) (bytes : List ℕ) (n : ℕ) → held.kind ≡ Ground → held.unfinished ≡ []
     → is_character (take n bytes) ≡ true → n ≤ length bytes → HasNoEvent held (take (n - 1) bytes)
 before_fed held bytes n is none e inside = λ s stands.
     let size : length (take n bytes) ≡ n = length-take-le n bytes inside in
@@ -122,7 +122,7 @@ before_fed held bytes n is none e inside = λ s stands.
     (subst (λ (z : State). (run z (take (length (take n bytes) - 1) (take n bytes))).events ≡ [])
     (sym (at_start held s is none stands)) (read_before (take n bytes) e))
 
-pub found_before : (held : Held) (bytes : List ℕ) (found : Option (ℕ × ℕ)) → held.kind ≡ Ground → held.unfinished ≡ []
+pub found_before : (held : ScannerValue) (bytes : List ℕ) (found : Option (ℕ × ℕ)) → held.kind ≡ Ground → held.unfinished ≡ []
     → IfSome found (λ f. is_character (take f.1 bytes) ≡ true)
     → IfSome found (λ f. (1 < f.1) × (f.1 ≤ length bytes))
     → IfSome found (λ f. HasNoEvent held (take (f.1 - 1) bytes))

@@ -6,7 +6,7 @@ use Rattle.std.specs.Char.{IsScalar}
 use Rattle.std.proofs.lemmas.List.{take_more, map_more, length-take, get_or-take, get_or_default, append_assoc}
 use Rattle.vt_scan.specs.Automaton.{Character}
 use Rattle.vt_scan.specs.Run.{run}
-use Rattle.vt_scan.specs.Scanner.{FeedsAll, Held}
+use Rattle.vt_scan.specs.Scanner.{FeedsAll, ScannerValue}
 use Rattle.vt_scan.specs.WideTexts.{IsWideCharacter, three_at, AreWideThrees}
 use Rattle.vt_scan.specs.declared.table.Kind.TheVariants.{Ground}
 use Rattle.vt_scan.specs.Automaton as automaton
@@ -15,7 +15,7 @@ use Rattle.vt_scan.proofs.Running.{run-append}
 use Rattle.vt_scan.proofs.Scalars.{coded_character}
 use Rattle.vt_scan.proofs.Whole.{whole_fed}
 
-feeds_then : (held : Held) (a b : List ℕ) (xs ys : List automaton.Event) →
+feeds_then : (held : ScannerValue) (a b : List ℕ) (xs ys : List automaton.Event) →
     FeedsAll held a held xs → FeedsAll held b held ys → FeedsAll held (a ++ b) held (xs ++ ys)
 feeds_then held a b xs ys first second = λ s stands.
     let one = first s stands in
@@ -44,7 +44,7 @@ take_three bytes m h =
     ∙ (ap (λ (xs : List ℕ). xs ++ c ∷ []) (append_assoc (take (3 * m) bytes) (a ∷ []) (b ∷ []))
     ∙ append_assoc (take (3 * m) bytes) (a ∷ b ∷ []) (c ∷ [])))))
 
-pub wide_fed : (n : ℕ) (held : Held) (bytes text : List ℕ) → held.kind ≡ Ground → held.unfinished ≡ [] →
+pub wide_fed : (n : ℕ) (held : ScannerValue) (bytes text : List ℕ) → held.kind ≡ Ground → held.unfinished ≡ [] →
     3 * n ≤ length bytes → n ≤ length text → AreWideThrees n bytes text →
     FeedsAll held (take (3 * n) bytes) held (map Character (take n text))
 wide_fed zero held bytes text is none h r all = feeds_none held

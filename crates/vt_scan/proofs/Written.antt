@@ -6,7 +6,7 @@ use Rattle.std.proofs.lemmas.Fmt.{decimal_by_steps}
 use Rattle.std.proofs.lemmas.Bool.Decides.{nat_tests}
 use Rattle.std.proofs.lemmas.List.Splits.{slice_split_at, slice_split_none}
 use Rattle.std.proofs.lemmas.List.Elements.{All-head, All-tail, All-push, All-cons, All-nil, All-weaker}
-use Rattle.vt_cells.specs.Op.{joined, place}
+use Rattle.vt_cells.specs.Op.{semicolon_list, place}
 use Rattle.vt_scan.specs.Parameters.{number_of, numbers_of, groups_of, total, table_of}
 use Rattle.vt_scan.specs.Texts.{IsParameterText, place_groups}
 use Rattle.vt_scan.proofs.Reading.{number_of-push, number_of-empty, groups_of-empty}
@@ -66,10 +66,10 @@ groups_of-further n text small =
 abbrev pub alone : List ℕ → List (List ℕ)
 alone ns = map (λ n. n ∷ []) ns
 
-groups_of-joined : (n : ℕ) (ns : List ℕ) → All (λ k. k ≤ 65535) (n ∷ ns) → groups_of (joined (n ∷ ns)) ≡ alone (n ∷ ns)
+groups_of-joined : (n : ℕ) (ns : List ℕ) → All (λ k. k ≤ 65535) (n ∷ ns) → groups_of (semicolon_list (n ∷ ns)) ≡ alone (n ∷ ns)
 groups_of-joined n [] small = groups_of-decimal n (All-head (λ k. k ≤ 65535) n [] small)
 groups_of-joined n (m ∷ ns) small =
-    groups_of-further n (joined (m ∷ ns)) (All-head (λ k. k ≤ 65535) n (m ∷ ns) small)
+    groups_of-further n (semicolon_list (m ∷ ns)) (All-head (λ k. k ≤ 65535) n (m ∷ ns) small)
     ∙ ap (λ g. (n ∷ []) ∷ g) (groups_of-joined m ns (All-tail (λ k. k ≤ 65535) n (m ∷ ns) small))
 
 total-alone : (ns : List ℕ) → total (alone ns) ≡ length ns
@@ -90,10 +90,10 @@ pub decimal_groups : (n : ℕ) → n ≤ 65535 → (table_of (decimal n)).groups
 decimal_groups n small = kept (decimal n) ((n ∷ []) ∷ []) (groups_of-decimal n small) (omega arith)
 
 pub joined_groups : (ns : List ℕ) → 0 < length ns → length ns ≤ 32 →
-    All (λ k. k ≤ 65535) ns → (table_of (joined ns)).groups ≡ map (λ n. n ∷ []) ns
+    All (λ k. k ≤ 65535) ns → (table_of (semicolon_list ns)).groups ≡ map (λ n. n ∷ []) ns
 joined_groups [] some few small = absurd (omega arith)
 joined_groups (n ∷ ns) some few small =
-    kept (joined (n ∷ ns)) (alone (n ∷ ns)) (groups_of-joined n ns small) (omega (arith, total-alone (n ∷ ns)))
+    kept (semicolon_list (n ∷ ns)) (alone (n ∷ ns)) (groups_of-joined n ns small) (omega (arith, total-alone (n ∷ ns)))
 
 two_groups : (n m : ℕ) → n ≤ 65535 → m ≤ 65535 →
     (table_of (decimal n ++ 0x3B ∷ decimal m)).groups ≡ (n ∷ []) ∷ (m ∷ []) ∷ []
@@ -130,11 +130,11 @@ further_is_parameter : (n : ℕ) (text : List ℕ) → n ≤ 65535 →
 further_is_parameter n text small is =
     parameters-append (decimal n) (0x3B ∷ text) (decimal_is_parameter n small) (omega arith, omega arith, is)
 
-pub joined_is_parameter : (ns : List ℕ) → All (λ k. k ≤ 65535) ns → IsParameterText (joined ns)
+pub joined_is_parameter : (ns : List ℕ) → All (λ k. k ≤ 65535) ns → IsParameterText (semicolon_list ns)
 joined_is_parameter [] small = tt
 joined_is_parameter (n ∷ []) small = decimal_is_parameter n (All-head (λ k. k ≤ 65535) n [] small)
 joined_is_parameter (n ∷ m ∷ ns) small =
-    further_is_parameter n (joined (m ∷ ns)) (All-head (λ k. k ≤ 65535) n (m ∷ ns) small)
+    further_is_parameter n (semicolon_list (m ∷ ns)) (All-head (λ k. k ≤ 65535) n (m ∷ ns) small)
     (joined_is_parameter (m ∷ ns) (All-tail (λ k. k ≤ 65535) n (m ∷ ns) small))
 
 pub place_is_parameter : (row col : ℕ) → row < 65535 → col < 65535 → IsParameterText (place row col)

@@ -4,13 +4,13 @@
 use Rattle.std.specs.Prelude.{ℕ, Bool, not, ◌&&◌, ◌==◌, nat_lt, nat_le, List}
 use Rattle.std.specs.Prelude.{[], ◌∷◌, ◌++◌, take, filter, if◌then◌else◌}
 use Rattle.std.specs.List.{slice_split}
-use Rattle.vt_scan.specs.Table.{class_of, turn_of}
+use Rattle.vt_scan.specs.Table.{class_of, transition_of}
 use Rattle.vt_scan.specs.Parameters.{table_of}
 use Rattle.vt_scan.specs.Characters.{is_character, is_beginning, character_of}
 use Rattle.vt_scan.specs.declared.table.Kind.{Kind}
 use Rattle.vt_scan.specs.declared.table.Kind.TheVariants.{Ground}
-use Rattle.vt_scan.specs.declared.table.Turn.{Turn}
-use Rattle.vt_scan.specs.declared.table.Turn.TheVariants.{Collect, Drop, Execute, End}
+use Rattle.vt_scan.specs.declared.table.Transition.{Transition}
+use Rattle.vt_scan.specs.declared.table.Transition.TheVariants.{Collect, Drop, Execute, End}
 use Rattle.vt_scan.specs.declared.table.Ending as ending
 use Rattle.vt_scan.specs.declared.table.Ending.TheVariants as ends
 
@@ -59,28 +59,28 @@ parts_of text = take 16 (slice_split (λ b. b == 0x3B) text)
 
 -- The events issued when a byte ends a collected sequence. The ending determines them: no event; the byte itself, as a
 -- character or a control; the complete sequence; or the complete command, possibly followed by the byte as a control.
-abbrev pub given : ending.Ending → List ℕ → ℕ → List Event
-given ends.Nothing text b = []
-given ends.Character text b = Character b ∷ []
-given ends.Executed text b = Executed b ∷ []
-given ends.EscDispatch text b = EscDispatch (intermediates_of text) b ∷ []
-given ends.CsiDispatch text b = CsiDispatch (table_of (parameter_text text)).groups (intermediates_of text) b ∷ []
-given ends.OscDispatch text b = OscDispatch (parts_of text) ∷ []
-given ends.OscDispatchAndExecuted text b = OscDispatch (parts_of text) ∷ Executed b ∷ []
+abbrev pub events_at_end : ending.Ending → List ℕ → ℕ → List Event
+events_at_end ends.Nothing text b = []
+events_at_end ends.Character text b = Character b ∷ []
+events_at_end ends.Executed text b = Executed b ∷ []
+events_at_end ends.EscDispatch text b = EscDispatch (intermediates_of text) b ∷ []
+events_at_end ends.CsiDispatch text b = CsiDispatch (table_of (parameter_text text)).groups (intermediates_of text) b ∷ []
+events_at_end ends.OscDispatch text b = OscDispatch (parts_of text) ∷ []
+events_at_end ends.OscDispatchAndExecuted text b = OscDispatch (parts_of text) ∷ Executed b ∷ []
 
 -- The automaton's step for a byte, given the kind of state, the bytes collected so far, the byte itself, and the
 -- transition to perform.
-abbrev pub step_after : Kind → List ℕ → ℕ → Turn → Step
+abbrev pub step_after : Kind → List ℕ → ℕ → Transition → Step
 step_after kind text b (Collect next) = record { state = record { kind = next; collected = text ++ b ∷ [] }; events = [] }
 step_after kind text b Drop = record { state = record { kind = kind; collected = text }; events = [] }
 step_after kind text b Execute = record { state = record { kind = kind; collected = text }; events = Executed b ∷ [] }
-step_after kind text b (End next end) = record { state = record { kind = next; collected = [] }; events = given end text b }
+step_after kind text b (End next end) = record { state = record { kind = next; collected = [] }; events = events_at_end end text b }
 
 -- The automaton's step for a byte in the ground state when no character is incomplete. A byte of 0x80 or above begins a
 -- character or becomes U+FFFD.
 unfoldable pub fresh_step : ℕ → Step
 fresh_step b =
-    if nat_lt b 0x80 then step_after Ground [] b (turn_of Ground (class_of b))
+    if nat_lt b 0x80 then step_after Ground [] b (transition_of Ground (class_of b))
     else if is_beginning (b ∷ []) then record { state = record { kind = Ground; collected = b ∷ [] }; events = [] }
     else record { state = start; events = Character 0xFFFD ∷ [] }
 
@@ -99,4 +99,4 @@ character_step text b =
 abbrev pub step_in : Kind → List ℕ → ℕ → Step
 step_in Ground [] b = fresh_step b
 step_in Ground (x ∷ xs) b = character_step (x ∷ xs) b
-step_in kind text b = step_after kind text b (turn_of kind (class_of b))
+step_in kind text b = step_after kind text b (transition_of kind (class_of b))

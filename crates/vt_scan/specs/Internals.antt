@@ -3,13 +3,13 @@ use Rattle.std.specs.Prelude.{◌≡◌, ◌≢◌, ℕ, ◌-◌, ◌<◌, ◌�
 use Rattle.std.specs.Prelude.{◌≤◌, length, slice_index_or, take, drop, Some, None}
 use Rattle.vt_scan.specs.Characters.{is_character, is_beginning, character_of}
 use Rattle.vt_scan.specs.Parameters.{GroupTable}
-use Rattle.vt_scan.specs.Scanner.{Held, Reads}
+use Rattle.vt_scan.specs.Scanner.{ScannerValue, Reads}
 use Rattle.vt_scan.specs.declared.event.Event.TheVariants as event
 use Rattle.vt_scan.specs.declared.event.Events.{Events}
 use Rattle.vt_scan.specs.declared.table.Kind.{Kind}
 use Rattle.vt_scan.specs.declared.table.Kind.TheVariants as kinds
-use Rattle.vt_scan.specs.declared.table.Turn.{Turn}
-use Rattle.vt_scan.specs.declared.table.Turn.TheVariants.{Collect, Drop, Execute, End}
+use Rattle.vt_scan.specs.declared.table.Transition.{Transition}
+use Rattle.vt_scan.specs.declared.table.Transition.TheVariants.{Collect, Drop, Execute, End}
 use Rattle.vt_scan.specs.declared.table.Ending.{Ending}
 use Rattle.vt_scan.specs.declared.table.Ending.TheVariants as ending
 use Rattle.vt_scan.specs.declared.unfinished.Bytes.{Bytes}
@@ -18,8 +18,8 @@ use Rattle.vt_scan.specs.declared.unfinished.Extended.{Extended}
 use Rattle.vt_scan.specs.declared.unfinished.Extended.TheVariants.{Further, Character, Broken}
 
 -- The value of a scanner with the given kind of state, incomplete character, numbers, intermediates and command text.
-abbrev pub held : Kind → List ℕ → GroupTable → List ℕ → List ℕ → Held
-held kind unfinished table intermediates text =
+abbrev pub scanner_value : Kind → List ℕ → GroupTable → List ℕ → List ℕ → ScannerValue
+scanner_value kind unfinished table intermediates text =
     record { kind = kind; unfinished = unfinished; table = table; intermediates = intermediates; text = text }
 
 -- A state of the given kind collects the numbers and intermediates of an escape or control sequence.
@@ -43,7 +43,7 @@ FitsEnding old new ending.OscDispatchAndExecuted = (old ≡ kinds.OscString) × 
 
 -- A transition from a state of the given kind is consistent: it collects bytes only within a sequence or within an
 -- operating system command, and it dispatches a sequence or command only if it leaves that sequence or command.
-abbrev pub Fits : Kind → Turn → Type 0
+abbrev pub Fits : Kind → Transition → Type 0
 Fits old (Collect new) = (InSequence old × InSequence new) ⊎ ((old ≡ kinds.OscString) × (new ≡ kinds.OscString))
 Fits old Drop = Unit {0}
 Fits old Execute = Unit {0}
@@ -108,7 +108,7 @@ answer_of ending.OscDispatchAndExecuted b = record { first = Some event.Osc; sec
 
 -- The scanner entered a state of kind `begun`, with no bytes collected. Lists that a returned event may still refer to
 -- are unchanged.
-pub record Begins (old : Held) (new : Held) (begun : Kind) : Type 0 where
+pub record Begins (old : ScannerValue) (new : ScannerValue) (begun : Kind) : Type 0 where
   pub kind : new.kind ≡ begun
   pub reads : Reads new begun []
   pub text : (begun ≡ kinds.Ground) ⊎ (begun ≡ kinds.Escape) → new.text ≡ old.text

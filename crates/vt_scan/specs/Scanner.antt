@@ -8,15 +8,15 @@ use Rattle.vt_scan.specs.Run.{run}
 use Rattle.vt_scan.specs.declared.table.Kind.{Kind}
 use Rattle.vt_scan.specs.declared.table.Kind.TheVariants.{Ground, Escape, CsiEntry, CsiParam}
 use Rattle.vt_scan.specs.declared.table.Kind.TheVariants.{CsiIgnore, OscString, Skip}
-use Rattle.vt_scan.specs.Table.{class_of, turn_of}
+use Rattle.vt_scan.specs.Table.{class_of, transition_of}
 use Rattle.vt_scan.specs.declared.table.Ending.TheVariants.{EscDispatch}
-use Rattle.vt_scan.specs.declared.table.Turn.TheVariants.{End}
+use Rattle.vt_scan.specs.declared.table.Transition.TheVariants.{End}
 use Rattle.vt_scan.specs.declared.event.Event as event
 use Rattle.vt_scan.specs.declared.event.Event.TheVariants as given
 use Rattle.vt_scan.specs.declared.event.Events.{Events}
 
 -- The value of a scanner. A field that the scanner's current kind of state does not use may have an outdated value.
-pub record Held : Type 0 where
+pub record ScannerValue : Type 0 where
   pub kind : Kind
   -- The bytes of an incomplete character.
   pub unfinished : List ℕ
@@ -28,12 +28,12 @@ pub record Held : Type 0 where
   pub text : List ℕ
 
 -- The numbers and intermediates that the scanner holds are those of the collected bytes `text`.
-pub record ReadsSequence (held : Held) (text : List ℕ) : Type 0 where
+pub record ReadsSequence (held : ScannerValue) (text : List ℕ) : Type 0 where
   pub table : held.table ≡ table_of (parameter_text text)
   pub intermediates : held.intermediates ≡ intermediates_of text
 
 -- The scanner holds the data that a state of the given kind with the collected bytes `text` requires.
-abbrev pub Reads : Held → Kind → List ℕ → Type 0
+abbrev pub Reads : ScannerValue → Kind → List ℕ → Type 0
 Reads held Ground text = held.unfinished ≡ text
 Reads held CsiIgnore text = Unit {0}
 Reads held OscString text = held.text ≡ text
@@ -41,7 +41,7 @@ Reads held Skip text = Unit {0}
 Reads held _ text = ReadsSequence held text
 
 -- The scanner can be in the given state: it holds all data that the state's future events depend on.
-pub record StandsFor (held : Held) (state : State) : Type 0 where
+pub record StandsFor (held : ScannerValue) (state : State) : Type 0 where
   pub kind : held.kind ≡ state.kind
   pub reads : Reads held held.kind state.collected
 
@@ -53,7 +53,7 @@ unfinished_command _ text = []
 
 -- The automaton's event that an event of the scanner stands for. The lists in the automaton's event are taken from the
 -- data that the scanner holds.
-abbrev pub event_of : Held → event.Event → automaton.Event
+abbrev pub event_of : ScannerValue → event.Event → automaton.Event
 event_of held (given.Character c) = automaton.Character c
 event_of held (given.Executed b) = automaton.Executed b
 event_of held (given.Escape b) = automaton.EscDispatch held.intermediates b
@@ -61,12 +61,12 @@ event_of held (given.Csi b) = automaton.CsiDispatch held.table.groups held.inter
 event_of held given.Osc = automaton.OscDispatch (parts_of held.text)
 
 -- The automaton's events that the events of the scanner stand for, in the same order.
-abbrev pub events_in : Held → Events → List automaton.Event
+abbrev pub events_in : ScannerValue → Events → List automaton.Event
 events_in held events = map (event_of held) (option_to_list events.first ++ option_to_list events.second)
 
 -- The scanner can be in the state after the step, and the events that the scanner returned stand for exactly the events
 -- of the step.
-pub record Follows (new : Held) (answer : Events) (step : Step) : Type 0 where
+pub record Follows (new : ScannerValue) (answer : Events) (step : Step) : Type 0 where
   pub stands : StandsFor new step.state
   pub means : events_in new answer ≡ step.events
 
@@ -75,28 +75,28 @@ abbrev pub IsPrintableByte : ℕ → Type 0
 IsPrintableByte b = (0x20 ≤ b) × (b < 0x7F)
 
 -- The scanner is in the ground state with no incomplete character, and the byte is printable ASCII.
-abbrev pub ReadsItself : Held → ℕ → Type 0
+abbrev pub ReadsItself : ScannerValue → ℕ → Type 0
 ReadsItself held b = (held.kind ≡ Ground) × (held.unfinished ≡ []) × (0x20 ≤ b) × (b < 0x7F)
 
 -- The scanner is in the ground state with no incomplete character, and the byte is a control character other than
 -- ESC.
-abbrev pub ExecutesItself : Held → ℕ → Type 0
+abbrev pub ExecutesItself : ScannerValue → ℕ → Type 0
 ExecutesItself held b = (held.kind ≡ Ground) × (held.unfinished ≡ []) × (b < 0x20) × (b ≢ 0x1B)
 
 -- Feeding the byte `b` performs the automaton's step from every state that the scanner can be in, and returns the
 -- events of that step.
-abbrev pub Feeds : Held → ℕ → Held → Events → Type 0
+abbrev pub Feeds : ScannerValue → ℕ → ScannerValue → Events → Type 0
 Feeds old b new answer =
     (state : State) → StandsFor old state → Follows new answer (step_in state.kind state.collected b)
 
 -- Feeding the given bytes one by one performs the automaton's run from every state that the scanner can be in, and the
 -- run issues exactly the given events.
-abbrev pub FeedsAll : Held → List ℕ → Held → List automaton.Event → Type 0
+abbrev pub FeedsAll : ScannerValue → List ℕ → ScannerValue → List automaton.Event → Type 0
 FeedsAll old bytes new events =
     (state : State) → StandsFor old state → StandsFor new (run state bytes).state × ((run state bytes).events ≡ events)
 
 -- The given bytes issue no event, whatever state the scanner is in.
-abbrev pub HasNoEvent : Held → List ℕ → Type 0
+abbrev pub HasNoEvent : ScannerValue → List ℕ → Type 0
 HasNoEvent held bytes = (state : State) → StandsFor held state → (run state bytes).events ≡ []
 
 -- The byte is an intermediate byte (ECMA-48, section 5.4, and ECMA-35).
@@ -118,12 +118,12 @@ starts_string b = (b == 0x5D) || starts_skipped b
 -- The byte is part of the beginning of a sequence: ESC in the ground state with no incomplete character, any number
 -- of ESC after it, and then an intermediate byte, a byte that introduces a string, or `[` followed by a private marker
 -- and parameter bytes.
-abbrev pub leads_in : Kind → List ℕ → ℕ → Bool
-leads_in Ground unfinished b = (length unfinished == 0) && (b == 0x1B)
-leads_in Escape unfinished b = (b == 0x1B) || ((b == 0x5B) || (starts_string b || is_intermediate b))
-leads_in CsiEntry unfinished b = is_marker b || is_parameter b
-leads_in CsiParam unfinished b = is_parameter b
-leads_in _ unfinished b = false
+abbrev pub is_introducer : Kind → List ℕ → ℕ → Bool
+is_introducer Ground unfinished b = (length unfinished == 0) && (b == 0x1B)
+is_introducer Escape unfinished b = (b == 0x1B) || ((b == 0x5B) || (starts_string b || is_intermediate b))
+is_introducer CsiEntry unfinished b = is_marker b || is_parameter b
+is_introducer CsiParam unfinished b = is_parameter b
+is_introducer _ unfinished b = false
 
 -- The byte is a final byte of a control sequence (ECMA-48, section 5.4).
 abbrev pub is_final : ℕ → Bool
@@ -137,7 +137,7 @@ ends_sequence _ b = false
 
 -- The byte ends an escape sequence, which is then dispatched.
 abbrev pub EndsEscape : Kind → ℕ → Type 0
-EndsEscape kind b = turn_of kind (class_of b) ≡ End Ground EscDispatch
+EndsEscape kind b = transition_of kind (class_of b) ≡ End Ground EscDispatch
 
 -- The byte ends an operating system command, which is then dispatched as the only event.
 abbrev pub ends_command : Kind → ℕ → Bool

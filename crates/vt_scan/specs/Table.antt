@@ -8,8 +8,8 @@ use Rattle.vt_scan.specs.declared.table.Kind.TheVariants.{CsiIntermediate, CsiIg
 use Rattle.vt_scan.specs.declared.table.Class.{Class}
 use Rattle.vt_scan.specs.declared.table.Class.TheVariants.{Control, Bell, Cancel, Introducer, Intermediate, Parameter}
 use Rattle.vt_scan.specs.declared.table.Class.TheVariants.{Marker, Final, CsiStart, OscStart, SkipStart, Delete, High}
-use Rattle.vt_scan.specs.declared.table.Turn.{Turn}
-use Rattle.vt_scan.specs.declared.table.Turn.TheVariants.{Collect, Drop, Execute, End}
+use Rattle.vt_scan.specs.declared.table.Transition.{Transition}
+use Rattle.vt_scan.specs.declared.table.Transition.TheVariants.{Collect, Drop, Execute, End}
 use Rattle.vt_scan.specs.declared.table.Ending.TheVariants.{Nothing, Character, Executed, EscDispatch}
 use Rattle.vt_scan.specs.declared.table.Ending.TheVariants.{CsiDispatch, OscDispatch, OscDispatchAndExecuted}
 
@@ -35,35 +35,35 @@ class_of b =
 
 -- The transition for a kind of state and a class of bytes; the first matching equation applies. In the ground state,
 -- bytes from 0x80 on are UTF-8 and don't use this table.
-abbrev pub turn_of : Kind → Class → Turn
-turn_of OscString Bell = End Ground OscDispatch
-turn_of OscString Cancel = End Ground OscDispatchAndExecuted
-turn_of OscString Introducer = End Escape OscDispatch
-turn_of OscString Control = Drop
-turn_of OscString _ = Collect OscString
-turn_of _ Cancel = End Ground Executed
-turn_of _ Introducer = End Escape Nothing
-turn_of Skip _ = Drop
-turn_of _ Control = Execute
-turn_of _ Bell = Execute
-turn_of Ground _ = End Ground Character
-turn_of _ Delete = Drop
-turn_of _ High = Drop
-turn_of Escape Intermediate = Collect EscapeIntermediate
-turn_of Escape CsiStart = End CsiEntry Nothing
-turn_of Escape OscStart = End OscString Nothing
-turn_of Escape SkipStart = End Skip Nothing
-turn_of Escape _ = End Ground EscDispatch
-turn_of EscapeIntermediate Intermediate = Collect EscapeIntermediate
-turn_of EscapeIntermediate _ = End Ground EscDispatch
-turn_of CsiIgnore Intermediate = Drop
-turn_of CsiIgnore Parameter = Drop
-turn_of CsiIgnore Marker = Drop
-turn_of CsiIgnore _ = End Ground Nothing
-turn_of _ Intermediate = Collect CsiIntermediate
-turn_of CsiIntermediate Parameter = End CsiIgnore Nothing
-turn_of CsiIntermediate Marker = End CsiIgnore Nothing
-turn_of _ Parameter = Collect CsiParam
-turn_of CsiEntry Marker = Collect CsiParam
-turn_of _ Marker = End CsiIgnore Nothing
-turn_of _ _ = End Ground CsiDispatch
+abbrev pub transition_of : Kind → Class → Transition
+transition_of OscString Bell = End Ground OscDispatch
+transition_of OscString Cancel = End Ground OscDispatchAndExecuted
+transition_of OscString Introducer = End Escape OscDispatch
+transition_of OscString Control = Drop
+transition_of OscString _ = Collect OscString
+transition_of _ Cancel = End Ground Executed
+transition_of _ Introducer = End Escape Nothing
+transition_of Skip _ = Drop
+transition_of _ Control = Execute
+transition_of _ Bell = Execute
+transition_of Ground _ = End Ground Character
+transition_of _ Delete = Drop
+transition_of _ High = Drop
+transition_of Escape Intermediate = Collect EscapeIntermediate
+transition_of Escape CsiStart = End CsiEntry Nothing
+transition_of Escape OscStart = End OscString Nothing
+transition_of Escape SkipStart = End Skip Nothing
+transition_of Escape _ = End Ground EscDispatch
+transition_of EscapeIntermediate Intermediate = Collect EscapeIntermediate
+transition_of EscapeIntermediate _ = End Ground EscDispatch
+transition_of CsiIgnore Intermediate = Drop
+transition_of CsiIgnore Parameter = Drop
+transition_of CsiIgnore Marker = Drop
+transition_of CsiIgnore _ = End Ground Nothing
+transition_of _ Intermediate = Collect CsiIntermediate
+transition_of CsiIntermediate Parameter = End CsiIgnore Nothing
+transition_of CsiIntermediate Marker = End CsiIgnore Nothing
+transition_of _ Parameter = Collect CsiParam
+transition_of CsiEntry Marker = Collect CsiParam
+transition_of _ Marker = End CsiIgnore Nothing
+transition_of _ _ = End Ground CsiDispatch

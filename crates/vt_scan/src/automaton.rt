@@ -7,19 +7,19 @@ ghost use Rattle.vt_cells.specs.Refusals.{OnlyOutOfMemory};
 ghost use Rattle.vt_scan.specs.Automaton.{State, fresh_step, parts_of, start, step_in};
 ghost use Rattle.vt_scan.specs.Internals.{Begins, Fits, answer_of};
 ghost use Rattle.vt_scan.specs.Scanner.{Feeds, Follows, Reads, StandsFor, unfinished_command};
-ghost use Rattle.vt_scan.specs.Table.{class_of, turn_of};
+ghost use Rattle.vt_scan.specs.Table.{class_of, transition_of};
 ghost use Rattle.vt_scan.specs.declared.table.Kind.{Kind};
-ghost use Rattle.vt_scan.specs.declared.table.Turn.{Turn};
+ghost use Rattle.vt_scan.specs.declared.table.Transition.{Transition};
 
+mod character_runs;
 mod leading;
-mod runs;
-mod short;
+mod shortcuts;
 
 use crate::event::{Event, Events};
 use crate::intermediates::Intermediates;
 use crate::parameters::{Parameters, is_parameter_byte};
 use crate::parts::Parts;
-use crate::table::{Ending, Kind, Turn, turn_at};
+use crate::table::{Ending, Kind, Transition, transition_at};
 use crate::unfinished::{Extended, Unfinished};
 use std::alloc::Global;
 use std::marker::Model;
@@ -41,18 +41,18 @@ pub struct Scanner {
 }
 
 impl Model for Scanner {
-    ghost use Rattle.vt_scan.specs.Scanner.{Held};
+    ghost use Rattle.vt_scan.specs.Scanner.{ScannerValue};
 
-    ghost Value = { Held };
+    ghost Value = { ScannerValue };
 
     ghost use Rattle.vt_scan.specs.Automaton.{State};
-    ghost use Rattle.vt_scan.specs.Internals.{held};
+    ghost use Rattle.vt_scan.specs.Internals.{scanner_value};
     ghost use Rattle.vt_scan.specs.Scanner.{StandsFor};
 
-    ghost view = { λ s. held s.kind s.unfinished s.parameters s.intermediates s.text.items };
+    ghost view = { λ s. scanner_value s.kind s.unfinished s.parameters s.intermediates s.text.items };
 
     ghost invariant = { λ s.
-        ∥ ((state : State) × StandsFor (held s.kind s.unfinished s.parameters s.intermediates s.text.items) state) ∥₁ };
+        ∥ ((state : State) × StandsFor (scanner_value s.kind s.unfinished s.parameters s.intermediates s.text.items) state) ∥₁ };
 }
 
 // With this implementation, dropping a scanner is one call in a proof. A derived drop would repeat
@@ -98,7 +98,7 @@ impl Scanner {
         ensures fed { IfOk result (Feeds self.old byte self.new) }
         ensures err { OnErr result (self.new ≡ self.old) }
         ensures only { OnlyOutOfMemory result }
-        ensures text { IsErr result → turn_of self.old.kind (class_of byte) ≡ Turn.Collect Kind.OscString }
+        ensures text { IsErr result → transition_of self.old.kind (class_of byte) ≡ Transition.Collect Kind.OscString }
     {
         match self.kind {
             Kind::Ground => Ok(self.feed_ground(byte)),
@@ -227,16 +227,16 @@ impl Scanner {
         ensures fed { IfOk result (Feeds self.old byte self.new) }
         ensures err { OnErr result (self.new ≡ self.old) }
         ensures only { OnlyOutOfMemory result }
-        ensures text { IsErr result → turn_of self.old.kind (class_of byte) ≡ Turn.Collect Kind.OscString }
+        ensures text { IsErr result → transition_of self.old.kind (class_of byte) ≡ Transition.Collect Kind.OscString }
     {
-        match turn_at(self.kind, byte) {
-            Turn::Collect(kind) => {
+        match transition_at(self.kind, byte) {
+            Transition::Collect(kind) => {
                 self.collect(kind, byte)?;
                 Ok(Events::none())
             }
-            Turn::Drop => Ok(Events::none()),
-            Turn::Execute => Ok(Events::one(Event::Executed(byte))),
-            Turn::End(kind, ending) => {
+            Transition::Drop => Ok(Events::none()),
+            Transition::Execute => Ok(Events::one(Event::Executed(byte))),
+            Transition::End(kind, ending) => {
                 self.begin(kind);
                 Ok(answer(ending, byte))
             }
@@ -250,7 +250,7 @@ impl Scanner {
     /// Returns [`Error::OutOfMemory`] if the byte belongs to the text of an operating system
     /// command and the allocation fails. On error, the scanner is unchanged.
     fn collect(&mut self, kind: Kind, byte: u8) -> Result<(), Error>
-        requires { Fits self.old.kind (Turn.Collect kind) }
+        requires { Fits self.old.kind (Transition.Collect kind) }
         ensures kind { OnOk result (self.new.kind ≡ kind) }
         ensures reads { IfOk result (λ _. (text : List ℕ) → Reads self.old self.old.kind text
             → Reads self.new kind (text ++ byte ∷ [])) }

@@ -7,11 +7,11 @@
 ghost use Rattle.std.specs.Char.{IsScalar, encode_utf8};
 ghost use Rattle.std.specs.List.{All, AllByRecursion};
 ghost use Rattle.std.specs.Prelude.{◌≡◌, ◌≢◌, ℕ, ◌<◌, ◌≤◌, List, [], ◌∷◌, ◌++◌, decimal, encode_utf8_all, length, map};
-ghost use Rattle.vt_cells.specs.Op.{csi, joined, place};
+ghost use Rattle.vt_cells.specs.Op.{csi, semicolon_list, place};
 ghost use Rattle.vt_scan.specs.Automaton.{Character, CsiDispatch, EscDispatch, Executed, State, start};
 ghost use Rattle.vt_scan.specs.Parameters.{table_of};
 ghost use Rattle.vt_scan.specs.Run.{run};
-ghost use Rattle.vt_scan.specs.Scanner.{Held, StandsFor};
+ghost use Rattle.vt_scan.specs.Scanner.{ScannerValue, StandsFor};
 ghost use Rattle.vt_scan.specs.Selectors.{ReadsNoSelector, SpellsNoSelector};
 ghost use Rattle.vt_scan.specs.Texts.{IsParameterText, back_with, place_groups};
 
@@ -29,9 +29,9 @@ pub fn pieces()
 /// represents the state reached from one of them also represents the states reached from the other
 /// states.
 pub fn futures()
-    ensures events { (held : Held) (s t : State) (bytes : List ℕ) → StandsFor held s →
+    ensures events { (held : ScannerValue) (s t : State) (bytes : List ℕ) → StandsFor held s →
         StandsFor held t → (run s bytes).events ≡ (run t bytes).events }
-    ensures stands { (held after : Held) (s t : State) (bytes : List ℕ) → StandsFor held s →
+    ensures stands { (held after : ScannerValue) (s t : State) (bytes : List ℕ) → StandsFor held s →
         StandsFor held t → StandsFor after (run s bytes).state → StandsFor after (run t bytes).state }
 {}
 
@@ -68,7 +68,7 @@ pub fn numbers()
     ensures empty { (table_of []).groups ≡ (0 ∷ []) ∷ [] }
     ensures one { (n : ℕ) → n ≤ 65535 → (table_of (decimal n)).groups ≡ (n ∷ []) ∷ [] }
     ensures several { (ns : List ℕ) → 0 < length ns → length ns ≤ 32 →
-        All (λ n. n ≤ 65535) ns → (table_of (joined ns)).groups ≡ map (λ n. n ∷ []) ns }
+        All (λ n. n ≤ 65535) ns → (table_of (semicolon_list ns)).groups ≡ map (λ n. n ∷ []) ns }
     ensures place { (row col : ℕ) → row < 65535 → col < 65535 →
         (table_of (place row col)).groups ≡ place_groups row col }
 {}
@@ -76,6 +76,6 @@ pub fn numbers()
 /// States that decimal numbers joined by `;` consist of parameter bytes.
 pub fn parameter_texts()
     ensures one { (n : ℕ) → n ≤ 65535 → IsParameterText (decimal n) }
-    ensures several { (ns : List ℕ) → All (λ n. n ≤ 65535) ns → IsParameterText (joined ns) }
+    ensures several { (ns : List ℕ) → All (λ n. n ≤ 65535) ns → IsParameterText (semicolon_list ns) }
     ensures place { (row col : ℕ) → row < 65535 → col < 65535 → IsParameterText (place row col) }
 {}

@@ -2,7 +2,7 @@
 
 ghost use Rattle.std.specs.Prelude.{◌≡◌};
 ghost use Rattle.vt_scan.specs.Internals.{Fits};
-ghost use Rattle.vt_scan.specs.Table.{class_of, turn_of};
+ghost use Rattle.vt_scan.specs.Table.{class_of, transition_of};
 
 /// A state of the automaton.
 #[derive(Clone, Copy, PartialEq, Eq, Debug)]
@@ -106,7 +106,7 @@ pub enum Ending {
 
 /// A transition of the automaton.
 #[derive(Clone, Copy, PartialEq, Eq, Debug)]
-pub enum Turn {
+pub enum Transition {
     /// Collects the byte and enters the given state.
     Collect(Kind),
 
@@ -146,54 +146,58 @@ pub fn classify(byte: u8) -> Class
 /// Returns the transition for a byte in the state `kind`.
 #[inline(always)]
 #[tactic(auto, using(std::proofs::lemmas::Bool::Decides::nat_tests), unfolding(crate::specs::Table::class_of))]
-pub fn turn_at(kind: Kind, byte: u8) -> Turn
-    ensures turn { result ≡ turn_of kind (class_of byte) }
+pub fn transition_at(kind: Kind, byte: u8) -> Transition
+    ensures turn { result ≡ transition_of kind (class_of byte) }
     ensures fits { Fits kind result }
 {
     match (kind, byte) {
-        (Kind::CsiParam, 0x30..=0x3B) => Turn::Collect(Kind::CsiParam),
+        (Kind::CsiParam, 0x30..=0x3B) => Transition::Collect(Kind::CsiParam),
         _ => look_up(kind, classify(byte)),
     }
 }
 
 /// Returns the transition for a class of bytes in the state `kind`.
 #[inline]
-pub fn look_up(kind: Kind, class: Class) -> Turn
-    ensures turn { result ≡ turn_of kind class }
+pub fn look_up(kind: Kind, class: Class) -> Transition
+    ensures turn { result ≡ transition_of kind class }
     ensures fits { Fits kind result }
 {
     match (kind, class) {
-        (Kind::OscString, Class::Bell) => Turn::End(Kind::Ground, Ending::OscDispatch),
-        (Kind::OscString, Class::Cancel) => Turn::End(Kind::Ground, Ending::OscDispatchAndExecuted),
-        (Kind::OscString, Class::Introducer) => Turn::End(Kind::Escape, Ending::OscDispatch),
-        (Kind::OscString, Class::Control) => Turn::Drop,
-        (Kind::OscString, _) => Turn::Collect(Kind::OscString),
-        (_, Class::Cancel) => Turn::End(Kind::Ground, Ending::Executed),
-        (_, Class::Introducer) => Turn::End(Kind::Escape, Ending::Nothing),
-        (Kind::Skip, _) => Turn::Drop,
-        (_, Class::Control | Class::Bell) => Turn::Execute,
-        (Kind::Ground, _) => Turn::End(Kind::Ground, Ending::Character),
-        (_, Class::Delete | Class::High) => Turn::Drop,
-        (Kind::Escape, Class::CsiStart) => Turn::End(Kind::CsiEntry, Ending::Nothing),
-        (Kind::Escape, Class::OscStart) => Turn::End(Kind::OscString, Ending::Nothing),
-        (Kind::Escape, Class::SkipStart) => Turn::End(Kind::Skip, Ending::Nothing),
-        (Kind::Escape | Kind::EscapeIntermediate, Class::Intermediate) => Turn::Collect(
+        (Kind::OscString, Class::Bell) => Transition::End(Kind::Ground, Ending::OscDispatch),
+        (Kind::OscString, Class::Cancel) => Transition::End(
+            Kind::Ground,
+            Ending::OscDispatchAndExecuted,
+        ),
+        (Kind::OscString, Class::Introducer) => Transition::End(Kind::Escape, Ending::OscDispatch),
+        (Kind::OscString, Class::Control) => Transition::Drop,
+        (Kind::OscString, _) => Transition::Collect(Kind::OscString),
+        (_, Class::Cancel) => Transition::End(Kind::Ground, Ending::Executed),
+        (_, Class::Introducer) => Transition::End(Kind::Escape, Ending::Nothing),
+        (Kind::Skip, _) => Transition::Drop,
+        (_, Class::Control | Class::Bell) => Transition::Execute,
+        (Kind::Ground, _) => Transition::End(Kind::Ground, Ending::Character),
+        (_, Class::Delete | Class::High) => Transition::Drop,
+        (Kind::Escape, Class::CsiStart) => Transition::End(Kind::CsiEntry, Ending::Nothing),
+        (Kind::Escape, Class::OscStart) => Transition::End(Kind::OscString, Ending::Nothing),
+        (Kind::Escape, Class::SkipStart) => Transition::End(Kind::Skip, Ending::Nothing),
+        (Kind::Escape | Kind::EscapeIntermediate, Class::Intermediate) => Transition::Collect(
             Kind::EscapeIntermediate,
         ),
-        (Kind::Escape | Kind::EscapeIntermediate, _) => Turn::End(
+        (Kind::Escape | Kind::EscapeIntermediate, _) => Transition::End(
             Kind::Ground,
             Ending::EscDispatch,
         ),
-        (Kind::CsiIgnore, Class::Intermediate | Class::Parameter | Class::Marker) => Turn::Drop,
-        (Kind::CsiIgnore, _) => Turn::End(Kind::Ground, Ending::Nothing),
-        (_, Class::Intermediate) => Turn::Collect(Kind::CsiIntermediate),
-        (Kind::CsiIntermediate, Class::Parameter | Class::Marker) => Turn::End(
+        (Kind::CsiIgnore, Class::Intermediate | Class::Parameter | Class::Marker) =>
+            Transition::Drop,
+        (Kind::CsiIgnore, _) => Transition::End(Kind::Ground, Ending::Nothing),
+        (_, Class::Intermediate) => Transition::Collect(Kind::CsiIntermediate),
+        (Kind::CsiIntermediate, Class::Parameter | Class::Marker) => Transition::End(
             Kind::CsiIgnore,
             Ending::Nothing,
         ),
-        (_, Class::Parameter) => Turn::Collect(Kind::CsiParam),
-        (Kind::CsiEntry, Class::Marker) => Turn::Collect(Kind::CsiParam),
-        (_, Class::Marker) => Turn::End(Kind::CsiIgnore, Ending::Nothing),
-        (_, _) => Turn::End(Kind::Ground, Ending::CsiDispatch),
+        (_, Class::Parameter) => Transition::Collect(Kind::CsiParam),
+        (Kind::CsiEntry, Class::Marker) => Transition::Collect(Kind::CsiParam),
+        (_, Class::Marker) => Transition::End(Kind::CsiIgnore, Ending::Nothing),
+        (_, _) => Transition::End(Kind::Ground, Ending::CsiDispatch),
     }
 }

@@ -17,9 +17,9 @@ use Rattle.vt_scan.specs.Parameters.{table_of, groups_of, numbers_of, number_of}
 use Rattle.vt_scan.specs.Table.{class_of}
 use Rattle.vt_scan.proofs.Written.{empty_groups}
 use Rattle.vt_screen.specs.AnyRegion.{IsReaderInAnyRegion, KeepsRestButRegion, reset_text, whole_region_text}
-use Rattle.vt_screen.specs.Reading.{Terminal, read, read_byte, terminal}
+use Rattle.vt_screen.specs.Reading.{Terminal, terminal_after, read_byte, terminal}
 use Rattle.vt_screen.specs.Screen.{IsColored, IsScreen, ScreenValue, with_page}
-use Rattle.vt_screen.specs.Shown.{IsReader, KeepsRest, ReadsTo, Redraws, shown}
+use Rattle.vt_screen.specs.Shown.{IsReader, KeepsRest, ReadsTo, Redraws, display}
 use Rattle.vt_screen.specs.Controls.{counted_step, intermediate_steps, mode_step, other_steps, private_steps, scrolling_steps}
 use Rattle.vt_screen.specs.Steps.{OnPage, display_after}
 use Rattle.vt_screen.proofs.Became.{redraw_redraws}
@@ -108,7 +108,7 @@ plain_reader picture reader r = record {
 behind : (first rest : List ℕ) (reader middle after : ScreenValue) →
     ReadsTo first reader middle → ReadsTo (first ++ rest) reader after → ReadsTo rest middle after
 behind first rest reader middle after p q =
-    sym (reads_append (terminal start reader) first rest ∙ ap (and_then (λ (u : Terminal). read u rest)) p) ∙ q
+    sym (reads_append (terminal start reader) first rest ∙ ap (and_then (λ (u : Terminal). terminal_after u rest)) p) ∙ q
 
 -- Output that redraws a picture on plain terminals redraws it on terminals with any scroll region if it follows the two
 -- sequences that reset the region.
@@ -145,17 +145,17 @@ resets picture text d = record {
       ReadsTo (whole_region_text ++ text) reader after → ReadsTo text (in_whole reader) after
   read_behind reader after e = behind whole_region_text text reader (in_whole reader) after (whole_read reader) e
 
-pub reset_redraws : (self : ScreenValue) (text : List ℕ) → text ≡ reset_text (shown self) → IsScreen self →
-    IsColored self → Redraws (shown self) (IsReaderInAnyRegion (shown self)) KeepsRestButRegion text
+pub reset_redraws : (self : ScreenValue) (text : List ℕ) → text ≡ reset_text (display self) → IsScreen self →
+    IsColored self → Redraws (display self) (IsReaderInAnyRegion (display self)) KeepsRestButRegion text
 reset_redraws self text told is colored =
-    let picture = shown self in
+    let picture = display self in
     subst (Redraws picture (IsReaderInAnyRegion picture) KeepsRestButRegion) (sym told)
     (resets picture (bytes_of_all (redraw picture))
     (redraw_redraws self (bytes_of_all (redraw picture)) refl is colored))
 
 -- If two redraws for terminals with any scroll region are equal, their screens display the same content.
-pub resets_tell : (a b : ScreenValue) → IsScreen a → IsColored a → IsSteady (shown a) →
-    IsScreen b → IsColored b → IsSteady (shown b) → SamePictureSize (shown a) (shown b) →
-    reset_text (shown a) ≡ reset_text (shown b) → shown a ≡ shown b
+pub resets_tell : (a b : ScreenValue) → IsScreen a → IsColored a → IsSteady (display a) →
+    IsScreen b → IsColored b → IsSteady (display b) → SamePictureSize (display a) (display b) →
+    reset_text (display a) ≡ reset_text (display b) → display a ≡ display b
 resets_tell a b is colored steady other colored_other steady_other size e =
     redraws_tell a b is colored steady other colored_other steady_other size (ap (drop (length whole_region_text)) e)

@@ -18,10 +18,10 @@ use Rattle.vt_grid.proofs.Scrolling.{IsScrollback-pushed, IsScrollback-with_view
 use Rattle.vt_grid.specs.Page.{Page, IsPage, blank_page, cursor_row, row_or}
 use Rattle.vt_grid.proofs.Pages.{page_blank, IsRow-cursor_row}
 use Rattle.vt_screen.proofs.Stable.{stable_blank}
-use Rattle.vt_grid.specs.Scrollback.{Scrollback, cleared, no_scrollback, grown_in_view}
-use Rattle.vt_grid.specs.Scrollback.{pushed, with_view, visible, reported, TakesMemory}
+use Rattle.vt_grid.specs.Scrollback.{Scrollback, scrollback_after_clear, no_scrollback, grown_in_view}
+use Rattle.vt_grid.specs.Scrollback.{scrollback_after_push, with_view, visible, rows_reported, TakesMemory}
 use Rattle.std.proofs.lemmas.Bool.{false≢true}
-use Rattle.vt_grid.specs.Resize.{leaving, out_of_view, page_resized, returning, scrollback_resized, window}
+use Rattle.vt_grid.specs.Resize.{leaving_count, out_of_view, page_resized, returning_count, scrollback_resized, window}
 use Rattle.vt_grid.proofs.Resizing.{length-window, page_page_resized, scrollback_resized_is}
 use Rattle.vt_grid.specs.Page.{SameSize}
 use Rattle.vt_screen.specs.Screen.{IsPrintable}
@@ -69,7 +69,7 @@ kept_last page last new aside printable k =
 -- ---- scrollback changes
 
 pub nothing_pushed : (height width : ℕ) (gone : List RowValue) (above : Scrollback) →
-    IsNothing above → IsNothing (pushed height width gone above)
+    IsNothing above → IsNothing (scrollback_after_push height width gone above)
 nothing_pushed height width gone above n =
     let p = pushed_nothing height width gone above n.capacity n.rows n.offset in
     record { capacity = pushed_capacity height width gone above ∙ n.capacity; rows = p.0; offset = p.1 }
@@ -110,9 +110,9 @@ kept_above page last aside above f g k = record {
 -- A screen keeps its invariant when rows scroll off the active page.
 pub kept_sent : (height : ℕ) (gone : List RowValue) (page : Page) (last : Option ℕ) (aside : Aside) (width : ℕ)
     → All (IsRow width) gone → AreColored gone → IsKept page last aside
-    → IsKept page last (record aside { active = pushed height width gone aside.active })
+    → IsKept page last (record aside { active = scrollback_after_push height width gone aside.active })
 kept_sent height gone page last aside width sound colored k =
-    kept_above page last aside (pushed height width gone aside.active) (nothing_pushed height width gone aside.active)
+    kept_above page last aside (scrollback_after_push height width gone aside.active) (nothing_pushed height width gone aside.active)
     (λ a. record {
       sound = IsScrollback-pushed height width gone aside.active sound a.sound;
       colored = stable_pushed coloring height width gone aside.active colored a.colored;
@@ -126,9 +126,9 @@ above_none capacity = record {
 }
 
 pub kept_cleared : (page : Page) (last : Option ℕ) (aside : Aside) → IsKept page last aside →
-    IsKept page last (record aside { active = cleared aside.active })
+    IsKept page last (record aside { active = scrollback_after_clear aside.active })
 kept_cleared page last aside k =
-    kept_above page last aside (cleared aside.active)
+    kept_above page last aside (scrollback_after_clear aside.active)
     (λ n. record { capacity = n.capacity; rows = refl; offset = refl }) (λ a. above_none aside.active.capacity) k
 
 -- A screen keeps its invariant when the display is scrolled back to different rows.
@@ -270,17 +270,17 @@ kept_fresh page last aside k =
 -- After rows scroll off the active page, the screen's scrollback has received them if that page is the main page.
 pub sent_if : {X : Type 0} (b : Bool) (f : Scrollback → X) (height width : ℕ)
     (gone : List RowValue) (active idle above whole : Scrollback)
-    → whole ≡ main_scrollback b active idle → above ≡ pushed height width gone active
-    → (if b then f whole else f (pushed height width gone whole)) ≡ f (main_scrollback b above idle)
+    → whole ≡ main_scrollback b active idle → above ≡ scrollback_after_push height width gone active
+    → (if b then f whole else f (scrollback_after_push height width gone whole)) ≡ f (main_scrollback b above idle)
 sent_if true f height width gone active idle above whole w a = ap f w
 sent_if false f height width gone active idle above whole w a =
-    ap (λ (s : Scrollback). f (pushed height width gone s)) w ∙ ap f (sym a)
+    ap (λ (s : Scrollback). f (scrollback_after_push height width gone s)) w ∙ ap f (sym a)
 
 pub reported_if : (b : Bool) (gone : List RowValue) (active idle whole : Scrollback)
     → whole ≡ main_scrollback b active idle → IsNothing (alternate_scrollback b active idle)
-    → reported gone active ≡ reported gone (if b then no_scrollback 0 else whole)
+    → rows_reported gone active ≡ rows_reported gone (if b then no_scrollback 0 else whole)
 reported_if true gone active idle whole w n = reported_nothing gone active n.capacity n.rows
-reported_if false gone active idle whole w n = ap (reported gone) (sym w)
+reported_if false gone active idle whole w n = ap (rows_reported gone) (sym w)
 
 pub takes_if : (b : Bool) (gone : List RowValue) (active idle whole : Scrollback)
     → whole ≡ main_scrollback b active idle → IsNothing (alternate_scrollback b active idle)
@@ -300,8 +300,8 @@ pub height_resized : (height width : ℕ) (above : Scrollback) (page : Page) →
     length (page_resized height width above page).rows ≡ height
 unfolding page_resized
 height_resized height width above page =
-    let down = leaving height page in
-    let up = returning height above page in
+    let down = leaving_count height page in
+    let up = returning_count height above page in
     let rows = window page.width height down up above.rows page.rows in
     let cut = map (resized_row width) rows in
     length-set cut (length rows - 1) (record (row_or width cut (length rows - 1)) { wrapped = false })

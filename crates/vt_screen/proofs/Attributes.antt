@@ -4,7 +4,7 @@ use Rattle.vt_cells.specs.Attrs.{default_attrs, Attrs}
 use Rattle.vt_cells.specs.Op.{FitsAttrs, change_text, csi}
 use Rattle.vt_cells.proofs.Same.{changed_attrs-new}
 use Rattle.vt_scan.specs.Automaton.{start}
-use Rattle.vt_screen.specs.Reading.{read, terminal}
+use Rattle.vt_screen.specs.Reading.{terminal_after, terminal}
 use Rattle.vt_screen.specs.Screen.{ScreenValue}
 use Rattle.vt_screen.specs.Shown.{SetsAttrs, attributes_text}
 use Rattle.vt_screen.proofs.Readback.{cleared_read, changed_read}
@@ -19,6 +19,6 @@ attributes_set attrs text told fits reader =
     let second = changed_read default_attrs attrs plain fits
     ∙ ap (λ (a : Attrs). Some (terminal start (record reader { attrs = a }))) (changed_attrs-new default_attrs attrs) in
     let change = change_text default_attrs attrs in
-    ap (read (terminal start reader)) (told ∙ ap (λ (t : List ℕ). csi [] 0x6D ++ t) (append-nil change))
+    ap (terminal_after (terminal start reader)) (told ∙ ap (λ (t : List ℕ). csi [] 0x6D ++ t) (append-nil change))
     ∙ reads_then (terminal start reader) (terminal start plain)
     (terminal start (record reader { attrs = attrs })) (csi [] 0x6D) change first second

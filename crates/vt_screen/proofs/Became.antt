@@ -8,13 +8,13 @@ use Rattle.vt_redraw.proofs.Cuts.{cut_same}
 use Rattle.vt_redraw.proofs.Difference.{flags_end_of}
 use Rattle.vt_screen.specs.Screen.{ScreenValue, IsScreen, IsColored, above_page}
 use Rattle.vt_screen.specs.Shown.{IsPlain, IsReader, IsReaderOf, ShowsPlainly, HasRows}
-use Rattle.vt_screen.specs.Shown.{HasCursor, KeepsRest, Redraws, RedrawsFrom, shown, showing, shown_change, shown_text}
+use Rattle.vt_screen.specs.Shown.{HasCursor, KeepsRest, Redraws, RedrawsFrom, display, reader_with_display, display_change, shown_text}
 use Rattle.vt_screen.proofs.Redrawing.{Became, Becomes, became, redraw_read, difference_read}
 use Rattle.vt_screen.proofs.Shown.{none_above, shown_height, shown_is}
 
 -- A plain screen whose rows, cursor and attributes are replaced by those of a picture displays that picture.
 shown_showing : (picture : Picture) (saved : Saved) (last : Option ℕ) (reader : ScreenValue) →
-    IsPicture picture → IsReader picture reader → shown (showing picture saved last reader) ≡ picture
+    IsPicture picture → IsReader picture reader → display (reader_with_display picture saved last reader) ≡ picture
 shown_showing picture saved last reader is r =
     let width = reader.page.width in
     ap (λ (rows : List RowValue). record picture { rows = cut_rows width rows; width = width })
@@ -25,7 +25,7 @@ shown_showing picture saved last reader is r =
     (flags_end_of picture.width picture.rows is.last)))
 
 plain_showing : (picture : Picture) (saved : Saved) (last : Option ℕ) (reader : ScreenValue) →
-    IsReader picture reader → IsPlain (showing picture saved last reader)
+    IsReader picture reader → IsPlain (reader_with_display picture saved last reader)
 plain_showing picture saved last reader r =
     let tall = r.size.height in
     let height = shown_height reader in
@@ -73,7 +73,7 @@ pub redraws : (Reader : ScreenValue → Type 0) (picture : Picture) (text : List
     → (IsSteady picture → (reader : ScreenValue) → Reader reader → Becomes picture text reader)
     → Redraws picture Reader KeepsRest text
 redraws Reader picture text is readers reads = record {
-  quiet = λ steady reader r. let b = reads steady reader r in (showing picture b.saved b.last reader, b.reads);
+  quiet = λ steady reader r. let b = reads steady reader r in (reader_with_display picture b.saved b.last reader, b.reads);
   shows =
       λ steady reader after r e. shows_plainly picture reader after is
       (readers reader r) (became picture text reader after (reads steady reader r) e);
@@ -89,19 +89,19 @@ redraws Reader picture text is readers reads = record {
 }
 
 pub redraw_redraws : (self : ScreenValue) (text : List ℕ) → text ≡ shown_text self →
-    IsScreen self → IsColored self → Redraws (shown self) (IsReader (shown self)) KeepsRest text
+    IsScreen self → IsColored self → Redraws (display self) (IsReader (display self)) KeepsRest text
 redraw_redraws self text told is colored =
-    let picture = shown self in
+    let picture = display self in
     redraws (IsReader picture) picture text (shown_is self is) (λ reader r. r)
     (λ steady reader r. subst (λ (t : List ℕ). Becomes picture t reader)
     (sym told) (redraw_read self reader is colored steady r))
 
 pub difference_redraws : (self prev : ScreenValue) (text : List ℕ)
-    → text ≡ shown_change prev self → IsScreen self → IsColored self
-    → IsScreen prev → IsColored prev → SamePictureSize (shown self) (shown prev)
+    → text ≡ display_change prev self → IsScreen self → IsColored self
+    → IsScreen prev → IsColored prev → SamePictureSize (display self) (display prev)
     → RedrawsFrom prev self text
 difference_redraws self prev text told is colored other colored_other size =
-    let picture = shown self in
-    redraws (IsReaderOf picture (shown prev)) picture text (shown_is self is) (λ reader r. r.is)
+    let picture = display self in
+    redraws (IsReaderOf picture (display prev)) picture text (shown_is self is) (λ reader r. r.is)
     (λ steady reader r. subst (λ (t : List ℕ). Becomes picture t reader) (sym told)
     (difference_read self prev reader is colored steady other colored_other size r))

@@ -8,9 +8,9 @@ use Rattle.vt_cells.specs.Cell.{CellValue, IsCell, blank, glyph, right_half, is_
 use Rattle.vt_cells.specs.Op.{change_text}
 use Rattle.std.specs.Char.{encode_utf8}
 use Rattle.std.specs.List.{list_all}
-use Rattle.vt_rows.specs.Basic.{Written, unwritten, shown_text, attrs_after, cells_text, basic_text, written_after}
+use Rattle.vt_rows.specs.Basic.{Written, nothing_written, shown_text, attrs_after, cells_text, basic_text, written_after}
 use Rattle.vt_rows.specs.Cells.{blanks}
-use Rattle.vt_rows.specs.Row.{RowValue, blank_row, trimmed}
+use Rattle.vt_rows.specs.Row.{RowValue, blank_row, cells_without_end}
 use Rattle.vt_grid.specs.Scrollback.{no_scrollback}
 use Rattle.vt_redraw.proofs.Cuts.{IsAnyRow}
 use Rattle.vt_redraw.proofs.Printable.{printable_text}
@@ -52,10 +52,10 @@ captured_cells attrs (cell ∷ cells) are =
 
 -- ---- rows
 
-trimmed_are : (cells : List CellValue) → AllByRecursion IsCell cells → AllByRecursion IsCell (trimmed cells)
+trimmed_are : (cells : List CellValue) → AllByRecursion IsCell cells → AllByRecursion IsCell (cells_without_end cells)
 trimmed_are [] are = tt
 trimmed_are (cell ∷ cells) are =
-    kept (list_all is_default_blank (cell ∷ cells)) (cell ∷ trimmed cells) (are.0, trimmed_are cells are.1) where
+    kept (list_all is_default_blank (cell ∷ cells)) (cell ∷ cells_without_end cells) (are.0, trimmed_are cells are.1) where
       kept : (b : Bool) (rest : List CellValue) → AllByRecursion IsCell rest →
           AllByRecursion IsCell (if b then [] else rest)
       kept true rest h = tt
@@ -67,16 +67,16 @@ captured_rows written [] are = captured_nothing
 captured_rows written (row ∷ rows) are =
     let cells = trimmed_are row.cells (recursion_from_All IsCell row.cells are.0.sound) in
     captured_append (basic_text written row) (basic_texts (written_after written row) rows)
-    (captured_append _ (cells_text written.attrs (trimmed row.cells))
+    (captured_append _ (cells_text written.attrs (cells_without_end row.cells))
     (made_if capture_finals plain_controls written.is_due (0x0A ∷ []) []
     (made_piece capture_finals plain_controls (Control (0x0A ∷ [])) (inl refl)) captured_nothing)
-    (captured_cells written.attrs (trimmed row.cells) cells))
+    (captured_cells written.attrs (cells_without_end row.cells) cells))
     (captured_rows (written_after written row) rows are.1)
 
 pub capture_is : (screen : ScreenValue) → IsScreen screen →
-    IsMadeOf capture_finals plain_controls (basic_texts unwritten (visible_rows screen))
+    IsMadeOf capture_finals plain_controls (basic_texts nothing_written (visible_rows screen))
 capture_is screen is =
-    captured_rows unwritten (visible_rows screen)
+    captured_rows nothing_written (visible_rows screen)
     (recursion_from_All IsAnyRow (visible_rows screen) (any_visible screen is))
 
 -- ---- fresh rows
@@ -86,7 +86,7 @@ unfolding same_attrs same_color
 all_default zero = refl
 all_default (suc n) = all_default n
 
-trimmed_blanks : (width : ℕ) → trimmed (blanks default_attrs width) ≡ []
+trimmed_blanks : (width : ℕ) → cells_without_end (blanks default_attrs width) ≡ []
 trimmed_blanks zero = refl
 trimmed_blanks (suc width) = rw (all_default (suc width)) refl
 
@@ -98,9 +98,9 @@ fresh_rows written (suc n) width =
     rw none (ap (λ (rest : List ℕ). 0x0A ∷ rest) (fresh_rows written n width))
 
 pub fresh_capture : (rows cols capacity : ℕ) →
-    basic_texts unwritten (visible_rows (fresh_screen (suc rows) cols capacity)) ≡ replicate rows 0x0A
+    basic_texts nothing_written (visible_rows (fresh_screen (suc rows) cols capacity)) ≡ replicate rows 0x0A
 fresh_capture rows cols capacity =
     let none = trimmed_blanks cols in
-    ap (basic_texts unwritten)
+    ap (basic_texts nothing_written)
     (none_above (no_scrollback capacity) (replicate (suc rows) (blank_row default_attrs cols)) refl)
-    ∙ rw none (fresh_rows unwritten rows cols)
+    ∙ rw none (fresh_rows nothing_written rows cols)

@@ -125,7 +125,7 @@ stopped_behind refuses start front text before state after rows first k last row
           take_split (drop first rows) (k - first) (last - first) row (omega arith) (omega arith)
           ∙ ap (λ (x : RowValue). slice_range rows first k ++ x ∷ left) item;
       written = same ∙ behind;
-      some = subst (λ (w : Written). 0 < length (basic_text w row)) (sym same) some;
+      nonempty = subst (λ (w : Written). 0 < length (basic_text w row)) (sym same) some;
       stopped =
           subst (λ (w : Written). IsStopped refuses (start ++ basic_texts before (slice_range rows first k))
           (basic_text w row) text) (sym same)
@@ -144,7 +144,7 @@ texts_split before (first ∷ rows) more =
 pub some_texts : (refuses : List ℕ → List ℕ → List ℕ → Type 0) (start text : List ℕ) (before state : Written)
     (rows : List RowValue) → StopsBehind refuses start before rows text state → 0 < length (basic_texts before rows)
 some_texts refuses start text before state rows stops =
-    let some = stops.some in
+    let some = stops.nonempty in
     let rest = basic_texts (written_after state stops.row) stops.left in
     let all : basic_texts before rows ≡ basic_texts before stops.whole ++ (basic_text state stops.row ++ rest) =
     ap (basic_texts before) stops.parts ∙ texts_split before stops.whole (stops.row ∷ stops.left)

@@ -8,7 +8,7 @@ use Rattle.vt_cells.specs.Attrs.{default_attrs}
 use Rattle.vt_rows.specs.Plain.{plain_text}
 use Rattle.vt_rows.specs.Row.{RowValue, blank_row}
 use Rattle.vt_grid.specs.Scrollback.{Scrollback, last_of, visible}
-use Rattle.vt_screen.specs.Contents.{before, gap_line, line_end, lines_of, row_texts, without_line_ends}
+use Rattle.vt_screen.specs.Contents.{with_byte_before, gap_line, line_end, lines_of, row_texts, without_line_ends}
 use Rattle.vt_screen.specs.Screen.{ScreenValue, above_page, visible_row, visible_rows}
 
 -- As many rows are displayed as the page has rows.
@@ -35,17 +35,17 @@ rows_done screen r h =
     drop_all r (visible_rows screen) (omega arith)
 
 -- The lines of the displayed rows from row r on are the line of row r and the lines of the rows after it.
-pub lines_more : (screen : ScreenValue) (width : ℕ) (goes_on : Bool) (r : ℕ) → r < length screen.page.rows
-    → lines_of width goes_on (drop r (visible_rows screen))
-    ≡ gap_line width goes_on (visible_row screen r)
+pub lines_more : (screen : ScreenValue) (width : ℕ) (is_wrapped : Bool) (r : ℕ) → r < length screen.page.rows
+    → lines_of width is_wrapped (drop r (visible_rows screen))
+    ≡ gap_line width is_wrapped (visible_row screen r)
     ++ (plain_text 0 width (visible_row screen r).cells
     ++ (line_end (visible_row screen r)
     ++ lines_of width (visible_row screen r).wrapped (drop (r + 1) (visible_rows screen))))
-lines_more screen width goes_on r h = ap (lines_of width goes_on) (rows_more screen r h)
+lines_more screen width is_wrapped r h = ap (lines_of width is_wrapped) (rows_more screen r h)
 
-pub lines_done : (screen : ScreenValue) (width : ℕ) (goes_on : Bool) (r : ℕ) →
-    length screen.page.rows ≤ r → lines_of width goes_on (drop r (visible_rows screen)) ≡ []
-lines_done screen width goes_on r h = ap (lines_of width goes_on) (rows_done screen r h)
+pub lines_done : (screen : ScreenValue) (width : ℕ) (is_wrapped : Bool) (r : ℕ) →
+    length screen.page.rows ≤ r → lines_of width is_wrapped (drop r (visible_rows screen)) ≡ []
+lines_done screen width is_wrapped r h = ap (lines_of width is_wrapped) (rows_done screen r h)
 
 -- The texts of the displayed rows from row r on are the text of row r and the texts of the rows after it.
 pub texts_more : (screen : ScreenValue) (start stop r : ℕ) → r < length screen.page.rows
@@ -88,15 +88,15 @@ none_refused text e some =
 
 line_end_dropped : (text : List ℕ) → without_line_ends (text ++ 0x0A ∷ []) ≡ without_line_ends text
 line_end_dropped [] = refl
-line_end_dropped (c ∷ text) = ap (before c) (line_end_dropped text)
+line_end_dropped (c ∷ text) = ap (with_byte_before c) (line_end_dropped text)
 
-before_more : (c : ℕ) (text : List ℕ) (d : ℕ) → before c (text ++ d ∷ []) ≡ c ∷ (text ++ d ∷ [])
+before_more : (c : ℕ) (text : List ℕ) (d : ℕ) → with_byte_before c (text ++ d ∷ []) ≡ c ∷ (text ++ d ∷ [])
 before_more c [] d = refl
 before_more c (e ∷ text) d = refl
 
 other_kept : (text : List ℕ) (d : ℕ) → (d == 0x0A) ≡ false → without_line_ends (text ++ d ∷ []) ≡ text ++ d ∷ []
 other_kept [] d e = rw e refl
-other_kept (c ∷ text) d e = ap (before c) (other_kept text d e) ∙ before_more c text d
+other_kept (c ∷ text) d e = ap (with_byte_before c) (other_kept text d e) ∙ before_more c text d
 
 last_split : (text : List ℕ) → 0 < length text →
     text ≡ take (length text - 1) text ++ slice_index text (length text - 1) ∷ []

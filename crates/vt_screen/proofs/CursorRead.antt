@@ -9,7 +9,7 @@ use Rattle.vt_redraw.proofs.Fitting.{cursor_state_fits}
 use Rattle.vt_scan.specs.Automaton.{start}
 use Rattle.vt_screen.specs.Reading.{Terminal, terminal}
 use Rattle.vt_screen.specs.Screen.{ScreenValue, IsScreen, IsColored, canvas_of, with_canvas}
-use Rattle.vt_screen.specs.Shown.{IsPlain, IsReaderOfRows, KeepsRest, ReadsTo, TakesCursor, Turns, shown}
+use Rattle.vt_screen.specs.Shown.{IsPlain, IsReaderOfRows, KeepsRest, ReadsTo, TakesCursor, Turns, display}
 use Rattle.vt_screen.proofs.Readback.{reads_all}
 use Rattle.vt_screen.proofs.Shown.{plain_shown, shown_colored, shown_is}
 
@@ -23,10 +23,10 @@ record Places (picture : Picture) (text : List ℕ) (reader : ScreenValue) : Typ
   last : Option ℕ
   reads : ReadsTo text reader (placed picture saved last reader)
 
-cursor_read : (self reader : ScreenValue) → IsScreen self → IsColored self → IsSteady (shown self) →
-    IsReaderOfRows (shown self) reader → Places (shown self) (bytes_of_all (cursor_state (shown self))) reader
+cursor_read : (self reader : ScreenValue) → IsScreen self → IsColored self → IsSteady (display self) →
+    IsReaderOfRows (display self) reader → Places (display self) (bytes_of_all (cursor_state (display self))) reader
 cursor_read self reader is colored steady r =
-    let picture = shown self in
+    let picture = display self in
     let page = plain_shown reader r.is.sound r.is.plain in
     let rows : reader.page.rows ≡ picture.rows = sym (ap (λ (p : Picture). p.rows) page) ∙ r.shows in
     let draws = cursor_state_draws picture (canvas_of reader) (shown_is self is)
@@ -73,9 +73,9 @@ turns picture text reads = record {
       });
 }
 
-pub cursor_turns : (self : ScreenValue) (text : List ℕ) → text ≡ bytes_of_all (cursor_state (shown self)) →
-    IsScreen self → IsColored self → IsSteady (shown self) →
-    Turns (IsReaderOfRows (shown self)) text (TakesCursor (shown self))
+pub cursor_turns : (self : ScreenValue) (text : List ℕ) → text ≡ bytes_of_all (cursor_state (display self)) →
+    IsScreen self → IsColored self → IsSteady (display self) →
+    Turns (IsReaderOfRows (display self)) text (TakesCursor (display self))
 cursor_turns self text told is colored steady =
-    turns (shown self) text (λ reader r. subst (λ (t : List ℕ). Places (shown self) t reader)
+    turns (display self) text (λ reader r. subst (λ (t : List ℕ). Places (display self) t reader)
     (sym told) (cursor_read self reader is colored steady r))

@@ -11,9 +11,9 @@ use Rattle.vt_redraw.proofs.EmptyDifference.{showing_plain, difference_self}
 use Rattle.vt_redraw.proofs.EmptyDifference as canvas
 use Rattle.vt_redraw.proofs.Redrawing.{redraw_draws}
 use Rattle.vt_scan.specs.Automaton.{start}
-use Rattle.vt_screen.specs.Reading.{Terminal, read, terminal}
+use Rattle.vt_screen.specs.Reading.{Terminal, terminal_after, terminal}
 use Rattle.vt_screen.specs.Screen.{ScreenValue, IsScreen, IsColored, canvas_of, fresh_screen, with_canvas}
-use Rattle.vt_screen.specs.Shown.{shown, showing}
+use Rattle.vt_screen.specs.Shown.{display, reader_with_display}
 use Rattle.vt_screen.proofs.Redrawing.{Becomes, drawing_read}
 use Rattle.vt_screen.proofs.Shown.{shown_colored, shown_is}
 
@@ -32,20 +32,20 @@ one_picture : (a b : Picture) (text more : List ℕ) (reader : ScreenValue) → 
     Becomes b more reader → text ≡ more → SamePictureSize a b → b.width ≡ reader.page.width → a ≡ b
 unfolding shows
 one_picture a b text more reader one two e size width =
-    let left = terminal start (showing a one.saved one.last reader) in
-    let right = terminal start (showing b two.saved two.last reader) in
+    let left = terminal start (reader_with_display a one.saved one.last reader) in
+    let right = terminal start (reader_with_display b two.saved two.last reader) in
     let same : left ≡ right =
-    same_some left right (sym one.reads ∙ (ap (read (terminal start reader)) e ∙ two.reads)) in
+    same_some left right (sym one.reads ∙ (ap (terminal_after (terminal start reader)) e ∙ two.reads)) in
     ap (λ (w : ℕ). record a { width = w }) (size.width ∙ width)
     ∙ (ap shows same ∙ ap (λ (w : ℕ). record b { width = w }) (sym width))
 
 -- If the redraws of two screens are equal, both screens display the same content.
-pub redraws_tell : (a b : ScreenValue) → IsScreen a → IsColored a → IsSteady (shown a) →
-    IsScreen b → IsColored b → IsSteady (shown b) → SamePictureSize (shown a) (shown b) →
-    bytes_of_all (redraw (shown a)) ≡ bytes_of_all (redraw (shown b)) → shown a ≡ shown b
+pub redraws_tell : (a b : ScreenValue) → IsScreen a → IsColored a → IsSteady (display a) →
+    IsScreen b → IsColored b → IsSteady (display b) → SamePictureSize (display a) (display b) →
+    bytes_of_all (redraw (display a)) ≡ bytes_of_all (redraw (display b)) → display a ≡ display b
 redraws_tell a b is colored steady other colored_other steady_other size e =
-    let x = shown a in
-    let y = shown b in
+    let x = display a in
+    let y = display b in
     let reader = blank_reader y in
     let plain = showing_plain y (shown_is b other) in
     let one = drawing_read (redraw x) x reader (redraw_fits x (shown_is a is) (shown_colored a is colored))
@@ -56,11 +56,11 @@ redraws_tell a b is colored steady other colored_other steady_other size e =
     one_picture x y (bytes_of_all (redraw x)) (bytes_of_all (redraw y)) reader one two e size refl
 
 -- If the difference between two screens is empty, both screens display the same content.
-pub difference_tells : (a b : ScreenValue) → IsScreen a → IsColored a → IsSteady (shown a) → IsScreen b → IsColored b →
-    SamePictureSize (shown a) (shown b) → bytes_of_all (difference (shown a) (shown b)) ≡ [] → shown a ≡ shown b
+pub difference_tells : (a b : ScreenValue) → IsScreen a → IsColored a → IsSteady (display a) → IsScreen b → IsColored b →
+    SamePictureSize (display a) (display b) → bytes_of_all (difference (display a) (display b)) ≡ [] → display a ≡ display b
 difference_tells a b is colored steady other colored_other size e =
-    let x = shown a in
-    let y = shown b in
+    let x = display a in
+    let y = display b in
     let reader = blank_reader y in
     let plain = showing_plain y (shown_is b other) in
     let one = drawing_read (difference x y) x reader

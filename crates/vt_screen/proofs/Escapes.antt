@@ -8,7 +8,7 @@ use Rattle.std.specs.Fmt.{digit_glyph, digits, digits_onto}
 use Rattle.std.specs.List.{AllByRecursion, flat_map, list_all}
 use Rattle.std.proofs.lemmas.Bool.{cond_both}
 use Rattle.std.proofs.lemmas.Str.{encode_ascii, encodes-append}
-use Rattle.vt_cells.specs.Op.{csi, joined}
+use Rattle.vt_cells.specs.Op.{csi, semicolon_list}
 use Rattle.vt_screen.specs.MadeOf.{Piece, IsCharacter, Characters, Numbered, Control, piece_text, IsOneOf, IsPiece}
 use Rattle.vt_screen.specs.MadeOf.{IsMadeOf, drawing_controls, drawing_finals, escapes, input_controls}
 use Rattle.vt_screen.specs.MadeOf.{plain_controls, reset_controls, scrolling_finals, state_controls}
@@ -46,11 +46,11 @@ decimal_visible : (n : ℕ) → AllLow (decimal n)
 unfolding digits
 decimal_visible n = digits_visible 64 n [] tt
 
-joined_visible : (ns : List ℕ) → AllLow (joined ns)
+joined_visible : (ns : List ℕ) → AllLow (semicolon_list ns)
 joined_visible [] = tt
 joined_visible (n ∷ []) = decimal_visible n
 joined_visible (n ∷ m ∷ ns) =
-    visible_append (decimal n) (0x3B ∷ joined (m ∷ ns)) (decimal_visible n) (refl, joined_visible (m ∷ ns))
+    visible_append (decimal n) (0x3B ∷ semicolon_list (m ∷ ns)) (decimal_visible n) (refl, joined_visible (m ∷ ns))
 
 -- ---- elements
 
@@ -146,9 +146,9 @@ pieces_only nexts finals controls f c (Characters cs ∷ pieces) are =
     (record { characters = cs; spelled = refl; only = only_graphic nexts cs (characters_graphic cs are.0) })
     (pieces_only nexts finals controls f c pieces are.1)
 pieces_only nexts finals controls f c (Numbered numbers final ∷ pieces) are =
-    escapes_append nexts (csi (joined numbers) final) (flat_map piece_text pieces)
-    (escapes_escape nexts (0x5B ∷ (joined numbers ++ final ∷ [])) (f final are.0).1
-    (refl, visible_append (joined numbers) (final ∷ []) (joined_visible numbers) ((f final are.0).0, tt)))
+    escapes_append nexts (csi (semicolon_list numbers) final) (flat_map piece_text pieces)
+    (escapes_escape nexts (0x5B ∷ (semicolon_list numbers ++ final ∷ [])) (f final are.0).1
+    (refl, visible_append (semicolon_list numbers) (final ∷ []) (joined_visible numbers) ((f final are.0).0, tt)))
     (pieces_only nexts finals controls f c pieces are.1)
 pieces_only nexts finals controls f c (Control bytes ∷ pieces) are =
     escapes_append nexts bytes (flat_map piece_text pieces) (c bytes are.0)

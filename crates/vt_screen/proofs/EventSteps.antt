@@ -25,7 +25,7 @@ use Rattle.vt_screen.specs.Steps.{Step, Print, OnPage, Reset, CallBack}
 use Rattle.vt_screen.specs.declared.sgr.Reading.{Reading}
 use Rattle.vt_screen.specs.declared.sgr.Reading.TheVariants.{Silent, Set, Unhandled}
 use Rattle.vt_screen.specs.declared.sgr.Wanted.{Wanted}
-use Rattle.vt_screen.proofs.Streaming.{Held, IsAmong, Streamed, steps_stream}
+use Rattle.vt_screen.proofs.Streaming.{ScannerValue, IsAmong, Streamed, steps_stream}
 
 -- All steps of the list are allowed: their characters satisfy Q, and they reset the screen only if R holds.
 pub record AllAmong (Q : ℕ → Type 0) (R : Type 0) (steps : List Step) : Type 0 where
@@ -223,7 +223,7 @@ stream_event (OscDispatch parts) seen coded allows k = stream_osc parts
 -- ---- events in sequence
 
 pub stream_events : (events : List Event) (s : ScreenValue) → AreCoded events
-    → AllByRecursion (λ event. event ≢ ris) events → Held s → AllAmong IsPrintable ⊥ (steps_of_all events s)
+    → AllByRecursion (λ event. event ≢ ris) events → ScannerValue s → AllAmong IsPrintable ⊥ (steps_of_all events s)
 stream_events [] s coded others k = none
 stream_events (event ∷ events) s coded others k =
     let steps = steps_of event (seen_of s) in
@@ -234,7 +234,7 @@ stream_events (event ∷ events) s coded others k =
     (stream_events events (screen_after_all steps s) coded.1 others.1 there.held)
 
 -- The rows that a run without RIS reports, keeps in scrollback and scrolls off.
-pub run_streams : (scan : State) (s : ScreenValue) (bytes : List ℕ) → HasNoRis scan bytes → Held s
+pub run_streams : (scan : State) (s : ScreenValue) (bytes : List ℕ) → HasNoRis scan bytes → ScannerValue s
     → Streamed (calls_in scan s bytes) (sent_off_in scan s bytes) s (screen_in scan s bytes)
 run_streams scan s bytes others k =
     steps_stream (steps_in scan s bytes) s

@@ -4,14 +4,14 @@ use Rattle.std.specs.Prelude.{IfSome, IsSome, option_map, unwrap_or}
 use Rattle.std.proofs.lemmas.Bool.{false≢true}
 use Rattle.vt_cells.specs.Attrs.{default_attrs}
 use Rattle.vt_grid.specs.Page.{Page, IsPage, blank_page}
-use Rattle.vt_grid.specs.Scrollback.{Scrollback, cleared, no_scrollback}
+use Rattle.vt_grid.specs.Scrollback.{Scrollback, scrollback_after_clear, no_scrollback}
 use Rattle.vt_grid.specs.Moves.{cursor_saved}
 use Rattle.vt_grid.specs.Resize.{out_of_view}
 use Rattle.vt_rows.specs.Row.{blank_row}
 use Rattle.std.proofs.lemmas.List.{length-replicate}
 use Rattle.vt_grid.specs.Page.{SameSize}
 use Rattle.vt_screen.specs.Internals.{main_scrollback, with_other, with_fresh_other, with_fresh_page}
-use Rattle.vt_screen.specs.Pages.{entered, entered_fresh, fresh_page, left_alternate, page_aside, reset, saved}
+use Rattle.vt_screen.specs.Pages.{screen_after_enter, entered_fresh, fresh_page, left_alternate, page_aside, screen_after_reset, screen_after_save}
 use Rattle.vt_screen.specs.Screen.{ScreenValue, IsScreen, no_modes}
 
 -- ---- the inactive page
@@ -40,31 +40,31 @@ fresh_size page =
 -- ---- switching to the alternate page
 
 entered_if : (b : Bool) (s : ScreenValue) → s.is_alternate ≡ b →
-    (b ≡ true → IsSome s.other) → entered (with_other s) ≡ entered s
+    (b ≡ true → IsSome s.other) → screen_after_enter (with_other s) ≡ screen_after_enter s
 entered_if true s e h =
     rw e
     (ap (λ (o : Option Page). record s { other = o; is_alternate = true }) (is_there s.other (fresh_page s) (h refl)))
 entered_if false s e h = rw e refl
 
-pub entered_with : (s : ScreenValue) → IsScreen s → entered (with_other s) ≡ entered s
+pub entered_with : (s : ScreenValue) → IsScreen s → screen_after_enter (with_other s) ≡ screen_after_enter s
 entered_with s i = entered_if s.is_alternate s refl i.entered
 
 -- The screen whose alternate page is active, but with the page that was active before.
 abbrev entered_as : ScreenValue → ScreenValue
 entered_as s =
-    record (saved s) { other = Some (cursor_saved s.page); is_alternate = true; scrollback = out_of_view s.scrollback }
+    record (screen_after_save s) { other = Some (cursor_saved s.page); is_alternate = true; scrollback = out_of_view s.scrollback }
 
 fresh_if : (b : Bool) (s : ScreenValue) → s.is_alternate ≡ b → (b ≡ true → IsSome s.other) →
-    IsScreen s → with_fresh_page (entered (saved (with_other s))) ≡ entered_fresh s
+    IsScreen s → with_fresh_page (screen_after_enter (screen_after_save (with_other s))) ≡ entered_fresh s
 fresh_if true s e h i =
-    rw e (ap (λ (o : Option Page). record (saved s) { page = fresh_page s; other = o; is_alternate = true })
+    rw e (ap (λ (o : Option Page). record (screen_after_save s) { page = fresh_page s; other = o; is_alternate = true })
     (is_there s.other (fresh_page s) (h refl)))
 fresh_if false s e h i =
     let same = same_fresh (page_aside s) s.page (aside_or s.other s.page (fresh_page s) i.other (fresh_size s.page)) in
     rw e (ap (λ (page : Page). record (entered_as s) { page = page }) same)
 
 pub entered_fresh_with : (s : ScreenValue) → IsScreen s →
-    with_fresh_page (entered (saved (with_other s))) ≡ entered_fresh s
+    with_fresh_page (screen_after_enter (screen_after_save (with_other s))) ≡ entered_fresh s
 entered_fresh_with s i = fresh_if s.is_alternate s refl i.entered i
 
 -- ---- resetting
@@ -106,7 +106,7 @@ renewed s page other capacity = record {
 
 pub reset_is : (s v : ScreenValue) (active idle above : Scrollback)
     → IsScreen s → v ≡ with_fresh_page (with_fresh_other (left_alternate s))
-    → v.scrollback ≡ main_scrollback v.is_alternate active idle → above ≡ cleared active
+    → v.scrollback ≡ main_scrollback v.is_alternate active idle → above ≡ scrollback_after_clear active
     → record {
       page = v.page;
       other = v.other;
@@ -117,7 +117,7 @@ pub reset_is : (s v : ScreenValue) (active idle above : Scrollback)
       hidden = false;
       modes = no_modes;
       last = None;
-    } ≡ reset s
+    } ≡ screen_after_reset s
 reset_is s v active idle above i e w a =
     let l = left_if s.is_alternate s refl i.entered i in
     let fresh : with_fresh_page (with_fresh_other (left_alternate s))

@@ -4,7 +4,7 @@ use Rattle.std.proofs.Common.{◌∙◌}
 use Rattle.std.specs.Prelude.{◌||◌, if◌then◌else◌, Option, Some, None, List}
 use Rattle.std.specs.Char.{encode_utf8}
 use Rattle.vt_cells.specs.Attrs.{Attrs}
-use Rattle.vt_cells.specs.Cell.{marked, text_of, is_wide}
+use Rattle.vt_cells.specs.Cell.{cell_with_mark, text_of, is_wide}
 use Rattle.vt_cells.specs.Glyph.{columns_of, is_selector, is_wide_text}
 use Rattle.vt_rows.specs.Cells.{at, ends_blank}
 use Rattle.vt_grid.specs.Page.{Page, cursor_row, rows_up, scrolled_up}
@@ -14,7 +14,7 @@ use Rattle.vt_grid.specs.Shifts.{rows_down, lines_inserted, lines_deleted}
 use Rattle.vt_grid.specs.Erasing.{erased_columns, erased_chars, erased_rest, blanked_below, erased_below}
 use Rattle.vt_grid.specs.Printing.{carries, lifted_page, left_row, goes_down, flagged_left}
 use Rattle.vt_grid.specs.Printing.{wrapped_page, lacks_room, room_made, glyph_put, mark_column, takes_mark, mark_put}
-use Rattle.vt_grid.specs.Printing.{carried, made_wide, made_narrow, width_followed, mark_printed, printed, printed_by}
+use Rattle.vt_grid.specs.Printing.{page_after_wrap, made_wide, made_narrow, width_followed, mark_printed, page_after_print, printed_by}
 
 -- The two pages have the same scroll region, origin mode and saved origin mode.
 pub record IsFramed (new page : Page) : Type 0 where
@@ -82,17 +82,17 @@ framed_lines_deleted n page =
 
 -- ---- printing
 
-framed_flagged : (left : Option ℕ) (goes_on : Bool) (page : Page) → IsFramed (flagged_left left goes_on page) page
-framed_flagged None goes_on page = framed page
-framed_flagged (Some r) goes_on page = record { top = refl; bottom = refl; origin = refl; saved_origin = refl }
+framed_flagged : (left : Option ℕ) (is_wrapped : Bool) (page : Page) → IsFramed (flagged_left left is_wrapped page) page
+framed_flagged None is_wrapped page = framed page
+framed_flagged (Some r) is_wrapped page = record { top = refl; bottom = refl; origin = refl; saved_origin = refl }
 
 framed_wrapped : (page : Page) → IsFramed (wrapped_page page) page
 unfolding wrapped_page
 framed_wrapped page =
-    let goes_on = goes_down page && not (ends_blank (cursor_row page).cells) in
+    let is_wrapped = goes_down page && not (ends_blank (cursor_row page).cells) in
     let fed = line_feed page in
-    let f = framed_then (flagged_left (left_row page) goes_on fed) fed page
-    (framed_flagged (left_row page) goes_on fed) (framed_line_feed page) in
+    let f = framed_then (flagged_left (left_row page) is_wrapped fed) fed page
+    (framed_flagged (left_row page) is_wrapped fed) (framed_line_feed page) in
     record { top = f.top; bottom = f.bottom; origin = f.origin; saved_origin = f.saved_origin }
 
 framed_room_made : (columns : ℕ) (page : Page) → IsFramed (room_made columns page) page
@@ -105,10 +105,10 @@ framed_glyph_put : (text : List ℕ) (wide : Bool) (attrs : Attrs) (page : Page)
 framed_glyph_put text true attrs page = record { top = refl; bottom = refl; origin = refl; saved_origin = refl }
 framed_glyph_put text false attrs page = record { top = refl; bottom = refl; origin = refl; saved_origin = refl }
 
-framed_carried : (mark : ℕ) (attrs : Attrs) (page : Page) → IsFramed (carried mark attrs page) page
-unfolding carried
+framed_carried : (mark : ℕ) (attrs : Attrs) (page : Page) → IsFramed (page_after_wrap mark attrs page) page
+unfolding page_after_wrap
 framed_carried mark attrs page =
-    let text = text_of (marked mark (at (cursor_row page).cells (mark_column page))) in
+    let text = text_of (cell_with_mark mark (at (cursor_row page).cells (mark_column page))) in
     let left = lifted_page (mark_column page) attrs page in
     let below = wrapped_page left in
     framed_then (glyph_put text true attrs below) below page (framed_glyph_put text true attrs below)
@@ -137,7 +137,7 @@ framed_mark_printed mark attrs page =
     let put = mark_put k mark page in
     let is_put : IsFramed put page = record { top = refl; bottom = refl; origin = refl; saved_origin = refl } in
     let put_on : Page = if is_selector mark then width_followed k attrs put else put in
-    framed_if (carries mark page) (carried mark attrs page)
+    framed_if (carries mark page) (page_after_wrap mark attrs page)
     (if takes_mark (at (cursor_row page).cells k) then put_on else page) page
     (framed_carried mark attrs page)
     (framed_if (takes_mark (at (cursor_row page).cells k)) put_on page page
@@ -159,5 +159,5 @@ framed_printed_by (Some (suc (suc n))) c attrs page =
     (framed_glyph_put (encode_utf8 c) true attrs (room_made 2 page)) (framed_room_made 2 page))
     (framed page)
 
-pub framed_printed : (c : ℕ) (attrs : Attrs) (page : Page) → IsFramed (printed c attrs page) page
+pub framed_printed : (c : ℕ) (attrs : Attrs) (page : Page) → IsFramed (page_after_print c attrs page) page
 framed_printed c attrs page = framed_printed_by (columns_of c) c attrs page

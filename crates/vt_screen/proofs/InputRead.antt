@@ -12,7 +12,7 @@ use Rattle.vt_scan.specs.Automaton.{start, fresh_step}
 use Rattle.vt_scan.specs.Parameters.{table_of, groups_of, numbers_of, number_of}
 use Rattle.vt_scan.specs.Table.{class_of}
 use Rattle.vt_screen.specs.InputTexts.{input_change, input_text, mouse_and_style_text, where_changed}
-use Rattle.vt_screen.specs.Reading.{Terminal, read_byte, read, terminal}
+use Rattle.vt_screen.specs.Reading.{Terminal, read_byte, terminal_after, terminal}
 use Rattle.vt_screen.specs.Screen.{Modes, ScreenValue, fresh_screen, no_modes}
 use Rattle.vt_screen.specs.Shown.{ReadsTo}
 use Rattle.vt_screen.specs.States.{HasDefaultMouseAndStyle, SetsModes}
@@ -191,7 +191,7 @@ change_tells was new none =
     let left : Terminal = terminal start (record reader { modes = new }) in
     let same : left ≡ terminal start reader =
     same_some left (terminal start reader)
-    (sym (input_changes was new reader) ∙ ap (read (terminal start reader)) none) in
+    (sym (input_changes was new reader) ∙ ap (terminal_after (terminal start reader)) none) in
     ap (λ (t : Terminal). t.screen.modes) same
 
 -- The output for equal modes is empty.

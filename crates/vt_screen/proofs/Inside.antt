@@ -6,22 +6,22 @@ use Rattle.std.specs.Char.{encode_utf8}
 use Rattle.std.proofs.lemmas.Bool.Decides.{nat_tests}
 use Rattle.std.proofs.lemmas.List.{length-append, length-drop, length-replicate}
 use Rattle.vt_cells.specs.Attrs.{Attrs}
-use Rattle.vt_cells.specs.Cell.{marked, text_of, is_wide}
+use Rattle.vt_cells.specs.Cell.{cell_with_mark, text_of, is_wide}
 use Rattle.vt_cells.specs.Glyph.{columns_of, is_selector, is_wide_text}
-use Rattle.vt_rows.specs.Cells.{at, ends_blank, erased, widened_at}
+use Rattle.vt_rows.specs.Cells.{at, ends_blank, cells_after_erase, widened_at}
 use Rattle.vt_rows.specs.Row.{blank_row}
 use Rattle.vt_grid.specs.Page.{Page, IsPage, SameSize, cursor_row, scrolled_up}
 use Rattle.vt_grid.specs.Moves.{carriage_return, moved_left, moved_right, moved_to, target_row}
 use Rattle.vt_grid.specs.Moves.{at_bottom, line_feed, cursor_saved, cursor_restored}
 use Rattle.vt_grid.specs.Regions.{in_region, last_row, moved_up, moved_down, next_line, previous_line}
-use Rattle.vt_grid.specs.Regions.{moved_to_column, moved_to_row, tabbed, region_set, origin_set}
+use Rattle.vt_grid.specs.Regions.{moved_to_column, moved_to_row, page_after_tab, region_set, origin_set}
 use Rattle.vt_grid.specs.Shifts.{rows_down, scrolled_down, reverse_index, lines_inserted}
 use Rattle.vt_grid.specs.Shifts.{lines_deleted, chars_inserted, chars_deleted}
 use Rattle.vt_grid.specs.Erasing.{erased_columns, erased_chars, erased_rest, erased_below, erased_start}
 use Rattle.vt_grid.specs.Erasing.{erased_row, blanked_above, erased_above, erased_page}
 use Rattle.vt_grid.specs.Printing.{carries, lifted_page, with_cursor_cells, left_row, goes_down, flagged_left}
 use Rattle.vt_grid.specs.Printing.{wrapped_page, lacks_room, room_made, glyph_put, mark_column, takes_mark, mark_put}
-use Rattle.vt_grid.specs.Printing.{carried, made_wide, made_narrow, width_followed, mark_printed, printed, printed_by}
+use Rattle.vt_grid.specs.Printing.{page_after_wrap, made_wide, made_narrow, width_followed, mark_printed, page_after_print, printed_by}
 use Rattle.vt_screen.proofs.Sizes.{same_cursor_cells, same_mark_put, same_through, same_carriage_return}
 use Rattle.vt_screen.proofs.Sizes.{same_moved_left, same_moved_right, same_moved_to, same_moved_up, same_moved_down}
 use Rattle.vt_screen.proofs.Sizes.{same_moved_to_column, same_moved_to_row, same_tabbed, same_scrolled_up}
@@ -133,9 +133,9 @@ pub inside_moved_to_row : (r : ℕ) (page : Page) → IsInside page → IsInside
 inside_moved_to_row r page i =
     inside_at (moved_to_row r page) page (same_moved_to_row r page) refl refl (omega (arith, i.row)) i
 
-pub inside_tabbed : (page : Page) → IsInside page → IsInside (tabbed page)
+pub inside_tabbed : (page : Page) → IsInside page → IsInside (page_after_tab page)
 inside_tabbed page i =
-    inside_rows (tabbed page) page (same_tabbed page) (record { row = refl; saved_row = refl; bottom = refl }) i
+    inside_rows (page_after_tab page) page (same_tabbed page) (record { row = refl; saved_row = refl; bottom = refl }) i
 
 pub inside_region_set : (top bottom : ℕ) (page : Page) → IsInside page → IsInside (region_set top bottom page)
 unfolding region_set
@@ -316,9 +316,9 @@ stays_if : (b : Bool) (x y page : Page) → Stays x page → Stays y page → St
 stays_if true x y page s t = s
 stays_if false x y page s t = t
 
-same_flagged : (left : Option ℕ) (goes_on : Bool) (page : Page) → SameRows (flagged_left left goes_on page) page
-same_flagged (Some r) goes_on page = record { row = refl; saved_row = refl; bottom = refl }
-same_flagged None goes_on page = same_rows page
+same_flagged : (left : Option ℕ) (is_wrapped : Bool) (page : Page) → SameRows (flagged_left left is_wrapped page) page
+same_flagged (Some r) is_wrapped page = record { row = refl; saved_row = refl; bottom = refl }
+same_flagged None is_wrapped page = same_rows page
 
 stays_line_feed : (page : Page) → Stays (line_feed page) page
 unfolding line_feed
@@ -369,16 +369,16 @@ stays_over new mid page s same r = record {
   row = λ i. omega (arith, same.height, s.row (inside_rows mid page same r i));
 }
 
-stays_carried : (mark : ℕ) (attrs : Attrs) (page : Page) → Stays (carried mark attrs page) page
-unfolding carried
+stays_carried : (mark : ℕ) (attrs : Attrs) (page : Page) → Stays (page_after_wrap mark attrs page) page
+unfolding page_after_wrap
 stays_carried mark attrs page =
-    let text = text_of (marked mark (at (cursor_row page).cells (mark_column page))) in
+    let text = text_of (cell_with_mark mark (at (cursor_row page).cells (mark_column page))) in
     let left = lifted_page (mark_column page) attrs page in
     let below = wrapped_page left in
     stays_over (glyph_put text true attrs below) left page
     (stays_behind (glyph_put text true attrs below) below left
     (rows_glyph_put text true attrs below) (stays_wrapped left))
-    (same_cursor_cells (erased (mark_column page) 1 attrs (cursor_row page).cells) page)
+    (same_cursor_cells (cells_after_erase (mark_column page) 1 attrs (cursor_row page).cells) page)
     (record { row = refl; saved_row = refl; bottom = refl })
 
 stays_made_wide : (k : ℕ) (attrs : Attrs) (page : Page) → Stays (made_wide k attrs page) page
@@ -406,7 +406,7 @@ stays_mark_printed mark attrs page =
     let put = mark_put k mark page in
     let rows : SameRows put page = record { row = refl; saved_row = refl; bottom = refl } in
     let put_on : Page = if is_selector mark then width_followed k attrs put else put in
-    stays_if (carries mark page) (carried mark attrs page)
+    stays_if (carries mark page) (page_after_wrap mark attrs page)
     (if takes_mark (at (cursor_row page).cells k) then put_on else page) page
     (stays_carried mark attrs page)
     (stays_if (takes_mark (at (cursor_row page).cells k)) put_on page page
@@ -430,7 +430,7 @@ stays_printed_by (Some (suc (suc n))) c attrs page =
     page (rows_glyph_put (encode_utf8 c) true attrs (room_made 2 page)) (stays_room_made 2 page))
     (stays page)
 
-pub inside_printed : (c : ℕ) (attrs : Attrs) (page : Page) → IsInside page → IsInside (printed c attrs page)
+pub inside_printed : (c : ℕ) (attrs : Attrs) (page : Page) → IsInside page → IsInside (page_after_print c attrs page)
 inside_printed c attrs page i =
     let s = stays_printed_by (columns_of c) c attrs page in
-    inside_at (printed c attrs page) page (same_printed c attrs page) s.saved_row s.bottom (s.row i) i
+    inside_at (page_after_print c attrs page) page (same_printed c attrs page) s.saved_row s.bottom (s.row i) i

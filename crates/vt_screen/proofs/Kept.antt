@@ -8,7 +8,7 @@ use Rattle.vt_grid.specs.Page.{Page, blank_page, scrolled_up}
 use Rattle.vt_grid.specs.Moves.{line_feed, cursor_saved, cursor_restored}
 use Rattle.vt_grid.specs.PageStep.{page_after}
 use Rattle.vt_grid.specs.declared.page_step.PageStep.{PageStep}
-use Rattle.vt_grid.specs.Printing.{printed}
+use Rattle.vt_grid.specs.Printing.{page_after_print}
 use Rattle.vt_grid.proofs.Pages.{page_blank, page_cursor_saved, page_cursor_restored, page_line_feed, page_scrolled_up}
 use Rattle.vt_grid.proofs.Printed.{page_printed}
 use Rattle.vt_grid.specs.Scrollback.{no_scrollback}
@@ -57,10 +57,10 @@ kept_scrolled_up n page last aside k =
 
 pub kept_printed : (c : ℕ) (attrs : Attrs) (page : Page) (last new : Option ℕ) (aside : Aside) →
     IsScalar c → c ≢ 0xFFFD → IfSome new IsPrintable → FitsAttrs attrs →
-    IsKept page last aside → IsKept (printed c attrs page) new aside
+    IsKept page last aside → IsKept (page_after_print c attrs page) new aside
 kept_printed c attrs page last new aside scalar other printable h k =
-    kept_last (printed c attrs page) last new aside printable
-    (kept_page page (printed c attrs page) last aside (page_printed c attrs page scalar other k.sound)
+    kept_last (page_after_print c attrs page) last new aside printable
+    (kept_page page (page_after_print c attrs page) last aside (page_printed c attrs page scalar other k.sound)
     (stable_printed coloring c attrs page tt h k.colored) (same_printed c attrs page) k)
 
 pub kept_saved : (page : Page) (last : Option ℕ) (aside : Aside) →

@@ -11,7 +11,7 @@ use Rattle.vt_redraw.specs.Redraw.{cursor_state, difference, redraw}
 use Rattle.vt_redraw.proofs.Fitting.{cursor_state_fits, difference_fits, redraw_fits}
 use Rattle.vt_screen.specs.AnyRegion.{reset_text}
 use Rattle.vt_screen.specs.Screen.{ScreenValue, IsScreen, IsColored}
-use Rattle.vt_screen.specs.Shown.{attributes_text, shown, shown_change, shown_text}
+use Rattle.vt_screen.specs.Shown.{attributes_text, display, display_change, shown_text}
 use Rattle.vt_screen.proofs.Readback.{shown_range}
 use Rattle.vt_screen.proofs.Shown.{shown_colored, shown_is}
 use Rattle.vt_screen.specs.MadeOf.{Piece, IsCharacter, Characters, Numbered, Control, piece_text, IsOneOf, IsPiece, IsMadeOf}
@@ -30,7 +30,7 @@ use Rattle.vt_redraw.specs.declared.band.Band.{Band}
 use Rattle.vt_redraw.specs.Items.{is_linked, item_of_difference, item_of_redraw}
 use Rattle.vt_redraw.specs.Locality.{row_of_picture}
 use Rattle.vt_redraw.specs.Moved.{IsScrolling, band_text, down_text, lines_deleted_text, lines_inserted_text}
-use Rattle.vt_redraw.specs.Moved.{moved, moving_text, scrolling_text, up_text}
+use Rattle.vt_redraw.specs.Moved.{picture_after_move, moving_text, scrolling_text, up_text}
 use Rattle.vt_redraw.specs.Script.{attr_ops}
 use Rattle.vt_redraw.specs.Shifted.{IsMoving, in_default_attrs, shift_text, shifted_all, shifting_text, shifts_text}
 use Rattle.vt_redraw.specs.declared.row_shift.RowShift.{RowShift}
@@ -150,19 +150,19 @@ made_ops (op ∷ ops) fits =
 pub redraw_made : (screen : ScreenValue) → IsScreen screen → IsColored screen →
     IsMadeOf drawing_finals drawing_controls (shown_text screen)
 redraw_made screen is colored =
-    made_ops (redraw (shown screen)) (redraw_fits (shown screen) (shown_is screen is) (shown_colored screen is colored))
+    made_ops (redraw (display screen)) (redraw_fits (display screen) (shown_is screen is) (shown_colored screen is colored))
 
 pub difference_made : (screen prev : ScreenValue) → IsScreen screen → IsColored screen → IsColored prev →
-    IsMadeOf drawing_finals drawing_controls (shown_change prev screen)
+    IsMadeOf drawing_finals drawing_controls (display_change prev screen)
 difference_made screen prev is colored other =
-    made_ops (difference (shown screen) (shown prev))
-    (difference_fits (shown screen) (shown prev) (shown_is screen is) (shown_colored screen is colored) other.attrs)
+    made_ops (difference (display screen) (display prev))
+    (difference_fits (display screen) (display prev) (shown_is screen is) (shown_colored screen is colored) other.attrs)
 
 pub cursor_made : (screen : ScreenValue) → IsScreen screen → IsColored screen →
-    IsMadeOf drawing_finals drawing_controls (bytes_of_all (cursor_state (shown screen)))
+    IsMadeOf drawing_finals drawing_controls (bytes_of_all (cursor_state (display screen)))
 cursor_made screen is colored =
-    made_ops (cursor_state (shown screen))
-    (cursor_state_fits (shown screen) (shown_is screen is) (shown_colored screen is colored))
+    made_ops (cursor_state (display screen))
+    (cursor_state_fits (display screen) (shown_is screen is) (shown_colored screen is colored))
 
 pub attributes_made : (attrs : Attrs) → FitsAttrs attrs → IsMadeOf drawing_finals drawing_controls (attributes_text attrs)
 attributes_made attrs fits = made_ops (ClearAttrs ∷ ChangeAttrs default_attrs attrs ∷ []) (tt, (((tt, tt), fits), tt))
@@ -194,7 +194,7 @@ made_more fs gs cs ds f c text made =
 -- ---- resetting the region
 
 pub reset_made : (screen : ScreenValue) → IsScreen screen → IsColored screen →
-    IsMadeOf drawing_finals reset_controls (reset_text (shown screen))
+    IsMadeOf drawing_finals reset_controls (reset_text (display screen))
 reset_made screen is colored =
     made_append drawing_finals reset_controls (csi (0x3F ∷ 0x36 ∷ []) 0x6C ++ csi [] 0x72) (shown_text screen)
     (made_append drawing_finals reset_controls (csi (0x3F ∷ 0x36 ∷ []) 0x6C) (csi [] 0x72)
@@ -254,22 +254,22 @@ attr_ops_made was new = by_same (same_attrs was new) where
       (made_nothing drawing_finals drawing_controls)
 
 scrolled_made : (screen prev : ScreenValue) (band : Band) → IsScreen screen → IsColored screen →
-    IsScrollingText (scrolling_text band (shown screen) (shown prev))
+    IsScrollingText (scrolling_text band (display screen) (display prev))
 scrolled_made screen prev band is colored =
-    made_append scrolling_finals drawing_controls (moving_text band (shown prev))
-    (bytes_of_all (difference (shown screen) (moved band (shown prev))))
-    (made_append scrolling_finals drawing_controls (bytes_of_all (attr_ops (shown prev).attrs default_attrs))
-    (band_text (length (shown prev).rows) band)
-    (drawing_scrolls (bytes_of_all (attr_ops (shown prev).attrs default_attrs))
-    (attr_ops_made (shown prev).attrs default_attrs)) (band_made (length (shown prev).rows) band))
-    (drawing_scrolls (bytes_of_all (difference (shown screen) (moved band (shown prev))))
-    (made_ops (difference (shown screen) (moved band (shown prev)))
-    (difference_fits (shown screen) (moved band (shown prev)) (shown_is screen is) (shown_colored screen is colored) (tt, tt))))
+    made_append scrolling_finals drawing_controls (moving_text band (display prev))
+    (bytes_of_all (difference (display screen) (picture_after_move band (display prev))))
+    (made_append scrolling_finals drawing_controls (bytes_of_all (attr_ops (display prev).attrs default_attrs))
+    (band_text (length (display prev).rows) band)
+    (drawing_scrolls (bytes_of_all (attr_ops (display prev).attrs default_attrs))
+    (attr_ops_made (display prev).attrs default_attrs)) (band_made (length (display prev).rows) band))
+    (drawing_scrolls (bytes_of_all (difference (display screen) (picture_after_move band (display prev))))
+    (made_ops (difference (display screen) (picture_after_move band (display prev)))
+    (difference_fits (display screen) (picture_after_move band (display prev)) (shown_is screen is) (shown_colored screen is colored) (tt, tt))))
 
 pub scrolling_made : (screen prev : ScreenValue) (text : List ℕ) → IsScreen screen → IsColored screen →
-    IsColored prev → IsScrolling (shown screen) (shown prev) text → IsMadeOf scrolling_finals drawing_controls text
+    IsColored prev → IsScrolling (display screen) (display prev) text → IsMadeOf scrolling_finals drawing_controls text
 scrolling_made screen prev text is colored other (inl told) =
-    subst IsScrollingText (sym told) (drawing_scrolls (shown_change prev screen) (difference_made screen prev is colored other))
+    subst IsScrollingText (sym told) (drawing_scrolls (display_change prev screen) (difference_made screen prev is colored other))
 scrolling_made screen prev text is colored other (inr it) =
     subst IsScrollingText (sym it.2) (scrolled_made screen prev it.0 is colored)
 
@@ -440,29 +440,29 @@ state_made screen is colored =
 pub state_change_made : (screen prev : ScreenValue) → IsScreen screen → IsColored screen → IsColored prev →
     IsMadeOf drawing_finals state_controls (state_change prev screen)
 state_change_made screen prev is colored other =
-    state_of_both (shown_change prev screen) (input_change prev.modes screen.modes)
+    state_of_both (display_change prev screen) (input_change prev.modes screen.modes)
     (difference_made screen prev is colored other) (input_change_made prev.modes screen.modes)
 
 -- ---- rows one by one
 
 pub row_made : (screen : ScreenValue) (r start_ stop : ℕ) → IsScreen screen → IsColored screen →
     r < length screen.page.rows → start_ ≤ stop → stop ≤ screen.page.width →
-    IsMadeOf drawing_finals drawing_controls (formatted_text start_ stop (shown screen) r)
+    IsMadeOf drawing_finals drawing_controls (formatted_text start_ stop (display screen) r)
 row_made screen r start_ stop is colored low le inside =
     let tall = shown_height screen in
-    let picture = shown screen in
+    let picture = display screen in
     made_ops (item_of_redraw r start_ stop (is_linked picture.width picture.rows r) (row_of_picture picture r)).ops
     (redraw_item_fits picture r start_ stop (is_linked picture.width picture.rows r)
     (shown_is screen is) (shown_colored screen is colored) (omega arith) le inside)
 
 pub row_change_made : (screen prev : ScreenValue) (r start_ stop : ℕ) → IsScreen screen → IsColored screen →
     r < length screen.page.rows → start_ ≤ stop → stop ≤ screen.page.width →
-    IsMadeOf drawing_finals drawing_controls (changed_text start_ stop (shown screen) (shown prev) r)
+    IsMadeOf drawing_finals drawing_controls (changed_text start_ stop (display screen) (display prev) r)
 row_change_made screen prev r start_ stop is colored low le inside =
     let tall = shown_height screen in
-    let picture = shown screen in
-    made_ops (item_of_difference r start_ stop (row_of_picture picture r) (row_of_picture (shown prev) r)).ops
-    (difference_item_fits picture r start_ stop (row_of_picture (shown prev) r)
+    let picture = display screen in
+    made_ops (item_of_difference r start_ stop (row_of_picture picture r) (row_of_picture (display prev) r)).ops
+    (difference_item_fits picture r start_ stop (row_of_picture (display prev) r)
     (shown_is screen is) (shown_colored screen is colored) (omega arith) le inside)
 
 -- ---- shifting columns
@@ -479,21 +479,21 @@ shifts_made (shift ∷ shifts) =
     (shift_made shift.insert shift.count shift.row shift.col) (shifts_made shifts)
 
 shifted_made : (screen prev : ScreenValue) (shifts : List RowShift) → IsScreen screen → IsColored screen →
-    IsScrollingText (shifting_text shifts (shown screen) (shown prev))
+    IsScrollingText (shifting_text shifts (display screen) (display prev))
 shifted_made screen prev shifts is colored =
-    let between = shifted_all shifts (in_default_attrs (shown prev)) in
-    let change = bytes_of_all (attr_ops (shown prev).attrs default_attrs) in
-    let rest = bytes_of_all (difference (shown screen) between) in
+    let between = shifted_all shifts (in_default_attrs (display prev)) in
+    let change = bytes_of_all (attr_ops (display prev).attrs default_attrs) in
+    let rest = bytes_of_all (difference (display screen) between) in
     made_append scrolling_finals drawing_controls change (shifts_text shifts ++ rest)
-    (drawing_scrolls change (attr_ops_made (shown prev).attrs default_attrs))
+    (drawing_scrolls change (attr_ops_made (display prev).attrs default_attrs))
     (made_append scrolling_finals drawing_controls (shifts_text shifts) rest (shifts_made shifts)
     (drawing_scrolls rest
-    (made_ops (difference (shown screen) between)
-    (difference_fits (shown screen) between (shown_is screen is) (shown_colored screen is colored)
-    (subst FitsAttrs (sym (attrs_shifted shifts (in_default_attrs (shown prev)))) (tt, tt))))))
+    (made_ops (difference (display screen) between)
+    (difference_fits (display screen) between (shown_is screen is) (shown_colored screen is colored)
+    (subst FitsAttrs (sym (attrs_shifted shifts (in_default_attrs (display prev)))) (tt, tt))))))
 
 pub moving_made : (screen prev : ScreenValue) (text : List ℕ) → IsScreen screen → IsColored screen →
-    IsColored prev → IsMoving (shown screen) (shown prev) text → IsMadeOf scrolling_finals drawing_controls text
+    IsColored prev → IsMoving (display screen) (display prev) text → IsMadeOf scrolling_finals drawing_controls text
 moving_made screen prev text is colored other (inl told) = scrolling_made screen prev text is colored other told
 moving_made screen prev text is colored other (inr it) =
     subst IsScrollingText (sym it.bytes) (shifted_made screen prev (it.first ∷ it.rest) is colored)

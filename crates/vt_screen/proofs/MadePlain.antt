@@ -9,13 +9,13 @@ use Rattle.std.proofs.lemmas.Bool.{cond_both}
 use Rattle.std.proofs.lemmas.List.Elements.{All-take, All-drop, All-replicate, recursion_from_All}
 use Rattle.vt_cells.specs.Cell.{CellValue, IsCell, blank, glyph, right_half, default_blank, is_glyph}
 use Rattle.vt_rows.specs.Basic.{shown_text}
-use Rattle.vt_rows.specs.Cells.{opened}
+use Rattle.vt_rows.specs.Cells.{cells_after_cut}
 use Rattle.vt_rows.specs.Plain.{has_glyph, plain_text, up_to_last_glyph}
 use Rattle.vt_rows.specs.Row.{RowValue}
 use Rattle.vt_grid.specs.Page.{row_or}
 use Rattle.vt_redraw.proofs.Cuts.{IsAnyRow}
 use Rattle.vt_redraw.proofs.Printable.{printable_text}
-use Rattle.vt_screen.specs.Contents.{before, between_of, contents_of, gap_line, line_end, lines_of, part_of}
+use Rattle.vt_screen.specs.Contents.{with_byte_before, between_of, contents_of, gap_line, line_end, lines_of, part_of}
 use Rattle.vt_screen.specs.Contents.{row_texts, without_line_ends}
 use Rattle.vt_screen.specs.RowsShown.{text_at}
 use Rattle.vt_screen.specs.Screen.{ScreenValue, IsScreen, visible_row, visible_rows}
@@ -53,7 +53,7 @@ glyphs_are (cell ∷ cells) are = kept (list_any is_glyph (cell ∷ cells)) (gly
   kept true rest = (are.0, rest)
   kept false rest = tt
 
-opened_are : (cells : List CellValue) → AllByRecursion IsCell cells → AllByRecursion IsCell (opened default_blank cells)
+opened_are : (cells : List CellValue) → AllByRecursion IsCell cells → AllByRecursion IsCell (cells_after_cut default_blank cells)
 opened_are [] are = tt
 opened_are (right_half ∷ cells) are = (tt, are.1)
 opened_are (blank attrs ∷ cells) are = are
@@ -64,8 +64,8 @@ pub plain_made : (start_ stop : ℕ) (cells : List CellValue) → All IsCell cel
 unfolding plain_text
 plain_made start_ stop cells are =
     let between = drop start_ (take stop cells) in
-    plain_cells (up_to_last_glyph (opened default_blank between))
-    (glyphs_are (opened default_blank between) (opened_are between
+    plain_cells (up_to_last_glyph (cells_after_cut default_blank between))
+    (glyphs_are (cells_after_cut default_blank between) (opened_are between
     (recursion_from_All IsCell between (All-drop IsCell start_ (take stop cells) (All-take IsCell stop cells are)))))
 
 -- ---- rows
@@ -73,12 +73,12 @@ plain_made start_ stop cells are =
 end_made : (row : RowValue) → IsPlain (line_end row)
 end_made row = made_if [] plain_controls row.wrapped [] (0x0A ∷ []) (made_nothing [] plain_controls) line_feed
 
-lines_made : (width : ℕ) (goes_on : Bool) (rows : List RowValue) →
-    AllByRecursion IsAnyRow rows → IsPlain (lines_of width goes_on rows)
-lines_made width goes_on [] are = made_nothing [] plain_controls
-lines_made width goes_on (row ∷ rows) are =
-    made_append [] plain_controls (gap_line width goes_on row) _
-    (made_if [] plain_controls (goes_on && not (has_glyph 0 width row.cells)) (0x0A ∷ []) []
+lines_made : (width : ℕ) (is_wrapped : Bool) (rows : List RowValue) →
+    AllByRecursion IsAnyRow rows → IsPlain (lines_of width is_wrapped rows)
+lines_made width is_wrapped [] are = made_nothing [] plain_controls
+lines_made width is_wrapped (row ∷ rows) are =
+    made_append [] plain_controls (gap_line width is_wrapped row) _
+    (made_if [] plain_controls (is_wrapped && not (has_glyph 0 width row.cells)) (0x0A ∷ []) []
     line_feed (made_nothing [] plain_controls))
     (made_append [] plain_controls (plain_text 0 width row.cells) _ (plain_made 0 width row.cells are.0.sound)
     (made_append [] plain_controls (line_end row) (lines_of width row.wrapped rows)
@@ -89,7 +89,7 @@ lines_made width goes_on (row ∷ rows) are =
 abbrev IsOther : ℕ → Type 0
 IsOther byte = (byte == 0x0A) ≡ false
 
-other_before : (byte : ℕ) (text : List ℕ) → IsOther byte → before byte text ≡ byte ∷ text
+other_before : (byte : ℕ) (text : List ℕ) → IsOther byte → with_byte_before byte text ≡ byte ∷ text
 other_before byte [] other = rw other refl
 other_before byte (next ∷ text) other = refl
 
@@ -97,7 +97,7 @@ others_kept : (bytes rest : List ℕ) → AllByRecursion IsOther bytes →
     without_line_ends (bytes ++ rest) ≡ bytes ++ without_line_ends rest
 others_kept [] rest are = refl
 others_kept (byte ∷ bytes) rest are =
-    ap (before byte) (others_kept bytes rest are.1)
+    ap (with_byte_before byte) (others_kept bytes rest are.1)
     ∙ other_before byte (bytes ++ without_line_ends rest) are.0
 
 high_other : (byte : ℕ) → 11 ≤ byte → IsOther byte
@@ -139,7 +139,7 @@ characters_kept (c ∷ cs) rest are =
     ∙ (ap (λ (xs : List ℕ). encode_utf8 c ++ xs) (characters_kept cs rest are.1)
     ∙ sym (append_assoc (encode_utf8 c) (encode_utf8_all cs) (without_line_ends rest))))
 
-before_made : (text : List ℕ) → IsPlain text → IsPlain (before 0x0A text)
+before_made : (text : List ℕ) → IsPlain text → IsPlain (with_byte_before 0x0A text)
 before_made [] made = made_nothing [] plain_controls
 before_made (next ∷ text) made = made_append [] plain_controls (0x0A ∷ []) (next ∷ text) line_feed made
 

@@ -8,7 +8,7 @@ use Rattle.vt_cells.specs.Op.{ChangeAttrs, bytes_of}
 use Rattle.vt_cells.specs.Op.{FitsAttrs, bytes_of_all, counted}
 use Rattle.vt_grid.specs.declared.page_step.PageStep.TheVariants as page
 use Rattle.vt_redraw.specs.Moved.{IsBand, IsScrolling, band_text, down_text, lines_deleted_text, lines_inserted_text}
-use Rattle.vt_redraw.specs.Moved.{moved, scrolling_text, up_text}
+use Rattle.vt_redraw.specs.Moved.{picture_after_move, scrolling_text, up_text}
 use Rattle.vt_redraw.specs.Redraw.{difference}
 use Rattle.vt_redraw.specs.Script.{attr_ops}
 use Rattle.vt_redraw.specs.declared.band.Band.{Band}
@@ -18,7 +18,7 @@ use Rattle.vt_scan.specs.Automaton.{start}
 use Rattle.vt_screen.specs.Again.{KeepsPlain}
 use Rattle.vt_screen.specs.CallsOfRun.{screen_in}
 use Rattle.vt_screen.specs.Screen.{IsColored, IsScreen, ScreenValue}
-use Rattle.vt_screen.specs.Shown.{ReadsTo, shown}
+use Rattle.vt_screen.specs.Shown.{ReadsTo, display}
 use Rattle.vt_screen.specs.Steps.{OnPage, display_after}
 use Rattle.vt_screen.proofs.Framing.{framed_lines_deleted, framed_lines_inserted}
 use Rattle.vt_screen.proofs.MovedRead.{deleted_read, inserted_read}
@@ -76,7 +76,7 @@ band_goes : (height : ℕ) (band : Band) (reader screen : ScreenValue) → heigh
     Holds false reader screen → Goes false reader screen (band_text height band)
 unfolding up_text down_text
 band_goes height band reader screen tall is h =
-    let a = is.some in
+    let a = is.nonempty in
     let b = is.rows in
     let c = is.inside in
     goes_if band.up reader screen (up_text height band) (down_text height band)
@@ -101,27 +101,27 @@ change_goes was reader screen fits h = by_same (same_attrs was default_attrs)
         (nothing_goes false reader (screen_in start screen (bytes_of (ChangeAttrs was default_attrs))) first.holds)
 
 scrolled_keeps : (screen prev : ScreenValue) (band : Band) → IsScreen screen → IsColored screen → IsScreen prev →
-    IsColored prev → IsBand (length (shown prev).rows) band →
-    KeepsPlain (scrolling_text band (shown screen) (shown prev))
+    IsColored prev → IsBand (length (display prev).rows) band →
+    KeepsPlain (scrolling_text band (display screen) (display prev))
 scrolled_keeps screen prev band is colored sound other inside reader plain =
-    let height = length (shown prev).rows in
-    let change = bytes_of_all (attr_ops (shown prev).attrs default_attrs) in
+    let height = length (display prev).rows in
+    let change = bytes_of_all (attr_ops (display prev).attrs default_attrs) in
     let band_moves = band_text height band in
-    let rest_ops = difference (shown screen) (moved band (shown prev)) in
-    let one = change_goes (shown prev).attrs reader reader other.attrs (plain_holds reader plain) in
+    let rest_ops = difference (display screen) (picture_after_move band (display prev)) in
+    let one = change_goes (display prev).attrs reader reader other.attrs (plain_holds reader plain) in
     let two = band_goes height band reader (screen_in start reader change) (shown_colored prev sound other).height
     inside one.holds in
     let both = goes_then false false reader reader change band_moves one two in
     let rest = ops_go rest_ops false reader (screen_in start reader (change ++ band_moves))
-    (difference_fits (shown screen) (moved band (shown prev)) (shown_is screen is) (shown_colored screen is colored) (tt, tt))
-    (difference_safe (shown screen) (moved band (shown prev)) false) both.holds in
-    leaves reader (scrolling_text band (shown screen) (shown prev)) (record {
+    (difference_fits (display screen) (picture_after_move band (display prev)) (shown_is screen is) (shown_colored screen is colored) (tt, tt))
+    (difference_safe (display screen) (picture_after_move band (display prev)) false) both.holds in
+    leaves reader (scrolling_text band (display screen) (display prev)) (record {
       saved = rest.saved;
       goes = goes_then false rest.saved reader reader (change ++ band_moves) (bytes_of_all rest_ops) both rest.goes;
     })
 
 pub scrolling_keeps : (screen prev : ScreenValue) (text : List ℕ) → IsScreen screen → IsColored screen →
-    IsScreen prev → IsColored prev → IsScrolling (shown screen) (shown prev) text → KeepsPlain text
+    IsScreen prev → IsColored prev → IsScrolling (display screen) (display prev) text → KeepsPlain text
 scrolling_keeps screen prev text is colored sound other (inl told) =
     subst KeepsPlain (sym told) (difference_keeps screen prev is colored other)
 scrolling_keeps screen prev text is colored sound other (inr it) =

@@ -12,7 +12,7 @@ use Rattle.vt_grid.specs.Shifts.{rows_down}
 use Rattle.vt_grid.specs.Moves.{moved_to}
 use Rattle.vt_grid.specs.declared.page_step.PageStep.TheVariants.{DeleteLines, InsertLines}
 use Rattle.vt_grid.proofs.Pages.{length-moved_rows, page_at, page_of_rows}
-use Rattle.vt_redraw.specs.Moved.{IsBand, IsScrolling, band_text, down_text, last_moved, moved}
+use Rattle.vt_redraw.specs.Moved.{IsBand, IsScrolling, band_text, down_text, last_moved, picture_after_move}
 use Rattle.vt_redraw.specs.Moved.{lines_deleted_text, lines_inserted_text, moving_text, rows_moved, scrolling_text, up_text}
 use Rattle.vt_redraw.specs.Picture.{Picture, SamePictureSize, picture_of, with_picture}
 use Rattle.vt_redraw.specs.Redraw.{difference}
@@ -27,9 +27,9 @@ use Rattle.vt_redraw.proofs.Redrawing.{page_picture}
 use Rattle.vt_redraw.proofs.Writing.{change_written}
 use Rattle.vt_scan.specs.Automaton.{start}
 use Rattle.vt_screen.specs.Controls.{counted_step}
-use Rattle.vt_screen.specs.Reading.{read, terminal}
+use Rattle.vt_screen.specs.Reading.{terminal_after, terminal}
 use Rattle.vt_screen.specs.Screen.{ScreenValue, IsScreen, IsColored, canvas_of, with_canvas, with_page}
-use Rattle.vt_screen.specs.Shown.{IsPlain, IsReader, IsReaderOf, KeepsRest, ReadsTo, Redraws, shown}
+use Rattle.vt_screen.specs.Shown.{IsPlain, IsReader, IsReaderOf, KeepsRest, ReadsTo, Redraws, display}
 use Rattle.vt_screen.specs.Steps.{OnPage, display_after}
 use Rattle.vt_screen.proofs.Became.{redraws}
 use Rattle.vt_screen.proofs.Readback.{changed_read, counted_read, moved_to_read}
@@ -130,7 +130,7 @@ told : (text known : List ℕ) (rows moved_to : List RowValue) (row last : ℕ) 
     text ≡ known → last ≡ row → ReadsTo known screen (at_row rows row screen) → rows ≡ moved_to →
     ReadsTo text screen (at_row moved_to last screen)
 told text known rows moved_to row last screen e f reads g =
-    ap (read (terminal start screen)) e
+    ap (terminal_after (terminal start screen)) e
     ∙ (reads
     ∙ (ap (λ (new : List RowValue). Some (terminal start (at_row new row screen))) g
     ∙ ap (λ (r : ℕ). Some (terminal start (at_row moved_to r screen))) (sym f)))
@@ -141,7 +141,7 @@ band_when : (up at_end : Bool) (band : Band) (screen : ScreenValue) → band.up 
     → ReadsTo (band_text (length screen.page.rows) band) screen
     (at_row (rows_moved screen.page.width band screen.page.rows) (last_moved (length screen.page.rows) band) screen)
 band_when true true band screen u e plain tall is =
-    let a = is.some in
+    let a = is.nonempty in
     let b = is.rows in
     let c = is.inside in
     let page = screen.page in
@@ -154,7 +154,7 @@ band_when true true band screen u e plain tall is =
     (lines_deleted_read band.top band.count screen plain (omega arith) (omega arith) a (omega arith))
     (up_moved page.width page.rows band is u end)
 band_when true false band screen u e plain tall is =
-    let a = is.some in
+    let a = is.nonempty in
     let b = is.rows in
     let c = is.inside in
     let page = screen.page in
@@ -168,7 +168,7 @@ band_when true false band screen u e plain tall is =
     (omega arith) (omega arith) tall a (omega arith))
     (up_between page.width page.rows band is u)
 band_when false true band screen u e plain tall is =
-    let a = is.some in
+    let a = is.nonempty in
     let b = is.rows in
     let c = is.inside in
     let page = screen.page in
@@ -181,7 +181,7 @@ band_when false true band screen u e plain tall is =
     (lines_inserted_read band.top band.count screen plain (omega arith) (omega arith) a (omega arith))
     (down_moved page.width page.rows band is u end)
 band_when false false band screen u e plain tall is =
-    let a = is.some in
+    let a = is.nonempty in
     let b = is.rows in
     let c = is.inside in
     let page = screen.page in
@@ -204,7 +204,7 @@ with_shown picture reader = with_canvas (with_picture picture (canvas_of reader)
 pub change_read : (reader : ScreenValue) →
     ReadsTo (bytes_of_all (attr_ops reader.attrs default_attrs)) reader (record reader { attrs = default_attrs })
 change_read reader =
-    ap (read (terminal start reader)) (sym (change_written reader.attrs default_attrs))
+    ap (terminal_after (terminal start reader)) (sym (change_written reader.attrs default_attrs))
     ∙ (changed_read reader.attrs default_attrs reader (tt, tt)
     ∙ ap (λ (attrs : Attrs). Some (terminal start (record reader { attrs = attrs })))
     (changed_attrs-new reader.attrs default_attrs))
@@ -212,18 +212,18 @@ change_read reader =
 moving_read : (band : Band) (reader : ScreenValue) → IsScreen reader → IsPlain reader
     → IsBand (length reader.page.rows) band
     → ReadsTo (moving_text band (picture_of (canvas_of reader))) reader
-    (with_shown (moved band (picture_of (canvas_of reader))) reader)
+    (with_shown (picture_after_move band (picture_of (canvas_of reader))) reader)
 moving_read band reader is plain inside =
     let middle : ScreenValue = record reader { attrs = default_attrs } in
     reads_then (terminal start reader) (terminal start middle)
-    (terminal start (with_shown (moved band (picture_of (canvas_of reader))) reader))
+    (terminal start (with_shown (picture_after_move band (picture_of (canvas_of reader))) reader))
     (bytes_of_all (attr_ops reader.attrs default_attrs)) (band_text (length reader.page.rows) band) (change_read reader)
     (band_when band.up (band.bottom == length reader.page.rows) band middle refl refl plain.page is.page.height inside)
 
 -- The row to which the last sequence moves the cursor is a row of the picture.
 last_inside : (height : ℕ) (band : Band) → IsBand height band → last_moved height band < height
 last_inside height band is =
-    let a = is.some in
+    let a = is.nonempty in
     let b = is.rows in
     let c = is.inside in
     grind (arith, nat_tests)
@@ -251,7 +251,7 @@ other_moved (Some p) rows r page size is =
     (is.0, record { width = is.1.width; height = is.1.height ∙ sym size })
 
 moved_screen : (band : Band) (reader : ScreenValue) → IsScreen reader → IsBand (length reader.page.rows) band →
-    IsScreen (with_shown (moved band (picture_of (canvas_of reader))) reader)
+    IsScreen (with_shown (picture_after_move band (picture_of (canvas_of reader))) reader)
 moved_screen band reader is inside = record {
   page = moved_page band reader.page is.page inside;
   other =
@@ -265,13 +265,13 @@ moved_screen band reader is inside = record {
 
 -- ---- the whole output
 
-moved_becomes : (self reader : ScreenValue) (band : Band) → IsScreen self → IsColored self → IsSteady (shown self)
-    → IsReader (shown self) reader → IsBand (length reader.page.rows) band
-    → Becomes (shown self) (scrolling_text band (shown self) (picture_of (canvas_of reader))) reader
+moved_becomes : (self reader : ScreenValue) (band : Band) → IsScreen self → IsColored self → IsSteady (display self)
+    → IsReader (display self) reader → IsBand (length reader.page.rows) band
+    → Becomes (display self) (scrolling_text band (display self) (picture_of (canvas_of reader))) reader
 moved_becomes self reader band is colored steady r inside =
-    let picture = shown self in
+    let picture = display self in
     let before = picture_of (canvas_of reader) in
-    let between = moved band before in
+    let between = picture_after_move band before in
     let next = with_shown between reader in
     let sound = moved_screen band reader r.sound inside in
     let size = length-rows_moved reader.page.width band reader.page.rows in
@@ -296,12 +296,12 @@ moved_becomes self reader band is colored steady r inside =
     }
 
 scrolling_read : (self prev reader : ScreenValue) (band : Band) → IsScreen self → IsColored self
-    → IsSteady (shown self) → IsReaderOf (shown self) (shown prev) reader → IsBand (length (shown prev).rows) band
-    → Becomes (shown self) (scrolling_text band (shown self) (shown prev)) reader
+    → IsSteady (display self) → IsReaderOf (display self) (display prev) reader → IsBand (length (display prev).rows) band
+    → Becomes (display self) (scrolling_text band (display self) (display prev)) reader
 scrolling_read self prev reader band is colored steady r inside =
     let page = plain_shown reader r.is.sound r.is.plain in
-    let e : picture_of (canvas_of reader) ≡ shown prev = sym page ∙ r.shows in
-    subst (λ (p : Picture). Becomes (shown self) (scrolling_text band (shown self) p) reader) e
+    let e : picture_of (canvas_of reader) ≡ display prev = sym page ∙ r.shows in
+    subst (λ (p : Picture). Becomes (display self) (scrolling_text band (display self) p) reader) e
     (moved_becomes self reader band is colored steady r.is
     (subst (λ (p : Picture). IsBand (length p.rows) band) (sym e) inside))
 
@@ -311,18 +311,18 @@ pub record AreDiffed (self prev : ScreenValue) : Type 0 where
   pub colored : IsColored self
   pub other : IsScreen prev
   pub other_colored : IsColored prev
-  pub size : SamePictureSize (shown self) (shown prev)
+  pub size : SamePictureSize (display self) (display prev)
 
 pub scrolling_redraws : (self prev : ScreenValue) (text : List ℕ) → AreDiffed self prev →
-    IsScrolling (shown self) (shown prev) text →
-    Redraws (shown self) (IsReaderOf (shown self) (shown prev)) KeepsRest text
+    IsScrolling (display self) (display prev) text →
+    Redraws (display self) (IsReaderOf (display self) (display prev)) KeepsRest text
 scrolling_redraws self prev text d (inl told) =
-    redraws (IsReaderOf (shown self) (shown prev)) (shown self) text (shown_is self d.sound) (λ reader r. r.is)
-    (λ steady reader r. subst (λ (t : List ℕ). Becomes (shown self) t reader) (sym told)
+    redraws (IsReaderOf (display self) (display prev)) (display self) text (shown_is self d.sound) (λ reader r. r.is)
+    (λ steady reader r. subst (λ (t : List ℕ). Becomes (display self) t reader) (sym told)
     (difference_read self prev reader d.sound d.colored steady d.other d.other_colored d.size r))
 scrolling_redraws self prev text d (inr (band, inside, told)) =
-    redraws (IsReaderOf (shown self) (shown prev)) (shown self) text (shown_is self d.sound) (λ reader r. r.is)
-    (λ steady reader r. subst (λ (t : List ℕ). Becomes (shown self) t reader) (sym told)
+    redraws (IsReaderOf (display self) (display prev)) (display self) text (shown_is self d.sound) (λ reader r. r.is)
+    (λ steady reader r. subst (λ (t : List ℕ). Becomes (display self) t reader) (sym told)
     (scrolling_read self prev reader band d.sound d.colored steady r inside))
 
 -- ---- empty output
@@ -344,14 +344,14 @@ some_band false true height band u e = rw (u, e) (λ empty. cc)
 some_band false false height band u e = rw (u, e) (λ empty. cc)
 
 -- If a scrolling difference is empty, both screens display the same content.
-pub scrolling_tells : (self prev : ScreenValue) (text : List ℕ) → AreDiffed self prev → IsSteady (shown self) →
-    IsScrolling (shown self) (shown prev) text → text ≡ [] → shown self ≡ shown prev
+pub scrolling_tells : (self prev : ScreenValue) (text : List ℕ) → AreDiffed self prev → IsSteady (display self) →
+    IsScrolling (display self) (display prev) text → text ≡ [] → display self ≡ display prev
 scrolling_tells self prev text d steady (inl told) empty =
     difference_tells self prev d.sound d.colored steady d.other d.other_colored d.size (sym told ∙ empty)
 scrolling_tells self prev text d steady (inr (band, inside, told)) empty =
-    let height = length (shown prev).rows in
-    let before = bytes_of_all (attr_ops (shown prev).attrs default_attrs) in
-    let rest = bytes_of_all (difference (shown self) (moved band (shown prev))) in
+    let height = length (display prev).rows in
+    let before = bytes_of_all (attr_ops (display prev).attrs default_attrs) in
+    let rest = bytes_of_all (difference (display self) (picture_after_move band (display prev))) in
     absurd (some_band band.up (band.bottom == height) height band refl refl
     (empty_right before (band_text height band) (empty_left (before ++ band_text height band) rest (sym told ∙ empty))))
 

@@ -8,12 +8,12 @@ use Rattle.vt_cells.specs.Attrs.{default_attrs, changed_attrs}
 use Rattle.vt_cells.specs.Op.{Op, Hide, ClearAttrs, MoveTo, MoveRight, NextRow, LineFeed, Backspace, EraseBelow}
 use Rattle.vt_cells.specs.Op.{EraseRest, EraseChars, SaveCursor, RestoreCursor, ChangeAttrs, Print, bytes_of}
 use Rattle.vt_cells.specs.Op.{bytes_of_all}
-use Rattle.vt_grid.specs.Canvas.{Canvas, drawn}
+use Rattle.vt_grid.specs.Canvas.{Canvas, canvas_after_op}
 use Rattle.vt_grid.specs.Moves.{carriage_return, moved_left, moved_right, moved_to, cursor_saved, cursor_restored}
 use Rattle.vt_grid.specs.Erasing.{erased_below, erased_rest, erased_chars}
 use Rattle.vt_grid.specs.Page.{IsWhole, SameSize}
 use Rattle.vt_grid.specs.declared.page_step.PageStep.TheVariants as page
-use Rattle.vt_grid.specs.Scrollback.{Scrollback, kept_after, grown_in_view, no_scrollback, pushed}
+use Rattle.vt_grid.specs.Scrollback.{Scrollback, kept_after, grown_in_view, no_scrollback, scrollback_after_push}
 use Rattle.vt_rows.specs.Row.{RowValue}
 use Rattle.vt_redraw.specs.Fits.{Fits, IsDrawn}
 use Rattle.vt_redraw.specs.Redraw.{cursor_state, difference, redraw}
@@ -29,11 +29,11 @@ use Rattle.vt_screen.specs.Again.{IsNoCallback, KeepsAside, KeepsPlain, LeavesPl
 use Rattle.vt_screen.specs.AnyRegion.{reset_text, whole_region_text}
 use Rattle.vt_screen.specs.CallsOfRun.{screen_in, screen_after_all, steps_in, steps_of_all}
 use Rattle.vt_screen.specs.Controls.{control_steps, seen_of, steps_of}
-use Rattle.vt_screen.specs.Reading.{read, terminal}
+use Rattle.vt_screen.specs.Reading.{terminal_after, terminal}
 use Rattle.vt_screen.specs.Screen.{IsColored, IsScreen, ScreenValue, above_page, canvas_of, with_canvas, with_page}
-use Rattle.vt_screen.specs.Shown.{IsPlain, shown, shown_change, shown_text}
+use Rattle.vt_screen.specs.Shown.{IsPlain, display, display_change, shown_text}
 use Rattle.vt_screen.specs.Steps as steps
-use Rattle.vt_screen.specs.Steps.{Step, OnPage, display_after, outgoing, screen_after}
+use Rattle.vt_screen.specs.Steps.{Step, OnPage, display_after, rows_scrolled_off, screen_after}
 use Rattle.vt_screen.proofs.Framing.{IsFramed, framed, framed_erased_below, framed_erased_chars, framed_erased_rest}
 use Rattle.vt_screen.proofs.AnyRegion.{in_whole, whole_end, whole_read}
 use Rattle.vt_screen.proofs.Framing.{framed_line_feed, framed_printed}
@@ -85,7 +85,7 @@ held saved reader screen new f s offset h = record {
 -- ---- rows that scroll off the page
 
 pushed_offset : (height width : ℕ) (gone : List RowValue) (above : Scrollback) → above.offset ≡ 0 →
-    (pushed height width gone above).offset ≡ 0
+    (scrollback_after_push height width gone above).offset ≡ 0
 unfolding kept_after grown_in_view
 pushed_offset height width [] above e = e
 pushed_offset height width (row ∷ gone) above e = rw e refl
@@ -105,18 +105,18 @@ sent_held : (saved : Bool) (reader screen after : ScreenValue) (gone : List RowV
     IsFramed after.page screen.page → SameAside after screen → after.scrollback ≡ screen.scrollback →
     Holds saved reader screen →
     Holds saved reader (if screen.is_alternate then after
-    else record after { scrollback = pushed (length screen.page.rows) screen.page.width gone screen.scrollback })
+    else record after { scrollback = scrollback_after_push (length screen.page.rows) screen.page.width gone screen.scrollback })
 sent_held saved reader screen after gone f s same h = by_page screen.is_alternate refl
   where
     none : after.is_alternate ≡ false → screen.scrollback.offset ≡ 0
     none e = hidden_by screen.is_alternate screen.scrollback h.offset (sym s.is_alternate ∙ e)
 
     by_page : (b : Bool) → screen.is_alternate ≡ b → Holds saved reader (if b then after
-        else record after { scrollback = pushed (length screen.page.rows) screen.page.width gone screen.scrollback })
+        else record after { scrollback = scrollback_after_push (length screen.page.rows) screen.page.width gone screen.scrollback })
     by_page true e = held saved reader screen after f s
         (offset_by after.is_alternate after.scrollback (λ t. ap (λ a. a.offset) same ∙ none t)) h
     by_page false e =
-        let new = pushed (length screen.page.rows) screen.page.width gone screen.scrollback in
+        let new = scrollback_after_push (length screen.page.rows) screen.page.width gone screen.scrollback in
         held saved reader screen (record after { scrollback = new })
         (record { top = f.top; bottom = f.bottom; origin = f.origin; saved_origin = f.saved_origin })
         (record { other = s.other; is_alternate = s.is_alternate; modes = s.modes; size = s.size })
@@ -126,7 +126,7 @@ sent_held saved reader screen after gone f s same h = by_page screen.is_alternat
 printed_held : (c : ℕ) (saved : Bool) (reader screen : ScreenValue) → Holds saved reader screen →
     Holds saved reader (screen_after (steps.Print c) screen)
 printed_held c saved reader screen h =
-    sent_held saved reader screen (display_after (steps.Print c) screen) (outgoing (steps.Print c) screen)
+    sent_held saved reader screen (display_after (steps.Print c) screen) (rows_scrolled_off (steps.Print c) screen)
     (framed_printed c screen.attrs screen.page)
     (record {
       other = refl;
@@ -139,7 +139,7 @@ printed_held c saved reader screen h =
 fed_held : (saved : Bool) (reader screen : ScreenValue) → Holds saved reader screen →
     Holds saved reader (screen_after steps.LineFeed screen)
 fed_held saved reader screen h =
-    sent_held saved reader screen (display_after steps.LineFeed screen) (outgoing steps.LineFeed screen)
+    sent_held saved reader screen (display_after steps.LineFeed screen) (rows_scrolled_off steps.LineFeed screen)
     (framed_line_feed screen.page)
     (record { other = refl; is_alternate = refl; modes = refl; size = same_line_feed screen.page }) refl h
 
@@ -170,7 +170,7 @@ goes_then middle saved reader screen a b one two =
     }
 
 pub goes_read : (saved : Bool) (reader screen after : ScreenValue) (text : List ℕ) →
-    read (terminal start screen) text ≡ Some (terminal start after) → Holds saved reader after →
+    terminal_after (terminal start screen) text ≡ Some (terminal start after) → Holds saved reader after →
     Goes saved reader screen text
 goes_read saved reader screen after text e h =
     let r = read_run text (terminal start screen) (terminal start after) e in record {
@@ -195,7 +195,7 @@ goes_event saved reader screen text event step gives is none h =
 
 -- A terminal that reads an operation stays plain if drawing it keeps the page's scroll region and modes.
 drawn_goes : (op : Op) (saved : Bool) (reader screen : ScreenValue) (d : Canvas) → Fits op →
-    drawn op (canvas_of screen) ≡ Some d → IsFramed d.page screen.page → SameSize d.page screen.page →
+    canvas_after_op op (canvas_of screen) ≡ Some d → IsFramed d.page screen.page → SameSize d.page screen.page →
     Holds saved reader screen → Goes saved reader screen (bytes_of op)
 drawn_goes op saved reader screen d fits is f size h =
     let (last, reads) = reads_op op screen d fits is in
@@ -372,22 +372,22 @@ ops_keep ops fits safe reader plain =
 
 pub redraw_keeps : (screen : ScreenValue) → IsScreen screen → IsColored screen → KeepsPlain (shown_text screen)
 redraw_keeps screen is colored =
-    ops_keep (redraw (shown screen)) (redraw_fits (shown screen) (shown_is screen is) (shown_colored screen is colored))
-    (redraw_safe (shown screen))
+    ops_keep (redraw (display screen)) (redraw_fits (display screen) (shown_is screen is) (shown_colored screen is colored))
+    (redraw_safe (display screen))
 
 pub difference_keeps : (screen prev : ScreenValue) → IsScreen screen → IsColored screen → IsColored prev →
-    KeepsPlain (shown_change prev screen)
+    KeepsPlain (display_change prev screen)
 difference_keeps screen prev is colored other =
-    ops_keep (difference (shown screen) (shown prev))
-    (difference_fits (shown screen) (shown prev) (shown_is screen is) (shown_colored screen is colored) other.attrs)
-    (difference_safe (shown screen) (shown prev))
+    ops_keep (difference (display screen) (display prev))
+    (difference_fits (display screen) (display prev) (shown_is screen is) (shown_colored screen is colored) other.attrs)
+    (difference_safe (display screen) (display prev))
 
 pub cursor_keeps : (screen : ScreenValue) → IsScreen screen → IsColored screen →
-    KeepsPlain (bytes_of_all (cursor_state (shown screen)))
+    KeepsPlain (bytes_of_all (cursor_state (display screen)))
 cursor_keeps screen is colored =
-    ops_keep (cursor_state (shown screen))
-    (cursor_state_fits (shown screen) (shown_is screen is) (shown_colored screen is colored))
-    (cursor_state_safe (shown screen))
+    ops_keep (cursor_state (display screen))
+    (cursor_state_fits (display screen) (shown_is screen is) (shown_colored screen is colored))
+    (cursor_state_safe (display screen))
 
 -- ---- terminals in any region
 
@@ -401,14 +401,14 @@ whole_holds reader is offset = record {
   aside = record { other = refl; is_alternate = refl; modes = refl; size = record { width = refl; height = refl } };
 }
 
-pub reset_makes : (screen : ScreenValue) → IsScreen screen → IsColored screen → MakesPlain (reset_text (shown screen))
+pub reset_makes : (screen : ScreenValue) → IsScreen screen → IsColored screen → MakesPlain (reset_text (display screen))
 reset_makes screen is colored reader sound offset =
     let first = goes_read false reader reader (in_whole reader) whole_region_text (whole_read reader)
     (whole_holds reader sound offset) in
-    let rest = ops_go (redraw (shown screen)) false reader (screen_in start reader whole_region_text)
-    (redraw_fits (shown screen) (shown_is screen is) (shown_colored screen is colored))
-    (redraw_safe (shown screen) false) first.holds in
-    leaves reader (reset_text (shown screen)) (record {
+    let rest = ops_go (redraw (display screen)) false reader (screen_in start reader whole_region_text)
+    (redraw_fits (display screen) (shown_is screen is) (shown_colored screen is colored))
+    (redraw_safe (display screen) false) first.holds in
+    leaves reader (reset_text (display screen)) (record {
       saved = rest.saved;
       goes = goes_then false rest.saved reader reader whole_region_text (shown_text screen) first rest.goes;
     })

@@ -7,19 +7,19 @@ use Rattle.vt_cells.specs.Glyph.{columns_of}
 use Rattle.vt_grid.specs.Moves.{feeds_out}
 use Rattle.vt_grid.specs.Outgoing.{left_by}
 use Rattle.vt_grid.specs.Printing.{pushes}
-use Rattle.vt_grid.specs.Scrollback.{pushed}
+use Rattle.vt_grid.specs.Scrollback.{scrollback_after_push}
 use Rattle.vt_rows.specs.Row.{RowValue}
 use Rattle.vt_scan.specs.Automaton.{State, Event, step_in}
 use Rattle.vt_scan.specs.Run.{run}
-use Rattle.vt_scan.specs.Table.{class_of, turn_of}
+use Rattle.vt_scan.specs.Table.{class_of, transition_of}
 use Rattle.vt_screen.specs.Again.{IsNoCallback}
 use Rattle.vt_screen.specs.CallsOfRun.{screen_after_all, steps_in, steps_of_all}
 use Rattle.vt_screen.specs.Controls.{seen_of, steps_of}
-use Rattle.vt_screen.specs.Reading.{Terminal, terminal, grows, quiet_step, quiet_steps, quiet_events, read, read_byte}
+use Rattle.vt_screen.specs.Reading.{Terminal, terminal, grows, quiet_step, quiet_steps, quiet_events, terminal_after, read_byte}
 use Rattle.vt_screen.specs.Screen.{ScreenValue}
 use Rattle.vt_screen.specs.Steps.{Step, Print, LineFeed, ScrollUp, OnPage, SaveCursor, RestoreCursor, EnterAlternate}
 use Rattle.vt_screen.specs.Steps.{EnterFresh, LeaveAlternate, LeaveRestoring, Reset, EraseScrollback, Render}
-use Rattle.vt_screen.specs.Steps.{HideCursor, SetMode, CallBack, outgoing, display_after, screen_after}
+use Rattle.vt_screen.specs.Steps.{HideCursor, SetMode, CallBack, rows_scrolled_off, display_after, screen_after}
 use Rattle.vt_screen.proofs.Readback.{and_then-some}
 use Rattle.vt_screen.proofs.StepLists.{stepped_then, steps_then}
 
@@ -42,12 +42,12 @@ some_where (Some x) o y e = e
 unsent : (alternate : Bool) (gone : List RowValue) (screen after : ScreenValue) → gone ≡ [] →
     after.scrollback ≡ screen.scrollback →
     (if alternate then after
-    else record after { scrollback = pushed (length screen.page.rows) screen.page.width gone screen.scrollback })
+    else record after { scrollback = scrollback_after_push (length screen.page.rows) screen.page.width gone screen.scrollback })
     ≡ after
 unsent true gone screen after none same = refl
 unsent false gone screen after none same =
     ap (λ (rows : List RowValue). record after {
-      scrollback = pushed (length screen.page.rows) screen.page.width rows screen.scrollback;
+      scrollback = scrollback_after_push (length screen.page.rows) screen.page.width rows screen.scrollback;
     }) none
     ∙ ap (λ s. record after { scrollback = s }) (sym same)
 
@@ -58,21 +58,21 @@ IsTaken step screen after = (screen_after step screen ≡ after) × IsNoCallback
 taken : (step : Step) (screen after : ScreenValue) → quiet_step step screen ≡ Some after → IsTaken step screen after
 taken (Print c) screen after e =
     let (stays, is) = some_unless (pushes c screen.page) (Some (display_after (Print c) screen)) after e in (
-      unsent screen.is_alternate (outgoing (Print c) screen) screen (display_after (Print c) screen)
+      unsent screen.is_alternate (rows_scrolled_off (Print c) screen) screen (display_after (Print c) screen)
           (ap (λ (b : Bool). if b then take 1 (left_by (columns_of c) screen.attrs screen.page).rows else []) stays) refl
           ∙ same_some _ after is,
       tt,
     )
 taken LineFeed screen after e =
     let (stays, is) = some_unless (feeds_out screen.page) (Some (display_after LineFeed screen)) after e in (
-      unsent screen.is_alternate (outgoing LineFeed screen) screen (display_after LineFeed screen)
+      unsent screen.is_alternate (rows_scrolled_off LineFeed screen) screen (display_after LineFeed screen)
           (ap (λ (b : Bool). if b then take 1 screen.page.rows else []) stays) refl
           ∙ same_some _ after is,
       tt,
     )
 taken (ScrollUp count) screen after e =
     let (stays, is) = some_unless (screen.page.top == 0) (Some (display_after (ScrollUp count) screen)) after e in (
-      unsent screen.is_alternate (outgoing (ScrollUp count) screen) screen (display_after (ScrollUp count) screen)
+      unsent screen.is_alternate (rows_scrolled_off (ScrollUp count) screen) screen (display_after (ScrollUp count) screen)
           (ap (λ (b : Bool). if b then take (min count (screen.page.bottom + 1)) screen.page.rows else []) stays) refl
           ∙ same_some _ after is,
       tt,
@@ -143,7 +143,7 @@ runs_byte : (t : Terminal) (b : ℕ) (u : Terminal) → read_byte t b ≡ Some u
 unfolding read_byte
 runs_byte t b u e =
     let step = step_in t.scan.kind t.scan.collected b in
-    let (stays, is) = some_unless (grows (turn_of t.scan.kind (class_of b))) _ u e in
+    let (stays, is) = some_unless (grows (transition_of t.scan.kind (class_of b))) _ u e in
     let (screen, first, more) =
     and_then-some (λ screen. Some (terminal step.state screen)) (quiet_events step.events t.screen) u is in
     let there : terminal step.state screen ≡ u = same_some (terminal step.state screen) u more in
@@ -152,7 +152,7 @@ runs_byte t b u e =
       events = first ∙ ap (λ (v : Terminal). Some v.screen) there;
     }
 
-pub read_run : (bytes : List ℕ) (t u : Terminal) → read t bytes ≡ Some u → Runs t bytes u
+pub read_run : (bytes : List ℕ) (t u : Terminal) → terminal_after t bytes ≡ Some u → Runs t bytes u
 read_run [] t u e =
     let same = same_some t u e in record {
       state = ap (λ (v : Terminal). v.scan) same;
@@ -160,7 +160,7 @@ read_run [] t u e =
     }
 read_run (b ∷ bytes) t u e =
     let step = step_in t.scan.kind t.scan.collected b in
-    let (middle, first, more) = and_then-some (λ v. read v bytes) (read_byte t b) u e in
+    let (middle, first, more) = and_then-some (λ v. terminal_after v bytes) (read_byte t b) u e in
     let one = runs_byte t b middle first in
     let rest = read_run bytes middle u more in
     let here = taken_events step.events t.screen middle.screen one.events in

@@ -14,8 +14,8 @@ use Rattle.vt_cells.specs.Attrs.{default_attrs, same_attrs, changed_attrs, Attrs
 use Rattle.vt_cells.specs.Glyph.{columns_of}
 use Rattle.vt_cells.specs.Op.{Op, Hide, ClearAttrs, MoveTo, MoveRight, NextRow, LineFeed, Backspace, EraseBelow}
 use Rattle.vt_cells.specs.Op.{EraseRest, EraseChars, SaveCursor, RestoreCursor, ChangeAttrs, Print, csi, counted}
-use Rattle.vt_cells.specs.Op.{place, joined, change_numbers, change_text, FitsAttrs, bytes_of, bytes_of_all}
-use Rattle.vt_grid.specs.Canvas.{Canvas, and_then, drawn, drawn_all, drawn_text, fed}
+use Rattle.vt_cells.specs.Op.{place, semicolon_list, change_numbers, change_text, FitsAttrs, bytes_of, bytes_of_all}
+use Rattle.vt_grid.specs.Canvas.{Canvas, and_then, canvas_after_op, drawn_all, drawn_text, canvas_after_line_feed}
 use Rattle.vt_redraw.specs.Fits.{Fits, IsDrawn}
 use Rattle.vt_grid.specs.Moves.{carriage_return, line_feed, feeds_out}
 use Rattle.vt_grid.specs.Printing.{pushes}
@@ -34,7 +34,7 @@ use Rattle.vt_screen.specs.Controls.{row_erasing, character_steps, control_steps
 use Rattle.vt_screen.specs.Controls.{private_steps, mode_step, number_or, seen_of}
 use Rattle.vt_screen.specs.Steps.{OnPage, display_after}
 use Rattle.vt_screen.specs.Steps as steps
-use Rattle.vt_screen.specs.Reading.{quiet_step, quiet_steps, terminal, read_byte, read}
+use Rattle.vt_screen.specs.Reading.{quiet_step, quiet_steps, terminal, read_byte, terminal_after}
 use Rattle.vt_screen.proofs.ReadbackSgr.{sgr_change, sgr_clear, few_changes, some_changes}
 use Rattle.vt_screen.proofs.ReadbackTexts.{IsFinal, reads_then, event_read, csi_read}
 
@@ -42,12 +42,12 @@ use Rattle.vt_screen.proofs.ReadbackTexts.{IsFinal, reads_then, event_read, csi_
 abbrev pub Reads : List ℕ → ScreenValue → Canvas → Type 0
 Reads text screen canvas =
     (last : Option ℕ)
-    × (read (terminal start screen) text ≡ Some (terminal start (record (with_canvas canvas screen) { last = last })))
+    × (terminal_after (terminal start screen) text ≡ Some (terminal start (record (with_canvas canvas screen) { last = last })))
 
 -- ---- the result of drawing is known
 
 known : (text : List ℕ) (screen : ScreenValue) (e d : Canvas) → Some e ≡ Some d →
-    read (terminal start screen) text ≡ Some (terminal start (with_canvas e screen)) → Reads text screen d
+    terminal_after (terminal start screen) text ≡ Some (terminal start (with_canvas e screen)) → Reads text screen d
 known text screen e d h r =
     let same : e ≡ d = cc in
     subst (λ (c : Canvas). Reads text screen c) same (screen.last, r)
@@ -65,7 +65,7 @@ kept false x h = refl
 -- ---- hiding and showing the cursor
 
 hidden_read : (hidden : Bool) (screen : ScreenValue) →
-    read (terminal start screen) (bytes_of (Hide hidden)) ≡ Some (terminal start (record screen { hidden = hidden }))
+    terminal_after (terminal start screen) (bytes_of (Hide hidden)) ≡ Some (terminal start (record screen { hidden = hidden }))
 unfolding read_byte fresh_step class_of table_of groups_of numbers_of number_of private_steps intermediate_steps mode_step
 hidden_read true screen = refl
 hidden_read false screen = refl
@@ -75,23 +75,23 @@ hidden_read false screen = refl
 -- Reading a control sequence without a number performs its step.
 final_alone : (final : ℕ) (screen after : ScreenValue) → IsFinal final
     → quiet_steps (unmarked_steps ((0 ∷ []) ∷ []) final (seen_of screen)) screen ≡ Some after
-    → read (terminal start screen) (csi [] final) ≡ Some (terminal start after)
+    → terminal_after (terminal start screen) (csi [] final) ≡ Some (terminal start after)
 final_alone final screen after is_final quiet = csi_read [] final ((0 ∷ []) ∷ []) screen after tt is_final empty_groups quiet
 
 pub cleared_read : (screen : ScreenValue) →
-    read (terminal start screen) (csi [] 0x6D) ≡ Some (terminal start (record screen { attrs = default_attrs }))
+    terminal_after (terminal start screen) (csi [] 0x6D) ≡ Some (terminal start (record screen { attrs = default_attrs }))
 unfolding counted_step scrolling_steps other_steps
 cleared_read screen =
     final_alone 0x6D screen (record screen { attrs = default_attrs }) (omega arith, omega arith) (sgr_clear screen)
 
 erased_below_read : (screen : ScreenValue) →
-    read (terminal start screen) (csi [] 0x4A) ≡ Some (terminal start (display_after (OnPage page.EraseBelow) screen))
+    terminal_after (terminal start screen) (csi [] 0x4A) ≡ Some (terminal start (display_after (OnPage page.EraseBelow) screen))
 unfolding counted_step scrolling_steps other_steps page_erasing
 erased_below_read screen =
     final_alone 0x4A screen (display_after (OnPage page.EraseBelow) screen) (omega arith, omega arith) refl
 
 erased_rest_read : (screen : ScreenValue) →
-    read (terminal start screen) (csi [] 0x4B) ≡ Some (terminal start (display_after (OnPage page.EraseRest) screen))
+    terminal_after (terminal start screen) (csi [] 0x4B) ≡ Some (terminal start (display_after (OnPage page.EraseRest) screen))
 unfolding counted_step scrolling_steps other_steps row_erasing
 erased_rest_read screen =
     final_alone 0x4B screen (display_after (OnPage page.EraseRest) screen) (omega arith, omega arith) refl
@@ -105,7 +105,7 @@ pub counted_read : (n final : ℕ) (step : ℕ → PageStep) (screen : ScreenVal
     → ((groups : List (List ℕ))
     → quiet_steps (unmarked_steps groups final (seen_of screen)) screen
     ≡ Some (display_after (OnPage (step (number_or 1 0 groups))) screen))
-    → read (terminal start screen) (counted (suc n) final)
+    → terminal_after (terminal start screen) (counted (suc n) final)
     ≡ Some (terminal start (display_after (OnPage (step (suc n))) screen))
 counted_read zero final step screen h is_final means =
     final_alone final screen (display_after (OnPage (step 1)) screen) is_final (means ((0 ∷ []) ∷ []))
@@ -117,13 +117,13 @@ counted_read (suc n) final step screen h is_final means =
     (means groups ∙ ap (λ (k : ℕ). Some (display_after (OnPage (step k)) screen)) (count_read count [] (omega arith)))
 
 moved_right_read : (n : ℕ) (screen : ScreenValue) → suc n < 2 ^ 16 →
-    read (terminal start screen) (counted (suc n) 0x43)
+    terminal_after (terminal start screen) (counted (suc n) 0x43)
     ≡ Some (terminal start (display_after (OnPage (page.MoveRight (suc n))) screen))
 unfolding counted_step
 moved_right_read n screen h = counted_read n 0x43 page.MoveRight screen h (omega arith, omega arith) (λ groups. refl)
 
 erased_chars_read : (n : ℕ) (screen : ScreenValue) → suc n < 2 ^ 16 →
-    read (terminal start screen) (counted (suc n) 0x58)
+    terminal_after (terminal start screen) (counted (suc n) 0x58)
     ≡ Some (terminal start (display_after (OnPage (page.EraseChars (suc n))) screen))
 unfolding counted_step
 erased_chars_read n screen h = counted_read n 0x58 page.EraseChars screen h (omega arith, omega arith) (λ groups. refl)
@@ -150,7 +150,7 @@ place_read zero (suc col) screen = placed zero (suc col) screen
 place_read (suc row) col screen = placed (suc row) col screen
 
 pub moved_to_read : (row col : ℕ) (screen : ScreenValue) → row < 65535 → col < 65535
-    → read (terminal start screen) (csi (place row col) 0x48)
+    → terminal_after (terminal start screen) (csi (place row col) 0x48)
     ≡ Some (terminal start (display_after (OnPage (page.MoveTo row col)) screen))
 moved_to_read row col screen low narrow =
     csi_read (place row col) 0x48 (place_groups row col) screen (display_after (OnPage (page.MoveTo row col)) screen)
@@ -169,7 +169,7 @@ unfolding change_text
 text_plain was new e f = rw (e, f) refl
 
 pub text_parts : (was new : Attrs) → same_attrs was new ≡ false → same_attrs new default_attrs ≡ false →
-    change_text was new ≡ csi (joined (change_numbers was new)) 0x6D
+    change_text was new ≡ csi (semicolon_list (change_numbers was new)) 0x6D
 unfolding change_text
 text_parts was new e f = rw (e, f) refl
 
@@ -184,7 +184,7 @@ attrs_plain was new attrs e f = rw (e, f) refl
 
 parts_read : (was new : Attrs) (screen : ScreenValue) → FitsAttrs new
     → same_attrs was new ≡ false → same_attrs new default_attrs ≡ false
-    → read (terminal start screen) (csi (joined (change_numbers was new)) 0x6D)
+    → terminal_after (terminal start screen) (csi (semicolon_list (change_numbers was new)) 0x6D)
     ≡ Some (terminal start (record screen { attrs = changed_attrs was new (screen.attrs) }))
 unfolding counted_step scrolling_steps other_steps
 parts_read was new screen fits e f =
@@ -192,36 +192,36 @@ parts_read was new screen fits e f =
     let numbers = few_changes was new fits in
     let short = numbers.few in
     let small = All-from_recursion (λ n. n ≤ 65535) ns numbers.small in
-    csi_read (joined ns) 0x6D (alone ns) screen (record screen { attrs = changed_attrs was new (screen.attrs) })
+    csi_read (semicolon_list ns) 0x6D (alone ns) screen (record screen { attrs = changed_attrs was new (screen.attrs) })
     (joined_is_parameter ns small) (omega arith, omega arith)
     (joined_groups ns (some_changes was new e) (omega arith) small) (sgr_change was new fits e f screen)
 
 changed_when : (was new : Attrs) (screen : ScreenValue) (same plain : Bool)
     → FitsAttrs new → same_attrs was new ≡ same → same_attrs new default_attrs ≡ plain
-    → read (terminal start screen) (change_text was new)
+    → terminal_after (terminal start screen) (change_text was new)
     ≡ Some (terminal start (record screen { attrs = changed_attrs was new (screen.attrs) }))
 changed_when was new screen true plain fits e f =
-    ap (read (terminal start screen)) (text_same was new e)
+    ap (terminal_after (terminal start screen)) (text_same was new e)
     ∙ ap (λ (attrs : Attrs). Some (terminal start (record screen { attrs = attrs })))
     (sym (attrs_same was new (screen.attrs) e))
 changed_when was new screen false true fits e f =
-    ap (read (terminal start screen)) (text_plain was new e f)
+    ap (terminal_after (terminal start screen)) (text_plain was new e f)
     ∙ (cleared_read screen
     ∙ ap (λ (attrs : Attrs). Some (terminal start (record screen { attrs = attrs })))
     (sym (attrs_plain was new (screen.attrs) e f)))
 changed_when was new screen false false fits e f =
-    ap (read (terminal start screen)) (text_parts was new e f) ∙ parts_read was new screen fits e f
+    ap (terminal_after (terminal start screen)) (text_parts was new e f) ∙ parts_read was new screen fits e f
 
 pub changed_read : (was new : Attrs) (screen : ScreenValue) → FitsAttrs new
-    → read (terminal start screen) (change_text was new)
+    → terminal_after (terminal start screen) (change_text was new)
     ≡ Some (terminal start (record screen { attrs = changed_attrs was new (screen.attrs) }))
 changed_read was new screen fits =
     changed_when was new screen (same_attrs was new) (same_attrs new default_attrs) fits refl refl
 
 -- ---- line feeds
 
-fed_read : (screen : ScreenValue) (d : Canvas) → fed (canvas_of screen) ≡ Some d →
-    read (terminal start screen) (0x0A ∷ []) ≡ Some (terminal start (with_canvas d screen))
+fed_read : (screen : ScreenValue) (d : Canvas) → canvas_after_line_feed (canvas_of screen) ≡ Some d →
+    terminal_after (terminal start screen) (0x0A ∷ []) ≡ Some (terminal start (with_canvas d screen))
 unfolding fresh_step class_of control_steps
 fed_read screen d h =
     event_read (0x0A ∷ []) (Executed 0x0A) screen (with_canvas d screen) refl refl
@@ -230,25 +230,25 @@ fed_read screen d h =
     d (display_after steps.LineFeed screen) (λ (c : Canvas). with_canvas c screen) h refl))
 
 returned_read : (screen : ScreenValue) (rest : List ℕ) →
-    read (terminal start screen) (0x0D ∷ rest)
-    ≡ read (terminal start (with_page (carriage_return screen.page) screen)) rest
+    terminal_after (terminal start screen) (0x0D ∷ rest)
+    ≡ terminal_after (terminal start (with_page (carriage_return screen.page) screen)) rest
 unfolding read_byte fresh_step class_of control_steps
 returned_read screen rest = refl
 
 left_read : (screen : ScreenValue) →
-    read (terminal start screen) (0x08 ∷ []) ≡ Some (terminal start (display_after (OnPage (page.MoveLeft 1)) screen))
+    terminal_after (terminal start screen) (0x08 ∷ []) ≡ Some (terminal start (display_after (OnPage (page.MoveLeft 1)) screen))
 unfolding read_byte fresh_step class_of control_steps
 left_read screen = refl
 
 -- ---- saving and restoring the cursor
 
 saved_read : (screen : ScreenValue) →
-    read (terminal start screen) (bytes_of SaveCursor) ≡ Some (terminal start (display_after steps.SaveCursor screen))
+    terminal_after (terminal start screen) (bytes_of SaveCursor) ≡ Some (terminal start (display_after steps.SaveCursor screen))
 unfolding read_byte fresh_step class_of escape_steps
 saved_read screen = refl
 
 restored_read : (screen : ScreenValue) →
-    read (terminal start screen) (bytes_of RestoreCursor) ≡ Some (terminal start (display_after steps.RestoreCursor screen))
+    terminal_after (terminal start screen) (bytes_of RestoreCursor) ≡ Some (terminal start (display_after steps.RestoreCursor screen))
 unfolding read_byte fresh_step class_of escape_steps
 restored_read screen = refl
 
@@ -278,7 +278,7 @@ prints c p = let range = shown_range c p.shown in let other = p.reported in grin
 -- Reading the bytes of a character prints it.
 pub character_read : (c : ℕ) (screen after : ScreenValue) →
     IsDrawn c → quiet_step (steps.Print c) screen ≡ Some after →
-    read (terminal start screen) (encode_utf8 c) ≡ Some (terminal start after)
+    terminal_after (terminal start screen) (encode_utf8 c) ≡ Some (terminal start after)
 character_read c screen after p e =
     let range = shown_range c p.shown in
     event_read (encode_utf8 c) (Character c) screen after (read_written c p.scalar (grind (arith, range))) refl
@@ -313,7 +313,7 @@ all_scalar (c ∷ cs) (p, ps) = rw p.scalar (all_scalar cs ps)
 -- ---- each operation
 
 pub reads_op : (op : Op) (screen : ScreenValue) (d : Canvas) → Fits op →
-    drawn op (canvas_of screen) ≡ Some d → Reads (bytes_of op) screen d
+    canvas_after_op op (canvas_of screen) ≡ Some d → Reads (bytes_of op) screen d
 reads_op (Hide hidden) screen d f h =
     known (bytes_of (Hide hidden)) screen
     (record (canvas_of screen) { hidden = hidden }) d h (hidden_read hidden screen)
@@ -353,9 +353,9 @@ reads_op (ChangeAttrs was new) screen d f h =
 reads_op (Print text) screen d f h =
     let cs : List ℕ = f.characters in
     let e : chars text ≡ cs = ap chars (sym f.spelled) ∙ chars-encodes cs (all_scalar cs f.printable) in
-    let drawn : drawn_text cs (canvas_of screen) ≡ Some d =
+    let canvas_after_op : drawn_text cs (canvas_of screen) ≡ Some d =
     subst (λ (ds : List ℕ). drawn_text ds (canvas_of screen) ≡ Some d) e h in
-    subst (λ (bytes : List ℕ). Reads bytes screen d) f.spelled (reads_text cs screen d f.printable drawn)
+    subst (λ (bytes : List ℕ). Reads bytes screen d) f.spelled (reads_text cs screen d f.printable canvas_after_op)
 
 -- ---- lists of operations
 
@@ -368,7 +368,7 @@ pub reads_all : (ops : List Op) (screen : ScreenValue) (d : Canvas) → AllByRec
     drawn_all ops (canvas_of screen) ≡ Some d → Reads (bytes_of_all ops) screen d
 reads_all [] screen d f h = known [] screen (canvas_of screen) d h refl
 reads_all (op ∷ ops) screen d (f, fs) h =
-    let (e, first, more) = and_then-some (drawn_all ops) (drawn op (canvas_of screen)) d h in
+    let (e, first, more) = and_then-some (drawn_all ops) (canvas_after_op op (canvas_of screen)) d h in
     let here : Reads (bytes_of op) screen e = reads_op op screen e f first in
     let next : ScreenValue = record (with_canvas e screen) { last = here.0 } in
     let behind : Reads (bytes_of_all ops) next d = reads_all ops next d fs more in (

@@ -22,7 +22,7 @@ use Rattle.vt_screen.specs.declared.sgr.Layer.TheVariants.{Front, Back}
 use Rattle.vt_screen.specs.declared.sgr.Wanted.{Wanted}
 use Rattle.vt_screen.specs.declared.sgr.Wanted.TheVariants.{Any, Form, Index, Red, Green, Blue}
 use Rattle.vt_screen.specs.Sgr.{GroupRead, group_read, number_read, setting_read}
-use Rattle.vt_screen.specs.Sgr.{form_read, part_read, silent, set, colored, rendered}
+use Rattle.vt_screen.specs.Sgr.{form_read, part_read, silent_read, set, color_setting, attrs_after_setting}
 use Rattle.vt_screen.specs.Screen.{ScreenValue}
 use Rattle.vt_screen.specs.Controls.{sgr_from, sgr_steps, reading_steps}
 use Rattle.vt_screen.specs.Steps.{Step}
@@ -98,7 +98,7 @@ Renders ns f =
 renders_nothing : Renders [] (λ a. a)
 renders_nothing groups rest screen = refl
 
-renders_one : (n : ℕ) (s : Setting) → number_read n ≡ set s → Renders (n ∷ []) (rendered s)
+renders_one : (n : ℕ) (s : Setting) → number_read n ≡ set s → Renders (n ∷ []) (attrs_after_setting s)
 renders_one n s e groups rest screen =
     ap (λ (steps : List Step). quiet_steps steps screen)
     (one_group groups Any (n ∷ []) rest (set s) (number_group n (set s) e))
@@ -111,53 +111,53 @@ renders_then ms ns f g p q groups rest screen =
 
 -- ---- extended colours
 
-form_rgb : (layer : Layer) → group_read (Form layer) (2 ∷ []) ≡ silent (Red layer)
+form_rgb : (layer : Layer) → group_read (Form layer) (2 ∷ []) ≡ silent_read (Red layer)
 unfolding group_read form_read
 form_rgb layer = refl
 
-form_index : (layer : Layer) → group_read (Form layer) (5 ∷ []) ≡ silent (Index layer)
+form_index : (layer : Layer) → group_read (Form layer) (5 ∷ []) ≡ silent_read (Index layer)
 unfolding group_read form_read
 form_index layer = refl
 
-red_fits : (layer : Layer) (r : ℕ) → r < 256 → group_read (Red layer) (r ∷ []) ≡ silent (Green layer r)
+red_fits : (layer : Layer) (r : ℕ) → r < 256 → group_read (Red layer) (r ∷ []) ≡ silent_read (Green layer r)
 unfolding group_read
-red_fits layer r h = part_fits r (λ r. silent (Green layer r)) h
+red_fits layer r h = part_fits r (λ r. silent_read (Green layer r)) h
 
-green_fits : (layer : Layer) (r g : ℕ) → g < 256 → group_read (Green layer r) (g ∷ []) ≡ silent (Blue layer r g)
+green_fits : (layer : Layer) (r g : ℕ) → g < 256 → group_read (Green layer r) (g ∷ []) ≡ silent_read (Blue layer r g)
 unfolding group_read
-green_fits layer r g h = part_fits g (λ g. silent (Blue layer r g)) h
+green_fits layer r g h = part_fits g (λ g. silent_read (Blue layer r g)) h
 
 blue_fits : (layer : Layer) (r g b : ℕ) → b < 256 →
-    group_read (Blue layer r g) (b ∷ []) ≡ set (colored layer (Rgb r g b))
+    group_read (Blue layer r g) (b ∷ []) ≡ set (color_setting layer (Rgb r g b))
 unfolding group_read
-blue_fits layer r g b h = part_fits b (λ b. set (colored layer (Rgb r g b))) h
+blue_fits layer r g b h = part_fits b (λ b. set (color_setting layer (Rgb r g b))) h
 
-index_fits : (layer : Layer) (i : ℕ) → i < 256 → group_read (Index layer) (i ∷ []) ≡ set (colored layer (Idx i))
+index_fits : (layer : Layer) (i : ℕ) → i < 256 → group_read (Index layer) (i ∷ []) ≡ set (color_setting layer (Idx i))
 unfolding group_read
-index_fits layer i h = part_fits i (λ i. set (colored layer (Idx i))) h
+index_fits layer i h = part_fits i (λ i. set (color_setting layer (Idx i))) h
 
-renders_index : (n : ℕ) (layer : Layer) (i : ℕ) → number_read n ≡ silent (Form layer) →
-    i < 256 → Renders (n ∷ 5 ∷ i ∷ []) (rendered (colored layer (Idx i)))
+renders_index : (n : ℕ) (layer : Layer) (i : ℕ) → number_read n ≡ silent_read (Form layer) →
+    i < 256 → Renders (n ∷ 5 ∷ i ∷ []) (attrs_after_setting (color_setting layer (Idx i)))
 renders_index n layer i e h groups rest screen =
     ap (λ (steps : List Step). quiet_steps steps screen)
     (one_group groups Any (n ∷ []) ((5 ∷ []) ∷ (i ∷ []) ∷ rest)
-    (silent (Form layer)) (number_group n (silent (Form layer)) e)
-    ∙ (one_group groups (Form layer) (5 ∷ []) ((i ∷ []) ∷ rest) (silent (Index layer)) (form_index layer)
-    ∙ one_group groups (Index layer) (i ∷ []) rest (set (colored layer (Idx i))) (index_fits layer i h)))
+    (silent_read (Form layer)) (number_group n (silent_read (Form layer)) e)
+    ∙ (one_group groups (Form layer) (5 ∷ []) ((i ∷ []) ∷ rest) (silent_read (Index layer)) (form_index layer)
+    ∙ one_group groups (Index layer) (i ∷ []) rest (set (color_setting layer (Idx i))) (index_fits layer i h)))
 
-renders_rgb : (n : ℕ) (layer : Layer) (r g b : ℕ) → number_read n ≡ silent (Form layer) → r < 256 → g < 256 → b < 256
-    → Renders (n ∷ 2 ∷ r ∷ g ∷ b ∷ []) (rendered (colored layer (Rgb r g b)))
+renders_rgb : (n : ℕ) (layer : Layer) (r g b : ℕ) → number_read n ≡ silent_read (Form layer) → r < 256 → g < 256 → b < 256
+    → Renders (n ∷ 2 ∷ r ∷ g ∷ b ∷ []) (attrs_after_setting (color_setting layer (Rgb r g b)))
 renders_rgb n layer r g b e red green blue groups rest screen =
     ap (λ (steps : List Step). quiet_steps steps screen)
     (one_group groups Any (n ∷ []) ((2 ∷ []) ∷ (r ∷ []) ∷ (g ∷ []) ∷ (b ∷ []) ∷ rest)
-    (silent (Form layer)) (number_group n (silent (Form layer)) e)
+    (silent_read (Form layer)) (number_group n (silent_read (Form layer)) e)
     ∙ (one_group groups (Form layer) (2 ∷ [])
-    ((r ∷ []) ∷ (g ∷ []) ∷ (b ∷ []) ∷ rest) (silent (Red layer)) (form_rgb layer)
+    ((r ∷ []) ∷ (g ∷ []) ∷ (b ∷ []) ∷ rest) (silent_read (Red layer)) (form_rgb layer)
     ∙ (one_group groups (Red layer) (r ∷ []) ((g ∷ []) ∷ (b ∷ []) ∷ rest)
-    (silent (Green layer r)) (red_fits layer r red)
+    (silent_read (Green layer r)) (red_fits layer r red)
     ∙ (one_group groups (Green layer r) (g ∷ []) ((b ∷ []) ∷ rest)
-    (silent (Blue layer r g)) (green_fits layer r g green)
-    ∙ one_group groups (Blue layer r g) (b ∷ []) rest (set (colored layer (Rgb r g b))) (blue_fits layer r g b blue)))))
+    (silent_read (Blue layer r g)) (green_fits layer r g green)
+    ∙ one_group groups (Blue layer r g) (b ∷ []) rest (set (color_setting layer (Rgb r g b))) (blue_fits layer r g b blue)))))
 
 -- ---- the six attributes
 

@@ -8,7 +8,7 @@ use Rattle.vt_grid.proofs.Drawing.{and_then-assoc, and_then-same}
 use Rattle.vt_scan.specs.Automaton.{State, Step, Event, CsiDispatch, OscDispatch, step_after, step_in, start}
 use Rattle.vt_scan.specs.Parameters.{table_of}
 use Rattle.vt_scan.specs.Run.{run}
-use Rattle.vt_scan.specs.Table.{class_of, turn_of}
+use Rattle.vt_scan.specs.Table.{class_of, transition_of}
 use Rattle.vt_scan.specs.Texts.{IsParameterText, back_with}
 use Rattle.vt_scan.specs.declared.table.Kind.{Kind}
 use Rattle.vt_scan.specs.declared.table.Kind.TheVariants.{Ground, OscString}
@@ -18,20 +18,20 @@ use Rattle.vt_scan.proofs.Running.{events_then}
 use Rattle.vt_scan.proofs.Sequences.{read_csi}
 use Rattle.vt_screen.specs.Screen.{ScreenValue}
 use Rattle.vt_screen.specs.Controls.{unmarked_steps, seen_of, steps_of}
-use Rattle.vt_screen.specs.Reading.{quiet_steps, quiet_events, grows, Terminal, terminal, read_byte, read}
+use Rattle.vt_screen.specs.Reading.{quiet_steps, quiet_events, grows, Terminal, terminal, read_byte, terminal_after}
 
 -- ---- output in sequence
 
-pub reads_append : (t : Terminal) (a b : List ℕ) → read t (a ++ b) ≡ and_then (λ u. read u b) (read t a)
+pub reads_append : (t : Terminal) (a b : List ℕ) → terminal_after t (a ++ b) ≡ and_then (λ u. terminal_after u b) (terminal_after t a)
 reads_append t [] b = refl
 reads_append t (x ∷ a) b =
-    and_then-same (λ (u : Terminal). read u (a ++ b)) (λ (u : Terminal). and_then (λ v. read v b) (read u a))
+    and_then-same (λ (u : Terminal). terminal_after u (a ++ b)) (λ (u : Terminal). and_then (λ v. terminal_after v b) (terminal_after u a))
     (λ (u : Terminal). reads_append u a b) (read_byte t x)
-    ∙ and_then-assoc (λ (u : Terminal). read u a) (λ (v : Terminal). read v b) (read_byte t x)
+    ∙ and_then-assoc (λ (u : Terminal). terminal_after u a) (λ (v : Terminal). terminal_after v b) (read_byte t x)
 
 -- Reading one text and then another has the effect of reading their concatenation.
-pub reads_then : (t u v : Terminal) (a b : List ℕ) → read t a ≡ Some u → read u b ≡ Some v → read t (a ++ b) ≡ Some v
-reads_then t u v a b p q = reads_append t a b ∙ (ap (λ (r : Option Terminal). and_then (λ w. read w b) r) p ∙ q)
+pub reads_then : (t u v : Terminal) (a b : List ℕ) → terminal_after t a ≡ Some u → terminal_after u b ≡ Some v → terminal_after t (a ++ b) ≡ Some v
+reads_then t u v a b p q = reads_append t a b ∙ (ap (λ (r : Option Terminal). and_then (λ w. terminal_after w b) r) p ∙ q)
 
 -- ---- output and its events
 
@@ -70,7 +70,7 @@ run_after step bytes = events_then step.events (run step.state bytes)
 -- After an operating system command has begun, a run either reads one or doesn't end in ground state.
 unended_by : (c : Class) (text : List ℕ) (b : ℕ) (bytes : List ℕ)
     → ((more : List ℕ) → IsCalm (run (in_command more) bytes) → ⊥)
-    → IsCalm (run_after (step_after OscString text b (turn_of OscString c)) bytes) → ⊥
+    → IsCalm (run_after (step_after OscString text b (transition_of OscString c)) bytes) → ⊥
 unended_by Bell text b bytes rest calm = let met : true ≡ false = calm.events.0 in cc
 unended_by Cancel text b bytes rest calm = let met : true ≡ false = calm.events.0 in cc
 unended_by Introducer text b bytes rest calm = let met : true ≡ false = calm.events.0 in cc
@@ -82,14 +82,14 @@ unended text [] calm = let same : OscString ≡ Ground = calm.plain in cc
 unended text (b ∷ bytes) calm = unended_by (class_of b) text b bytes (λ more. unended more bytes) calm
 
 -- Only a byte of an operating system command allocates.
-grows_not : (kind : Kind) (c : Class) → kind ≢ OscString → grows (turn_of kind c) ≡ false
+grows_not : (kind : Kind) (c : Class) → kind ≢ OscString → grows (transition_of kind c) ≡ false
 grows_not OscString _ n = absurd (n refl)
 grows_not _ Control n = refl
 grows_not _ _ n = refl
 
 -- The first byte of a run without commands allocates nothing, and the rest of the run has no commands.
 pub calm_grows : (s : State) (b : ℕ) (bytes : List ℕ) → IsCalm (run s (b ∷ bytes)) →
-    (grows (turn_of s.kind (class_of b)) ≡ false) × IsCalm (run (step_in s.kind s.collected b).state bytes)
+    (grows (transition_of s.kind (class_of b)) ≡ false) × IsCalm (run (step_in s.kind s.collected b).state bytes)
 calm_grows s b bytes calm =
     let step = step_in s.kind s.collected b in
     let rest = run step.state bytes in (
@@ -100,7 +100,7 @@ calm_grows s b bytes calm =
 
 -- Bytes without commands are read: their events are performed in order.
 pub run_read : (s : State) (bytes : List ℕ) (screen : ScreenValue) → IsCalm (run s bytes)
-    → read (terminal s screen) bytes
+    → terminal_after (terminal s screen) bytes
     ≡ and_then (λ after. Some (terminal (run s bytes).state after)) (quiet_events (run s bytes).events screen)
 unfolding read_byte
 run_read s [] screen calm = refl
@@ -111,8 +111,8 @@ run_read s (b ∷ bytes) screen calm =
     let finish = λ (x : ScreenValue). Some (terminal rest.state x) in
     let (still, ends) = calm_grows s b bytes calm in
     rw still
-    (sym (and_then-assoc (λ (x : ScreenValue). Some (terminal step.state x)) (λ (u : Terminal). read u bytes) here)
-    ∙ and_then-same (λ (x : ScreenValue). read (terminal step.state x) bytes)
+    (sym (and_then-assoc (λ (x : ScreenValue). Some (terminal step.state x)) (λ (u : Terminal). terminal_after u bytes) here)
+    ∙ and_then-same (λ (x : ScreenValue). terminal_after (terminal step.state x) bytes)
     (λ (x : ScreenValue). and_then finish (quiet_events rest.events x)) (λ x. run_read step.state bytes x ends) here
     ∙ and_then-assoc (quiet_events rest.events) finish here
     ∙ ap (and_then finish) (sym (quiet_append step.events rest.events screen)))
@@ -121,7 +121,7 @@ run_read s (b ∷ bytes) screen calm =
 pub event_read : (text : List ℕ) (event : Event) (screen after : ScreenValue)
     → run start text ≡ back_with (event ∷ []) → is_command event ≡ false
     → quiet_steps (steps_of event (seen_of screen)) screen ≡ Some after
-    → read (terminal start screen) text ≡ Some (terminal start after)
+    → terminal_after (terminal start screen) text ≡ Some (terminal start after)
 event_read text event screen after gives other quiet =
     run_read start text screen (rw gives (record { plain = refl; events = (other, tt) }))
     ∙ ap
@@ -139,7 +139,7 @@ IsFinal b = (0x40 ≤ b) × (b ≤ 0x7E)
 pub csi_read : (text : List ℕ) (final : ℕ) (groups : List (List ℕ)) (screen after : ScreenValue)
     → IsParameterText text → IsFinal final → (table_of text).groups ≡ groups
     → quiet_steps (unmarked_steps groups final (seen_of screen)) screen ≡ Some after
-    → read (terminal start screen) (csi text final) ≡ Some (terminal start after)
+    → terminal_after (terminal start screen) (csi text final) ≡ Some (terminal start after)
 csi_read text final groups screen after is is_final table quiet =
     event_read (csi text final) (CsiDispatch groups [] final) screen after
     (read_csi text final is is_final.0 is_final.1

@@ -7,9 +7,9 @@ use Rattle.vt_screen.specs.Calls.{OnScroll}
 use Rattle.vt_screen.specs.Reports.{Reports}
 use Rattle.vt_grid.specs.Page.{Page, scrolled_up}
 use Rattle.vt_grid.specs.Moves.{line_feed}
-use Rattle.vt_grid.specs.Printing.{printed}
+use Rattle.vt_grid.specs.Printing.{page_after_print}
 use Rattle.vt_grid.specs.Outgoing.{fed_out, scrolled_out, printed_out}
-use Rattle.vt_grid.specs.Scrollback.{Scrollback, no_scrollback, pushed, reported, cleared}
+use Rattle.vt_grid.specs.Scrollback.{Scrollback, no_scrollback, scrollback_after_push, rows_reported, scrollback_after_clear}
 use Rattle.vt_screen.specs.Steps.{LineFeed, ScrollUp, Print, EraseScrollback, last_after, screen_after}
 use Rattle.vt_screen.specs.Run.{CallRelation, CalledOnScroll, Scrolls, CalledOnAnyScreen, state}
 use Rattle.vt_screen.specs.Internals.{IsNothing, main_scrollback, alternate_scrollback}
@@ -43,8 +43,8 @@ record IsAbove (s : ScreenValue) (active idle : Scrollback) : Type 0 where
 called_above : {S : Type 0} (does : CallRelation S)
     (s : ScreenValue) (gone : List RowValue) (active idle : Scrollback) (old new : S)
     → IsAbove s active idle
-    → FoldsTo (CalledOnScroll does s.is_alternate) old (reported gone active) new
-    → FoldsTo (CalledOnScroll does s.is_alternate) old (reported gone (above_page s)) new
+    → FoldsTo (CalledOnScroll does s.is_alternate) old (rows_reported gone active) new
+    → FoldsTo (CalledOnScroll does s.is_alternate) old (rows_reported gone (above_page s)) new
 called_above does s gone active idle old new i h =
     subst (λ (rows : List RowValue). FoldsTo (CalledOnScroll does s.is_alternate) old rows new)
     (reported_if s.is_alternate gone active idle s.scrollback i.whole i.nothing) h
@@ -54,8 +54,8 @@ pub line_fed : {S : Type 0} (does : CallRelation S)
     → s ≡ now
     → s.scrollback ≡ main_scrollback s.is_alternate active idle
     → IsNothing (alternate_scrollback s.is_alternate active idle) → page ≡ line_feed s.page
-    → above ≡ pushed (length s.page.rows) s.page.width (fed_out s.page) active
-    → FoldsTo (CalledOnScroll does s.is_alternate) old (reported (fed_out s.page) active) new
+    → above ≡ scrollback_after_push (length s.page.rows) s.page.width (fed_out s.page) active
+    → FoldsTo (CalledOnScroll does s.is_alternate) old (rows_reported (fed_out s.page) active) new
     → Scrolls does (state old now) LineFeed
     (state new (record s { page = page; scrollback = main_scrollback s.is_alternate above idle }))
 line_fed does s now page active idle above old new same w n p a h =
@@ -75,8 +75,8 @@ pub scrolled_up_by : {S : Type 0} (does : CallRelation S)
     → s ≡ now
     → s.scrollback ≡ main_scrollback s.is_alternate active idle
     → IsNothing (alternate_scrollback s.is_alternate active idle) → page ≡ scrolled_up count s.page
-    → above ≡ pushed (length s.page.rows) s.page.width (scrolled_out count s.page) active
-    → FoldsTo (CalledOnScroll does s.is_alternate) old (reported (scrolled_out count s.page) active) new
+    → above ≡ scrollback_after_push (length s.page.rows) s.page.width (scrolled_out count s.page) active
+    → FoldsTo (CalledOnScroll does s.is_alternate) old (rows_reported (scrolled_out count s.page) active) new
     → Scrolls does (state old now) (ScrollUp count)
     (state new (record s { page = page; scrollback = main_scrollback s.is_alternate above idle }))
 scrolled_up_by does count s now page active idle above old new same w n p a h =
@@ -96,9 +96,9 @@ pub character_printed : {S : Type 0} (does : CallRelation S) (c : ℕ)
     → s ≡ now
     → s.scrollback ≡ main_scrollback s.is_alternate active idle
     → IsNothing (alternate_scrollback s.is_alternate active idle)
-    → page ≡ printed c s.attrs s.page → last ≡ last_after c now
-    → above ≡ pushed (length s.page.rows) s.page.width (printed_out c s.attrs s.page) active
-    → FoldsTo (CalledOnScroll does s.is_alternate) old (reported (printed_out c s.attrs s.page) active) new
+    → page ≡ page_after_print c s.attrs s.page → last ≡ last_after c now
+    → above ≡ scrollback_after_push (length s.page.rows) s.page.width (printed_out c s.attrs s.page) active
+    → FoldsTo (CalledOnScroll does s.is_alternate) old (rows_reported (printed_out c s.attrs s.page) active) new
     → Scrolls does (state old now) (Print c)
     (state new (record s { page = page; scrollback = main_scrollback s.is_alternate above idle; last = last }))
 character_printed does c s now page active idle above last old new same w n p l a h =
@@ -109,8 +109,8 @@ character_printed does c s now page active idle above last old new same w n p l 
     same
     (record {
       screen = ap (λ (q : Page). after q last (main_scrollback s.is_alternate above idle)) p
-          ∙ ap (λ (o : Option ℕ). after (printed c s.attrs s.page) o (main_scrollback s.is_alternate above idle)) k
-          ∙ sym (sent_if s.is_alternate (after (printed c s.attrs s.page) (last_after c s)) (length s.page.rows)
+          ∙ ap (λ (o : Option ℕ). after (page_after_print c s.attrs s.page) o (main_scrollback s.is_alternate above idle)) k
+          ∙ sym (sent_if s.is_alternate (after (page_after_print c s.attrs s.page) (last_after c s)) (length s.page.rows)
           s.page.width (printed_out c s.attrs s.page) active idle above s.scrollback w a);
       called =
           called_above does s (printed_out c s.attrs s.page) active idle old new (record { whole = w; nothing = n }) h;
@@ -119,10 +119,10 @@ character_printed does c s now page active idle above last old new same w n p l 
 -- ---- erasing scrollback
 
 erased_if : (b : Bool) (s : ScreenValue) (active idle : Scrollback) → s.scrollback ≡ main_scrollback b active idle
-    → record s { scrollback = main_scrollback b (cleared active) idle }
-    ≡ (if b then s else record s { scrollback = cleared s.scrollback })
+    → record s { scrollback = main_scrollback b (scrollback_after_clear active) idle }
+    ≡ (if b then s else record s { scrollback = scrollback_after_clear s.scrollback })
 erased_if true s active idle w = ap (λ (z : Scrollback). record s { scrollback = z }) (sym w)
-erased_if false s active idle w = ap (λ (z : Scrollback). record s { scrollback = cleared z }) (sym w)
+erased_if false s active idle w = ap (λ (z : Scrollback). record s { scrollback = scrollback_after_clear z }) (sym w)
 
 rows_if : (b : Bool) (active idle whole : Scrollback) → whole ≡ main_scrollback b active idle →
     IsNothing (alternate_scrollback b active idle) → active.rows ≡ (if b then no_scrollback 0 else whole).rows
@@ -130,7 +130,7 @@ rows_if true active idle whole w n = n.rows
 rows_if false active idle whole w n = ap (λ (z : Scrollback). z.rows) (sym w)
 
 pub cleared_is : (s : ScreenValue) (active idle above : Scrollback)
-    → s.scrollback ≡ main_scrollback s.is_alternate active idle → above ≡ cleared active
+    → s.scrollback ≡ main_scrollback s.is_alternate active idle → above ≡ scrollback_after_clear active
     → record s { scrollback = main_scrollback s.is_alternate above idle } ≡ screen_after EraseScrollback s
 cleared_is s active idle above w a =
     ap (λ (z : Scrollback). record s { scrollback = main_scrollback s.is_alternate z idle }) a
@@ -140,7 +140,7 @@ pub scrollback_erased : {S : Type 0} (does : CallRelation S)
     (s now : ScreenValue) (active idle above : Scrollback) (old new : S)
     → s ≡ now
     → s.scrollback ≡ main_scrollback s.is_alternate active idle
-    → IsNothing (alternate_scrollback s.is_alternate active idle) → above ≡ cleared active
+    → IsNothing (alternate_scrollback s.is_alternate active idle) → above ≡ scrollback_after_clear active
     → FoldsTo (CalledOnScroll does s.is_alternate) old active.rows new
     → Scrolls does (state old now) EraseScrollback
     (state new (record s { scrollback = main_scrollback s.is_alternate above idle }))

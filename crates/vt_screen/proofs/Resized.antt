@@ -9,9 +9,9 @@ use Rattle.vt_rows.specs.Row.{RowValue}
 use Rattle.vt_rows.proofs.Folds.{folds_then}
 use Rattle.vt_grid.specs.Page.{Page, blank_page}
 use Rattle.vt_grid.proofs.Resizing.{fresh_height, fresh_width}
-use Rattle.vt_grid.specs.Resize.{leaving, out_of_view, page_resized, resize_reports}
-use Rattle.vt_grid.specs.Resize.{returning, scrollback_resized, taken_back}
-use Rattle.vt_grid.specs.Scrollback.{Scrollback, no_scrollback, pushed, reported}
+use Rattle.vt_grid.specs.Resize.{leaving_count, out_of_view, page_resized, resize_reports}
+use Rattle.vt_grid.specs.Resize.{returning_count, scrollback_resized, taken_back}
+use Rattle.vt_grid.specs.Scrollback.{Scrollback, no_scrollback, scrollback_after_push, rows_reported}
 use Rattle.vt_screen.specs.Internals.{Aside, IsKept, IsNothing, IsOther, main_scrollback}
 use Rattle.vt_screen.specs.Internals.{pages_resized, reports_of_pages}
 use Rattle.vt_screen.specs.Calls.{OnScroll}
@@ -36,9 +36,9 @@ nothing_taken n above k = record {
 pub nothing_resized : (height : ℕ) (page : Page) → IsNothing (scrollback_resized height page (no_scrollback 0))
 unfolding scrollback_resized
 nothing_resized height page =
-    nothing_taken (returning height (no_scrollback 0) page)
-    (pushed (length page.rows) page.width (take (leaving height page) page.rows) (out_of_view (no_scrollback 0)))
-    (nothing_pushed (length page.rows) page.width (take (leaving height page) page.rows)
+    nothing_taken (returning_count height (no_scrollback 0) page)
+    (scrollback_after_push (length page.rows) page.width (take (leaving_count height page) page.rows) (out_of_view (no_scrollback 0)))
+    (nothing_pushed (length page.rows) page.width (take (leaving_count height page) page.rows)
     (out_of_view (no_scrollback 0)) (record { capacity = refl; rows = refl; offset = refl }))
 
 fresh_is : (o : Option Page) (p : Page) (f : Option Page) (s b : Page) →
@@ -233,8 +233,8 @@ more_in_place rows page (Some p) h k = omega (arith, h, k.same.height)
 quiet_page : (rows : ℕ) (b : Bool) (page : Page) (above : Scrollback) → length page.rows ≤ rows →
     reports_of b rows (Some page) above ≡ []
 quiet_page rows b page above h =
-    let none : leaving rows page ≡ 0 = omega (arith, h) in
-    ap (λ (n : ℕ). map (λ row. OnScroll row b) (reported (take n page.rows) above)) none
+    let none : leaving_count rows page ≡ 0 = omega (arith, h) in
+    ap (λ (n : ℕ). map (λ row. OnScroll row b) (rows_reported (take n page.rows) above)) none
 
 quiet_other : (rows : ℕ) (page : Page) (o : Option Page) → length page.rows ≤ rows → IfSome o (IsOther page) →
     reports_of true rows o (no_scrollback 0) ≡ []

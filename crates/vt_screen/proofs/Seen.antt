@@ -10,7 +10,7 @@ use Rattle.std.proofs.lemmas.List.Elements.{All-nil, All-cons, All-from_get_or, 
 use Rattle.vt_cells.specs.Cell.{CellValue, blank, glyph, right_half, default_blank}
 use Rattle.vt_cells.specs.Cell.{attrs_of, is_right_half, is_wide, text_of}
 use Rattle.vt_cells.specs.Glyph.{is_selector}
-use Rattle.vt_rows.specs.Cells.{IsPaired, at, moved_at, resized}
+use Rattle.vt_rows.specs.Cells.{IsPaired, at, moved_at, cells_after_resize}
 use Rattle.vt_rows.specs.Plain.{plain_text}
 use Rattle.vt_rows.specs.Row.{RowValue}
 use Rattle.vt_rows.proofs.Moves.{at-moved, length-resized}
@@ -22,7 +22,7 @@ use Rattle.vt_redraw.proofs.Cuts.{IsAnyRow}
 use Rattle.vt_redraw.proofs.SteadyWithout.{picture_steady}
 use Rattle.vt_screen.specs.Contents.{between_of, contents_of, line_end, lines_of, without_line_ends}
 use Rattle.vt_screen.specs.Screen.{IsScreen, ScreenValue, above_page, visible_row, visible_rows}
-use Rattle.vt_screen.specs.Shown.{ShowSamePage, ShowsNoSelector, ShowsOwnPage, shown}
+use Rattle.vt_screen.specs.Shown.{ShowSamePage, ShowsNoSelector, ShowsOwnPage, display}
 use Rattle.vt_screen.proofs.Shown.{any_visible, length_visible, none_above, own_shown, shown_height, shown_is}
 
 -- ---- the cells of a cut row
@@ -38,8 +38,8 @@ none_in_cell (blank attrs) none = refl
 none_in_cell (glyph text wide attrs) none = none
 none_in_cell right_half none = refl
 
-cut_cell : (n : ℕ) (cells : List CellValue) (k : ℕ) → k < n → HasNone (at cells k) → HasNone (at (resized n cells) k)
-unfolding resized
+cut_cell : (n : ℕ) (cells : List CellValue) (k : ℕ) → k < n → HasNone (at cells k) → HasNone (at (cells_after_resize n cells) k)
+unfolding cells_after_resize
 cut_cell n cells k lt none =
     let x = at cells k in
     let here = is_wide x && not (nat_lt (k + 1) n && (k + 1 == k + 1)) in
@@ -49,15 +49,15 @@ cut_cell n cells k lt none =
     (λ _. cond_both there default_blank x HasNone (λ _. refl) (λ _. none))
 
 cut_row : (width : ℕ) (cells : List CellValue) → ((col : ℕ) → col < width → HasNone (at cells col))
-    → All HasNone (resized width cells)
+    → All HasNone (cells_after_resize width cells)
 cut_row width cells none =
-    All-from_get_or HasNone (resized width cells) default_blank (λ col lt.
+    All-from_get_or HasNone (cells_after_resize width cells) default_blank (λ col lt.
     let inside : col < width = omega (arith, length-resized width cells) in
     cut_cell width cells col inside (none col inside))
 
 -- Truncating a row keeps all columns but the last, where a wide character may be split.
-inner : (n : ℕ) (cells : List CellValue) (k : ℕ) → IsPaired cells → k + 1 < n → at (resized n cells) k ≡ at cells k
-unfolding resized
+inner : (n : ℕ) (cells : List CellValue) (k : ℕ) → IsPaired cells → k + 1 < n → at (cells_after_resize n cells) k ≡ at cells k
+unfolding cells_after_resize
 inner n cells k paired lt =
     let first : k ≡ 0 → is_right_half (at cells k) ≡ false =
     λ z. ap (λ (j : ℕ). is_right_half (at cells j)) z ∙ paired.first in
@@ -91,37 +91,37 @@ cut_rows_inner width (x ∷ y ∷ rows) (suc r) col are lt = cut_rows_inner widt
 -- ---- what is displayed
 
 -- A screen that displays no U+FE0F is steady.
-pub steady_without : (s : ScreenValue) → IsScreen s → ShowsNoSelector s → IsSteady (shown s)
+pub steady_without : (s : ScreenValue) → IsScreen s → ShowsNoSelector s → IsSteady (display s)
 steady_without s is none =
     let tall = length_visible (above_page s) s.page.rows in
-    picture_steady (shown s) (shown_is s is) (cut_rows_none s.page.width (visible_rows s) (λ r col inside lt.
+    picture_steady (display s) (shown_is s is) (cut_rows_none s.page.width (visible_rows s) (λ r col inside lt.
     none_in_cell (at (visible_row s r).cells col) (none r col (omega (arith, inside, tall)) lt)))
 
 -- The displayed cells are those of the screen, except in the last column.
 pub shown_cell : (s : ScreenValue) (r col : ℕ) → IsScreen s → col + 1 < s.page.width
-    → at (row_of_picture (shown s) r).cells col ≡ at (visible_row s r).cells col
+    → at (row_of_picture (display s) r).cells col ≡ at (visible_row s r).cells col
 shown_cell s r col is lt =
     cut_rows_inner s.page.width (visible_rows s) r col
     (recursion_from_All IsAnyRow (visible_rows s) (any_visible s is)) lt
 
 -- The displayed rows are those of the page if no scrollback is displayed.
-pub shown_rows : (s : ScreenValue) → IsScreen s → ShowsOwnPage s → (shown s).rows ≡ visible_rows s
+pub shown_rows : (s : ScreenValue) → IsScreen s → ShowsOwnPage s → (display s).rows ≡ visible_rows s
 shown_rows s is own =
     ap (λ (p : Picture). p.rows) (own_shown s is own) ∙ sym (none_above (above_page s) s.page.rows own)
 
 -- ---- two screens
 
-pub size_from_shown : (a b : ScreenValue) → SamePictureSize (shown a) (shown b) → SameSize a.page b.page
+pub size_from_shown : (a b : ScreenValue) → SamePictureSize (display a) (display b) → SameSize a.page b.page
 size_from_shown a b same =
     record { width = same.width; height = sym (shown_height a) ∙ (same.height ∙ shown_height b) }
 
-pub size_of_shown : (a b : ScreenValue) → shown a ≡ shown b → SameSize a.page b.page
+pub size_of_shown : (a b : ScreenValue) → display a ≡ display b → SameSize a.page b.page
 size_of_shown a b same = size_from_shown a b (record {
   width = ap (λ (p : Picture). p.width) same;
   height = ap (λ (p : Picture). length p.rows) same;
 })
 
-pub same_cell_shown : (a b : ScreenValue) (r col : ℕ) → IsScreen a → IsScreen b → shown a ≡ shown b
+pub same_cell_shown : (a b : ScreenValue) (r col : ℕ) → IsScreen a → IsScreen b → display a ≡ display b
     → col + 1 < a.page.width → at (visible_row a r).cells col ≡ at (visible_row b r).cells col
 same_cell_shown a b r col is other same lt =
     let wide = (size_of_shown a b same).width in

@@ -21,7 +21,7 @@ use Rattle.vt_scan.specs.Run.{run}
 use Rattle.vt_scan.specs.Selectors.{ReadsNoSelector}
 use Rattle.vt_scan.proofs.Scalars.{AreCoded, coded_run}
 use Rattle.vt_screen.specs.Controls.{seen_of, steps_of}
-use Rattle.vt_screen.specs.Pages.{above_aside, has_size, main_page, page_aside, resized}
+use Rattle.vt_screen.specs.Pages.{above_aside, has_size, main_page, page_aside, screen_after_resize}
 use Rattle.vt_screen.specs.Screen.{IsPrintable, IsScreen, ScreenValue, above_page}
 use Rattle.vt_screen.specs.Screen.{fresh_screen, scrolled_back, visible_row}
 use Rattle.vt_screen.specs.Selectors.{CellHasNoSelector, HasNoSelectors, RowsHaveNoSelector}
@@ -184,7 +184,7 @@ other_resized rows cols above (Some page) a all = stable_page_resized selecting 
 other_resized rows cols above None a all = tt
 
 pub resized_has_none : (rows cols : ℕ) (s : ScreenValue) → IsScreen s → HasNoSelectors s
-    → HasNoSelectors (resized rows cols s)
+    → HasNoSelectors (screen_after_resize rows cols s)
 resized_has_none rows cols s is without = by (has_size rows cols s) where
   k : StaysFree s
   k = stays_from s is without

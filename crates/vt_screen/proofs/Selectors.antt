@@ -10,14 +10,14 @@ use Rattle.std.proofs.lemmas.List.Elements.{All-nil}
 use Rattle.std.proofs.lemmas.List.Folds.{list_any-append}
 use Rattle.std.proofs.lemmas.Str.{chars-append, chars-encodes, chars-nil, encode_ascii, IsUtf8-append, IsUtf8-encode}
 use Rattle.vt_cells.specs.Attrs.{Attrs}
-use Rattle.vt_cells.specs.Cell.{CellValue, blank, glyph, right_half, marked, text_of, widened}
+use Rattle.vt_cells.specs.Cell.{CellValue, blank, glyph, right_half, cell_with_mark, text_of, cell_made_wide}
 use Rattle.vt_cells.specs.Glyph.{columns_of, has_room, is_selector, marked_text}
 use Rattle.vt_rows.specs.Row.{RowValue}
 use Rattle.vt_grid.specs.Page.{Page}
 use Rattle.vt_grid.specs.Outgoing.{fed_out, printed_out, scrolled_out}
 use Rattle.vt_grid.specs.Resize.{out_of_view}
-use Rattle.vt_grid.specs.Scrollback.{Scrollback, cleared, pushed}
-use Rattle.vt_screen.specs.Pages.{entered, entered_fresh, fresh_page, left_alternate, page_aside, restored, saved}
+use Rattle.vt_grid.specs.Scrollback.{Scrollback, scrollback_after_clear, scrollback_after_push}
+use Rattle.vt_screen.specs.Pages.{screen_after_enter, entered_fresh, fresh_page, left_alternate, page_aside, screen_after_restore, screen_after_save}
 use Rattle.vt_screen.specs.Screen.{ScreenValue, with_page}
 use Rattle.vt_screen.specs.Steps.{Step, Print, LineFeed, ScrollUp, OnPage, SaveCursor, RestoreCursor, EnterAlternate}
 use Rattle.vt_screen.specs.Steps.{EnterFresh, LeaveAlternate, LeaveRestoring, Reset, EraseScrollback, Render}
@@ -77,12 +77,12 @@ free_marked_text text mark p q =
     cond_both (has_room text) (text ++ encode_utf8 mark) text IsFreeText
     (λ _. free_joined text (encode_utf8 mark) p (free_encoded mark q)) (λ _. p)
 
-free_marked : (mark : ℕ) (cell : CellValue) → IsFreeCharacter mark → IsFreeCell cell → IsFreeCell (marked mark cell)
+free_marked : (mark : ℕ) (cell : CellValue) → IsFreeCharacter mark → IsFreeCell cell → IsFreeCell (cell_with_mark mark cell)
 free_marked mark (blank attrs) q p = free_marked_text (0x20 ∷ []) mark free_space q
 free_marked mark (glyph text wide attrs) q p = free_marked_text text mark p q
 free_marked mark right_half q p = tt
 
-free_widened : (wide : Bool) (cell : CellValue) → IsFreeCell cell → IsFreeCell (widened wide cell)
+free_widened : (wide : Bool) (cell : CellValue) → IsFreeCell cell → IsFreeCell (cell_made_wide wide cell)
 free_widened wide (blank attrs) p = tt
 free_widened wide (glyph text was attrs) p = p
 free_widened wide right_half p = tt
@@ -125,7 +125,7 @@ sends : (b : Bool) (s after : ScreenValue) (gone : List RowValue) → AreFree go
     → IsFreeScreen after.page after.other s.scrollback.rows after.last
     → after.scrollback ≡ s.scrollback
     → StaysFree (if b then after else record after {
-      scrollback = pushed
+      scrollback = scrollback_after_push
           (length s.page.rows) s.page.width gone s.scrollback;
     })
 sends true s after gone all k same =
@@ -138,7 +138,7 @@ sends false s after gone all k same = record {
 }
 
 gives_up : (b : Bool) (s : ScreenValue) → StaysFree s
-    → StaysFree (if b then s else record s { scrollback = cleared s.scrollback })
+    → StaysFree (if b then s else record s { scrollback = scrollback_after_clear s.scrollback })
 gives_up true s k = k
 gives_up false s k = record { rows = k.rows; other = k.other; above = All-nil (EachCell IsFreeCell); last = k.last }
 
@@ -158,7 +158,7 @@ free_aside s k = by s.other k.other where
   by (Some page) all = all
   by None all = free_fresh s
 
-free_entered : (s : ScreenValue) → StaysFree s → StaysFree (entered s)
+free_entered : (s : ScreenValue) → StaysFree s → StaysFree (screen_after_enter s)
 free_entered s k = by s.is_alternate where
   by : (b : Bool)
       → StaysFree
@@ -175,15 +175,15 @@ free_left s k = by s.is_alternate where
   by true = record { rows = free_aside s k; other = k.rows; above = k.above; last = k.last }
   by false = k
 
-free_saved : (s : ScreenValue) → StaysFree s → StaysFree (saved s)
+free_saved : (s : ScreenValue) → StaysFree s → StaysFree (screen_after_save s)
 free_saved s k = record { rows = k.rows; other = k.other; above = k.above; last = k.last }
 
-free_restored : (s : ScreenValue) → StaysFree s → StaysFree (restored s)
+free_restored : (s : ScreenValue) → StaysFree s → StaysFree (screen_after_restore s)
 free_restored s k = record { rows = k.rows; other = k.other; above = k.above; last = k.last }
 
 free_entered_fresh : (s : ScreenValue) → StaysFree s → StaysFree (entered_fresh s)
 free_entered_fresh s k =
-    let h = free_entered (saved s) (free_saved s k) in
+    let h = free_entered (screen_after_save s) (free_saved s k) in
     record { rows = free_fresh s; other = h.other; above = h.above; last = h.last }
 
 free_reset : (s : ScreenValue) (o : Option Page)

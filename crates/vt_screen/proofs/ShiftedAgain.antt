@@ -17,7 +17,7 @@ use Rattle.vt_scan.specs.Automaton.{start}
 use Rattle.vt_screen.specs.Again.{KeepsPlain}
 use Rattle.vt_screen.specs.CallsOfRun.{screen_in}
 use Rattle.vt_screen.specs.Screen.{IsColored, IsScreen, ScreenValue}
-use Rattle.vt_screen.specs.Shown.{ReadsTo, shown}
+use Rattle.vt_screen.specs.Shown.{ReadsTo, display}
 use Rattle.vt_screen.specs.Steps.{OnPage, display_after}
 use Rattle.vt_screen.proofs.MovedAgain.{change_goes, scrolling_keeps}
 use Rattle.vt_screen.proofs.ShiftedRead.{deleted_chars_read, inserted_chars_read}
@@ -59,7 +59,7 @@ shifts_go : (height width : ℕ) (shifts : List RowShift) (reader screen : Scree
     Goes false reader screen (shifts_text shifts)
 shifts_go height width [] reader screen tall wide all h = nothing_goes false reader screen h
 shifts_go height width (shift ∷ shifts) reader screen tall wide all h =
-    let a = all.0.some in
+    let a = all.0.nonempty in
     let b = all.0.row in
     let c = all.0.columns in
     let one = shift_goes shift.insert shift.count shift.row shift.col reader screen (omega arith) (omega arith) a
@@ -69,23 +69,23 @@ shifts_go height width (shift ∷ shifts) reader screen tall wide all h =
 
 shifted_keeps : (screen prev : ScreenValue) (shifts : List RowShift) → IsScreen screen → IsColored screen
     → IsScreen prev → IsColored prev
-    → AllByRecursion (IsRowShift (length (shown prev).rows) (shown prev).width) shifts
-    → KeepsPlain (shifting_text shifts (shown screen) (shown prev))
+    → AllByRecursion (IsRowShift (length (display prev).rows) (display prev).width) shifts
+    → KeepsPlain (shifting_text shifts (display screen) (display prev))
 shifted_keeps screen prev shifts is colored sound other all reader plain =
-    let before = in_default_attrs (shown prev) in
+    let before = in_default_attrs (display prev) in
     let between = shifted_all shifts before in
-    let change = bytes_of_all (attr_ops (shown prev).attrs default_attrs) in
-    let rest_ops = difference (shown screen) between in
+    let change = bytes_of_all (attr_ops (display prev).attrs default_attrs) in
+    let rest_ops = difference (display screen) between in
     let sized = shown_colored prev sound other in
-    let one = change_goes (shown prev).attrs reader reader other.attrs (plain_holds reader plain) in
+    let one = change_goes (display prev).attrs reader reader other.attrs (plain_holds reader plain) in
     let changed = screen_in start reader change in
-    let two = shifts_go (length (shown prev).rows) (shown prev).width shifts reader changed sized.height sized.columns
+    let two = shifts_go (length (display prev).rows) (display prev).width shifts reader changed sized.height sized.columns
     all one.holds in
     let rest = ops_go rest_ops false reader (screen_in start changed (shifts_text shifts))
-    (difference_fits (shown screen) between (shown_is screen is) (shown_colored screen is colored)
+    (difference_fits (display screen) between (shown_is screen is) (shown_colored screen is colored)
     (subst FitsAttrs (sym (attrs_shifted shifts before)) (tt, tt)))
-    (difference_safe (shown screen) between false) two.holds in
-    leaves reader (shifting_text shifts (shown screen) (shown prev)) (record {
+    (difference_safe (display screen) between false) two.holds in
+    leaves reader (shifting_text shifts (display screen) (display prev)) (record {
       saved = rest.saved;
       goes =
           goes_then false rest.saved reader reader change (shifts_text shifts ++ bytes_of_all rest_ops) one
@@ -93,7 +93,7 @@ shifted_keeps screen prev shifts is colored sound other all reader plain =
     })
 
 pub moving_keeps : (screen prev : ScreenValue) (text : List ℕ) → IsScreen screen → IsColored screen →
-    IsScreen prev → IsColored prev → IsMoving (shown screen) (shown prev) text → KeepsPlain text
+    IsScreen prev → IsColored prev → IsMoving (display screen) (display prev) text → KeepsPlain text
 moving_keeps screen prev text is colored sound other (inl told) =
     scrolling_keeps screen prev text is colored sound other told
 moving_keeps screen prev text is colored sound other (inr it) =

@@ -25,7 +25,7 @@ use Rattle.vt_scan.specs.Automaton.{start}
 use Rattle.vt_screen.specs.Controls.{counted_step}
 use Rattle.vt_screen.specs.Reading.{terminal}
 use Rattle.vt_screen.specs.Screen.{ScreenValue, IsScreen, IsColored, canvas_of, with_page}
-use Rattle.vt_screen.specs.Shown.{IsReader, IsReaderOf, KeepsRest, ReadsTo, Redraws, shown, showing}
+use Rattle.vt_screen.specs.Shown.{IsReader, IsReaderOf, KeepsRest, ReadsTo, Redraws, display, reader_with_display}
 use Rattle.vt_screen.specs.Steps.{OnPage, display_after}
 use Rattle.vt_screen.proofs.Became.{redraws}
 use Rattle.vt_screen.proofs.MovedRead.{AreDiffed, change_read, empty_left, empty_right, scrolling_redraws, scrolling_tells}
@@ -61,7 +61,7 @@ part_read : (insert : Bool) (count r c : ℕ) (screen : ScreenValue) → IsPage 
     → IsRowShift (length screen.page.rows) screen.page.width (shift_of insert count r c)
     → ReadsTo (shift_text (shift_of insert count r c)) screen
     (with_page (shifted_page (shift_of insert count r c) screen.page) screen)
-part_read insert zero r c screen is plain inside = absurd (omega (arith, inside.some))
+part_read insert zero r c screen is plain inside = absurd (omega (arith, inside.nonempty))
 part_read true (suc n) r c screen is plain inside =
     let a = inside.row in
     let b = inside.columns in
@@ -123,11 +123,11 @@ rows_and_cursor (shift ∷ shifts) page = rows_and_cursor shifts (shifted_page s
 -- ---- the whole output
 
 shifted_becomes : (self reader : ScreenValue) (shifts : List RowShift) → IsScreen self → IsColored self
-    → IsSteady (shown self) → IsReader (shown self) reader
+    → IsSteady (display self) → IsReader (display self) reader
     → AllByRecursion (IsRowShift (length reader.page.rows) reader.page.width) shifts
-    → Becomes (shown self) (shifting_text shifts (shown self) (picture_of (canvas_of reader))) reader
+    → Becomes (display self) (shifting_text shifts (display self) (picture_of (canvas_of reader))) reader
 shifted_becomes self reader shifts is colored steady r all =
-    let picture = shown self in
+    let picture = display self in
     let before = in_default_attrs (picture_of (canvas_of reader)) in
     let between = shifted_all shifts before in
     let middle : ScreenValue = record reader { attrs = default_attrs } in
@@ -148,35 +148,35 @@ shifted_becomes self reader shifts is colored steady r all =
       last = b.last;
       reads =
           reads_then (terminal start reader) (terminal start middle)
-          (terminal start (showing picture b.saved b.last next))
+          (terminal start (reader_with_display picture b.saved b.last next))
           (bytes_of_all (attr_ops reader.attrs default_attrs))
           (shifts_text shifts ++ bytes_of_all (difference picture between)) (change_read reader)
           (reads_then (terminal start middle) (terminal start next)
-          (terminal start (showing picture b.saved b.last next)) (shifts_text shifts)
+          (terminal start (reader_with_display picture b.saved b.last next)) (shifts_text shifts)
           (bytes_of_all (difference picture between))
           (shifts_read shifts middle r.sound.page r.plain.page all) b.reads)
-          ∙ ap (λ (page : Page). Some (terminal start (showing picture b.saved b.last (with_page page middle))))
+          ∙ ap (λ (page : Page). Some (terminal start (reader_with_display picture b.saved b.last (with_page page middle))))
           (rows_and_cursor shifts reader.page);
     }
 
 shifting_read : (self prev reader : ScreenValue) (shifts : List RowShift) → IsScreen self → IsColored self
-    → IsSteady (shown self) → IsReaderOf (shown self) (shown prev) reader
-    → AllByRecursion (IsRowShift (length (shown prev).rows) (shown prev).width) shifts
-    → Becomes (shown self) (shifting_text shifts (shown self) (shown prev)) reader
+    → IsSteady (display self) → IsReaderOf (display self) (display prev) reader
+    → AllByRecursion (IsRowShift (length (display prev).rows) (display prev).width) shifts
+    → Becomes (display self) (shifting_text shifts (display self) (display prev)) reader
 shifting_read self prev reader shifts is colored steady r all =
     let page = plain_shown reader r.is.sound r.is.plain in
-    let e : picture_of (canvas_of reader) ≡ shown prev = sym page ∙ r.shows in
-    subst (λ (p : Picture). Becomes (shown self) (shifting_text shifts (shown self) p) reader) e
+    let e : picture_of (canvas_of reader) ≡ display prev = sym page ∙ r.shows in
+    subst (λ (p : Picture). Becomes (display self) (shifting_text shifts (display self) p) reader) e
     (shifted_becomes self reader shifts is colored steady r.is
     (subst (λ (p : Picture). AllByRecursion (IsRowShift (length p.rows) p.width) shifts) (sym e) all))
 
 pub moving_redraws : (self prev : ScreenValue) (text : List ℕ) → AreDiffed self prev →
-    IsMoving (shown self) (shown prev) text →
-    Redraws (shown self) (IsReaderOf (shown self) (shown prev)) KeepsRest text
+    IsMoving (display self) (display prev) text →
+    Redraws (display self) (IsReaderOf (display self) (display prev)) KeepsRest text
 moving_redraws self prev text d (inl told) = scrolling_redraws self prev text d told
 moving_redraws self prev text d (inr it) =
-    redraws (IsReaderOf (shown self) (shown prev)) (shown self) text (shown_is self d.sound) (λ reader r. r.is)
-    (λ steady reader r. subst (λ (t : List ℕ). Becomes (shown self) t reader) (sym it.bytes)
+    redraws (IsReaderOf (display self) (display prev)) (display self) text (shown_is self d.sound) (λ reader r. r.is)
+    (λ steady reader r. subst (λ (t : List ℕ). Becomes (display self) t reader) (sym it.bytes)
     (shifting_read self prev reader (it.first ∷ it.rest) d.sound d.colored steady r it.inside))
 
 -- ---- empty output
@@ -185,13 +185,13 @@ some_place : (r c : ℕ) → bytes_of (MoveTo r c) ≡ [] → ⊥
 some_place r c empty = cc
 
 -- A difference that may move rows or columns is empty only between screens that display the same.
-pub moving_tells : (self prev : ScreenValue) (text : List ℕ) → AreDiffed self prev → IsSteady (shown self) →
-    IsMoving (shown self) (shown prev) text → text ≡ [] → shown self ≡ shown prev
+pub moving_tells : (self prev : ScreenValue) (text : List ℕ) → AreDiffed self prev → IsSteady (display self) →
+    IsMoving (display self) (display prev) text → text ≡ [] → display self ≡ display prev
 moving_tells self prev text d steady (inl told) empty = scrolling_tells self prev text d steady told empty
 moving_tells self prev text d steady (inr it) empty =
-    let before = in_default_attrs (shown prev) in
-    let change = bytes_of_all (attr_ops (shown prev).attrs default_attrs) in
-    let rest = bytes_of_all (difference (shown self) (shifted_all (it.first ∷ it.rest) before)) in
+    let before = in_default_attrs (display prev) in
+    let change = bytes_of_all (attr_ops (display prev).attrs default_attrs) in
+    let rest = bytes_of_all (difference (display self) (shifted_all (it.first ∷ it.rest) before)) in
     let place = bytes_of (MoveTo it.first.row it.first.col) in
     let edit = counted it.first.count (if it.first.insert then 0x40 else 0x50) in
     let shifts_empty = empty_left (shifts_text (it.first ∷ it.rest)) rest

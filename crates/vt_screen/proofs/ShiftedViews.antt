@@ -17,7 +17,7 @@ use Rattle.vt_redraw.specs.declared.row_shift.RowShift.{RowShift}
 use Rattle.vt_redraw.proofs.Cuts.{picture_over_page}
 use Rattle.vt_redraw.proofs.Shifting.{pages_are, pictures_shifted}
 use Rattle.vt_screen.specs.Screen.{ScreenValue, IsScreen}
-use Rattle.vt_screen.specs.Shown.{ShowsOwnPage, shown}
+use Rattle.vt_screen.specs.Shown.{ShowsOwnPage, display}
 use Rattle.vt_screen.proofs.Shown.{none_above, own_shown, shown_height}
 
 -- A canvas with default attributes.
@@ -39,7 +39,7 @@ own_view screen above page is none =
 
 pub shifted_view : (prev : ScreenValue) (first : RowShift) (start text : List ℕ) (before after : Page)
     → IsScreen prev → ShowsOwnPage prev → before ≡ prev.page → (shifts : Shifts first start text before after)
-    → picture_of (canvas_with after prev) ≡ shifted_all (first ∷ shifts.rest) (in_default_attrs (shown prev))
+    → picture_of (canvas_with after prev) ≡ shifted_all (first ∷ shifts.rest) (in_default_attrs (display prev))
 shifted_view prev first start text before after is own e shifts =
     let all = first ∷ shifts.rest in
     ap (λ (page : Page). picture_of (canvas_with page prev)) shifts.page
@@ -50,21 +50,21 @@ shifted_view prev first start text before after is own e shifts =
 -- The change of attributes, the shifts and the difference after them make up the whole output.
 pub shifting_written : (self prev : ScreenValue) (first : RowShift) (start changed shifted done : List ℕ)
     (before after : Page) (picture : Picture) → before ≡ prev.page
-    → changed ≡ start ++ bytes_of_all (attr_ops (shown prev).attrs default_attrs)
+    → changed ≡ start ++ bytes_of_all (attr_ops (display prev).attrs default_attrs)
     → (shifts : Shifts first changed shifted before after)
-    → picture ≡ shifted_all (first ∷ shifts.rest) (in_default_attrs (shown prev))
-    → done ≡ shifted ++ bytes_of_all (difference (shown self) picture)
-    → AppendsShifting start done (shown self) (shown prev)
+    → picture ≡ shifted_all (first ∷ shifts.rest) (in_default_attrs (display prev))
+    → done ≡ shifted ++ bytes_of_all (difference (display self) picture)
+    → AppendsShifting start done (display self) (display prev)
 shifting_written self prev first start changed shifted done before after picture e first_bytes shifts shows last_bytes =
     let all = first ∷ shifts.rest in
-    let change = bytes_of_all (attr_ops (shown prev).attrs default_attrs) in
-    let between = shifted_all all (in_default_attrs (shown prev)) in
-    let rest = bytes_of_all (difference (shown self) between) in
+    let change = bytes_of_all (attr_ops (display prev).attrs default_attrs) in
+    let between = shifted_all all (in_default_attrs (display prev)) in
+    let rest = bytes_of_all (difference (display self) between) in
     record {
       added = change ++ (shifts_text all ++ rest);
       bytes =
           last_bytes
-          ∙ (ap (λ (p : Picture). shifted ++ bytes_of_all (difference (shown self) p)) shows
+          ∙ (ap (λ (p : Picture). shifted ++ bytes_of_all (difference (display self) p)) shows
           ∙ (ap (λ (t : List ℕ). t ++ rest) shifts.bytes
           ∙ (append_assoc changed (shifts_text all) rest
           ∙ (ap (λ (t : List ℕ). t ++ (shifts_text all ++ rest)) first_bytes
@@ -81,7 +81,7 @@ shifting_written self prev first start changed shifted done before after picture
 
 -- A shift within a picture is within the page that the screen displays.
 pub first_inside : (prev : ScreenValue) (page : Page) (first : RowShift) → page ≡ prev.page →
-    IsRowShift (length (shown prev).rows) (shown prev).width first → IsRowShift (length page.rows) page.width first
+    IsRowShift (length (display prev).rows) (display prev).width first → IsRowShift (length page.rows) page.width first
 first_inside prev page first e inside =
     subst (λ (p : Page). IsRowShift (length p.rows) p.width first) (sym e)
     (subst (λ (n : ℕ). IsRowShift n prev.page.width first) (shown_height prev) inside)

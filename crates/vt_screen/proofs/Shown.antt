@@ -6,14 +6,14 @@ use Rattle.std.proofs.lemmas.List.{length-append, length-take, drop_all, take_al
 use Rattle.std.proofs.lemmas.List.Elements.{All-nil, All-cons, All-append, All-take}
 use Rattle.std.proofs.lemmas.List.Elements.{All-drop, All-weaker, recursion_from_All}
 use Rattle.std.specs.List.{AllByRecursion}
-use Rattle.vt_rows.specs.Cells.{resized}
+use Rattle.vt_rows.specs.Cells.{cells_after_resize}
 use Rattle.vt_rows.specs.Row.{RowValue, IsRow, with_cells}
 use Rattle.vt_grid.specs.Scrollback.{Scrollback, no_scrollback, visible, last_of}
 use Rattle.vt_redraw.specs.Picture.{IsPicture, IsColoredPicture, cut_rows, picture_of, picture_over}
 use Rattle.vt_redraw.proofs.Cuts.{IsAnyRow, picture_over_is, picture_over_page}
 use Rattle.vt_screen.specs.Screen.{ScreenValue, IsScreen, IsColored, IsColoredRow}
 use Rattle.vt_screen.specs.Screen.{AreColored, above_page, canvas_of, visible_rows}
-use Rattle.vt_screen.specs.Shown.{IsPlain, ShowsOwnPage, shown}
+use Rattle.vt_screen.specs.Shown.{IsPlain, ShowsOwnPage, display}
 use Rattle.vt_screen.proofs.StableMoves.{stable_moved}
 use Rattle.vt_screen.proofs.Coloring.{coloring}
 
@@ -53,7 +53,7 @@ any_visible s is =
     (All-weaker (IsRow s.page.width) IsAnyRow (any_row s.page.width) s.page.rows is.page.rows)
 
 -- The display of a screen is a valid picture.
-pub shown_is : (s : ScreenValue) → IsScreen s → IsPicture (shown s)
+pub shown_is : (s : ScreenValue) → IsScreen s → IsPicture (display s)
 shown_is s is =
     picture_over_is (visible_rows s) (canvas_of s) is.page
     (length_visible (above_page s) s.page.rows) (any_visible s is)
@@ -61,13 +61,13 @@ shown_is s is =
 -- ---- colours
 
 cut_colored : (width : ℕ) (rows : List RowValue) → AllByRecursion IsColoredRow rows → AreColored (cut_rows width rows)
-unfolding resized
+unfolding cells_after_resize
 cut_colored width [] h = All-nil IsColoredRow
 cut_colored width (x ∷ []) h =
-    All-cons IsColoredRow (record { cells = resized width x.cells; wrapped = false }) []
+    All-cons IsColoredRow (record { cells = cells_after_resize width x.cells; wrapped = false }) []
     (stable_moved coloring width (λ k. k) x.cells h.0) (All-nil IsColoredRow)
 cut_colored width (x ∷ y ∷ rows) h =
-    All-cons IsColoredRow (with_cells x (resized width x.cells)) (cut_rows width (y ∷ rows))
+    All-cons IsColoredRow (with_cells x (cells_after_resize width x.cells)) (cut_rows width (y ∷ rows))
     (stable_moved coloring width (λ k. k) x.cells h.0) (cut_colored width (y ∷ rows) h.1)
 
 length_cut : (width : ℕ) (rows : List RowValue) → length (cut_rows width rows) ≡ length rows
@@ -75,10 +75,10 @@ length_cut width [] = refl
 length_cut width (x ∷ []) = refl
 length_cut width (x ∷ y ∷ rows) = let l = length_cut width (y ∷ rows) in omega arith
 
-pub shown_height : (s : ScreenValue) → length (shown s).rows ≡ length s.page.rows
+pub shown_height : (s : ScreenValue) → length (display s).rows ≡ length s.page.rows
 shown_height s = length_cut s.page.width (visible_rows s) ∙ length_visible (above_page s) s.page.rows
 
-pub shown_colored : (s : ScreenValue) → IsScreen s → IsColored s → IsColoredPicture (shown s)
+pub shown_colored : (s : ScreenValue) → IsScreen s → IsColored s → IsColoredPicture (display s)
 shown_colored s is colored =
     let rows = rows_visible IsColoredRow (above_page s) s.page.rows
     (above_by IsColoredRow s.is_alternate s.scrollback colored.above) colored.rows in
@@ -93,10 +93,10 @@ shown_colored s is colored =
 
 -- ---- a screen that displays no scrollback
 
-pub own_shown : (s : ScreenValue) → IsScreen s → ShowsOwnPage s → shown s ≡ picture_of (canvas_of s)
+pub own_shown : (s : ScreenValue) → IsScreen s → ShowsOwnPage s → display s ≡ picture_of (canvas_of s)
 own_shown s is none =
     ap (λ (rows : List RowValue). picture_over rows (canvas_of s)) (none_above (above_page s) s.page.rows none)
     ∙ picture_over_page (canvas_of s) is.page
 
-pub plain_shown : (s : ScreenValue) → IsScreen s → IsPlain s → shown s ≡ picture_of (canvas_of s)
+pub plain_shown : (s : ScreenValue) → IsScreen s → IsPlain s → display s ≡ picture_of (canvas_of s)
 plain_shown s is plain = own_shown s is plain.offset

@@ -6,12 +6,12 @@ use Rattle.vt_cells.specs.Attrs.{default_attrs}
 use Rattle.vt_rows.specs.Row.{blank_row}
 use Rattle.vt_grid.specs.Page.{Page, SameSize, IsPage, blank_page}
 use Rattle.vt_grid.specs.Resize.{out_of_view}
-use Rattle.vt_grid.specs.Scrollback.{pushed}
-use Rattle.vt_screen.specs.Pages.{fresh_page, page_aside, entered, entered_fresh, left_alternate, saved, restored, reset}
+use Rattle.vt_grid.specs.Scrollback.{scrollback_after_push}
+use Rattle.vt_screen.specs.Pages.{fresh_page, page_aside, screen_after_enter, entered_fresh, left_alternate, screen_after_save, screen_after_restore, screen_after_reset}
 use Rattle.vt_screen.specs.Screen.{ScreenValue, IsScreen}
 use Rattle.vt_screen.specs.Steps.{Step, Print, LineFeed, ScrollUp, OnPage, SaveCursor, RestoreCursor, EnterAlternate}
 use Rattle.vt_screen.specs.Steps.{EnterFresh, LeaveAlternate, LeaveRestoring, Reset, EraseScrollback, Render}
-use Rattle.vt_screen.specs.Steps.{HideCursor, SetMode, CallBack, outgoing, sent, display_after}
+use Rattle.vt_screen.specs.Steps.{HideCursor, SetMode, CallBack, rows_scrolled_off, screen_after_scrolling_step, display_after}
 use Rattle.vt_screen.proofs.PageSteps.{inside_page_after, same_page_after}
 use Rattle.vt_screen.proofs.Inside.{IsInside, inside_page, inside_cursor_saved, inside_cursor_restored}
 use Rattle.vt_screen.proofs.Inside.{inside_line_feed, inside_scrolled_up, inside_printed}
@@ -70,7 +70,7 @@ sized_if height width true x y p q = p
 sized_if height width false x y p q = q
 
 sized_entered : (height width : ℕ) (screen : ScreenValue) →
-    IsSized height width screen → IsSized height width (entered screen)
+    IsSized height width screen → IsSized height width (screen_after_enter screen)
 sized_entered height width screen z = by_page screen.is_alternate where
   by_page : (b : Bool) →
       IsSized height width (if b then screen
@@ -93,25 +93,25 @@ sized_left height width screen z = by_page screen.is_alternate where
   by_page false = z
 
 sized_saved : (height width : ℕ) (screen : ScreenValue) →
-    IsSized height width screen → IsSized height width (saved screen)
+    IsSized height width screen → IsSized height width (screen_after_save screen)
 sized_saved height width screen z =
-    paged height width screen (saved screen) refl (same_cursor_saved screen.page)
+    paged height width screen (screen_after_save screen) refl (same_cursor_saved screen.page)
     (inside_cursor_saved screen.page z.page.inside) z
 
 sized_restored : (height width : ℕ) (screen : ScreenValue) →
-    IsSized height width screen → IsSized height width (restored screen)
+    IsSized height width screen → IsSized height width (screen_after_restore screen)
 sized_restored height width screen z =
-    paged height width screen (restored screen) refl (same_cursor_restored screen.page)
+    paged height width screen (screen_after_restore screen) refl (same_cursor_restored screen.page)
     (inside_cursor_restored screen.page z.page.inside) z
 
 sized_entered_fresh : (height width : ℕ) (screen : ScreenValue) →
     IsSized height width screen → IsSized height width (entered_fresh screen)
 sized_entered_fresh height width screen z =
-    let in_it = sized_entered height width (saved screen) (sized_saved height width screen z) in
+    let in_it = sized_entered height width (screen_after_save screen) (sized_saved height width screen z) in
     record { page = fresh_sized height width screen z; other = in_it.other }
 
 sized_reset : (height width : ℕ) (screen : ScreenValue) →
-    IsSized height width screen → IsSized height width (reset screen)
+    IsSized height width screen → IsSized height width (screen_after_reset screen)
 sized_reset height width screen z =
     record { page = fresh_sized height width screen z; other = by_other screen.other } where
       by_other : (o : Option Page) → IfSome (option_map (λ _. fresh_page screen) o) (IsSizedPage height width)
@@ -148,12 +148,12 @@ sized_stepped height width (SetMode x) screen z = record { page = z.page; other 
 sized_stepped height width (CallBack call) screen z = z
 
 pub sized_sent : (height width : ℕ) (step : Step) (screen : ScreenValue) →
-    IsSized height width screen → IsSized height width (sent step screen)
+    IsSized height width screen → IsSized height width (screen_after_scrolling_step step screen)
 sized_sent height width step screen z = by_page screen.is_alternate where
   by_page : (b : Bool) →
       IsSized height width (if b then display_after step screen
       else record (display_after step screen)
-      { scrollback = pushed (length screen.page.rows) screen.page.width (outgoing step screen) screen.scrollback })
+      { scrollback = scrollback_after_push (length screen.page.rows) screen.page.width (rows_scrolled_off step screen) screen.scrollback })
   by_page true = sized_stepped height width step screen z
   by_page false = let s = sized_stepped height width step screen z in record { page = s.page; other = s.other }
 

@@ -1,7 +1,7 @@
 -- A step keeps the size of a screen, whatever callbacks are invoked.
 use Rattle.std.proofs.Common.{◌≡◌, ℕ, sym, subst}
 use Rattle.std.proofs.lemmas.Bool.{cond_both}
-use Rattle.vt_grid.specs.Scrollback.{cleared}
+use Rattle.vt_grid.specs.Scrollback.{scrollback_after_clear}
 use Rattle.vt_screen.specs.Run as act
 use Rattle.vt_screen.specs.Run.{CallRelation, Scrolls, Takes, state}
 use Rattle.vt_screen.specs.Steps.{Step, Print, LineFeed, ScrollUp, OnPage, SaveCursor, RestoreCursor, EnterAlternate}
@@ -34,7 +34,7 @@ module _ {S : Type 0} (does : CallRelation S) (leaves : LeavesScreen does) (heig
   sized_taken LeaveRestoring a b z t = steps LeaveRestoring a b t z
   sized_taken Reset a b z t = steps Reset a b t z
   sized_taken EraseScrollback a b z t = scrolls EraseScrollback a b t
-      (cond_both a.screen.is_alternate a.screen (record (a.screen) { scrollback = cleared a.screen.scrollback })
+      (cond_both a.screen.is_alternate a.screen (record (a.screen) { scrollback = scrollback_after_clear a.screen.scrollback })
       (IsSized height width) (λ _. z) (λ _. record { page = z.page; other = z.other }))
   sized_taken (ScrollUp n) a b z t = scrolls (ScrollUp n) a b t (sized_sent height width (ScrollUp n) a.screen z)
   sized_taken (Render setting) a b z t = steps (Render setting) a b t z

@@ -5,22 +5,22 @@ use Rattle.std.specs.Prelude.{◌||◌, if◌then◌else◌, Option, Some, None}
 use Rattle.std.specs.Char.{encode_utf8}
 use Rattle.std.proofs.lemmas.List.{length-append, length-take, length-replicate, length-set}
 use Rattle.vt_cells.specs.Attrs.{Attrs}
-use Rattle.vt_cells.specs.Cell.{marked, CellValue, text_of, is_wide}
+use Rattle.vt_cells.specs.Cell.{cell_with_mark, CellValue, text_of, is_wide}
 use Rattle.vt_cells.specs.Glyph.{columns_of, is_selector, is_wide_text}
-use Rattle.vt_rows.specs.Cells.{at, ends_blank, erased, put_narrow, put_wide, marked_at, widened_at, narrowed_at}
+use Rattle.vt_rows.specs.Cells.{at, ends_blank, cells_after_erase, put_narrow, put_wide, marked_at, widened_at, narrowed_at}
 use Rattle.vt_rows.specs.Row.{RowValue, blank_row, with_cells, inserted_row, deleted_row}
 use Rattle.vt_grid.specs.Page.{Page, cursor_row, with_row, up_source, rows_up, scrolled_up}
 use Rattle.vt_grid.specs.Moves.{carriage_return, moved_left, moved_right, moved_to}
 use Rattle.vt_grid.specs.Moves.{line_feed, cursor_saved, cursor_restored}
 use Rattle.vt_grid.specs.Regions.{in_region, last_row, moved_up, moved_down, next_line, previous_line}
-use Rattle.vt_grid.specs.Regions.{moved_to_column, moved_to_row, tabbed, region_set, origin_set}
+use Rattle.vt_grid.specs.Regions.{moved_to_column, moved_to_row, page_after_tab, region_set, origin_set}
 use Rattle.vt_grid.specs.Shifts.{rows_down, scrolled_down, reverse_index, lines_inserted}
 use Rattle.vt_grid.specs.Shifts.{lines_deleted, chars_inserted, chars_deleted}
 use Rattle.vt_grid.specs.Erasing.{erased_columns, erased_chars, erased_rest, blanked_below, erased_below}
 use Rattle.vt_grid.specs.Erasing.{erased_start, erased_row, erased_page}
 use Rattle.vt_grid.specs.Printing.{carries, lifted_page, with_cursor_cells, left_row, goes_down, wrapped_page}
-use Rattle.vt_grid.specs.Printing.{lacks_room, room_made, glyph_put, mark_column, takes_mark, mark_put, carried}
-use Rattle.vt_grid.specs.Printing.{made_wide, made_narrow, width_followed, mark_printed, printed, printed_by}
+use Rattle.vt_grid.specs.Printing.{lacks_room, room_made, glyph_put, mark_column, takes_mark, mark_put, page_after_wrap}
+use Rattle.vt_grid.specs.Printing.{made_wide, made_narrow, width_followed, mark_printed, page_after_print, printed_by}
 use Rattle.vt_grid.specs.Page.{SameSize}
 use Rattle.vt_grid.proofs.Pages.{length-moved_rows}
 use Rattle.vt_grid.proofs.Prints.{width_line_feed, height_line_feed, width_wrapped_page, height_flagged_left}
@@ -83,7 +83,7 @@ same_moved_to_column c page = record { width = refl; height = refl }
 pub same_moved_to_row : (r : ℕ) (page : Page) → SameSize (moved_to_row r page) page
 same_moved_to_row r page = record { width = refl; height = refl }
 
-pub same_tabbed : (page : Page) → SameSize (tabbed page) page
+pub same_tabbed : (page : Page) → SameSize (page_after_tab page) page
 same_tabbed page = record { width = refl; height = refl }
 
 pub same_region_set : (top bottom : ℕ) (page : Page) → SameSize (region_set top bottom page) page
@@ -149,7 +149,7 @@ same_chars_deleted n page = same_with_row page.row (deleted_row page.column n (c
 -- ---- erasing
 
 same_erased_columns : (c n : ℕ) (attrs : Attrs) (page : Page) → SameSize (erased_columns c n attrs page) page
-same_erased_columns c n attrs page = same_cursor_cells (erased c n attrs (cursor_row page).cells) page
+same_erased_columns c n attrs page = same_cursor_cells (cells_after_erase c n attrs (cursor_row page).cells) page
 
 pub same_erased_chars : (n : ℕ) (attrs : Attrs) (page : Page) → SameSize (erased_chars n attrs page) page
 unfolding erased_chars
@@ -230,10 +230,10 @@ same_glyph_put text true attrs page = record {
 pub same_mark_put : (k mark : ℕ) (page : Page) → SameSize (mark_put k mark page) page
 same_mark_put k mark page = same_cursor_cells (marked_at k mark (cursor_row page).cells) page
 
-same_carried : (mark : ℕ) (attrs : Attrs) (page : Page) → SameSize (carried mark attrs page) page
-unfolding carried
+same_carried : (mark : ℕ) (attrs : Attrs) (page : Page) → SameSize (page_after_wrap mark attrs page) page
+unfolding page_after_wrap
 same_carried mark attrs page =
-    let text = text_of (marked mark (at (cursor_row page).cells (mark_column page))) in
+    let text = text_of (cell_with_mark mark (at (cursor_row page).cells (mark_column page))) in
     let left = lifted_page (mark_column page) attrs page in
     let below = wrapped_page left in
     same_through (glyph_put text true attrs below) below page (same_glyph_put text true attrs below)
@@ -268,7 +268,7 @@ same_mark_printed mark attrs page =
     let put = mark_put k mark page in
     let done = same_mark_put k mark page in
     let put_on : Page = if is_selector mark then width_followed k attrs put else put in
-    same_if (carries mark page) (carried mark attrs page)
+    same_if (carries mark page) (page_after_wrap mark attrs page)
     (if takes_mark (at (cursor_row page).cells k) then put_on else page) page
     (same_carried mark attrs page)
     (same_if (takes_mark (at (cursor_row page).cells k)) put_on page page
@@ -293,5 +293,5 @@ same_printed_by (Some (suc (suc n))) c attrs page =
     same_if (nat_lt 1 page.width) (glyph_put (encode_utf8 c) true attrs (room_made 2 page))
     page page (same_put_behind 2 (encode_utf8 c) true attrs page) (same_itself page)
 
-pub same_printed : (c : ℕ) (attrs : Attrs) (page : Page) → SameSize (printed c attrs page) page
+pub same_printed : (c : ℕ) (attrs : Attrs) (page : Page) → SameSize (page_after_print c attrs page) page
 same_printed c attrs page = same_printed_by (columns_of c) c attrs page

@@ -4,11 +4,11 @@ use Rattle.std.proofs.Common.{Option, Some, None, refl, sym, subst, ap, ◌∙�
 use Rattle.std.specs.Prelude.{if◌then◌else◌, option_map, unwrap_or, IfSome, IsSome}
 use Rattle.std.proofs.lemmas.Bool.Decides.{nat_tests}
 use Rattle.vt_grid.specs.Page.{IsPage, IsPlainPage, Page, SameSize}
-use Rattle.vt_grid.specs.Resize.{leaving, page_resized, scrollback_resized}
+use Rattle.vt_grid.specs.Resize.{leaving_count, page_resized, scrollback_resized}
 use Rattle.vt_grid.specs.Scrollback.{IsScrollback, Scrollback, no_scrollback}
 use Rattle.vt_grid.proofs.Pages.{page_blank}
 use Rattle.vt_grid.proofs.Resizing.{offset-pushed, page_page_resized, scrollback_resized_is}
-use Rattle.vt_screen.specs.Pages.{above_aside, fresh_page, has_size, main_page, page_aside, resized}
+use Rattle.vt_screen.specs.Pages.{above_aside, fresh_page, has_size, main_page, page_aside, screen_after_resize}
 use Rattle.vt_screen.specs.Screen.{IsScreen, ScreenValue, above_page}
 use Rattle.vt_screen.specs.Shown.{IsPlain}
 use Rattle.vt_screen.proofs.Asides.{above_none, height_resized, same_resized}
@@ -26,7 +26,7 @@ width_is rows cols above page = refl
 
 none_in_view : (rows : ℕ) (page : Page) (above : Scrollback) → (scrollback_resized rows page above).offset ≡ 0
 unfolding scrollback_resized
-none_in_view rows page above = offset-pushed (length page.rows) page.width (take (leaving rows page) page.rows) above
+none_in_view rows page above = offset-pushed (length page.rows) page.width (take (leaving_count rows page) page.rows) above
 
 above_resized : (b : Bool) (above : Scrollback) → above.offset ≡ 0 → (if b then no_scrollback 0 else above).offset ≡ 0
 above_resized true above e = refl
@@ -45,7 +45,7 @@ by_size : (P : ScreenValue → Type 0) (rows cols : ℕ) (screen : ScreenValue)
     → (length screen.page.rows ≡ rows → screen.page.width ≡ cols → P screen)
     → ((new : ScreenValue) → new.page ≡ page_resized rows cols (above_page screen) screen.page
     → (above_page new).offset ≡ 0 → P new)
-    → P (resized rows cols screen)
+    → P (screen_after_resize rows cols screen)
 by_size P rows cols screen same other = by_test (has_size rows cols screen) refl where
   by_test : (b : Bool) → has_size rows cols screen ≡ b → P (if b then screen else other_size rows cols screen)
   by_test true e = same (grind (arith, nat_tests, e)) (grind (arith, nat_tests, e))
@@ -54,7 +54,7 @@ by_size P rows cols screen same other = by_test (has_size rows cols screen) refl
       (none_in_view rows (main_page screen) screen.scrollback))
 
 pub resized_plain : (rows cols : ℕ) (screen : ScreenValue) →
-    0 < rows → IsPlain screen → IsPlain (resized rows cols screen)
+    0 < rows → IsPlain screen → IsPlain (screen_after_resize rows cols screen)
 resized_plain rows cols screen some plain =
     by_size IsPlain rows cols screen (λ _ _. plain)
     (λ (new : ScreenValue) page offset.
@@ -64,7 +64,7 @@ resized_plain rows cols screen some plain =
     })
 
 pub resized_size : (rows cols : ℕ) (screen : ScreenValue) →
-    ((resized rows cols screen).page.width ≡ cols) × (length (resized rows cols screen).page.rows ≡ rows)
+    ((screen_after_resize rows cols screen).page.width ≡ cols) × (length (screen_after_resize rows cols screen).page.rows ≡ rows)
 resized_size rows cols screen =
     by_size (λ (new : ScreenValue). (new.page.width ≡ cols) × (length new.page.rows ≡ rows))
     rows cols screen (λ tall wide. (wide, tall))
@@ -115,7 +115,7 @@ still_some f None s = s
 still_some f (Some page) s = s
 
 pub resized_is : (rows cols : ℕ) (screen : ScreenValue) → 0 < rows → rows < 2 ^ 16 → 0 < cols → cols < 2 ^ 16
-    → IsScreen screen → IsScreen (resized rows cols screen)
+    → IsScreen screen → IsScreen (screen_after_resize rows cols screen)
 resized_is rows cols screen a b c d is = by_test (has_size rows cols screen) where
   by_test : (b : Bool) → IsScreen (if b then screen else other_size rows cols screen)
   by_test true = is

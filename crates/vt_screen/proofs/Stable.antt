@@ -9,10 +9,10 @@ use Rattle.std.proofs.lemmas.List.Elements.{All-nil, All-cons, All-head, All-tai
 use Rattle.std.proofs.lemmas.List.Elements.{All-drop, All-replicate, All-set, All-get_or, All-from_get_or}
 use Rattle.vt_cells.specs.Attrs.{default_attrs, Attrs}
 use Rattle.vt_cells.specs.Cell.{CellValue, attrs_of, blank, glyph, right_half}
-use Rattle.vt_cells.specs.Cell.{default_blank, text_of, is_wide, marked, widened}
+use Rattle.vt_cells.specs.Cell.{default_blank, text_of, is_wide, cell_with_mark, cell_made_wide}
 use Rattle.vt_cells.specs.Glyph.{columns_of, is_selector, is_wide_text}
-use Rattle.vt_rows.specs.Cells.{at, mended, shut, opened, put_cells, blanks, put_narrow, put_wide}
-use Rattle.vt_rows.specs.Cells.{erased, marked_at, widened_at, narrowed_at, ends_blank}
+use Rattle.vt_rows.specs.Cells.{at, cell_cut_from_right_half, cells_before_cut, cells_after_cut, put_cells, blanks, put_narrow, put_wide}
+use Rattle.vt_rows.specs.Cells.{cells_after_erase, marked_at, widened_at, narrowed_at, ends_blank}
 use Rattle.vt_rows.specs.Row.{RowValue, blank_row, with_cells}
 use Rattle.vt_grid.specs.Page.{Page, row_or, row_at, cursor_row, with_row}
 use Rattle.vt_grid.specs.Page.{moved_rows, up_source, scrolled_up, blank_page}
@@ -20,7 +20,7 @@ use Rattle.vt_grid.specs.Moves.{at_bottom, line_feed}
 use Rattle.vt_grid.specs.Erasing.{erased_columns, erased_chars, erased_rest, blanked_below, erased_below}
 use Rattle.vt_grid.specs.Printing.{carries, lifted_page, with_cursor_cells, left_row, goes_down, flagged_left}
 use Rattle.vt_grid.specs.Printing.{wrapped_page, lacks_room, room_made, glyph_put, mark_column, takes_mark, mark_put}
-use Rattle.vt_grid.specs.Printing.{carried, made_wide, made_narrow, width_followed, mark_printed, printed, printed_by}
+use Rattle.vt_grid.specs.Printing.{page_after_wrap, made_wide, made_narrow, width_followed, mark_printed, page_after_print, printed_by}
 use Rattle.vt_grid.proofs.Pages.{length-moved_rows, row_or-moved_rows}
 
 -- A property P of cells is preserved by every step that draws with attributes that satisfy F and prints characters that
@@ -32,8 +32,8 @@ pub record IsStable (P : CellValue → Type 0) (F : Attrs → Type 0) (Q : ℕ �
   -- The blank that replaces one cell of a wide character whose other cell is lost.
   pub torn : (cell : CellValue) → P cell → P (blank (attrs_of cell))
   pub space : (attrs : Attrs) → F attrs → P (glyph (0x20 ∷ []) false attrs)
-  pub wider : (wide : Bool) (cell : CellValue) → P cell → P (widened wide cell)
-  pub marks : (mark : ℕ) (cell : CellValue) → Q mark → P cell → P (marked mark cell)
+  pub wider : (wide : Bool) (cell : CellValue) → P cell → P (cell_made_wide wide cell)
+  pub marks : (mark : ℕ) (cell : CellValue) → Q mark → P cell → P (cell_with_mark mark cell)
   pub prints : (c : ℕ) (wide : Bool) (attrs : Attrs) → Q c → F attrs → P (glyph (encode_utf8 c) wide attrs)
   -- The glyph of a cell after it is printed again as a wide glyph.
   pub again : (cell : CellValue) (attrs : Attrs) → P cell → F attrs → P (glyph (text_of cell) true attrs)
@@ -50,22 +50,22 @@ pub stable_default_blank : {P : CellValue → Type 0} {F : Attrs → Type 0} {Q 
 stable_default_blank rule = rule.empty default_attrs rule.plain
 
 stable_mended : {P : CellValue → Type 0} {F : Attrs → Type 0} {Q : ℕ → Type 0} → IsStable P F Q → (x : CellValue)
-    → P x → P (mended x)
+    → P x → P (cell_cut_from_right_half x)
 stable_mended rule (blank attrs) h = h
 stable_mended rule (glyph text true attrs) h = rule.torn (glyph text true attrs) h
 stable_mended rule (glyph text false attrs) h = h
 stable_mended rule right_half h = h
 
 stable_shut : {P : CellValue → Type 0} {F : Attrs → Type 0} {Q : ℕ → Type 0} → IsStable P F Q
-    → (cells : List CellValue) → All P cells → All P (shut cells)
+    → (cells : List CellValue) → All P cells → All P (cells_before_cut cells)
 stable_shut {P} {F} {Q} rule [] h = h
 stable_shut {P} {F} {Q} rule (x ∷ []) h =
-    All-cons P (mended x) [] (stable_mended rule x (All-head P x [] h)) (All-nil P)
+    All-cons P (cell_cut_from_right_half x) [] (stable_mended rule x (All-head P x [] h)) (All-nil P)
 stable_shut {P} {F} {Q} rule (x ∷ y ∷ xs) h =
-    All-cons P x (shut (y ∷ xs)) (All-head P x (y ∷ xs) h) (stable_shut rule (y ∷ xs) (All-tail P x (y ∷ xs) h))
+    All-cons P x (cells_before_cut (y ∷ xs)) (All-head P x (y ∷ xs) h) (stable_shut rule (y ∷ xs) (All-tail P x (y ∷ xs) h))
 
 stable_opened : {P : CellValue → Type 0} {F : Attrs → Type 0} {Q : ℕ → Type 0} → IsStable P F Q
-    → (o : CellValue) (cells : List CellValue) → P o → All P cells → All P (opened o cells)
+    → (o : CellValue) (cells : List CellValue) → P o → All P cells → All P (cells_after_cut o cells)
 stable_opened {P} {F} {Q} rule o [] i h = h
 stable_opened {P} {F} {Q} rule o (right_half ∷ xs) i h = All-cons P o xs i (All-tail P right_half xs h)
 stable_opened {P} {F} {Q} rule o (blank attrs ∷ xs) i h = h
@@ -77,8 +77,8 @@ stable_put_cells : {P : CellValue → Type 0} {F : Attrs → Type 0} {Q : ℕ �
 unfolding put_cells
 stable_put_cells {P} {F} {Q} rule c n o new cells i h all =
     let rest = drop n (drop c cells) in
-    All-append P (shut (take c cells)) _ (stable_shut rule (take c cells) (All-take P c cells all))
-    (All-append P new (opened o rest) h (stable_opened rule o rest i
+    All-append P (cells_before_cut (take c cells)) _ (stable_shut rule (take c cells) (All-take P c cells all))
+    (All-append P new (cells_after_cut o rest) h (stable_opened rule o rest i
     (All-drop P n (drop c cells) (All-drop P c cells all))))
 
 stable_one : {P : CellValue → Type 0} {F : Attrs → Type 0} {Q : ℕ → Type 0} → IsStable P F Q → (x : CellValue) → P x
@@ -157,7 +157,7 @@ stable_blank {P} {F} {Q} rule height width =
 -- ---- erasing
 
 stable_erased : {P : CellValue → Type 0} {F : Attrs → Type 0} {Q : ℕ → Type 0} → IsStable P F Q
-    → (c n : ℕ) (attrs : Attrs) (cells : List CellValue) → F attrs → All P cells → All P (erased c n attrs cells)
+    → (c n : ℕ) (attrs : Attrs) (cells : List CellValue) → F attrs → All P cells → All P (cells_after_erase c n attrs cells)
 stable_erased {P} {F} {Q} rule c n attrs cells h all =
     stable_put_cells rule c n default_blank (blanks attrs n) cells (stable_default_blank rule)
     (All-replicate P n (blank attrs) (rule.empty attrs h)) all
@@ -166,7 +166,7 @@ pub stable_erased_columns : {P : CellValue → Type 0} {F : Attrs → Type 0} {Q
     → (c n : ℕ) (attrs : Attrs) (page : Page) → F attrs → EachRow P page.rows
     → EachRow P (erased_columns c n attrs page).rows
 stable_erased_columns {P} {F} {Q} rule c n attrs page h all =
-    stable_cursor_cells rule (erased c n attrs (cursor_row page).cells) page
+    stable_cursor_cells rule (cells_after_erase c n attrs (cursor_row page).cells) page
     (stable_erased rule c n attrs (cursor_row page).cells h (stable_cursor_row rule page all)) all
 
 pub stable_erased_chars : {P : CellValue → Type 0} {F : Attrs → Type 0} {Q : ℕ → Type 0} → IsStable P F Q
@@ -202,12 +202,12 @@ stable_erased_below {P} {F} {Q} rule attrs page h all =
 -- ---- printing
 
 stable_flagged_left : {P : CellValue → Type 0} {F : Attrs → Type 0} {Q : ℕ → Type 0} → IsStable P F Q
-    → (left : Option ℕ) (goes_on : Bool) (page : Page) → EachRow P page.rows
-    → EachRow P (flagged_left left goes_on page).rows
-stable_flagged_left {P} {F} {Q} rule (Some r) goes_on page all =
-    stable_with_row rule r (record (row_at page r) { wrapped = goes_on }) page
+    → (left : Option ℕ) (is_wrapped : Bool) (page : Page) → EachRow P page.rows
+    → EachRow P (flagged_left left is_wrapped page).rows
+stable_flagged_left {P} {F} {Q} rule (Some r) is_wrapped page all =
+    stable_with_row rule r (record (row_at page r) { wrapped = is_wrapped }) page
     (stable_row_or rule page.width page.rows r all) all
-stable_flagged_left {P} {F} {Q} rule None goes_on page all = all
+stable_flagged_left {P} {F} {Q} rule None is_wrapped page all = all
 
 stable_wrapped_page : {P : CellValue → Type 0} {F : Attrs → Type 0} {Q : ℕ → Type 0} → IsStable P F Q → (page : Page)
     → EachRow P page.rows → EachRow P (wrapped_page page).rows
@@ -242,19 +242,19 @@ stable_mark_put {P} {F} {Q} rule k mark page q all =
     let cells = (cursor_row page).cells in
     let old = stable_cursor_row rule page all in
     stable_cursor_cells rule (marked_at k mark cells) page
-    (All-set P cells k (marked mark (at cells k)) (rule.marks mark (at cells k) q (stable_at rule cells k old)) old) all
+    (All-set P cells k (cell_with_mark mark (at cells k)) (rule.marks mark (at cells k) q (stable_at rule cells k old)) old) all
 
 stable_carried : {P : CellValue → Type 0} {F : Attrs → Type 0} {Q : ℕ → Type 0} → IsStable P F Q
     → (mark : ℕ) (attrs : Attrs) (page : Page) → Q mark → F attrs
-    → EachRow P page.rows → EachRow P (carried mark attrs page).rows
-unfolding carried
+    → EachRow P page.rows → EachRow P (page_after_wrap mark attrs page).rows
+unfolding page_after_wrap
 stable_carried {P} {F} {Q} rule mark attrs page q h all =
     let k = mark_column page in
     let cell = at (cursor_row page).cells k in
     let left = lifted_page k attrs page in
     let old = stable_at rule (cursor_row page).cells k (stable_cursor_row rule page all) in
-    stable_glyph_put rule (text_of (marked mark cell)) true attrs (wrapped_page left)
-    (rule.again (marked mark cell) attrs (rule.marks mark cell q old) h) h
+    stable_glyph_put rule (text_of (cell_with_mark mark cell)) true attrs (wrapped_page left)
+    (rule.again (cell_with_mark mark cell) attrs (rule.marks mark cell q old) h) h
     (stable_wrapped_page rule left (stable_erased_columns rule k 1 attrs page h all))
 
 stable_made_wide : {P : CellValue → Type 0} {F : Attrs → Type 0} {Q : ℕ → Type 0} → IsStable P F Q
@@ -263,7 +263,7 @@ unfolding made_wide
 stable_made_wide {P} {F} {Q} rule k attrs page h all =
     let cells = (cursor_row page).cells in
     let old = stable_cursor_row rule page all in
-    let wide = widened true (at cells k) in
+    let wide = cell_made_wide true (at cells k) in
     stable_cursor_cells rule (widened_at k attrs cells) page
     (stable_put_cells rule k 2 (blank attrs) (wide ∷ right_half ∷ []) cells (rule.empty attrs h)
     (stable_two rule wide (rule.wider true (at cells k) (stable_at rule cells k old))) old) all
@@ -273,7 +273,7 @@ stable_made_narrow : {P : CellValue → Type 0} {F : Attrs → Type 0} {Q : ℕ 
 stable_made_narrow {P} {F} {Q} rule k attrs page h all =
     let cells = (cursor_row page).cells in
     let old = stable_cursor_row rule page all in
-    let narrow = widened false (at cells k) in
+    let narrow = cell_made_wide false (at cells k) in
     stable_cursor_cells rule (narrowed_at k attrs cells) page
     (stable_put_cells rule k 1 (glyph (0x20 ∷ []) false attrs) (narrow ∷ []) cells (rule.space attrs h)
     (stable_one rule narrow (rule.wider false (at cells k) (stable_at rule cells k old))) old) all
@@ -299,7 +299,7 @@ stable_mark_printed {P} {F} {Q} rule mark attrs page q h all =
     let put = mark_put k mark page in
     let done = stable_mark_put rule k mark page q all in
     let put_on : Page = if is_selector mark then width_followed k attrs put else put in
-    stable_if rule (carries mark page) (carried mark attrs page)
+    stable_if rule (carries mark page) (page_after_wrap mark attrs page)
     (if takes_mark (at (cursor_row page).cells k) then put_on else page)
     (stable_carried rule mark attrs page q h all)
     (stable_if rule (takes_mark (at (cursor_row page).cells k)) put_on page
@@ -323,5 +323,5 @@ stable_printed_by {P} {F} {Q} rule (Some (suc (suc n))) c attrs page q h all =
 
 pub stable_printed : {P : CellValue → Type 0} {F : Attrs → Type 0} {Q : ℕ → Type 0} → IsStable P F Q
     → (c : ℕ) (attrs : Attrs) (page : Page) → Q c → F attrs → EachRow P page.rows
-    → EachRow P (printed c attrs page).rows
+    → EachRow P (page_after_print c attrs page).rows
 stable_printed {P} {F} {Q} rule c attrs page q h all = stable_printed_by rule (columns_of c) c attrs page q h all

@@ -5,7 +5,7 @@ use Rattle.std.specs.Prelude.{if◌then◌else◌, All, replicate}
 use Rattle.std.proofs.lemmas.List.Elements.{All-append, All-drop, All-replicate, All-set, All-from_get_or}
 use Rattle.vt_cells.specs.Cell.{CellValue, blank, default_blank, is_wide, is_right_half, attrs_of}
 use Rattle.vt_cells.specs.Attrs.{default_attrs, Attrs}
-use Rattle.vt_rows.specs.Cells.{at, moved, moved_at, insert_column, insert_source, delete_source, inserted, deleted}
+use Rattle.vt_rows.specs.Cells.{at, cells_after_move, moved_at, insert_column, insert_source, delete_source, cells_after_insert, cells_after_delete}
 use Rattle.vt_rows.specs.Row.{RowValue, blank_row, inserted_row, deleted_row}
 use Rattle.vt_rows.proofs.Moves.{length-moved, at-moved}
 use Rattle.vt_grid.specs.Page.{Page, row_or, cursor_row, moved_rows, up_source, rows_up}
@@ -85,15 +85,15 @@ stable_moved_at {P} {F} {Q} rule n source cells k all =
     (cell_if rule alone default_blank x (stable_default_blank rule) there)
 
 pub stable_moved : {P : CellValue → Type 0} {F : Attrs → Type 0} {Q : ℕ → Type 0} → IsStable P F Q
-    → (n : ℕ) (source : ℕ → ℕ) (cells : List CellValue) → All P cells → All P (moved n source cells)
+    → (n : ℕ) (source : ℕ → ℕ) (cells : List CellValue) → All P cells → All P (cells_after_move n source cells)
 stable_moved {P} {F} {Q} rule n source cells all =
-    All-from_get_or P (moved n source cells) default_blank (λ k lt.
+    All-from_get_or P (cells_after_move n source cells) default_blank (λ k lt.
     let i : k < n = omega (arith, length-moved n source cells) in
     subst P (sym (at-moved n source cells k i)) (stable_moved_at rule n source cells k all))
 
 pub stable_chars_inserted : {P : CellValue → Type 0} {F : Attrs → Type 0} {Q : ℕ → Type 0} → IsStable P F Q
     → (n : ℕ) (page : Page) → EachRow P page.rows → EachRow P (chars_inserted n page).rows
-unfolding inserted
+unfolding cells_after_insert
 stable_chars_inserted {P} {F} {Q} rule n page all =
     let cells = (cursor_row page).cells in
     stable_with_row rule page.row (inserted_row page.column n (cursor_row page)) page
@@ -102,7 +102,7 @@ stable_chars_inserted {P} {F} {Q} rule n page all =
 
 pub stable_chars_deleted : {P : CellValue → Type 0} {F : Attrs → Type 0} {Q : ℕ → Type 0} → IsStable P F Q
     → (n : ℕ) (page : Page) → EachRow P page.rows → EachRow P (chars_deleted n page).rows
-unfolding deleted
+unfolding cells_after_delete
 stable_chars_deleted {P} {F} {Q} rule n page all =
     let cells = (cursor_row page).cells in
     stable_with_row rule page.row (deleted_row page.column n (cursor_row page)) page

@@ -9,15 +9,15 @@ use Rattle.std.proofs.lemmas.List.Elements.{All-take, All-drop, All-set, All-map
 use Rattle.vt_cells.specs.Attrs.{default_attrs, Attrs}
 use Rattle.vt_cells.specs.Cell.{CellValue, is_default_blank}
 use Rattle.vt_cells.specs.Glyph.{columns_of}
-use Rattle.vt_rows.specs.Cells.{resized}
-use Rattle.vt_rows.specs.Row.{RowValue, blank_row, resized_row, trimmed, trimmed_row}
+use Rattle.vt_rows.specs.Cells.{cells_after_resize}
+use Rattle.vt_rows.specs.Row.{RowValue, blank_row, resized_row, cells_without_end, trimmed_row}
 use Rattle.vt_grid.specs.Page.{Page, row_or}
 use Rattle.vt_grid.specs.Moves.{feeds_out}
 use Rattle.vt_grid.specs.Printing.{mark_column, pushes}
 use Rattle.vt_grid.specs.Outgoing.{scrolled_out, fed_out, left_by, printed_out}
-use Rattle.vt_grid.specs.Scrollback.{Scrollback, no_scrollback, stacked, kept_after, grown_row}
-use Rattle.vt_grid.specs.Scrollback.{grown_in_view, pushed, reported, with_view, visible}
-use Rattle.vt_grid.specs.Resize.{leaving, returning, window, rows_resized}
+use Rattle.vt_grid.specs.Scrollback.{Scrollback, no_scrollback, rows_with_scrolled_off, kept_after, grown_row}
+use Rattle.vt_grid.specs.Scrollback.{grown_in_view, scrollback_after_push, rows_reported, with_view, visible}
+use Rattle.vt_grid.specs.Resize.{leaving_count, returning_count, window, rows_resized}
 use Rattle.vt_grid.specs.Resize.{page_resized, out_of_view, scrollback_resized}
 use Rattle.vt_screen.proofs.Stable.{IsStable, EachCell, EachRow, stable_blank_row, stable_row_or, stable_erased_columns}
 use Rattle.vt_screen.proofs.StableMoves.{stable_moved}
@@ -40,11 +40,11 @@ rows_where {P} {F} {Q} rule true rows h = h
 rows_where {P} {F} {Q} rule false rows h = All-nil (EachCell P)
 
 trimmed_cells : {P : CellValue → Type 0} {F : Attrs → Type 0} {Q : ℕ → Type 0} → IsStable P F Q
-    → (cells : List CellValue) → All P cells → All P (trimmed cells)
+    → (cells : List CellValue) → All P cells → All P (cells_without_end cells)
 trimmed_cells {P} {F} {Q} rule [] h = h
 trimmed_cells {P} {F} {Q} rule (x ∷ xs) h =
-    unless rule (list_all is_default_blank (x ∷ xs)) (x ∷ trimmed xs)
-    (All-cons P x (trimmed xs) (All-head P x xs h) (trimmed_cells rule xs (All-tail P x xs h)))
+    unless rule (list_all is_default_blank (x ∷ xs)) (x ∷ cells_without_end xs)
+    (All-cons P x (cells_without_end xs) (All-head P x xs h) (trimmed_cells rule xs (All-tail P x xs h)))
 
 pub stable_trimmed : {P : CellValue → Type 0} {F : Attrs → Type 0} {Q : ℕ → Type 0} → IsStable P F Q
     → (row : RowValue) → (EachCell P) row → (EachCell P) (trimmed_row row)
@@ -52,7 +52,7 @@ stable_trimmed {P} {F} {Q} rule row h = trimmed_cells rule row.cells h
 
 pub stable_resized_row : {P : CellValue → Type 0} {F : Attrs → Type 0} {Q : ℕ → Type 0} → IsStable P F Q
     → (width : ℕ) (row : RowValue) → (EachCell P) row → (EachCell P) (resized_row width row)
-unfolding resized
+unfolding cells_after_resize
 stable_resized_row {P} {F} {Q} rule width row h = stable_moved rule width (λ k. k) row.cells h
 
 stable_mapped : {P : CellValue → Type 0} {F : Attrs → Type 0} {Q : ℕ → Type 0} → IsStable P F Q
@@ -87,13 +87,13 @@ stable_kept_after : {P : CellValue → Type 0} {F : Attrs → Type 0} {Q : ℕ �
     → EachRow P (kept_after gone above).rows
 unfolding kept_after
 stable_kept_after {P} {F} {Q} rule gone above g all =
-    All-drop (EachCell P) (length (stacked gone above) - above.capacity) (stacked gone above)
+    All-drop (EachCell P) (length (rows_with_scrolled_off gone above) - above.capacity) (rows_with_scrolled_off gone above)
     (All-append (EachCell P) above.rows (map trimmed_row gone) all
     (stable_mapped rule trimmed_row gone (stable_trimmed rule) g))
 
 pub stable_pushed : {P : CellValue → Type 0} {F : Attrs → Type 0} {Q : ℕ → Type 0} → IsStable P F Q
     → (height width : ℕ) (gone : List RowValue) (above : Scrollback) → EachRow P gone → EachRow P above.rows
-    → EachRow P (pushed height width gone above).rows
+    → EachRow P (scrollback_after_push height width gone above).rows
 stable_pushed {P} {F} {Q} rule height width [] above g all = all
 stable_pushed {P} {F} {Q} rule height width (row ∷ gone) above g all =
     stable_grown rule height width (kept_after (row ∷ gone) above) (stable_kept_after rule (row ∷ gone) above g all)
@@ -161,8 +161,8 @@ pub stable_page_resized : {P : CellValue → Type 0} {F : Attrs → Type 0} {Q :
     → EachRow P (page_resized height width above page).rows
 unfolding page_resized
 stable_page_resized {P} {F} {Q} rule height width above page a all =
-    let down = leaving height page in
-    let up = returning height above page in
+    let down = leaving_count height page in
+    let up = returning_count height above page in
     stable_rows_resized rule width (window page.width height down up above.rows page.rows)
     (stable_window rule page.width height down up above.rows page.rows a all)
 
@@ -171,16 +171,16 @@ pub stable_scrollback_resized : {P : CellValue → Type 0} {F : Attrs → Type 0
     → EachRow P (scrollback_resized height page above).rows
 unfolding scrollback_resized
 stable_scrollback_resized {P} {F} {Q} rule height page above all a =
-    let gone = take (leaving height page) page.rows in
-    let after = pushed (length page.rows) page.width gone (out_of_view above) in
-    All-take (EachCell P) (length after.rows - returning height above page) after.rows
+    let gone = take (leaving_count height page) page.rows in
+    let after = scrollback_after_push (length page.rows) page.width gone (out_of_view above) in
+    All-take (EachCell P) (length after.rows - returning_count height above page) after.rows
     (stable_pushed rule (length page.rows) page.width gone (out_of_view above)
-    (All-take (EachCell P) (leaving height page) page.rows all) a)
+    (All-take (EachCell P) (leaving_count height page) page.rows all) a)
 
 -- ---- scrollback of capacity 0
 
 pub pushed_capacity : (height width : ℕ) (gone : List RowValue) (above : Scrollback)
-    → (pushed height width gone above).capacity ≡ above.capacity
+    → (scrollback_after_push height width gone above).capacity ≡ above.capacity
 unfolding grown_in_view kept_after
 pushed_capacity height width [] above = refl
 pushed_capacity height width (row ∷ gone) above = refl
@@ -208,7 +208,7 @@ kept_nothing : (gone : List RowValue) (above : Scrollback) → above.capacity �
     → length (kept_after gone above).rows ≡ 0
 unfolding kept_after
 kept_nothing gone above c =
-    omega (arith, c, length-drop (length (stacked gone above) - above.capacity) (stacked gone above))
+    omega (arith, c, length-drop (length (rows_with_scrolled_off gone above) - above.capacity) (rows_with_scrolled_off gone above))
 
 unseen : (height width : ℕ) (gone : List RowValue) (above : Scrollback) → above.offset ≡ 0
     → (grown_in_view height width (kept_after gone above)).offset ≡ 0
@@ -217,7 +217,7 @@ unseen height width gone above o = rw o refl
 
 pub pushed_nothing : (height width : ℕ) (gone : List RowValue) (above : Scrollback) → above.capacity ≡ 0
     → above.rows ≡ [] → above.offset ≡ 0 →
-    ((pushed height width gone above).rows ≡ []) × ((pushed height width gone above).offset ≡ 0)
+    ((scrollback_after_push height width gone above).rows ≡ []) × ((scrollback_after_push height width gone above).offset ≡ 0)
 pushed_nothing height width [] above c r o = (r, o)
 pushed_nothing height width (row ∷ gone) above c r o = (
   grown_nothing height width (kept_after (row ∷ gone) above)
@@ -226,7 +226,7 @@ pushed_nothing height width (row ∷ gone) above c r o = (
 )
 
 pub reported_nothing : (gone : List RowValue) (above : Scrollback) → above.capacity ≡ 0 → above.rows ≡ []
-    → reported gone above ≡ reported gone (no_scrollback 0)
+    → rows_reported gone above ≡ rows_reported gone (no_scrollback 0)
 reported_nothing [] above c r = refl
 reported_nothing (row ∷ gone) above c r = rw (c, r) refl
 

@@ -7,7 +7,7 @@ use Rattle.vt_screen.specs.InputTexts.{input_change, input_text}
 use Rattle.vt_screen.specs.Reading.{Terminal, terminal}
 use Rattle.vt_screen.specs.Screen.{Modes, ScreenValue, IsScreen, IsColored}
 use Rattle.vt_screen.specs.Shown.{IsReader, ReadsTo, Redraws, ShowsPlainly, HasRows}
-use Rattle.vt_screen.specs.Shown.{HasCursor, KeepsRestButModes, shown, showing, shown_change, shown_text}
+use Rattle.vt_screen.specs.Shown.{HasCursor, KeepsRestButModes, display, reader_with_display, display_change, shown_text}
 use Rattle.vt_screen.specs.States.{GivesState, HasDefaultMouseAndStyle, HasModes, IsStateReader}
 use Rattle.vt_screen.specs.States.{IsStateReaderOf, SetsModes, state_change, state_text}
 use Rattle.vt_screen.proofs.Became.{shows_plainly}
@@ -19,7 +19,7 @@ use Rattle.vt_screen.proofs.EqualTexts.{difference_none, difference_tells}
 
 -- The terminal after it was changed to display a screen and have its input modes.
 abbrev restored : (screen : ScreenValue) → Saved → Option ℕ → ScreenValue → ScreenValue
-restored screen saved last reader = record (showing (shown screen) saved last reader) { modes = screen.modes }
+restored screen saved last reader = record (reader_with_display (display screen) saved last reader) { modes = screen.modes }
 
 record Restores (screen : ScreenValue) (text : List ℕ) (reader : ScreenValue) : Type 0 where
   saved : Saved
@@ -28,10 +28,10 @@ record Restores (screen : ScreenValue) (text : List ℕ) (reader : ScreenValue) 
 
 -- Output that displays a screen, followed by output that sets its input modes, restores the whole state.
 restores : (Had : Modes → Type 0) (screen reader : ScreenValue) (picture modes : List ℕ) →
-    Becomes (shown screen) picture reader → SetsModes Had screen.modes modes →
+    Becomes (display screen) picture reader → SetsModes Had screen.modes modes →
     Had reader.modes → Restores screen (picture ++ modes) reader
 restores Had screen reader picture modes b sets had =
-    let after : ScreenValue = showing (shown screen) b.saved b.last reader in record {
+    let after : ScreenValue = reader_with_display (display screen) b.saved b.last reader in record {
       saved = b.saved;
       last = b.last;
       reads =
@@ -40,17 +40,17 @@ restores Had screen reader picture modes b sets had =
     }
 
 state_read : (screen reader : ScreenValue) → IsScreen screen → IsColored screen →
-    IsSteady (shown screen) → IsStateReader screen reader → Restores screen (state_text screen) reader
+    IsSteady (display screen) → IsStateReader screen reader → Restores screen (state_text screen) reader
 state_read screen reader is colored steady r =
     restores HasDefaultMouseAndStyle screen reader (shown_text screen) (input_text screen.modes)
     (redraw_read screen reader is colored steady r.is) (modes_set screen.modes (input_text screen.modes) refl) r.modes
 
-change_read : (screen prev reader : ScreenValue) → IsScreen screen → IsColored screen → IsSteady (shown screen)
-    → IsScreen prev → IsColored prev → SamePictureSize (shown screen) (shown prev) → IsStateReaderOf screen prev reader
+change_read : (screen prev reader : ScreenValue) → IsScreen screen → IsColored screen → IsSteady (display screen)
+    → IsScreen prev → IsColored prev → SamePictureSize (display screen) (display prev) → IsStateReaderOf screen prev reader
     → Restores screen (state_change prev screen) reader
 change_read screen prev reader is colored steady other colored_other size r =
     restores (λ had. had ≡ prev.modes) screen reader
-    (shown_change prev screen) (input_change prev.modes screen.modes)
+    (display_change prev screen) (input_change prev.modes screen.modes)
     (difference_read screen prev reader is colored steady other colored_other size r.is)
     (modes_changed prev.modes screen.modes (input_change prev.modes screen.modes) refl) r.modes
 
@@ -67,27 +67,27 @@ after_is screen text reader after b e =
 
 -- Input modes don't change what is displayed.
 plain_again : (screen : ScreenValue) (saved : Saved) (last : Option ℕ) (reader : ScreenValue) → IsScreen screen →
-    IsReader (shown screen) reader → ShowsPlainly (shown screen) reader (restored screen saved last reader)
+    IsReader (display screen) reader → ShowsPlainly (display screen) reader (restored screen saved last reader)
 plain_again screen saved last reader is r =
-    let (plain, shows) = shows_plainly (shown screen) reader (showing (shown screen) saved last reader)
+    let (plain, shows) = shows_plainly (display screen) reader (reader_with_display (display screen) saved last reader)
     (shown_is screen is) r (record { saved = saved; last = last; is = refl }) in
     (record { page = plain.page; offset = plain.offset }, shows)
 
 redraws : (Reader : ScreenValue → Type 0) (screen : ScreenValue) (text : List ℕ) → IsScreen screen
-    → ((reader : ScreenValue) → Reader reader → IsReader (shown screen) reader)
-    → (IsSteady (shown screen) → (reader : ScreenValue) → Reader reader → Restores screen text reader)
-    → Redraws (shown screen) Reader KeepsRestButModes text
+    → ((reader : ScreenValue) → Reader reader → IsReader (display screen) reader)
+    → (IsSteady (display screen) → (reader : ScreenValue) → Reader reader → Restores screen text reader)
+    → Redraws (display screen) Reader KeepsRestButModes text
 redraws Reader screen text is readers reads = record {
   quiet = λ steady reader r. let b = reads steady reader r in (restored screen b.saved b.last reader, b.reads);
   shows = λ steady reader after r e.
       let b = reads steady reader r in
-      subst (ShowsPlainly (shown screen) reader) (after_is screen text reader after b e)
+      subst (ShowsPlainly (display screen) reader) (after_is screen text reader after b e)
       (plain_again screen b.saved b.last reader is (readers reader r));
   rows =
-      λ steady reader after r e. subst (HasRows (shown screen) reader)
+      λ steady reader after r e. subst (HasRows (display screen) reader)
       (after_is screen text reader after (reads steady reader r) e) refl;
   cursor =
-      λ steady reader after r e. subst (HasCursor (shown screen) reader)
+      λ steady reader after r e. subst (HasCursor (display screen) reader)
       (after_is screen text reader after (reads steady reader r) e)
       (record { row = refl; column = refl; attrs = refl; hidden = refl });
   rest =
@@ -105,8 +105,8 @@ redraws Reader screen text is readers reads = record {
 }
 
 gives : (Reader : ScreenValue → Type 0) (screen : ScreenValue) (text : List ℕ) → IsScreen screen
-    → ((reader : ScreenValue) → Reader reader → IsReader (shown screen) reader)
-    → (IsSteady (shown screen) → (reader : ScreenValue) → Reader reader → Restores screen text reader)
+    → ((reader : ScreenValue) → Reader reader → IsReader (display screen) reader)
+    → (IsSteady (display screen) → (reader : ScreenValue) → Reader reader → Restores screen text reader)
     → GivesState Reader screen text
 gives Reader screen text is readers reads = record {
   redraws = redraws Reader screen text is readers reads;
@@ -124,7 +124,7 @@ state_gives screen text told is colored =
 
 pub change_gives : (screen prev : ScreenValue) (text : List ℕ) → text ≡ state_change prev screen
     → IsScreen screen → IsColored screen
-    → IsScreen prev → IsColored prev → SamePictureSize (shown screen) (shown prev)
+    → IsScreen prev → IsColored prev → SamePictureSize (display screen) (display prev)
     → GivesState (IsStateReaderOf screen prev) screen text
 change_gives screen prev text told is colored other colored_other size =
     gives (IsStateReaderOf screen prev) screen text is (λ reader r. r.is.is)
@@ -138,20 +138,20 @@ both_empty [] b e = (refl, e)
 both_empty (x ∷ a) b e = absurd cc
 
 -- If the output is empty, both screens display the same content and have the same modes.
-pub state_tells : (screen prev : ScreenValue) → IsScreen screen → IsColored screen → IsSteady (shown screen)
-    → IsScreen prev → IsColored prev → SamePictureSize (shown screen) (shown prev) → state_change prev screen ≡ []
-    → (shown screen ≡ shown prev) × (screen.modes ≡ prev.modes)
+pub state_tells : (screen prev : ScreenValue) → IsScreen screen → IsColored screen → IsSteady (display screen)
+    → IsScreen prev → IsColored prev → SamePictureSize (display screen) (display prev) → state_change prev screen ≡ []
+    → (display screen ≡ display prev) × (screen.modes ≡ prev.modes)
 state_tells screen prev is colored steady other colored_other size empty =
     let (picture, modes) =
-    both_empty (shown_change prev screen) (input_change prev.modes screen.modes) empty in (
+    both_empty (display_change prev screen) (input_change prev.modes screen.modes) empty in (
       difference_tells screen prev is colored steady other colored_other size picture,
       change_tells prev.modes screen.modes modes,
     )
 
 -- The output is empty if both screens display the same content and have the same modes.
-pub state_none : (screen prev : ScreenValue) → shown screen ≡ shown prev →
+pub state_none : (screen prev : ScreenValue) → display screen ≡ display prev →
     screen.modes ≡ prev.modes → state_change prev screen ≡ []
 state_none screen prev picture modes =
     ap (λ (text : List ℕ). text ++ input_change prev.modes screen.modes)
-    (difference_none (shown screen) (shown prev) picture)
+    (difference_none (display screen) (display prev) picture)
     ∙ change_none prev.modes screen.modes modes

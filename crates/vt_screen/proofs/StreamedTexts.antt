@@ -2,8 +2,8 @@
 use Rattle.std.proofs.Common.{◌≡◌, ℕ, Bool, false, List, [], ◌∷◌, ◌++◌, map, refl, sym, ap, ap₂, ◌∙◌, append_assoc}
 use Rattle.std.specs.Prelude.{if◌then◌else◌}
 use Rattle.vt_grid.specs.Scrollback.{Scrollback, no_scrollback}
-use Rattle.vt_rows.specs.Basic.{Written, unwritten, basic_text, written_after}
-use Rattle.vt_rows.specs.Row.{RowValue, trimmed, trimmed_row}
+use Rattle.vt_rows.specs.Basic.{Written, nothing_written, basic_text, written_after}
+use Rattle.vt_rows.specs.Row.{RowValue, cells_without_end, trimmed_row}
 use Rattle.vt_screen.specs.Calls.{CallValue}
 use Rattle.vt_screen.specs.Capture.{all_rows, basic_texts, written_after_all}
 use Rattle.vt_screen.specs.Screen.{ScreenValue}
@@ -14,7 +14,7 @@ use Rattle.vt_screen.proofs.Streaming.{Streamed}
 
 -- ---- rows that differ only in blanks at their ends have one text
 
-cells_twice : (row : RowValue) → trimmed (trimmed row.cells) ≡ trimmed row.cells
+cells_twice : (row : RowValue) → cells_without_end (cells_without_end row.cells) ≡ cells_without_end row.cells
 cells_twice row = ap (λ (r : RowValue). r.cells) (trimmed_twice row)
 
 text_trimmed : (w : Written) (row : RowValue) → basic_text w (trimmed_row row) ≡ basic_text w row
@@ -56,7 +56,7 @@ above_main b z e = rw e refl
 -- rows that scrolled off and of the page.
 pub streamed_is : (calls : List CallValue) (gone : List RowValue) (s t : ScreenValue)
     → Streamed calls gone s t → s.scrollback.rows ≡ [] → t.is_alternate ≡ false
-    → streamed_text calls t ≡ basic_texts unwritten (gone ++ t.page.rows)
+    → streamed_text calls t ≡ basic_texts nothing_written (gone ++ t.page.rows)
 streamed_is calls gone s t k none main =
     let told = rows_of_calls calls in
     let rows : told ++ all_rows t ≡ (told ++ t.scrollback.rows) ++ t.page.rows
@@ -64,7 +64,7 @@ streamed_is calls gone s t k none main =
     ∙ sym (append_assoc told t.scrollback.rows t.page.rows) in
     let alike : AreSameTrimmed (told ++ t.scrollback.rows) gone =
     k.alike ∙ ap (λ (xs : List RowValue). map trimmed_row (xs ++ gone)) none in
-    sym (texts_then unwritten told (all_rows t))
-    ∙ (ap (basic_texts unwritten) rows
-    ∙ same_texts unwritten ((told ++ t.scrollback.rows) ++ t.page.rows) (gone ++ t.page.rows)
+    sym (texts_then nothing_written told (all_rows t))
+    ∙ (ap (basic_texts nothing_written) rows
+    ∙ same_texts nothing_written ((told ++ t.scrollback.rows) ++ t.page.rows) (gone ++ t.page.rows)
     (alike_then (told ++ t.scrollback.rows) gone t.page.rows t.page.rows alike refl))

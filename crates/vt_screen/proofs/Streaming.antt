@@ -11,14 +11,14 @@ use Rattle.vt_rows.specs.Row.{RowValue, IsRow, blank_row, trimmed_row}
 use Rattle.vt_grid.specs.Page.{Page, IsPage, SameSize, blank_page, scrolled_up}
 use Rattle.vt_grid.specs.Moves.{line_feed, cursor_saved, cursor_restored}
 use Rattle.vt_grid.specs.PageStep.{page_after}
-use Rattle.vt_grid.specs.Printing.{printed}
+use Rattle.vt_grid.specs.Printing.{page_after_print}
 use Rattle.vt_grid.specs.Outgoing.{printed_out, fed_out, scrolled_out}
 use Rattle.vt_grid.specs.Resize.{out_of_view}
-use Rattle.vt_grid.specs.Scrollback.{Scrollback, cleared, no_scrollback, pushed, reported, with_view}
+use Rattle.vt_grid.specs.Scrollback.{Scrollback, scrollback_after_clear, no_scrollback, scrollback_after_push, rows_reported, with_view}
 use Rattle.vt_grid.proofs.Printed.{page_printed}
 use Rattle.vt_grid.proofs.Pages.{page_blank, page_cursor_saved, page_cursor_restored, page_line_feed, page_scrolled_up}
 use Rattle.vt_screen.specs.Calls.{CallValue, OnScroll}
-use Rattle.vt_screen.specs.Pages.{fresh_page, page_aside, entered, entered_fresh, left_alternate, left_restored, saved, restored}
+use Rattle.vt_screen.specs.Pages.{fresh_page, page_aside, screen_after_enter, entered_fresh, left_alternate, left_restored, screen_after_save, screen_after_restore}
 use Rattle.vt_screen.specs.Screen.{IsPrintable, IsScreen, ScreenValue, fresh_screen, scrolled_back, with_page}
 use Rattle.vt_screen.specs.Steps.{Step, Print, LineFeed, ScrollUp, OnPage, SaveCursor, RestoreCursor, EnterAlternate}
 use Rattle.vt_screen.specs.Steps.{EnterFresh, LeaveAlternate, LeaveRestoring, Reset, EraseScrollback, Render}
@@ -58,16 +58,16 @@ pub record IsHeld (page : Page) (aside : Option Page) (above : Scrollback) (newe
   pub wide : All (IsWide page.width) above.rows
   pub last : IfSome newest IsPrintable
 
-abbrev pub Held : ScreenValue → Type 0
-Held s = IsHeld s.page s.other s.scrollback s.last
+abbrev pub ScannerValue : ScreenValue → Type 0
+ScannerValue s = IsHeld s.page s.other s.scrollback s.last
 
 -- Between the screens `s` and `t`, the given calls reported rows, and the rows `gone` scrolled off.
 pub record Streamed (calls : List CallValue) (gone : List RowValue) (s t : ScreenValue) : Type 0 where
-  pub held : Held t
+  pub held : ScannerValue t
   pub alike : AreSameTrimmed (rows_of_calls calls ++ t.scrollback.rows) (s.scrollback.rows ++ gone)
 
 -- If scrollback is unchanged, nothing was reported, and nothing scrolled off.
-quietly : (s t : ScreenValue) → Held t → t.scrollback.rows ≡ s.scrollback.rows →
+quietly : (s t : ScreenValue) → ScannerValue t → t.scrollback.rows ≡ s.scrollback.rows →
     Streamed [] (if s.is_alternate then [] else []) s t
 quietly s t k e = record { held = k; alike = ap (map trimmed_row) (e ∙ by s.is_alternate) } where
   by : (b : Bool) → s.scrollback.rows ≡ s.scrollback.rows ++ (if b then [] else [])
@@ -92,7 +92,7 @@ held_page page new other above last sound same k = record {
 }
 
 on_page : (page : Page) (s : ScreenValue) → IsPage page → SameSize page s.page →
-    Held s → Streamed [] (if s.is_alternate then [] else []) s (with_page page s)
+    ScannerValue s → Streamed [] (if s.is_alternate then [] else []) s (with_page page s)
 on_page page s sound same k =
     quietly s (with_page page s) (held_page s.page page s.other s.scrollback s.last sound same k) refl
 
@@ -113,21 +113,21 @@ told_all [] = refl
 told_all (row ∷ rows) = ap (λ (xs : List RowValue). row ∷ xs) (told_all rows)
 
 sends : (b : Bool) (s after : ScreenValue) (gone : List RowValue) → All (IsRow s.page.width) gone
-    → Held s → IsHeld after.page after.other s.scrollback after.last
+    → ScannerValue s → IsHeld after.page after.other s.scrollback after.last
     → after.scrollback ≡ s.scrollback → after.page.width ≡ s.page.width
-    → Streamed (map (λ row. OnScroll row b) (reported gone (if b then no_scrollback 0 else s.scrollback)))
+    → Streamed (map (λ row. OnScroll row b) (rows_reported gone (if b then no_scrollback 0 else s.scrollback)))
     (if b then [] else gone) s
-    (if b then after else record after { scrollback = pushed (length s.page.rows) s.page.width gone s.scrollback })
+    (if b then after else record after { scrollback = scrollback_after_push (length s.page.rows) s.page.width gone s.scrollback })
 sends true s after gone rows k held same width = record {
   held = subst (λ (z : Scrollback). IsHeld after.page after.other z after.last) (sym same) held;
   alike =
       ap (λ (xs : List RowValue). map trimmed_row (xs ++ after.scrollback.rows))
-      (told_none (reported gone (no_scrollback 0)))
+      (told_none (rows_reported gone (no_scrollback 0)))
       ∙ ap (λ (z : Scrollback). map trimmed_row z.rows) same
       ∙ ap (map trimmed_row) (sym (append-nil s.scrollback.rows));
 }
 sends false s after gone rows k held same width =
-    let now = pushed (length s.page.rows) s.page.width gone s.scrollback in
+    let now = scrollback_after_push (length s.page.rows) s.page.width gone s.scrollback in
     record {
       held = record {
         sound = held.sound;
@@ -138,13 +138,13 @@ sends false s after gone rows k held same width =
             (wide_pushed (length s.page.rows) s.page.width gone s.scrollback rows k.rows k.wide);
         last = held.last;
       };
-      alike = ap (λ (xs : List RowValue). map trimmed_row (xs ++ now.rows)) (told_all (reported gone s.scrollback))
+      alike = ap (λ (xs : List RowValue). map trimmed_row (xs ++ now.rows)) (told_all (rows_reported gone s.scrollback))
           ∙ alike_pushed (length s.page.rows) s.page.width gone s.scrollback rows k.rows k.wide;
     }
 
-gives_up : (b : Bool) (s : ScreenValue) → Held s
+gives_up : (b : Bool) (s : ScreenValue) → ScannerValue s
     → Streamed (map (λ row. OnScroll row b) (if b then no_scrollback 0 else s.scrollback).rows)
-    (if b then [] else []) s (if b then s else record s { scrollback = cleared s.scrollback })
+    (if b then [] else []) s (if b then s else record s { scrollback = scrollback_after_clear s.scrollback })
 gives_up true s k = record { held = k; alike = ap (map trimmed_row) (sym (append-nil s.scrollback.rows)) }
 gives_up false s k = record {
   held = record {
@@ -167,7 +167,7 @@ printed_last false c last i k = k
 
 -- The screen `t` has the same size and the same scrollback rows as `s`, and satisfies the invariant of streaming.
 record Turned (s t : ScreenValue) : Type 0 where
-  held : Held t
+  held : ScannerValue t
   same : SameSize t.page s.page
   rows : t.scrollback.rows ≡ s.scrollback.rows
 
@@ -177,7 +177,7 @@ like_fresh page p = record {
   same = record { width = refl; height = length-replicate (length page.rows) (blank_row default_attrs page.width) };
 }
 
-pub like_aside : (s : ScreenValue) → Held s → IsLike s.page (page_aside s)
+pub like_aside : (s : ScreenValue) → ScannerValue s → IsLike s.page (page_aside s)
 like_aside s k = by s.other k.other where
   by : (o : Option Page) → IfSome o (IsLike s.page) → IsLike s.page (page_aside (record s { other = o }))
   by (Some p) l = l
@@ -194,7 +194,7 @@ exchanged page new above now other last l e k = record {
   last = k.last;
 }
 
-turned_entered : (s : ScreenValue) → Held s → Turned s (entered s)
+turned_entered : (s : ScreenValue) → ScannerValue s → Turned s (screen_after_enter s)
 turned_entered s k = by s.is_alternate where
   by : (b : Bool) →
       Turned s (if b then s
@@ -209,7 +209,7 @@ turned_entered s k = by s.is_alternate where
         rows = refl;
       }
 
-turned_left : (s : ScreenValue) → Held s → Turned s (left_alternate s)
+turned_left : (s : ScreenValue) → ScannerValue s → Turned s (left_alternate s)
 turned_left s k = by s.is_alternate where
   by : (b : Bool) →
       Turned s (if b then record s { page = page_aside s; other = Some s.page; is_alternate = false } else s)
@@ -222,7 +222,7 @@ turned_left s k = by s.is_alternate where
         rows = refl;
       }
 
-turned_saved : (s : ScreenValue) → Held s → Turned s (saved s)
+turned_saved : (s : ScreenValue) → ScannerValue s → Turned s (screen_after_save s)
 turned_saved s k =
     let same = same_cursor_saved s.page in
     record {
@@ -232,7 +232,7 @@ turned_saved s k =
       rows = refl;
     }
 
-turned_restored : (s : ScreenValue) → Held s → Turned s (restored s)
+turned_restored : (s : ScreenValue) → ScannerValue s → Turned s (screen_after_restore s)
 turned_restored s k =
     let same = same_cursor_restored s.page in
     record {
@@ -248,7 +248,7 @@ turned_then s t u a b =
     record { held = b.held; same = same_through u.page t.page s.page b.same a.same; rows = b.rows ∙ a.rows }
 
 -- A fresh page may replace the active page of a screen that has the same size and scrollback rows.
-turned_fresh : (s t : ScreenValue) → Held s → Turned s t → Turned s (record t { page = fresh_page s })
+turned_fresh : (s t : ScreenValue) → ScannerValue s → Turned s t → Turned s (record t { page = fresh_page s })
 turned_fresh s t k m =
     let l = like_fresh s.page k.sound in
     record {
@@ -265,12 +265,12 @@ by_turn : (s t : ScreenValue) → Turned s t → Streamed [] (if s.is_alternate 
 by_turn s t m = quietly s t m.held m.rows
 
 pub step_streams : (x : Step) (s : ScreenValue) → IsStreamed x →
-    Held s → Streamed (calls_of x s) (sent_off x s) s (screen_after x s)
+    ScannerValue s → Streamed (calls_of x s) (sent_off x s) s (screen_after x s)
 step_streams (Print c) s i k =
     sends s.is_alternate s (display_after (Print c) s) (printed_out c s.attrs s.page)
     (rows_printed_out c s.attrs s.page k.sound) k
     (let same = same_printed c s.attrs s.page in
-    let held = held_page s.page (printed c s.attrs s.page) s.other s.scrollback
+    let held = held_page s.page (page_after_print c s.attrs s.page) s.other s.scrollback
     s.last (page_printed c s.attrs s.page i.0 i.1 k.sound) same k in
     record {
       sound = held.sound;
@@ -299,11 +299,11 @@ step_streams (CallBack call) s i k =
       alike = ap (λ (xs : List RowValue). map trimmed_row ((xs ++ []) ++ s.scrollback.rows)) i ∙ q.alike;
     }
 step_streams Reset s i k = absurd i
-step_streams EnterAlternate s i k = by_turn s (entered s) (turned_entered s k)
+step_streams EnterAlternate s i k = by_turn s (screen_after_enter s) (turned_entered s k)
 step_streams EnterFresh s i k =
     let saves = turned_saved s k in
-    by_turn s (entered_fresh s) (turned_fresh s (entered (saved s)) k
-    (turned_then s (saved s) (entered (saved s)) saves (turned_entered (saved s) saves.held)))
+    by_turn s (entered_fresh s) (turned_fresh s (screen_after_enter (screen_after_save s)) k
+    (turned_then s (screen_after_save s) (screen_after_enter (screen_after_save s)) saves (turned_entered (screen_after_save s) saves.held)))
 step_streams LeaveAlternate s i k = by_turn s (left_alternate s) (turned_left s k)
 step_streams LeaveRestoring s i k =
     let leaves = turned_left s k in
@@ -311,8 +311,8 @@ step_streams LeaveRestoring s i k =
 step_streams (OnPage x) s i k =
     on_page (page_after s.attrs x s.page) s (page_page_after s.attrs x s.page k.sound)
     (same_page_after s.attrs x s.page (inside_page s.page k.sound)) k
-step_streams SaveCursor s i k = by_turn s (saved s) (turned_saved s k)
-step_streams RestoreCursor s i k = by_turn s (restored s) (turned_restored s k)
+step_streams SaveCursor s i k = by_turn s (screen_after_save s) (turned_saved s k)
+step_streams RestoreCursor s i k = by_turn s (screen_after_restore s) (turned_restored s k)
 step_streams (Render setting) s i k = quietly s (display_after (Render setting) s) k refl
 step_streams (HideCursor hidden) s i k = quietly s (display_after (HideCursor hidden) s) k refl
 step_streams (SetMode x) s i k = quietly s (display_after (SetMode x) s) k refl
@@ -334,7 +334,7 @@ streamed_then calls more gone later s t u a b = record {
 }
 
 pub steps_stream : (steps : List Step) (s : ScreenValue) → AllByRecursion IsStreamed steps →
-    Held s → Streamed (calls_of_all steps s) (sent_off_all steps s) s (screen_after_all steps s)
+    ScannerValue s → Streamed (calls_of_all steps s) (sent_off_all steps s) s (screen_after_all steps s)
 steps_stream [] s i k = record { held = k; alike = ap (map trimmed_row) (sym (append-nil s.scrollback.rows)) }
 steps_stream (x ∷ steps) s i k =
     let one = step_streams x s i.0 k in
@@ -344,7 +344,7 @@ steps_stream (x ∷ steps) s i k =
 
 -- ---- scrolling back
 
-pub view_streams : (n : ℕ) (s : ScreenValue) → Held s → Streamed [] [] s (scrolled_back n s)
+pub view_streams : (n : ℕ) (s : ScreenValue) → ScannerValue s → Streamed [] [] s (scrolled_back n s)
 view_streams n s k = by s.is_alternate where
   now : Scrollback
   now = with_view (length s.page.rows) s.page.width n s.scrollback
@@ -367,7 +367,7 @@ view_streams n s k = by s.is_alternate where
 -- ---- a fresh screen
 
 -- A screen satisfies the invariant of streaming if no wrapped row of its scrollback is narrower than the screen.
-pub held_screen : (s : ScreenValue) → IsScreen s → HasWideFlags s → Held s
+pub held_screen : (s : ScreenValue) → IsScreen s → HasWideFlags s → ScannerValue s
 held_screen s is wide = record {
   sound = is.page;
   other = by s.other is.other;
@@ -379,7 +379,7 @@ held_screen s is wide = record {
   by (Some page) both = record { sound = both.0; same = both.1 }
   by None both = tt
 
-pub held_fresh : (rows cols capacity : ℕ) → IsPage (blank_page rows cols) → Held (fresh_screen rows cols capacity)
+pub held_fresh : (rows cols capacity : ℕ) → IsPage (blank_page rows cols) → ScannerValue (fresh_screen rows cols capacity)
 held_fresh rows cols capacity sound = record {
   sound = sound;
   other = tt;

@@ -12,8 +12,8 @@ use Rattle.vt_rows.specs.Row.{RowValue}
 use Rattle.vt_rows.specs.Texts.{IsNarrowCharacter, IsNarrowText}
 use Rattle.vt_grid.specs.Outgoing.{printed_out}
 use Rattle.vt_grid.specs.Page.{Page}
-use Rattle.vt_grid.specs.Printing.{printed}
-use Rattle.vt_grid.specs.Scrollback.{pushed, reported}
+use Rattle.vt_grid.specs.Printing.{page_after_print}
+use Rattle.vt_grid.specs.Scrollback.{scrollback_after_push, rows_reported}
 use Rattle.vt_grid.specs.Texts.{printed_text}
 use Rattle.vt_grid.proofs.Outgoing.{out_narrow}
 use Rattle.vt_grid.proofs.Texts.{has_room}
@@ -40,7 +40,7 @@ pub text_stepped_is : (text : List ℕ) (screen : ScreenValue) → 0 < length te
 text_stepped_is [] screen some h width = absurd (omega (arith, some))
 text_stepped_is (c ∷ []) screen some h width =
     let first = All-head IsNarrowCharacter c [] h in
-    ap (λ (last : Option ℕ). record screen { page = printed c screen.attrs screen.page; last = last })
+    ap (λ (last : Option ℕ). record screen { page = page_after_print c screen.attrs screen.page; last = last })
     (last_printed c screen first.1.1 width)
 text_stepped_is (c ∷ d ∷ text) screen some h width =
     let next = display_after (Print c) screen in
@@ -57,7 +57,7 @@ kept_each : (text : List ℕ) (attrs : Attrs) (page : Page) (last : Option ℕ) 
 kept_each [] attrs page last aside h fits k = k
 kept_each (c ∷ text) attrs page last aside h fits k =
     let first = All-head IsNarrowCharacter c text h in
-    kept_each text attrs (printed c attrs page) last aside (All-tail IsNarrowCharacter c text h)
+    kept_each text attrs (page_after_print c attrs page) last aside (All-tail IsNarrowCharacter c text h)
     fits (kept_printed c attrs page last last aside first.0 first.1.0 k.printable fits k)
 
 pub kept_text : (text : List ℕ) (attrs : Attrs) (page : Page) (last : Option ℕ) (c : ℕ) (aside : Aside) →
@@ -76,7 +76,7 @@ pub sent_nothing : (b : Bool) (c : ℕ) (screen : ScreenValue) (gone : List RowV
     display_after (Print c) screen
     ≡ (if b then display_after (Print c) screen
     else record (display_after (Print c) screen)
-    { scrollback = pushed (length screen.page.rows) screen.page.width gone screen.scrollback })
+    { scrollback = scrollback_after_push (length screen.page.rows) screen.page.width gone screen.scrollback })
 sent_nothing true c screen gone e = refl
 sent_nothing false c screen gone e = rw e refl
 
@@ -89,6 +89,6 @@ print_scrolls does c s screen one room =
       screen = sent_nothing screen.is_alternate c screen (printed_out c screen.attrs screen.page) none;
       called =
           subst
-          (λ (gone : List RowValue). FoldsTo (CalledOnScroll does screen.is_alternate) s (reported gone (above_page screen)) s)
+          (λ (gone : List RowValue). FoldsTo (CalledOnScroll does screen.is_alternate) s (rows_reported gone (above_page screen)) s)
           (sym none) refl;
     }

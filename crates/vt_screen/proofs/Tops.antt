@@ -2,7 +2,7 @@
 use Rattle.std.proofs.Common.{◌≡◌, ℕ, zero, suc, ◌+◌, ◌-◌, min, ◌||◌, ◌==◌, ◌&&◌, nat_lt, not}
 use Rattle.std.proofs.Common.{Bool, true, false, List, Option, Some, None, refl, ◌∙◌}
 use Rattle.std.specs.Prelude.{if◌then◌else◌, length, encode_utf8}
-use Rattle.vt_cells.specs.Cell.{marked, text_of, is_wide}
+use Rattle.vt_cells.specs.Cell.{cell_with_mark, text_of, is_wide}
 use Rattle.vt_cells.specs.Glyph.{columns_of, is_selector, is_wide_text}
 use Rattle.vt_cells.specs.Attrs.{Attrs}
 use Rattle.vt_rows.specs.Cells.{at, ends_blank}
@@ -10,8 +10,8 @@ use Rattle.vt_grid.specs.Erasing.{erased_below, erased_chars, erased_columns, er
 use Rattle.vt_grid.specs.Page.{Page, cursor_row, scrolled_up}
 use Rattle.vt_grid.specs.Moves.{at_bottom, line_feed}
 use Rattle.vt_grid.specs.Printing.{carries, lifted_page, left_row, goes_down, flagged_left, wrapped_page, lacks_room}
-use Rattle.vt_grid.specs.Printing.{room_made, glyph_put, mark_column, takes_mark, mark_put, carried, made_wide}
-use Rattle.vt_grid.specs.Printing.{made_narrow, width_followed, mark_printed, printed_by, printed}
+use Rattle.vt_grid.specs.Printing.{room_made, glyph_put, mark_column, takes_mark, mark_put, page_after_wrap, made_wide}
+use Rattle.vt_grid.specs.Printing.{made_narrow, width_followed, mark_printed, printed_by, page_after_print}
 
 -- The two pages have the same top of the scroll region.
 abbrev SameTop : Page → Page → Type 0
@@ -47,11 +47,11 @@ top_glyph_put : (text : List ℕ) (wide : Bool) (attrs : Attrs) (page : Page) �
 top_glyph_put text false attrs page = refl
 top_glyph_put text true attrs page = refl
 
-top_carried : (mark : ℕ) (attrs : Attrs) (page : Page) → SameTop (carried mark attrs page) page
-unfolding carried
+top_carried : (mark : ℕ) (attrs : Attrs) (page : Page) → SameTop (page_after_wrap mark attrs page) page
+unfolding page_after_wrap
 top_carried mark attrs page =
     let left = lifted_page (mark_column page) attrs page in
-    top_glyph_put (text_of (marked mark (at (cursor_row page).cells (mark_column page)))) true attrs (wrapped_page left)
+    top_glyph_put (text_of (cell_with_mark mark (at (cursor_row page).cells (mark_column page)))) true attrs (wrapped_page left)
     ∙ top_wrapped left
 
 top_made_wide : (k : ℕ) (attrs : Attrs) (page : Page) → SameTop (made_wide k attrs page) page
@@ -74,7 +74,7 @@ top_mark_printed mark attrs page =
     let k = mark_column page in
     let put = mark_put k mark page in
     let put_on : Page = if is_selector mark then width_followed k attrs put else put in
-    top_if (carries mark page) (carried mark attrs page)
+    top_if (carries mark page) (page_after_wrap mark attrs page)
     (if takes_mark (at (cursor_row page).cells k) then put_on else page) page
     (top_carried mark attrs page)
     (top_if (takes_mark (at (cursor_row page).cells k)) put_on page page
@@ -91,7 +91,7 @@ top_printed_by (Some (suc (suc n))) c attrs page =
     top_if (nat_lt 1 page.width) (glyph_put (encode_utf8 c) true attrs (room_made 2 page)) page
     page (top_glyph_put (encode_utf8 c) true attrs (room_made 2 page) ∙ top_room_made 2 page) refl
 
-pub top_printed : (c : ℕ) (attrs : Attrs) (page : Page) → (printed c attrs page).top ≡ page.top
+pub top_printed : (c : ℕ) (attrs : Attrs) (page : Page) → (page_after_print c attrs page).top ≡ page.top
 top_printed c attrs page = top_printed_by (columns_of c) c attrs page
 
 pub top_fed : (page : Page) → (line_feed page).top ≡ page.top

@@ -12,13 +12,13 @@ use Rattle.vt_cells.specs.Attrs.{default_attrs, same_attrs, changed_attrs, Attrs
 use Rattle.vt_cells.specs.Glyph.{columns_of}
 use Rattle.vt_cells.specs.Op.{Op, Hide, ClearAttrs, MoveTo, MoveRight, NextRow, LineFeed, Backspace, EraseBelow}
 use Rattle.vt_cells.specs.Op.{EraseRest, EraseChars, SaveCursor, RestoreCursor, ChangeAttrs, Print, csi, counted}
-use Rattle.vt_cells.specs.Op.{place, joined, change_numbers, change_text, FitsAttrs, bytes_of, bytes_of_all}
-use Rattle.vt_grid.specs.Canvas.{Canvas, and_then, drawn, drawn_all, drawn_char, drawn_text, fed}
+use Rattle.vt_cells.specs.Op.{place, semicolon_list, change_numbers, change_text, FitsAttrs, bytes_of, bytes_of_all}
+use Rattle.vt_grid.specs.Canvas.{Canvas, and_then, canvas_after_op, drawn_all, drawn_char, drawn_text, canvas_after_line_feed}
 use Rattle.vt_grid.specs.Page.{Page}
 use Rattle.vt_grid.specs.Erasing.{erased_below, erased_rest, erased_chars}
 use Rattle.vt_grid.specs.Moves.{at_bottom, carriage_return, cursor_restored, cursor_saved}
 use Rattle.vt_grid.specs.Moves.{feeds_out, line_feed, moved_left, moved_right, moved_to}
-use Rattle.vt_grid.specs.Printing.{printed, pushes, wraps}
+use Rattle.vt_grid.specs.Printing.{page_after_print, pushes, wraps}
 use Rattle.vt_grid.specs.declared.page_step.PageStep.TheVariants as page
 use Rattle.vt_redraw.specs.Fits.{Fits, IsDrawn}
 use Rattle.vt_redraw.specs.Touching.{CharTouches, TextTouches, OpTouches, Touches}
@@ -31,7 +31,7 @@ use Rattle.vt_scan.proofs.Readback.{read_written}
 use Rattle.vt_scan.proofs.Sequences.{read_csi}
 use Rattle.vt_scan.proofs.Written.{alone, empty_groups, decimal_groups, joined_groups, place_groups_are}
 use Rattle.vt_scan.proofs.Written.{decimal_is_parameter, joined_is_parameter, place_is_parameter}
-use Rattle.vt_screen.specs.Reading.{quiet_steps, quiet_events, Terminal, terminal, read_byte, read}
+use Rattle.vt_screen.specs.Reading.{quiet_steps, quiet_events, Terminal, terminal, read_byte, terminal_after}
 use Rattle.vt_screen.specs.Screen.{ScreenValue, canvas_of, with_canvas, with_page}
 use Rattle.vt_screen.specs.Sgr.{group_read}
 use Rattle.vt_screen.specs.Controls.{private_steps, intermediate_steps, mode_step, unmarked_steps, counted_step, scrolling_steps}
@@ -53,12 +53,12 @@ use Rattle.vt_screen.proofs.Tops.{top_printed, top_fed, top_rest, top_chars, top
 -- ---- output in sequence
 
 pub touches_then : (M : ℕ → ℕ → Type 0) (t u : Terminal) (a b : List ℕ) →
-    ReadTouches M t a → read t a ≡ Some u → ReadTouches M u b → ReadTouches M t (a ++ b)
+    ReadTouches M t a → terminal_after t a ≡ Some u → ReadTouches M u b → ReadTouches M t (a ++ b)
 touches_then M t u [] b p e q = let same : t ≡ u = cc in subst (λ (z : Terminal). ReadTouches M z b) (sym same) q
 touches_then M t u (x ∷ a) b p e q = (
   p.0,
   λ v step. touches_then M v u a b (p.1 v step)
-      (sym (ap (λ (r : Option Terminal). and_then (λ w. read w a) r) step) ∙ e) q,
+      (sym (ap (λ (r : Option Terminal). and_then (λ w. terminal_after w a) r) step) ∙ e) q,
 )
 
 -- ---- output and its events
@@ -143,8 +143,8 @@ sgr_touches : (M : ℕ → ℕ → Type 0) (all : List (List ℕ))
 sgr_touches M all wanted [] screen = tt
 sgr_touches M all wanted (group ∷ rest) screen =
     let read = group_read wanted group in
-    reading_touches M all read.reading (sgr_from all read.wanted rest)
-    (λ next. sgr_touches M all read.wanted rest next) screen
+    reading_touches M all terminal_after.reading (sgr_from all terminal_after.wanted rest)
+    (λ next. sgr_touches M all terminal_after.wanted rest next) screen
 
 -- SGR, CUP and CUF touch nothing.
 rendition_touches : (M : ℕ → ℕ → Type 0) (groups : List (List ℕ)) (screen : ScreenValue) →
@@ -192,7 +192,7 @@ change_touches M was new screen fits = by_case (same_attrs was new) (same_attrs 
       let short = numbers.few in
       let small = All-from_recursion (λ n. n ≤ 65535) ns numbers.small in
       subst (ReadTouches M (terminal start screen)) (sym (text_parts was new e f))
-      (csi_touches M (joined ns) 0x6D (alone ns) screen (joined_is_parameter ns small) (omega arith, omega arith)
+      (csi_touches M (semicolon_list ns) 0x6D (alone ns) screen (joined_is_parameter ns small) (omega arith, omega arith)
       (joined_groups ns (some_changes was new e) (omega arith) small) (rendition_touches M (alone ns) screen))
 
 -- ---- erasing
@@ -229,7 +229,7 @@ unscrolled page top h e =
 feed_touches : (M : ℕ → ℕ → Type 0) (page : Page) → page.top ≡ 0 → feeds_out page ≡ false → FeedTouches M page
 feed_touches M page top h e = absurd (unscrolled page top h e)
 
-unfed : (canvas d : Canvas) → fed canvas ≡ Some d → feeds_out canvas.page ≡ false
+unfed : (canvas d : Canvas) → canvas_after_line_feed canvas ≡ Some d → feeds_out canvas.page ≡ false
 unfed canvas d h = by_case (feeds_out canvas.page) h where
   by_case : (b : Bool) →
       (if b then None else Some (record canvas { page = line_feed canvas.page })) ≡ Some d → b ≡ false
@@ -237,7 +237,7 @@ unfed canvas d h = by_case (feeds_out canvas.page) h where
   by_case false e = refl
 
 line_touches : (M : ℕ → ℕ → Type 0) (screen : ScreenValue) (d : Canvas) → screen.page.top ≡ 0 →
-    fed (canvas_of screen) ≡ Some d → ReadTouches M (terminal start screen) (0x0A ∷ [])
+    canvas_after_line_feed (canvas_of screen) ≡ Some d → ReadTouches M (terminal start screen) (0x0A ∷ [])
 unfolding fresh_step class_of control_steps
 line_touches M screen d top h =
     event_touches M (0x0A ∷ []) (Executed 0x0A) screen refl refl
@@ -294,7 +294,7 @@ unfolding fresh_step class_of control_steps
 returned_touches M screen = event_touches M (0x0D ∷ []) (Executed 0x0D) screen refl refl (tt, λ next e. tt)
 
 returned_reads : (screen : ScreenValue) →
-    read (terminal start screen) (0x0D ∷ []) ≡ Some (terminal start (with_page (carriage_return screen.page) screen))
+    terminal_after (terminal start screen) (0x0D ∷ []) ≡ Some (terminal start (with_page (carriage_return screen.page) screen))
 unfolding read_byte fresh_step class_of control_steps
 returned_reads screen = refl
 
@@ -317,7 +317,7 @@ restored_touches M screen =
     (record { plain = refl; events = (refl, tt) }) ((tt, λ next e. tt), λ next e. tt)
 
 pub op_touches : (M : ℕ → ℕ → Type 0) (op : Op) (screen : ScreenValue) (d : Canvas) → Fits op →
-    screen.page.top ≡ 0 → drawn op (canvas_of screen) ≡ Some d → OpTouches M op (canvas_of screen) →
+    screen.page.top ≡ 0 → canvas_after_op op (canvas_of screen) ≡ Some d → OpTouches M op (canvas_of screen) →
     ReadTouches M (terminal start screen) (bytes_of op)
 op_touches M (Hide hidden) screen d f top h p = hidden_touches M hidden screen
 op_touches M ClearAttrs screen d f top h p =
@@ -346,10 +346,10 @@ op_touches M (ChangeAttrs was new) screen d f top h p = change_touches M was new
 op_touches M (Print text) screen d f top h p =
     let cs : List ℕ = f.characters in
     let e : chars text ≡ cs = ap chars (sym f.spelled) ∙ chars-encodes cs (all_scalar cs f.printable) in
-    let drawn : drawn_text cs (canvas_of screen) ≡ Some d =
+    let canvas_after_op : drawn_text cs (canvas_of screen) ≡ Some d =
     subst (λ (ds : List ℕ). drawn_text ds (canvas_of screen) ≡ Some d) e h in
     subst (λ (bytes : List ℕ). ReadTouches M (terminal start screen) bytes) f.spelled
-    (text_touches M cs screen d f.printable top drawn
+    (text_touches M cs screen d f.printable top canvas_after_op
     (subst (λ (ds : List ℕ). TextTouches M ds (canvas_of screen)) e p))
 
 -- ---- lists of operations, which keep the region's top
@@ -360,24 +360,24 @@ text_top (c ∷ cs) canvas d h =
     let (next, first, rest) = and_then-some (drawn_text cs) (drawn_char c canvas) d h in
     text_top cs next d rest ∙ one (pushes c canvas.page) next first where
       one : (b : Bool) (next : Canvas) →
-          (if b then None else Some (record canvas { page = printed c canvas.attrs canvas.page })) ≡ Some next →
+          (if b then None else Some (record canvas { page = page_after_print c canvas.attrs canvas.page })) ≡ Some next →
           next.page.top ≡ canvas.page.top
       one true next e = absurd cc
       one false next e =
-          let same : record canvas { page = printed c canvas.attrs canvas.page } ≡ next = cc in
+          let same : record canvas { page = page_after_print c canvas.attrs canvas.page } ≡ next = cc in
           ap (λ (z : Canvas). z.page.top) (sym same) ∙ top_printed c canvas.attrs canvas.page
 
 same_top : (e d canvas : Canvas) → Some e ≡ Some d → e.page.top ≡ canvas.page.top → d.page.top ≡ canvas.page.top
 same_top e d canvas h p = let same : e ≡ d = cc in ap (λ (z : Canvas). z.page.top) (sym same) ∙ p
 
-fed_top : (canvas d : Canvas) → fed canvas ≡ Some d → d.page.top ≡ canvas.page.top
+fed_top : (canvas d : Canvas) → canvas_after_line_feed canvas ≡ Some d → d.page.top ≡ canvas.page.top
 fed_top canvas d h = by_case (feeds_out canvas.page) h where
   by_case : (b : Bool) → (if b then None else Some (record canvas { page = line_feed canvas.page })) ≡ Some d →
       d.page.top ≡ canvas.page.top
   by_case true e = absurd cc
   by_case false e = same_top (record canvas { page = line_feed canvas.page }) d canvas e (top_fed canvas.page)
 
-op_top : (op : Op) (canvas d : Canvas) → drawn op canvas ≡ Some d → d.page.top ≡ canvas.page.top
+op_top : (op : Op) (canvas d : Canvas) → canvas_after_op op canvas ≡ Some d → d.page.top ≡ canvas.page.top
 op_top (Hide hidden) canvas d h = same_top (record canvas { hidden = hidden }) d canvas h refl
 op_top ClearAttrs canvas d h = same_top (record canvas { attrs = default_attrs }) d canvas h refl
 op_top (MoveTo row col) canvas d h = same_top (record canvas { page = moved_to row col canvas.page }) d canvas h refl
@@ -410,7 +410,7 @@ pub all_touches : (M : ℕ → ℕ → Type 0) (ops : List Op) (screen : ScreenV
     ReadTouches M (terminal start screen) (bytes_of_all ops)
 all_touches M [] screen d f top h p = tt
 all_touches M (op ∷ ops) screen d (f, fs) top h p =
-    let (e, first, more) = and_then-some (drawn_all ops) (drawn op (canvas_of screen)) d h in
+    let (e, first, more) = and_then-some (drawn_all ops) (canvas_after_op op (canvas_of screen)) d h in
     let here = reads_op op screen e f first in
     let next : ScreenValue = record (with_canvas e screen) { last = here.0 } in
     touches_then M (terminal start screen) (terminal start next) (bytes_of op)

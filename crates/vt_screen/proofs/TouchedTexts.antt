@@ -9,19 +9,19 @@ use Rattle.vt_redraw.proofs.CursorAlone.{cursor_state_draws, cursor_state_local}
 use Rattle.vt_redraw.proofs.Difference.{difference_draws, difference_local}
 use Rattle.vt_redraw.proofs.Fitting.{cursor_state_fits, difference_fits}
 use Rattle.vt_screen.specs.Screen.{ScreenValue, IsScreen, IsColored, canvas_of}
-use Rattle.vt_screen.specs.Shown.{IsReaderOf, IsReaderOfRows, shown, shown_change}
+use Rattle.vt_screen.specs.Shown.{IsReaderOf, IsReaderOfRows, display, display_change}
 use Rattle.vt_screen.specs.Touched.{ReadTouches, TouchesOnly}
 use Rattle.vt_screen.proofs.Shown.{plain_shown, shown_colored, shown_is}
 use Rattle.vt_screen.proofs.TouchedReads.{all_touches}
 
 pub difference_touches : (self prev : ScreenValue) (text : List ℕ) →
-    text ≡ shown_change prev self → IsScreen self →
-    IsColored self → IsSteady (shown self) → IsScreen prev → IsColored prev →
-    SamePictureSize (shown self) (shown prev) →
-    TouchesOnly (IsReaderOf (shown self) (shown prev)) text (IsLocal (shown self) (shown prev))
+    text ≡ display_change prev self → IsScreen self →
+    IsColored self → IsSteady (display self) → IsScreen prev → IsColored prev →
+    SamePictureSize (display self) (display prev) →
+    TouchesOnly (IsReaderOf (display self) (display prev)) text (IsLocal (display self) (display prev))
 difference_touches self prev text told is colored steady other colored_other size reader r =
-    let picture = shown self in
-    let before = shown prev in
+    let picture = display self in
+    let before = display prev in
     let May = IsLocal picture before in
     let page = plain_shown reader r.is.sound r.is.plain in
     let plain = r.is.plain.page in
@@ -34,11 +34,11 @@ difference_touches self prev text told is colored steady other colored_other siz
     (difference_fits picture before (shown_is self is) (shown_colored self is colored) colored_other.attrs)
     plain.whole.0 draws.1 local)
 
-pub cursor_touches : (self : ScreenValue) (text : List ℕ) → text ≡ bytes_of_all (cursor_state (shown self)) →
-    IsScreen self → IsColored self → IsSteady (shown self) →
-    TouchesOnly (IsReaderOfRows (shown self)) text (MayPlace (shown self))
+pub cursor_touches : (self : ScreenValue) (text : List ℕ) → text ≡ bytes_of_all (cursor_state (display self)) →
+    IsScreen self → IsColored self → IsSteady (display self) →
+    TouchesOnly (IsReaderOfRows (display self)) text (MayPlace (display self))
 cursor_touches self text told is colored steady reader r =
-    let picture = shown self in
+    let picture = display self in
     let May = MayPlace picture in
     let page = plain_shown reader r.is.sound r.is.plain in
     let plain = r.is.plain.page in

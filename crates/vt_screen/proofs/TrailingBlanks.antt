@@ -9,8 +9,8 @@ use Rattle.std.proofs.lemmas.Bool.Decides.{nat_tests}
 use Rattle.vt_cells.specs.Attrs.{default_attrs}
 use Rattle.vt_cells.specs.Cell.{CellValue, default_blank, is_wide, is_right_half, is_default_blank}
 use Rattle.vt_cells.proofs.Same.{same_attrs-itself}
-use Rattle.vt_rows.specs.Cells.{at, IsPaired, moved_at, resized}
-use Rattle.vt_rows.specs.Row.{RowValue, IsRow, trimmed, trimmed_row}
+use Rattle.vt_rows.specs.Cells.{at, IsPaired, moved_at, cells_after_resize}
+use Rattle.vt_rows.specs.Row.{RowValue, IsRow, cells_without_end, trimmed_row}
 use Rattle.vt_rows.proofs.Columns.{at-past}
 use Rattle.vt_rows.proofs.Moves.{at-moved, length-moved}
 use Rattle.vt_rows.proofs.Trims.{at-trimmed}
@@ -25,28 +25,28 @@ all_default : (cells : List CellValue) → ((k : ℕ) → at cells k ≡ default
 all_default [] f = refl
 all_default (x ∷ xs) f = rw (ap is_default_blank (f 0) ∙ is_default) (all_default xs (λ k. f (suc k)))
 
-trimmed-nothing : (cells : List CellValue) → list_all is_default_blank cells ≡ true → trimmed cells ≡ []
+trimmed-nothing : (cells : List CellValue) → list_all is_default_blank cells ≡ true → cells_without_end cells ≡ []
 trimmed-nothing [] e = refl
 trimmed-nothing (x ∷ xs) e = rw e refl
 
-all-trimmed : (cells : List CellValue) → list_all is_default_blank (trimmed cells) ≡ list_all is_default_blank cells
+all-trimmed : (cells : List CellValue) → list_all is_default_blank (cells_without_end cells) ≡ list_all is_default_blank cells
 all-trimmed [] = refl
 all-trimmed (x ∷ xs) = by (list_all is_default_blank (x ∷ xs)) refl (all-trimmed xs) where
   by : (b : Bool) → list_all is_default_blank (x ∷ xs) ≡ b →
-      list_all is_default_blank (trimmed xs) ≡ list_all is_default_blank xs →
-      list_all is_default_blank (if b then [] else x ∷ trimmed xs) ≡ list_all is_default_blank (x ∷ xs)
+      list_all is_default_blank (cells_without_end xs) ≡ list_all is_default_blank xs →
+      list_all is_default_blank (if b then [] else x ∷ cells_without_end xs) ≡ list_all is_default_blank (x ∷ xs)
   by true e ih = sym e
   by false e ih = ap (λ (b : Bool). is_default_blank x && b) ih
 
 -- Two lists of cells that are equal in each column, with default blanks past the end, are equal once trimmed.
-pub same_trimmed : (a b : List CellValue) → ((k : ℕ) → at a k ≡ at b k) → trimmed a ≡ trimmed b
+pub same_trimmed : (a b : List CellValue) → ((k : ℕ) → at a k ≡ at b k) → cells_without_end a ≡ cells_without_end b
 same_trimmed [] b f = sym (trimmed-nothing b (all_default b (λ k. sym (f k))))
 same_trimmed (x ∷ xs) [] f = trimmed-nothing (x ∷ xs) (all_default (x ∷ xs) (λ k. f k))
 same_trimmed (x ∷ xs) (y ∷ ys) f =
     let ih = same_trimmed xs ys (λ k. f (suc k)) in
     let rest : list_all is_default_blank xs ≡ list_all is_default_blank ys =
     sym (all-trimmed xs) ∙ (ap (list_all is_default_blank) ih ∙ all-trimmed ys) in
-    ap₂ (λ (z : CellValue) (b : Bool). if is_default_blank z && b then [] else z ∷ trimmed xs) (f 0) rest
+    ap₂ (λ (z : CellValue) (b : Bool). if is_default_blank z && b then [] else z ∷ cells_without_end xs) (f 0) rest
     ∙ ap (λ (zs : List CellValue). if list_all is_default_blank (y ∷ ys) then [] else y ∷ zs) ih
 
 grown_at : (n : ℕ) (cells : List CellValue) (k : ℕ) → length cells < n →
@@ -64,12 +64,12 @@ grown_at n cells k l p h =
     ]
 
 at-grown : (n : ℕ) (cells : List CellValue) → length cells < n →
-    IsPaired cells → (k : ℕ) → at (resized n cells) k ≡ at cells k
-unfolding resized
+    IsPaired cells → (k : ℕ) → at (cells_after_resize n cells) k ≡ at cells k
+unfolding cells_after_resize
 at-grown n cells l p k = elim (cases_lt k n) [
   | inl lt ↦ at-moved n (λ k. k) cells k lt ∙ grown_at n cells k l p lt
   | inr past ↦ let m =
-      length-moved n (λ k. k) cells in at-past (resized n cells) k (omega arith) ∙ sym (at-past cells k (omega arith))
+      length-moved n (λ k. k) cells in at-past (cells_after_resize n cells) k (omega arith) ∙ sym (at-past cells k (omega arith))
 ]
 
 -- ---- rows
@@ -77,7 +77,7 @@ at-grown n cells l p k = elim (cases_lt k n) [
 pub trimmed_twice : (row : RowValue) → trimmed_row (trimmed_row row) ≡ trimmed_row row
 trimmed_twice row =
     ap (λ (cells : List CellValue). record { cells = cells; wrapped = row.wrapped })
-    (same_trimmed (trimmed row.cells) row.cells (at-trimmed row.cells))
+    (same_trimmed (cells_without_end row.cells) row.cells (at-trimmed row.cells))
 
 -- A row that is wrapped has at least the given number of columns.
 abbrev pub IsWide : ℕ → RowValue → Type 0
@@ -94,7 +94,7 @@ trimmed_grown width row r w = elim (cases_lt (length row.cells) width) [
       let no = unwrapped width row w lt in
       let flag : (row.wrapped && (length row.cells == width)) ≡ row.wrapped = rw no refl in
       rw narrow (ap₂ (λ (cells : List CellValue) (wrapped : Bool). record { cells = cells; wrapped = wrapped })
-      (same_trimmed (resized width row.cells) row.cells (at-grown width row.cells lt r.paired)) flag)
+      (same_trimmed (cells_after_resize width row.cells) row.cells (at-grown width row.cells lt r.paired)) flag)
   | inr ge ↦
       let wide : nat_lt (length row.cells) width ≡ false = grind (arith, nat_tests) in
       rw wide refl

@@ -6,12 +6,12 @@ use Rattle.std.specs.Prelude.{All}
 use Rattle.std.proofs.lemmas.List.{drop-drop, take-append-drop, append-nil}
 use Rattle.std.proofs.lemmas.List.Elements.{All-append, All-drop, All-head, All-map, All-tail, All-take, All-weaker}
 use Rattle.std.proofs.lemmas.Bool.{cond_both}
-use Rattle.vt_rows.specs.Cells.{resized}
+use Rattle.vt_rows.specs.Cells.{cells_after_resize}
 use Rattle.vt_rows.specs.Row.{RowValue, IsRow, resized_row, trimmed_row}
 use Rattle.vt_rows.proofs.Moves.{IsRow-resized_row, length-moved}
 use Rattle.vt_rows.proofs.Trims.{trimmed-none}
 use Rattle.vt_grid.specs.Scrollback.{Scrollback, before_last, grown_in_view, grown_row}
-use Rattle.vt_grid.specs.Scrollback.{kept_after, pushed, reported, stacked, with_view}
+use Rattle.vt_grid.specs.Scrollback.{kept_after, scrollback_after_push, rows_reported, rows_with_scrolled_off, with_view}
 use Rattle.vt_grid.proofs.Stacking.{All-stacked}
 use Rattle.vt_screen.specs.Streamed.{AreSameTrimmed}
 use Rattle.vt_screen.proofs.TrailingBlanks.{IsWide, trimmed_twice, trimmed_grown}
@@ -72,7 +72,7 @@ alike_grown_in_view height width above all wide =
 
 -- A wrapped row that is extended is at least as wide as the screen.
 wide_grown : (width : ℕ) (row : RowValue) → IsWide width row → IsWide width (grown_row width row)
-unfolding resized
+unfolding cells_after_resize
 wide_grown width row w =
     cond_both _ (resized_row width row) row (IsWide width)
     (λ _ h. let n = length-moved width (λ k. k) row.cells in omega (arith, n)) (λ _. w)
@@ -128,7 +128,7 @@ wide_trimmed width row r h =
     (sym (trimmed-none row.cells (r.flagged h))) (omega (arith, r.columns))
 
 pub wide_stacked : (width : ℕ) (gone : List RowValue) (above : Scrollback) →
-    All (IsRow width) gone → All (IsWide width) above.rows → All (IsWide width) (stacked gone above)
+    All (IsRow width) gone → All (IsWide width) above.rows → All (IsWide width) (rows_with_scrolled_off gone above)
 wide_stacked width gone above rows wide =
     All-append (IsWide width) above.rows (map trimmed_row gone) wide
     (All-map (IsWide width) trimmed_row gone
@@ -138,41 +138,41 @@ sound_kept : (width : ℕ) (gone : List RowValue) (above : Scrollback) →
     All (IsRow width) gone → AreSound above.rows → AreSound (kept_after gone above).rows
 unfolding kept_after
 sound_kept width gone above rows sound =
-    All-drop (λ row. IsRow (length row.cells) row) (length (stacked gone above) - above.capacity)
-    (stacked gone above) (All-stacked width gone above.rows rows sound)
+    All-drop (λ row. IsRow (length row.cells) row) (length (rows_with_scrolled_off gone above) - above.capacity)
+    (rows_with_scrolled_off gone above) (All-stacked width gone above.rows rows sound)
 
 kept_rows : (width : ℕ) (gone : List RowValue) (above : Scrollback) →
     All (IsRow width) gone → AreSound above.rows → All (IsWide width) above.rows →
     AreSound (kept_after gone above).rows × All (IsWide width) (kept_after gone above).rows
 unfolding kept_after
 kept_rows width gone above rows sound wide =
-    let n = length (stacked gone above) - above.capacity in (
-      All-drop (λ row. IsRow (length row.cells) row) n (stacked gone above)
+    let n = length (rows_with_scrolled_off gone above) - above.capacity in (
+      All-drop (λ row. IsRow (length row.cells) row) n (rows_with_scrolled_off gone above)
           (All-stacked width gone above.rows rows sound),
-      All-drop (IsWide width) n (stacked gone above) (wide_stacked width gone above rows wide),
+      All-drop (IsWide width) n (rows_with_scrolled_off gone above) (wide_stacked width gone above rows wide),
     )
 
 told_and_kept : (gone : List RowValue) (above : Scrollback) →
-    before_last above.capacity (stacked gone above) ++ (kept_after gone above).rows ≡ stacked gone above
+    before_last above.capacity (rows_with_scrolled_off gone above) ++ (kept_after gone above).rows ≡ rows_with_scrolled_off gone above
 unfolding kept_after
-told_and_kept gone above = take-append-drop (length (stacked gone above) - above.capacity) (stacked gone above)
+told_and_kept gone above = take-append-drop (length (rows_with_scrolled_off gone above) - above.capacity) (rows_with_scrolled_off gone above)
 
 -- The rows reported and kept are those kept before and those that scrolled off, except for trailing default blanks.
 pub alike_pushed : (height width : ℕ) (gone : List RowValue) (above : Scrollback)
     → All (IsRow width) gone → AreSound above.rows → All (IsWide width) above.rows
-    → AreSameTrimmed (reported gone above ++ (pushed height width gone above).rows) (above.rows ++ gone)
+    → AreSameTrimmed (rows_reported gone above ++ (scrollback_after_push height width gone above).rows) (above.rows ++ gone)
 alike_pushed height width [] above rows sound wide = ap (map trimmed_row) (sym (append-nil above.rows))
 alike_pushed height width (row ∷ gone) above rows sound wide =
     let all = row ∷ gone in
     let k = kept_rows width all above rows sound wide in
-    alike_then (before_last above.capacity (stacked all above)) (before_last above.capacity (stacked all above))
-    (pushed height width all above).rows (kept_after all above).rows refl
+    alike_then (before_last above.capacity (rows_with_scrolled_off all above)) (before_last above.capacity (rows_with_scrolled_off all above))
+    (scrollback_after_push height width all above).rows (kept_after all above).rows refl
     (alike_grown_in_view height width (kept_after all above) k.0 k.1)
     ∙ (ap (map trimmed_row) (told_and_kept all above)
     ∙ alike_then above.rows above.rows (map trimmed_row all) all refl (alike_trimmed all))
 
 pub wide_pushed : (height width : ℕ) (gone : List RowValue) (above : Scrollback) → All (IsRow width) gone →
-    AreSound above.rows → All (IsWide width) above.rows → All (IsWide width) (pushed height width gone above).rows
+    AreSound above.rows → All (IsWide width) above.rows → All (IsWide width) (scrollback_after_push height width gone above).rows
 wide_pushed height width [] above rows sound wide = wide
 wide_pushed height width (row ∷ gone) above rows sound wide =
     wide_grown_in_view height width (kept_after (row ∷ gone) above)
@@ -193,7 +193,7 @@ wide_viewed height width n above wide =
     wide_grown_in_view height width (record above { offset = min n (length above.rows) }) wide
 
 pub sound_pushed : (height width : ℕ) (gone : List RowValue) (above : Scrollback) →
-    All (IsRow width) gone → AreSound above.rows → AreSound (pushed height width gone above).rows
+    All (IsRow width) gone → AreSound above.rows → AreSound (scrollback_after_push height width gone above).rows
 sound_pushed height width [] above rows sound = sound
 sound_pushed height width (row ∷ gone) above rows sound =
     sound_grown_in_view height width (kept_after (row ∷ gone) above) (sound_kept width (row ∷ gone) above rows sound)

@@ -9,7 +9,7 @@ use Rattle.vt_redraw.specs.Picture.{SamePictureSize, picture_over}
 use Rattle.vt_grid.specs.Page.{SameSize}
 use Rattle.vt_screen.specs.Internals.{IsAbove, IsNothing, main_scrollback, alternate_scrollback}
 use Rattle.vt_screen.specs.Screen.{ScreenValue, canvas_of}
-use Rattle.vt_screen.specs.Shown.{shown}
+use Rattle.vt_screen.specs.Shown.{display}
 use Rattle.vt_screen.proofs.Asides.{visible_if}
 use Rattle.vt_screen.proofs.Shown.{shown_height}
 
@@ -36,11 +36,11 @@ pub with_view_is : (s : ScreenValue) (active idle : Scrollback) → s.scrollback
     → IsNothing (alternate_scrollback s.is_alternate active idle)
     → picture_over (visible active s.page.rows)
     (record { page = s.page; attrs = s.attrs; saved_attrs = s.attrs; hidden = s.hidden })
-    ≡ shown s
+    ≡ display s
 with_view_is s active idle w n =
     ap (λ (rows : List RowValue). picture_over rows (canvas_of s))
     (visible_if s.is_alternate s.page.rows active idle s.scrollback w n)
 
 -- Screens with pages of the same size display pictures of the same size.
-pub same_shown : (a b : ScreenValue) → SameSize a.page b.page → SamePictureSize (shown a) (shown b)
+pub same_shown : (a b : ScreenValue) → SameSize a.page b.page → SamePictureSize (display a) (display b)
 same_shown a b size = record { width = size.width; height = shown_height a ∙ (size.height ∙ sym (shown_height b)) }

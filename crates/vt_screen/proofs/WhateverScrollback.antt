@@ -3,10 +3,10 @@ use Rattle.std.proofs.Common.{◌≡◌, ℕ, Bool, true, false, List, length, [
 use Rattle.std.specs.Prelude.{if◌then◌else◌}
 use Rattle.vt_rows.specs.Row.{RowValue}
 use Rattle.vt_grid.specs.Resize.{out_of_view}
-use Rattle.vt_grid.specs.Scrollback.{Scrollback, cleared, with_view}
+use Rattle.vt_grid.specs.Scrollback.{Scrollback, scrollback_after_clear, with_view}
 use Rattle.vt_scan.specs.Automaton.{State, Event}
 use Rattle.vt_scan.specs.Run.{run}
-use Rattle.vt_screen.specs.Pages.{fresh_page, page_aside, entered, left_alternate, restored, saved}
+use Rattle.vt_screen.specs.Pages.{fresh_page, page_aside, screen_after_enter, left_alternate, screen_after_restore, screen_after_save}
 use Rattle.vt_screen.specs.Screen.{ScreenValue, scrolled_back}
 use Rattle.vt_screen.specs.Controls.{seen_of, steps_of}
 use Rattle.vt_screen.specs.Steps.{Step, Print, LineFeed, ScrollUp, OnPage, SaveCursor, RestoreCursor, EnterAlternate}
@@ -26,7 +26,7 @@ bare_if : (b : Bool) (x y : ScreenValue) (p q : Scrollback) → SameBare x y →
 bare_if true x y p q e = e
 bare_if false x y p q e = e
 
-bare_entered : (s : ScreenValue) → SameBare (entered s) (entered (without_scrollback s))
+bare_entered : (s : ScreenValue) → SameBare (screen_after_enter s) (screen_after_enter (without_scrollback s))
 bare_entered s = by s.is_alternate where
   by : (b : Bool) →
       SameBare (if b then s
@@ -52,11 +52,11 @@ bare_step LineFeed s = bare_if s.is_alternate (display_after LineFeed s) (displa
 bare_step (ScrollUp count) s =
     bare_if s.is_alternate (display_after (ScrollUp count) s) (display_after (ScrollUp count) (without_scrollback s)) _ _ refl
 bare_step EraseScrollback s =
-    bare_if s.is_alternate s (without_scrollback s) (cleared s.scrollback) (cleared (without_scrollback s).scrollback) refl
+    bare_if s.is_alternate s (without_scrollback s) (scrollback_after_clear s.scrollback) (scrollback_after_clear (without_scrollback s).scrollback) refl
 bare_step EnterAlternate s = bare_entered s
-bare_step EnterFresh s = ap (λ (t : ScreenValue). record t { page = fresh_page s }) (bare_entered (saved s))
+bare_step EnterFresh s = ap (λ (t : ScreenValue). record t { page = fresh_page s }) (bare_entered (screen_after_save s))
 bare_step LeaveAlternate s = bare_left s
-bare_step LeaveRestoring s = ap restored (bare_left s)
+bare_step LeaveRestoring s = ap screen_after_restore (bare_left s)
 bare_step (OnPage x) s = refl
 bare_step SaveCursor s = refl
 bare_step RestoreCursor s = refl

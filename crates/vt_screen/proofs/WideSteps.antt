@@ -11,8 +11,8 @@ use Rattle.vt_cells.specs.Op.{FitsAttrs}
 use Rattle.vt_rows.specs.WideTexts.{IsWideCharacter, IsWideText}
 use Rattle.vt_grid.specs.Page.{Page}
 use Rattle.vt_grid.specs.Outgoing.{printed_out}
-use Rattle.vt_grid.specs.Printing.{glyph_put, lacks_room, printed, room_made}
-use Rattle.vt_grid.specs.Scrollback.{reported}
+use Rattle.vt_grid.specs.Printing.{glyph_put, lacks_room, page_after_print, room_made}
+use Rattle.vt_grid.specs.Scrollback.{rows_reported}
 use Rattle.vt_grid.proofs.Dispatch.{printed_wide}
 use Rattle.vt_grid.proofs.Outgoing.{out_wide}
 use Rattle.vt_rows.specs.Row.{RowValue}
@@ -42,7 +42,7 @@ pub wide_text_stepped_is : (text : List ℕ) (screen : ScreenValue) → 0 < leng
 wide_text_stepped_is [] screen some h width = absurd (omega (arith, some))
 wide_text_stepped_is (c ∷ []) screen some h width =
     let first = All-head IsWideCharacter c [] h in
-    ap (λ (last : Option ℕ). record screen { page = printed c screen.attrs screen.page; last = last })
+    ap (λ (last : Option ℕ). record screen { page = page_after_print c screen.attrs screen.page; last = last })
     (last_wide c screen first.1.1 width)
 wide_text_stepped_is (c ∷ d ∷ text) screen some h width =
     let next = display_after (Print c) screen in
@@ -59,7 +59,7 @@ kept_each_wide : (text : List ℕ) (attrs : Attrs) (page : Page) (last : Option 
 kept_each_wide [] attrs page last aside h fits k = k
 kept_each_wide (c ∷ text) attrs page last aside h fits k =
     let first = All-head IsWideCharacter c text h in
-    kept_each_wide text attrs (printed c attrs page) last aside (All-tail IsWideCharacter c text h)
+    kept_each_wide text attrs (page_after_print c attrs page) last aside (All-tail IsWideCharacter c text h)
     fits (kept_printed c attrs page last last aside first.0 first.1.0 k.printable fits k)
 
 pub kept_wide_text : (text : List ℕ) (attrs : Attrs) (page : Page) (last : Option ℕ) (c : ℕ) (aside : Aside) →
@@ -82,7 +82,7 @@ unfolding room_made
 room_kept_for_two page h = rw (has_room_for_two page h) refl
 
 printed_wide_put : (c : ℕ) (attrs : Attrs) (page : Page) → columns_of c ≡ Some 2 →
-    page.column + 2 ≤ page.width → printed c attrs page ≡ glyph_put (encode_utf8 c) true attrs page
+    page.column + 2 ≤ page.width → page_after_print c attrs page ≡ glyph_put (encode_utf8 c) true attrs page
 printed_wide_put c attrs page two h =
     printed_wide c attrs page two
     ∙ (ap (λ (b : Bool). if b then glyph_put (encode_utf8 c) true attrs (room_made 2 page) else page)
@@ -103,7 +103,7 @@ print_scrolls_wide does c s screen two room =
       screen = sent_nothing screen.is_alternate c screen (printed_out c screen.attrs screen.page) none;
       called =
           subst
-          (λ (gone : List RowValue). FoldsTo (CalledOnScroll does screen.is_alternate) s (reported gone (above_page screen)) s)
+          (λ (gone : List RowValue). FoldsTo (CalledOnScroll does screen.is_alternate) s (rows_reported gone (above_page screen)) s)
           (sym none) refl;
     }
 

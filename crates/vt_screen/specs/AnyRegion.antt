@@ -4,7 +4,7 @@ use Rattle.vt_cells.specs.Op.{bytes_of_all, csi}
 use Rattle.vt_redraw.specs.Picture.{Picture, SamePictureSize}
 use Rattle.vt_redraw.specs.Redraw.{redraw}
 use Rattle.vt_screen.specs.Screen.{ScreenValue, IsScreen, above_page}
-use Rattle.vt_screen.specs.Shown.{shown}
+use Rattle.vt_screen.specs.Shown.{display}
 
 -- The sequences that turn off origin mode (DECOM) and make the whole page the scroll region (DECSTBM without
 -- parameters).
@@ -20,7 +20,7 @@ reset_text picture = whole_region_text ++ bytes_of_all (redraw picture)
 pub record IsReaderInAnyRegion (picture : Picture) (reader : ScreenValue) : Type 0 where
   pub sound : IsScreen reader
   pub offset : (above_page reader).offset ≡ 0
-  pub size : SamePictureSize picture (shown reader)
+  pub size : SamePictureSize picture (display reader)
 
 -- Scrollback and its offset, the inactive page and the modes are unchanged. Everything else may have changed: the
 -- active page with its scroll region and origin mode, the saved state, and the last printed character.

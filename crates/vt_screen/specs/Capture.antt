@@ -4,7 +4,7 @@ use Rattle.std.proofs.Common.{inl, inr}
 use Rattle.std.specs.Borrow.{MutBor}
 use Rattle.std.specs.List.{fold}
 use Rattle.vt_cells.specs.Sinks.{IsStopped}
-use Rattle.vt_rows.specs.Basic.{Written, unwritten, basic_text, written_after}
+use Rattle.vt_rows.specs.Basic.{Written, nothing_written, basic_text, written_after}
 use Rattle.vt_rows.specs.Row.{RowValue}
 use Rattle.vt_rows.specs.declared.capture.range.BasicFormattedCaptureRange.{BasicFormattedCaptureRange}
 use Rattle.vt_rows.specs.declared.capture.range.BasicFormattedCaptureRange.TheVariants.{Full, Visible}
@@ -30,7 +30,7 @@ captured_rows Visible screen = visible_rows screen
 -- The capture state that a capture of the given range continues from.
 abbrev pub given_state : BasicFormattedCaptureRange → Written
 given_state (Full state) = state.now
-given_state Visible = unwritten
+given_state Visible = nothing_written
 
 -- The text of a capture of the given range of a screen.
 abbrev pub captured_text : BasicFormattedCaptureRange → ScreenValue → List ℕ
@@ -54,5 +54,5 @@ pub record StopsBehind (refuses : List ℕ → List ℕ → List ℕ → Type 0)
   pub left : List RowValue
   pub parts : rows ≡ whole ++ row ∷ left
   pub written : state ≡ written_after_all before whole
-  pub some : 0 < length (basic_text state row)
+  pub nonempty : 0 < length (basic_text state row)
   pub stopped : IsStopped refuses (start ++ basic_texts before whole) (basic_text state row) text

@@ -3,19 +3,19 @@ use Rattle.std.specs.Prelude.{ℕ, List, [], ◌∷◌, ◌++◌}
 use Rattle.vt_redraw.specs.Picture.{SamePictureSize}
 use Rattle.vt_redraw.specs.Steady.{IsSteady}
 use Rattle.vt_screen.specs.Screen.{ScreenValue, IsScreen, IsColored}
-use Rattle.vt_screen.specs.Shown.{shown, shown_change, shown_text}
+use Rattle.vt_screen.specs.Shown.{display, display_change, shown_text}
 
 -- The screen can be redrawn on the terminal `reader`: the screen's picture is steady and has the size of that terminal.
 pub record CanShowOn (reader self : ScreenValue) : Type 0 where
   pub sound : IsScreen self
   pub colored : IsColored self
-  pub steady : IsSteady (shown self)
-  pub size : SamePictureSize (shown self) (shown reader)
+  pub steady : IsSteady (display self)
+  pub size : SamePictureSize (display self) (display reader)
 
 -- The concatenated differences that lead from the first screen to each screen of the list in turn.
 abbrev pub texts_behind : ScreenValue → List ScreenValue → List ℕ
 texts_behind prev [] = []
-texts_behind prev (x ∷ xs) = shown_change prev x ++ texts_behind x xs
+texts_behind prev (x ∷ xs) = display_change prev x ++ texts_behind x xs
 
 abbrev pub chain_text : ScreenValue → List ScreenValue → List ℕ
 chain_text self nexts = shown_text self ++ texts_behind self nexts

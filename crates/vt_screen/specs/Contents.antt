@@ -13,23 +13,23 @@ line_end row = if row.wrapped then [] else 0x0A ∷ []
 
 -- The line end before a row without glyphs if the previous row is wrapped; empty otherwise.
 abbrev pub gap_line : ℕ → Bool → RowValue → List ℕ
-gap_line width goes_on row = if goes_on && not (has_glyph 0 width row.cells) then 0x0A ∷ [] else []
+gap_line width is_wrapped row = if is_wrapped && not (has_glyph 0 width row.cells) then 0x0A ∷ [] else []
 
 -- The text of consecutive rows of `width` columns; the flag says whether the row before the first one is wrapped.
 abbrev pub lines_of : ℕ → Bool → List RowValue → List ℕ
-lines_of width goes_on [] = []
-lines_of width goes_on (row ∷ rows) =
-    gap_line width goes_on row ++ (plain_text 0 width row.cells ++ (line_end row ++ lines_of width row.wrapped rows))
+lines_of width is_wrapped [] = []
+lines_of width is_wrapped (row ∷ rows) =
+    gap_line width is_wrapped row ++ (plain_text 0 width row.cells ++ (line_end row ++ lines_of width row.wrapped rows))
 
 -- The text with a byte prepended, unless the text is empty and the byte is a line end.
-abbrev pub before : ℕ → List ℕ → List ℕ
-before byte [] = if byte == 0x0A then [] else byte ∷ []
-before byte (next ∷ text) = byte ∷ (next ∷ text)
+abbrev pub with_byte_before : ℕ → List ℕ → List ℕ
+with_byte_before byte [] = if byte == 0x0A then [] else byte ∷ []
+with_byte_before byte (next ∷ text) = byte ∷ (next ∷ text)
 
 -- The text without its trailing line ends.
 abbrev pub without_line_ends : List ℕ → List ℕ
 without_line_ends [] = []
-without_line_ends (byte ∷ text) = before byte (without_line_ends text)
+without_line_ends (byte ∷ text) = with_byte_before byte (without_line_ends text)
 
 -- The text of all displayed rows of a screen.
 abbrev pub contents_of : ScreenValue → List ℕ

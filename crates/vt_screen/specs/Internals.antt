@@ -69,8 +69,8 @@ exchanged_with (Some page) screen =
     record screen { page = page; other = Some screen.page; is_alternate = not screen.is_alternate }
 exchanged_with None screen = screen
 
-abbrev pub exchanged : ScreenValue → ScreenValue
-exchanged screen = exchanged_with screen.other screen
+abbrev pub screen_after_exchange : ScreenValue → ScreenValue
+screen_after_exchange screen = exchanged_with screen.other screen
 
 -- The screen after its active page is replaced with a blank page.
 abbrev pub with_fresh_page : ScreenValue → ScreenValue

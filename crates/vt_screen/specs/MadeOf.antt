@@ -3,7 +3,7 @@
 use Rattle.std.specs.Prelude.{◌≡◌, ◌<◌, ◌≤◌, ◌⊎◌, ℕ, List, [], ◌∷◌, ◌++◌, codes, encode_utf8_all, map}
 use Rattle.std.specs.Char.{IsScalar}
 use Rattle.std.specs.List.{AllByRecursion, flat_map}
-use Rattle.vt_cells.specs.Op.{csi, joined}
+use Rattle.vt_cells.specs.Op.{csi, semicolon_list}
 
 -- An element of output: characters, a control sequence with decimal numbers separated by `;`, or another sequence of
 -- bytes.
@@ -14,7 +14,7 @@ pub data Piece : Type 0 where
 
 abbrev pub piece_text : Piece → List ℕ
 piece_text (Characters characters) = encode_utf8_all characters
-piece_text (Numbered numbers final) = csi (joined numbers) final
+piece_text (Numbered numbers final) = csi (semicolon_list numbers) final
 piece_text (Control bytes) = bytes
 
 -- The character is a Unicode scalar value that is neither a C0 or C1 control character (ECMA-48) nor DEL.

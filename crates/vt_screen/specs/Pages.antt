@@ -17,16 +17,16 @@ abbrev pub page_aside : ScreenValue → Page
 page_aside screen = unwrap_or screen.other (fresh_page screen)
 
 -- The screen after the cursor, origin mode and attributes are saved (DECSC).
-abbrev pub saved : ScreenValue → ScreenValue
-saved screen = record screen { page = cursor_saved screen.page; saved_attrs = screen.attrs }
+abbrev pub screen_after_save : ScreenValue → ScreenValue
+screen_after_save screen = record screen { page = cursor_saved screen.page; saved_attrs = screen.attrs }
 
 -- The screen after the cursor, origin mode and attributes are restored (DECRC).
-abbrev pub restored : ScreenValue → ScreenValue
-restored screen = record screen { page = cursor_restored screen.page; attrs = screen.saved_attrs }
+abbrev pub screen_after_restore : ScreenValue → ScreenValue
+screen_after_restore screen = record screen { page = cursor_restored screen.page; attrs = screen.saved_attrs }
 
 -- The screen after a switch to its alternate page, which displays no scrollback.
-abbrev pub entered : ScreenValue → ScreenValue
-entered screen =
+abbrev pub screen_after_enter : ScreenValue → ScreenValue
+screen_after_enter screen =
     if screen.is_alternate then screen
     else record screen {
       page = page_aside screen;
@@ -38,7 +38,7 @@ entered screen =
 -- The screen after its cursor, origin mode and attributes are saved and a blank alternate page becomes active. If the
 -- alternate page was already active, the state saved on that page is lost.
 abbrev pub entered_fresh : ScreenValue → ScreenValue
-entered_fresh screen = record (entered (saved screen)) { page = fresh_page screen }
+entered_fresh screen = record (screen_after_enter (screen_after_save screen)) { page = fresh_page screen }
 
 -- The screen after a switch to its main page.
 abbrev pub left_alternate : ScreenValue → ScreenValue
@@ -49,12 +49,12 @@ left_alternate screen =
 -- The screen after a switch to its main page. The saved cursor and origin mode of that page and the saved attributes
 -- are restored.
 abbrev pub left_restored : ScreenValue → ScreenValue
-left_restored screen = restored (left_alternate screen)
+left_restored screen = screen_after_restore (left_alternate screen)
 
 -- The screen after a full reset (RIS): blank, with its size and scrollback capacity unchanged. An alternate page that
 -- had been created still exists and is blank.
-abbrev pub reset : ScreenValue → ScreenValue
-reset screen = record (fresh_screen (length screen.page.rows) screen.page.width screen.scrollback.capacity) {
+abbrev pub screen_after_reset : ScreenValue → ScreenValue
+screen_after_reset screen = record (fresh_screen (length screen.page.rows) screen.page.width screen.scrollback.capacity) {
   other = option_map (λ _. fresh_page screen) screen.other;
 }
 
@@ -77,8 +77,8 @@ has_size rows cols screen = (rows == length screen.page.rows) && (cols == screen
 
 -- The screen after a resize of both pages and of the main page's scrollback. A resize to the current size changes
 -- nothing.
-abbrev pub resized : (rows cols : ℕ) → ScreenValue → ScreenValue
-resized rows cols screen =
+abbrev pub screen_after_resize : (rows cols : ℕ) → ScreenValue → ScreenValue
+screen_after_resize rows cols screen =
     if has_size rows cols screen then screen
     else record screen {
       page = page_resized rows cols (above_page screen) screen.page;

@@ -8,10 +8,10 @@ use Rattle.vt_screen.specs.Controls.{seen_of, steps_of}
 use Rattle.vt_screen.specs.Steps.{Step, Print, LineFeed, ScrollUp, EraseScrollback}
 use Rattle.vt_screen.specs.Steps.{EnterAlternate, EnterFresh, CallBack, display_after}
 use Rattle.vt_scan.specs.Automaton.{State, Event, step_in}
-use Rattle.vt_scan.specs.Table.{class_of, turn_of}
+use Rattle.vt_scan.specs.Table.{class_of, transition_of}
 use Rattle.vt_scan.specs.declared.table.Kind.TheVariants.{OscString}
-use Rattle.vt_scan.specs.declared.table.Turn.{Turn}
-use Rattle.vt_scan.specs.declared.table.Turn.TheVariants.{Collect}
+use Rattle.vt_scan.specs.declared.table.Transition.{Transition}
+use Rattle.vt_scan.specs.declared.table.Transition.TheVariants.{Collect}
 
 -- The screen after a step; `None` if the step would invoke a callback, allocate, scroll a row off the page or erase
 -- scrollback.
@@ -35,7 +35,7 @@ quiet_events (event ∷ events) screen =
     and_then (quiet_events events) (quiet_steps (steps_of event (seen_of screen)) screen)
 
 -- Whether a transition may allocate because a byte of an operating system command is collected.
-abbrev pub grows : Turn → Bool
+abbrev pub grows : Transition → Bool
 grows (Collect OscString) = true
 grows _ = false
 
@@ -50,10 +50,10 @@ terminal scan screen = record { scan = scan; screen = screen }
 -- The terminal after a byte; `None` if the byte would invoke a callback, allocate, or scroll a row off the page.
 unfoldable pub read_byte : Terminal → ℕ → Option Terminal
 read_byte t b =
-    if grows (turn_of t.scan.kind (class_of b)) then None
+    if grows (transition_of t.scan.kind (class_of b)) then None
     else let step = step_in t.scan.kind t.scan.collected b in
     and_then (λ screen. Some (terminal step.state screen)) (quiet_events step.events t.screen)
 
-abbrev pub read : Terminal → List ℕ → Option Terminal
-read t [] = Some t
-read t (b ∷ bytes) = and_then (λ u. read u bytes) (read_byte t b)
+abbrev pub terminal_after : Terminal → List ℕ → Option Terminal
+terminal_after t [] = Some t
+terminal_after t (b ∷ bytes) = and_then (λ u. terminal_after u bytes) (read_byte t b)

@@ -10,11 +10,11 @@ use Rattle.vt_redraw.specs.Items.{CutsNone, is_linked, item_of_difference, item_
 use Rattle.vt_redraw.specs.Locality.{row_of_picture}
 use Rattle.vt_redraw.specs.Picture.{Picture}
 use Rattle.vt_screen.specs.Screen.{ScreenValue}
-use Rattle.vt_screen.specs.Shown.{IsReader, Turns, shown}
+use Rattle.vt_screen.specs.Shown.{IsReader, Turns, display}
 
 -- Row `r` of a screen's picture.
 abbrev pub shown_row : ScreenValue → ℕ → RowValue
-shown_row screen r = row_of_picture (shown screen) r
+shown_row screen r = row_of_picture (display screen) r
 
 -- ---- the output
 
@@ -41,14 +41,14 @@ texts_from text r height = map text (range_with_len r (height - r))
 -- whose corresponding row is blank.
 abbrev pub formatted_rows : (start width : ℕ) → ScreenValue → List (List ℕ)
 formatted_rows start width screen =
-    texts_from (formatted_text start (range_end start width screen.page.width) (shown screen)) 0
+    texts_from (formatted_text start (range_end start width screen.page.width) (display screen)) 0
     (length screen.page.rows)
 
 -- For each row of a screen, the output that draws `width` columns of the row, starting at column `start`, on a terminal
 -- that displays the corresponding row of the screen `prev`.
 abbrev pub changed_rows : (start width : ℕ) → (screen prev : ScreenValue) → List (List ℕ)
 changed_rows start width screen prev =
-    texts_from (changed_text start (range_end start width screen.page.width) (shown screen) (shown prev)) 0
+    texts_from (changed_text start (range_end start width screen.page.width) (display screen) (display prev)) 0
     (length screen.page.rows)
 
 -- The output for row `r` in a list of outputs.
@@ -104,7 +104,7 @@ pub record HasLinked (r : ℕ) (shows : RowValue) (reader after : ScreenValue) :
 -- at `start`.
 abbrev pub DrawsRow : (start width : ℕ) → ScreenValue → (r : ℕ) → (stood : RowValue) → List ℕ → Type 0
 DrawsRow start width screen r stood text =
-    Turns (IsRowReader (shown screen) r start stood) text
+    Turns (IsRowReader (display screen) r start stood) text
     (HasRange start (range_end start width screen.page.width) r (shown_row screen r))
 
 -- ---- the rows to which this applies
@@ -117,12 +117,12 @@ IsWholeRow start width columns = (start ≡ 0) × (columns ≤ width)
 -- character.
 abbrev pub EachUncut : (start width : ℕ) → ScreenValue → (ℕ → Type 0) → Type 0
 EachUncut start width screen P =
-    (r : ℕ) → r < length (shown screen).rows
+    (r : ℕ) → r < length (display screen).rows
     → CutsNone start (range_end start width screen.page.width) (shown_row screen r).cells → P r
 
 -- `P` holds for each wrapped row of a screen's picture.
 abbrev pub EachLinked : ScreenValue → (ℕ → Type 0) → Type 0
-EachLinked screen P = (r : ℕ) → r + 1 < length (shown screen).rows → (shown_row screen r).wrapped ≡ true → P r
+EachLinked screen P = (r : ℕ) → r + 1 < length (display screen).rows → (shown_row screen r).wrapped ≡ true → P r
 
 -- `P` holds for each row of a screen's picture that isn't wrapped.
 abbrev pub EachOff : ScreenValue → (ℕ → Type 0) → Type 0

@@ -17,21 +17,21 @@ pub use Rattle.vt_screen.specs.declared.sgr.GroupRead.{GroupRead}
 use Rattle.vt_screen.specs.declared.sgr.Reading.TheVariants.{Silent, Set, Unhandled}
 
 -- The attributes after an SGR setting is applied.
-abbrev pub rendered : Setting → Attrs → Attrs
-rendered Reset attrs = default_attrs
-rendered (Foreground color) attrs = record attrs { fgcolor = color }
-rendered (Background color) attrs = record attrs { bgcolor = color }
-rendered (Strength intensity) attrs = record attrs { intensity = intensity }
-rendered (Italic on) attrs = record attrs { italic = on }
-rendered (Underline on) attrs = record attrs { underline = on }
-rendered (Inverse on) attrs = record attrs { inverse = on }
+abbrev pub attrs_after_setting : Setting → Attrs → Attrs
+attrs_after_setting Reset attrs = default_attrs
+attrs_after_setting (Foreground color) attrs = record attrs { fgcolor = color }
+attrs_after_setting (Background color) attrs = record attrs { bgcolor = color }
+attrs_after_setting (Strength intensity) attrs = record attrs { intensity = intensity }
+attrs_after_setting (Italic on) attrs = record attrs { italic = on }
+attrs_after_setting (Underline on) attrs = record attrs { underline = on }
+attrs_after_setting (Inverse on) attrs = record attrs { inverse = on }
 
-abbrev pub colored : Layer → Color → Setting
-colored Front color = Foreground color
-colored Back color = Background color
+abbrev pub color_setting : Layer → Color → Setting
+color_setting Front color = Foreground color
+color_setting Back color = Background color
 
-abbrev pub silent : Wanted → GroupRead
-silent wanted = record { reading = Silent; wanted = wanted }
+abbrev pub silent_read : Wanted → GroupRead
+silent_read wanted = record { reading = Silent; wanted = wanted }
 
 abbrev pub set : Setting → GroupRead
 set setting = record { reading = Set setting; wanted = Any }
@@ -51,10 +51,10 @@ number_read n =
     else if n == 7 then set (Inverse true)
     else if n == 27 then set (Inverse false)
     else if is_within 30 37 n then set (Foreground (Idx (n - 30)))
-    else if n == 38 then silent (Form Front)
+    else if n == 38 then silent_read (Form Front)
     else if n == 39 then set (Foreground Default)
     else if is_within 40 47 n then set (Background (Idx (n - 40)))
-    else if n == 48 then silent (Form Back)
+    else if n == 48 then silent_read (Form Back)
     else if n == 49 then set (Background Default)
     else if is_within 90 97 n then set (Foreground (Idx (n - 82)))
     else if is_within 100 107 n then set (Background (Idx (n - 92)))
@@ -64,56 +64,56 @@ number_read n =
 -- is ignored.
 unfoldable pub rgb_read : Layer → ℕ → ℕ → ℕ → GroupRead
 rgb_read layer r g b =
-    if nat_lt r 256 && (nat_lt g 256 && nat_lt b 256) then set (colored layer (Rgb r g b)) else silent Stopped
+    if nat_lt r 256 && (nat_lt g 256 && nat_lt b 256) then set (color_setting layer (Rgb r g b)) else silent_read Stopped
 
 -- The interpretation of a palette index given by a single SGR group. If the index is above 255, the rest of the
 -- sequence is ignored.
 unfoldable pub index_read : Layer → ℕ → GroupRead
-index_read layer i = if nat_lt i 256 then set (colored layer (Idx i)) else silent Stopped
+index_read layer i = if nat_lt i 256 then set (color_setting layer (Idx i)) else silent_read Stopped
 
-abbrev pub unknown : GroupRead
-unknown = record { reading = Unhandled; wanted = Any }
+abbrev pub unhandled_read : GroupRead
+unhandled_read = record { reading = Unhandled; wanted = Any }
 
 -- The interpretation of an SGR group of three numbers, which sets a palette color if the second number is 5 and is
 -- unknown otherwise.
 abbrev pub three_read : Layer → ℕ → ℕ → GroupRead
-three_read layer form i = if form == 5 then index_read layer i else unknown
+three_read layer form i = if form == 5 then index_read layer i else unhandled_read
 
 -- The interpretation of an SGR group of five numbers, which sets an RGB color if the second number is 2 and is unknown
 -- otherwise.
 abbrev pub five_read : Layer → ℕ → ℕ → ℕ → ℕ → GroupRead
-five_read layer form r g b = if form == 2 then rgb_read layer r g b else unknown
+five_read layer form r g b = if form == 2 then rgb_read layer r g b else unhandled_read
 
 -- The interpretation of an SGR group that does not continue an extended color.
 unfoldable pub setting_read : List ℕ → GroupRead
 setting_read (n ∷ []) = number_read n
 setting_read (n ∷ form ∷ i ∷ []) =
-    if n == 38 then three_read Front form i else if n == 48 then three_read Back form i else unknown
+    if n == 38 then three_read Front form i else if n == 48 then three_read Back form i else unhandled_read
 setting_read (n ∷ form ∷ r ∷ g ∷ b ∷ []) =
-    if n == 38 then five_read Front form r g b else if n == 48 then five_read Back form r g b else unknown
-setting_read _ = unknown
+    if n == 38 then five_read Front form r g b else if n == 48 then five_read Back form r g b else unhandled_read
+setting_read _ = unhandled_read
 
 -- The interpretation of an SGR group as the kind of an extended color, which is the single number 2 or 5. Any other
 -- group is reported as unhandled, and the rest of the sequence is ignored.
 unfoldable pub form_read : Layer → List ℕ → GroupRead
 form_read layer (n ∷ []) =
-    if n == 2 then silent (Red layer)
-    else if n == 5 then silent (Index layer)
+    if n == 2 then silent_read (Red layer)
+    else if n == 5 then silent_read (Index layer)
     else record { reading = Unhandled; wanted = Stopped }
 form_read layer _ = record { reading = Unhandled; wanted = Stopped }
 
 -- The interpretation of an SGR group as a color component, which is a single number up to 255. After any other group,
 -- the rest of the sequence is ignored.
 abbrev pub part_read : List ℕ → (ℕ → GroupRead) → GroupRead
-part_read (n ∷ []) next = if nat_lt n 256 then next n else silent Stopped
-part_read _ next = silent Stopped
+part_read (n ∷ []) next = if nat_lt n 256 then next n else silent_read Stopped
+part_read _ next = silent_read Stopped
 
 -- The interpretation of an SGR group, given which part of an extended color, if any, must come next.
 unfoldable pub group_read : Wanted → List ℕ → GroupRead
 group_read Any group = setting_read group
 group_read (Form layer) group = form_read layer group
-group_read (Index layer) group = part_read group (λ i. set (colored layer (Idx i)))
-group_read (Red layer) group = part_read group (λ r. silent (Green layer r))
-group_read (Green layer r) group = part_read group (λ g. silent (Blue layer r g))
-group_read (Blue layer r g) group = part_read group (λ b. set (colored layer (Rgb r g b)))
-group_read Stopped group = silent Stopped
+group_read (Index layer) group = part_read group (λ i. set (color_setting layer (Idx i)))
+group_read (Red layer) group = part_read group (λ r. silent_read (Green layer r))
+group_read (Green layer r) group = part_read group (λ g. silent_read (Blue layer r g))
+group_read (Blue layer r g) group = part_read group (λ b. set (color_setting layer (Rgb r g b)))
+group_read Stopped group = silent_read Stopped

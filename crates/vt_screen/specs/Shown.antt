@@ -11,21 +11,21 @@ use Rattle.vt_redraw.specs.Picture.{Picture, SamePictureSize, Saved, picture_ove
 use Rattle.vt_redraw.specs.Redraw.{difference, redraw}
 use Rattle.vt_redraw.specs.Steady.{IsSteady}
 use Rattle.vt_scan.specs.Automaton.{start}
-use Rattle.vt_screen.specs.Reading.{read, terminal}
+use Rattle.vt_screen.specs.Reading.{terminal_after, terminal}
 use Rattle.vt_screen.specs.Screen.{ScreenValue, IsScreen, above_page, canvas_of, visible_row, visible_rows, with_canvas}
 
 -- The picture of a screen: the displayed rows, truncated or extended to the screen's width; the position and visibility
 -- of the cursor; and the current attributes.
-abbrev pub shown : ScreenValue → Picture
-shown screen = picture_over (visible_rows screen) (canvas_of screen)
+abbrev pub display : ScreenValue → Picture
+display screen = picture_over (visible_rows screen) (canvas_of screen)
 
 -- The output that redraws a screen's picture.
 abbrev pub shown_text : ScreenValue → List ℕ
-shown_text screen = bytes_of_all (redraw (shown screen))
+shown_text screen = bytes_of_all (redraw (display screen))
 
 -- The output that turns the picture of the screen `was` into the picture of `new`.
-abbrev pub shown_change : (was new : ScreenValue) → List ℕ
-shown_change was new = bytes_of_all (difference (shown new) (shown was))
+abbrev pub display_change : (was new : ScreenValue) → List ℕ
+display_change was new = bytes_of_all (difference (display new) (display was))
 
 -- No scrollback is displayed, so the displayed rows are the rows of the active page.
 abbrev pub ShowsOwnPage : ScreenValue → Type 0
@@ -43,8 +43,8 @@ pub record IsPlain (screen : ScreenValue) : Type 0 where
 
 -- The terminal `reader` after it was changed to display a picture. Its saved state and its last printed character may
 -- have changed, too; all other parts are unchanged.
-abbrev pub showing : Picture → Saved → Option ℕ → ScreenValue → ScreenValue
-showing picture saved last reader =
+abbrev pub reader_with_display : Picture → Saved → Option ℕ → ScreenValue → ScreenValue
+reader_with_display picture saved last reader =
     record (with_canvas (with_saved saved (with_picture picture (canvas_of reader))) reader) { last = last }
 
 -- The two screens display the same content, and neither displays scrollback.
@@ -53,7 +53,7 @@ pub record ShowSamePage (screen other : ScreenValue) : Type 0 where
   pub other_sound : IsScreen other
   pub own : ShowsOwnPage screen
   pub other_own : ShowsOwnPage other
-  pub same : shown screen ≡ shown other
+  pub same : display screen ≡ display other
 
 -- ---- the terminals that read output
 
@@ -61,17 +61,17 @@ pub record ShowSamePage (screen other : ScreenValue) : Type 0 where
 pub record IsReader (picture : Picture) (reader : ScreenValue) : Type 0 where
   pub sound : IsScreen reader
   pub plain : IsPlain reader
-  pub size : SamePictureSize picture (shown reader)
+  pub size : SamePictureSize picture (display reader)
 
 -- The terminal is plain and displays the picture `prev`, which has the size of `picture`.
 pub record IsReaderOf (picture prev : Picture) (reader : ScreenValue) : Type 0 where
   pub is : IsReader picture reader
-  pub shows : shown reader ≡ prev
+  pub shows : display reader ≡ prev
 
 -- The terminal is plain, displays the rows of the picture and has default attributes.
 pub record IsReaderOfRows (picture : Picture) (reader : ScreenValue) : Type 0 where
   pub is : IsReader picture reader
-  pub shows : (shown reader).rows ≡ picture.rows
+  pub shows : (display reader).rows ≡ picture.rows
   pub attrs : reader.attrs ≡ default_attrs
 
 -- ---- the effect of output on terminals
@@ -79,7 +79,7 @@ pub record IsReaderOfRows (picture : Picture) (reader : ScreenValue) : Type 0 wh
 -- A terminal in ground state that reads the output invokes no callbacks, allocates nothing and scrolls no rows off the
 -- page. Afterward, the terminal is in ground state again and has the screen `after`.
 abbrev pub ReadsTo : List ℕ → (reader after : ScreenValue) → Type 0
-ReadsTo text reader after = read (terminal start reader) text ≡ Some (terminal start after)
+ReadsTo text reader after = terminal_after (terminal start reader) text ≡ Some (terminal start after)
 
 -- Every terminal with the property `Reader` reads all of the output without invoking callbacks, allocating, or
 -- scrolling rows off the page.
@@ -92,7 +92,7 @@ Makes Reader text Made = (reader after : ScreenValue) → Reader reader → Read
 
 -- The terminal is plain and displays the picture.
 abbrev pub ShowsPlainly : Picture → (reader after : ScreenValue) → Type 0
-ShowsPlainly picture reader after = IsPlain after × (shown after ≡ picture)
+ShowsPlainly picture reader after = IsPlain after × (display after ≡ picture)
 
 -- The rows of the terminal's page are those of the picture.
 abbrev pub HasRows : Picture → (reader after : ScreenValue) → Type 0
@@ -134,11 +134,11 @@ pub record Redraws (picture : Picture) (Reader : ScreenValue → Type 0)
 
 -- If the picture of `new` is steady, the output redraws it on every plain terminal that displays the picture of `was`.
 abbrev pub RedrawsFrom : (was new : ScreenValue) → List ℕ → Type 0
-RedrawsFrom was new text = Redraws (shown new) (IsReaderOf (shown new) (shown was)) KeepsRest text
+RedrawsFrom was new text = Redraws (display new) (IsReaderOf (display new) (display was)) KeepsRest text
 
 -- If the text is empty and the picture of the newer screen is steady, both screens display the same picture.
 abbrev pub IsSameIfEmpty : (was new : ScreenValue) → List ℕ → Type 0
-IsSameIfEmpty was new text = IsSteady (shown new) → text ≡ [] → shown new ≡ shown was
+IsSameIfEmpty was new text = IsSteady (display new) → text ≡ [] → display new ≡ display was
 
 -- The terminal takes over the picture's cursor position and cursor visibility. The terminal's rows and attributes are
 -- unchanged.

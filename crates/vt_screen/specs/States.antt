@@ -5,7 +5,7 @@ use Rattle.vt_redraw.specs.Steady.{IsSteady}
 use Rattle.vt_screen.specs.InputTexts.{input_change, input_text}
 use Rattle.vt_screen.specs.Screen.{Modes, ScreenValue, no_modes}
 use Rattle.vt_screen.specs.Shown.{IsReader, IsReaderOf, KeepsRestButModes, Makes, ReadsTo, Redraws}
-use Rattle.vt_screen.specs.Shown.{shown, shown_change, shown_text}
+use Rattle.vt_screen.specs.Shown.{display, display_change, shown_text}
 
 -- ---- input modes
 
@@ -30,17 +30,17 @@ state_text screen = shown_text screen ++ input_text screen.modes
 -- The output for the difference between the displays of two screens, followed by the output that changes the input
 -- modes that differ.
 abbrev pub state_change : (was new : ScreenValue) → List ℕ
-state_change was new = shown_change was new ++ input_change was.modes new.modes
+state_change was new = display_change was new ++ input_change was.modes new.modes
 
 -- The terminal is plain and has the screen's size, and its mouse mode, mouse encoding and cursor style have their
 -- default values.
 pub record IsStateReader (screen reader : ScreenValue) : Type 0 where
-  pub is : IsReader (shown screen) reader
+  pub is : IsReader (display screen) reader
   pub modes : HasDefaultMouseAndStyle reader.modes
 
 -- The terminal is plain, displays the picture of the screen `prev`, and has the input modes of `prev`.
 pub record IsStateReaderOf (screen prev reader : ScreenValue) : Type 0 where
-  pub is : IsReaderOf (shown screen) (shown prev) reader
+  pub is : IsReaderOf (display screen) (display prev) reader
   pub modes : reader.modes ≡ prev.modes
 
 -- The terminal has the given input modes after it has read the output.
@@ -50,5 +50,5 @@ HasModes modes reader after = after.modes ≡ modes
 -- If the screen is steady, the output redraws it on every terminal with the property `Reader` and sets the screen's
 -- input modes. Scrollback and its offset, the inactive page and the scroll region are unchanged.
 pub record GivesState (Reader : ScreenValue → Type 0) (screen : ScreenValue) (text : List ℕ) : Type 0 where
-  pub redraws : Redraws (shown screen) Reader KeepsRestButModes text
-  pub modes : IsSteady (shown screen) → Makes Reader text (HasModes screen.modes)
+  pub redraws : Redraws (display screen) Reader KeepsRestButModes text
+  pub modes : IsSteady (display screen) → Makes Reader text (HasModes screen.modes)

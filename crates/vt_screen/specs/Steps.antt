@@ -6,15 +6,15 @@ use Rattle.vt_grid.specs.Page.{scrolled_up}
 use Rattle.vt_grid.specs.Moves.{line_feed}
 use Rattle.vt_grid.specs.PageStep.{page_after}
 use Rattle.vt_grid.specs.declared.page_step.PageStep.{PageStep}
-use Rattle.vt_grid.specs.Printing.{printed}
+use Rattle.vt_grid.specs.Printing.{page_after_print}
 use Rattle.vt_grid.specs.Outgoing.{printed_out, fed_out, scrolled_out}
-use Rattle.vt_grid.specs.Scrollback.{TakesMemory, pushed, reported, cleared}
+use Rattle.vt_grid.specs.Scrollback.{TakesMemory, scrollback_after_push, rows_reported, scrollback_after_clear}
 use Rattle.vt_rows.specs.Row.{RowValue}
 use Rattle.vt_screen.specs.Calls.{CallValue}
 use Rattle.vt_screen.specs.ModeStep.{modes_after}
 use Rattle.vt_screen.specs.declared.mode_step.ModeStep.{ModeStep}
-use Rattle.vt_screen.specs.Sgr.{rendered}
-use Rattle.vt_screen.specs.Pages.{saved, restored, entered, entered_fresh, left_alternate, left_restored, reset}
+use Rattle.vt_screen.specs.Sgr.{attrs_after_setting}
+use Rattle.vt_screen.specs.Pages.{screen_after_save, screen_after_restore, screen_after_enter, entered_fresh, left_alternate, left_restored, screen_after_reset}
 use Rattle.vt_screen.specs.Screen.{ScreenValue, with_page, above_page}
 use Rattle.vt_screen.specs.declared.sgr.Setting.{Setting}
 
@@ -53,19 +53,19 @@ last_after c screen = if becomes_last screen (columns_of c) then Some c else scr
 
 -- The screen after a step, except for what the step does to scrollback.
 abbrev pub display_after : Step → ScreenValue → ScreenValue
-display_after (Print c) screen = record screen { page = printed c screen.attrs screen.page; last = last_after c screen }
+display_after (Print c) screen = record screen { page = page_after_print c screen.attrs screen.page; last = last_after c screen }
 display_after LineFeed screen = with_page (line_feed screen.page) screen
 display_after (ScrollUp count) screen = with_page (scrolled_up count screen.page) screen
 display_after (OnPage step) screen = with_page (page_after screen.attrs step screen.page) screen
-display_after SaveCursor screen = saved screen
-display_after RestoreCursor screen = restored screen
-display_after EnterAlternate screen = entered screen
+display_after SaveCursor screen = screen_after_save screen
+display_after RestoreCursor screen = screen_after_restore screen
+display_after EnterAlternate screen = screen_after_enter screen
 display_after EnterFresh screen = entered_fresh screen
 display_after LeaveAlternate screen = left_alternate screen
 display_after LeaveRestoring screen = left_restored screen
-display_after Reset screen = reset screen
+display_after Reset screen = screen_after_reset screen
 display_after EraseScrollback screen = screen
-display_after (Render setting) screen = record screen { attrs = rendered setting screen.attrs }
+display_after (Render setting) screen = record screen { attrs = attrs_after_setting setting screen.attrs }
 display_after (HideCursor hidden) screen = record screen { hidden = hidden }
 display_after (SetMode step) screen = record screen { modes = modes_after step screen.modes }
 display_after (CallBack call) screen = screen
@@ -73,35 +73,35 @@ display_after (CallBack call) screen = screen
 -- ---- the rows that a step scrolls off
 
 -- The rows that a step scrolls off the top of the active page.
-abbrev pub outgoing : Step → ScreenValue → List RowValue
-outgoing (Print c) screen = printed_out c screen.attrs screen.page
-outgoing LineFeed screen = fed_out screen.page
-outgoing (ScrollUp count) screen = scrolled_out count screen.page
-outgoing _ screen = []
+abbrev pub rows_scrolled_off : Step → ScreenValue → List RowValue
+rows_scrolled_off (Print c) screen = printed_out c screen.attrs screen.page
+rows_scrolled_off LineFeed screen = fed_out screen.page
+rows_scrolled_off (ScrollUp count) screen = scrolled_out count screen.page
+rows_scrolled_off _ screen = []
 
 -- The screen after a step that may scroll rows off the main page into scrollback.
-abbrev pub sent : Step → ScreenValue → ScreenValue
-sent step screen =
+abbrev pub screen_after_scrolling_step : Step → ScreenValue → ScreenValue
+screen_after_scrolling_step step screen =
     if screen.is_alternate then display_after step screen
     else record (display_after step screen)
-    { scrollback = pushed (length screen.page.rows) screen.page.width (outgoing step screen) screen.scrollback }
+    { scrollback = scrollback_after_push (length screen.page.rows) screen.page.width (rows_scrolled_off step screen) screen.scrollback }
 
 -- The screen after a step.
 abbrev pub screen_after : Step → ScreenValue → ScreenValue
-screen_after (Print c) screen = sent (Print c) screen
-screen_after LineFeed screen = sent LineFeed screen
-screen_after (ScrollUp count) screen = sent (ScrollUp count) screen
+screen_after (Print c) screen = screen_after_scrolling_step (Print c) screen
+screen_after LineFeed screen = screen_after_scrolling_step LineFeed screen
+screen_after (ScrollUp count) screen = screen_after_scrolling_step (ScrollUp count) screen
 screen_after EraseScrollback screen =
-    if screen.is_alternate then screen else record screen { scrollback = cleared screen.scrollback }
+    if screen.is_alternate then screen else record screen { scrollback = scrollback_after_clear screen.scrollback }
 screen_after step screen = display_after step screen
 
 -- The rows that a step reports because they aren't kept, oldest first.
 abbrev pub reports : Step → ScreenValue → List RowValue
 reports EraseScrollback screen = (above_page screen).rows
-reports step screen = reported (outgoing step screen) (above_page screen)
+reports step screen = rows_reported (rows_scrolled_off step screen) (above_page screen)
 
 -- The step allocates: it moves a row into scrollback, or switches to an alternate page that doesn't exist yet.
 abbrev pub Grows : Step → ScreenValue → Type 0
 Grows EnterAlternate screen = screen.other ≡ None
 Grows EnterFresh screen = screen.other ≡ None
-Grows step screen = TakesMemory (outgoing step screen) (above_page screen)
+Grows step screen = TakesMemory (rows_scrolled_off step screen) (above_page screen)

@@ -2,7 +2,7 @@
 -- of all of them.
 use Rattle.std.specs.Prelude.{◌≡◌, ◌≢◌, ℕ, ◌≤◌, true, false, List, [], ◌∷◌, ◌++◌, length, All, map, if◌then◌else◌}
 use Rattle.std.specs.List.{AllByRecursion}
-use Rattle.vt_rows.specs.Basic.{unwritten}
+use Rattle.vt_rows.specs.Basic.{nothing_written}
 use Rattle.vt_rows.specs.Row.{RowValue, trimmed_row}
 use Rattle.vt_grid.specs.Scrollback.{no_scrollback}
 use Rattle.vt_scan.specs.Automaton.{State, Event, EscDispatch}
@@ -10,7 +10,7 @@ use Rattle.vt_scan.specs.Run.{run}
 use Rattle.vt_screen.specs.Calls.{CallValue, OnScroll}
 use Rattle.vt_screen.specs.Capture.{all_rows, basic_texts, written_after_all}
 use Rattle.vt_screen.specs.Screen.{ScreenValue}
-use Rattle.vt_screen.specs.Steps.{Step, outgoing, screen_after}
+use Rattle.vt_screen.specs.Steps.{Step, rows_scrolled_off, screen_after}
 use Rattle.vt_screen.specs.CallsOfRun.{steps_in}
 
 -- The two lists of rows are equal except for trailing default blanks in their rows.
@@ -32,7 +32,7 @@ rows_of_calls (call ∷ calls) = row_of_call call ++ rows_of_calls calls
 
 -- The rows that a step scrolls off the top of the main page.
 abbrev pub sent_off : Step → ScreenValue → List RowValue
-sent_off step screen = if screen.is_alternate then [] else outgoing step screen
+sent_off step screen = if screen.is_alternate then [] else rows_scrolled_off step screen
 
 abbrev pub sent_off_all : List Step → ScreenValue → List RowValue
 sent_off_all [] screen = []
@@ -69,4 +69,4 @@ without_scrollback screen = record screen { scrollback = no_scrollback 0 }
 abbrev pub streamed_text : List CallValue → ScreenValue → List ℕ
 streamed_text calls screen =
     let gone = rows_of_calls calls in
-    basic_texts unwritten gone ++ basic_texts (written_after_all unwritten gone) (all_rows screen)
+    basic_texts nothing_written gone ++ basic_texts (written_after_all nothing_written gone) (all_rows screen)

@@ -12,4 +12,4 @@ IfText result P = IfOk result (λ text. P (string_bytes text))
 pub record AnswersText {A : Type 0} (result : Result (String A) Error) (bytes : List ℕ) : Type 0 where
   pub text : IfText result (λ text. text ≡ bytes)
   pub memory : OnlyOutOfMemory result
-  pub some : RefusedOnlyIfSome result bytes
+  pub nonempty : RefusedOnlyIfSome result bytes

@@ -17,7 +17,7 @@ use Rattle.vt_redraw.specs.Touching.{Changes, CharTouches}
 use Rattle.vt_scan.specs.Automaton.{Event, start, step_in}
 use Rattle.vt_screen.specs.Reading.{Terminal, terminal, quiet_step, quiet_steps, read_byte}
 use Rattle.vt_screen.specs.Screen.{ScreenValue}
-use Rattle.vt_screen.specs.Shown.{IsReaderOf, shown}
+use Rattle.vt_screen.specs.Shown.{IsReaderOf, display}
 use Rattle.vt_screen.specs.Controls.{seen_of, steps_of}
 use Rattle.vt_screen.specs.Steps.{Step, Print, LineFeed, ScrollUp, OnPage, EnterAlternate, EnterFresh}
 use Rattle.vt_screen.specs.Steps.{LeaveAlternate, LeaveRestoring, Reset}
@@ -115,4 +115,4 @@ TouchesOnly Reader text May = (reader : ScreenValue) → Reader reader → ReadT
 -- touches only positions near a difference between the two screens, as `IsLocal` defines.
 abbrev pub TouchesNear : (was new : ScreenValue) → List ℕ → Type 0
 TouchesNear was new text =
-    IsSteady (shown new) → TouchesOnly (IsReaderOf (shown new) (shown was)) text (IsLocal (shown new) (shown was))
+    IsSteady (display new) → TouchesOnly (IsReaderOf (display new) (display was)) text (IsLocal (display new) (display was))

@@ -6,7 +6,7 @@ ghost use Rattle.vt_grid.specs.Page.{SameSize};
 ghost use Rattle.vt_redraw.specs.Locality.{row_of_picture};
 ghost use Rattle.vt_redraw.specs.Picture.{IsPicture, SamePictureSize};
 ghost use Rattle.vt_redraw.specs.Steady.{IsSteady};
-ghost use Rattle.vt_rows.specs.Basic.{unwritten};
+ghost use Rattle.vt_rows.specs.Basic.{nothing_written};
 ghost use Rattle.vt_rows.specs.Cells.{at};
 ghost use Rattle.vt_scan.specs.Automaton.{State};
 ghost use Rattle.vt_scan.specs.Selectors.{ReadsNoSelector};
@@ -15,10 +15,10 @@ ghost use Rattle.vt_screen.specs.Contents.{between_of, contents_of};
 ghost use Rattle.vt_screen.specs.Escapes.{HasOnlyEscapes};
 ghost use Rattle.vt_screen.specs.MadeOf.{IsMadeOf, capture_finals, drawing_controls, drawing_finals, plain_controls};
 ghost use Rattle.vt_screen.specs.MadeOf.{reset_controls, scrolling_finals, state_controls};
-ghost use Rattle.vt_screen.specs.Pages.{resized};
+ghost use Rattle.vt_screen.specs.Pages.{screen_after_resize};
 ghost use Rattle.vt_screen.specs.Screen.{IsScreen, ScreenValue, fresh_screen, scrolled_back, visible_row, visible_rows};
 ghost use Rattle.vt_screen.specs.Selectors.{HasNoSelectors};
-ghost use Rattle.vt_screen.specs.Shown.{ShowSamePage, ShowsNoSelector, ShowsOwnPage, shown};
+ghost use Rattle.vt_screen.specs.Shown.{ShowSamePage, ShowsNoSelector, ShowsOwnPage, display};
 ghost use Rattle.vt_screen.specs.Steps.{EraseScrollback, screen_after};
 ghost use Rattle.vt_screen.specs.Streamed.{AreSameTrimmed, HasNoRis, HasWideFlags, without_scrollback, rows_of_calls, sent_off_in};
 ghost use Rattle.vt_screen.specs.CallsOfRun.{calls_in, screen_in};
@@ -33,14 +33,14 @@ ghost use Rattle.vt_screen.specs.CallsOfRun.{calls_in, screen_in};
 /// that the getters return (clause `inner`). A wide character that is cut in
 /// two at the last column is displayed as a blank.
 pub fn shown_is()
-    ensures picture { (screen : ScreenValue) → IsScreen screen → IsPicture (shown screen) }
-    ensures rows { (screen : ScreenValue) → length (shown screen).rows ≡ length screen.page.rows }
+    ensures picture { (screen : ScreenValue) → IsScreen screen → IsPicture (display screen) }
+    ensures rows { (screen : ScreenValue) → length (display screen).rows ≡ length screen.page.rows }
     ensures sizes { (screen other : ScreenValue) →
-        SameSize screen.page other.page ↔ SamePictureSize (shown screen) (shown other) }
+        SameSize screen.page other.page ↔ SamePictureSize (display screen) (display other) }
     ensures own { (screen : ScreenValue) → IsScreen screen → ShowsOwnPage screen →
-        (shown screen).rows ≡ visible_rows screen }
+        (display screen).rows ≡ visible_rows screen }
     ensures inner { (screen : ScreenValue) (row col : ℕ) → IsScreen screen → col + 1 < screen.page.width →
-        at (row_of_picture (shown screen) row).cells col ≡ at (visible_row screen row).cells col }
+        at (row_of_picture (display screen) row).cells col ≡ at (visible_row screen row).cells col }
 {}
 
 /// States that the getters of two screens with the same display return the same
@@ -51,14 +51,14 @@ pub fn shown_is()
 /// displays scrollback, they also agree on the cells of all displayed rows, on
 /// which rows are wrapped, and on the text of the screen and of each range.
 pub fn same_shown()
-    ensures size { (screen other : ScreenValue) → shown screen ≡ shown other → SameSize screen.page other.page }
-    ensures row { (screen other : ScreenValue) → shown screen ≡ shown other → screen.page.row ≡ other.page.row }
-    ensures column { (screen other : ScreenValue) → shown screen ≡ shown other →
+    ensures size { (screen other : ScreenValue) → display screen ≡ display other → SameSize screen.page other.page }
+    ensures row { (screen other : ScreenValue) → display screen ≡ display other → screen.page.row ≡ other.page.row }
+    ensures column { (screen other : ScreenValue) → display screen ≡ display other →
         screen.page.column ≡ other.page.column }
-    ensures attrs { (screen other : ScreenValue) → shown screen ≡ shown other → screen.attrs ≡ other.attrs }
-    ensures hidden { (screen other : ScreenValue) → shown screen ≡ shown other → screen.hidden ≡ other.hidden }
+    ensures attrs { (screen other : ScreenValue) → display screen ≡ display other → screen.attrs ≡ other.attrs }
+    ensures hidden { (screen other : ScreenValue) → display screen ≡ display other → screen.hidden ≡ other.hidden }
     ensures inner { (screen other : ScreenValue) (row col : ℕ) → IsScreen screen → IsScreen other →
-        shown screen ≡ shown other → col + 1 < screen.page.width →
+        display screen ≡ display other → col + 1 < screen.page.width →
         at (visible_row screen row).cells col ≡ at (visible_row other row).cells col }
     ensures rows { (screen other : ScreenValue) → ShowSamePage screen other → visible_rows screen ≡ visible_rows other }
     ensures cells { (screen other : ScreenValue) (row : ℕ) → ShowSamePage screen other →
@@ -73,7 +73,7 @@ pub fn same_shown()
 /// States that a screen is steady if no displayed cell contains U+FE0F,
 /// whatever the widths of its characters are.
 pub fn steady_without_selectors()
-    ensures { (screen : ScreenValue) → IsScreen screen → ShowsNoSelector screen → IsSteady (shown screen) }
+    ensures { (screen : ScreenValue) → IsScreen screen → ShowsNoSelector screen → IsSteady (display screen) }
 {}
 
 /// States that a screen contains no U+FE0F if no character that was read is
@@ -84,7 +84,7 @@ pub fn steady_without_selectors()
 /// - `ran`, `sized`, `scrolled_back`: a screen without U+FE0F still contains
 ///   none after a resize, after scrolling back, and after a run that reads no
 ///   U+FE0F and whose callbacks leave the screen alone.
-/// - `shown`: a screen without U+FE0F displays no cell that contains U+FE0F, so
+/// - `display`: a screen without U+FE0F displays no cell that contains U+FE0F, so
 ///   the screen is steady by `steady_without_selectors`.
 ///
 /// By `vt_scan::laws::selectors`, input without the bytes EF B8 8F contains no
@@ -94,7 +94,7 @@ pub fn no_selectors()
     ensures ran { (scan : State) (screen : ScreenValue) (bytes : List ℕ) → IsScreen screen →
         HasNoSelectors screen → ReadsNoSelector scan bytes → HasNoSelectors (screen_in scan screen bytes) }
     ensures sized { (rows cols : ℕ) (screen : ScreenValue) → IsScreen screen → HasNoSelectors screen →
-        HasNoSelectors (resized rows cols screen) }
+        HasNoSelectors (screen_after_resize rows cols screen) }
     ensures scrolled_back { (rows : ℕ) (screen : ScreenValue) → IsScreen screen → HasNoSelectors screen →
         HasNoSelectors (scrolled_back rows screen) }
     ensures shown { (screen : ScreenValue) → HasNoSelectors screen → ShowsNoSelector screen }
@@ -104,7 +104,7 @@ pub fn no_selectors()
 /// fewer than the screen has rows.
 pub fn fresh_capture()
     ensures { (rows cols capacity : ℕ) →
-        basic_texts unwritten (visible_rows (fresh_screen (suc rows) cols capacity)) ≡ replicate rows 0x0A }
+        basic_texts nothing_written (visible_rows (fresh_screen (suc rows) cols capacity)) ≡ replicate rows 0x0A }
 {}
 
 /// States which rows scroll off the main page during a run whose callbacks
@@ -151,7 +151,7 @@ pub fn wide_flags()
     ensures view { (rows : ℕ) (screen : ScreenValue) → HasWideFlags screen → HasWideFlags (scrolled_back rows screen) }
     ensures cleared { (screen : ScreenValue) → HasWideFlags screen → HasWideFlags (screen_after EraseScrollback screen) }
     ensures resized { (rows cols : ℕ) (screen : ScreenValue) → IsScreen screen → cols ≤ screen.page.width →
-        HasWideFlags screen → HasWideFlags (resized rows cols screen) }
+        HasWideFlags screen → HasWideFlags (screen_after_resize rows cols screen) }
 {}
 
 /// States which controls and escape sequences can occur in the output of each

@@ -2,7 +2,7 @@
 //! sequence set.
 
 ghost use Rattle.std.specs.Prelude.{◌≡◌, ℕ, MatchOption};
-ghost use Rattle.vt_screen.specs.Sgr.{rendered, colored, silent, set, unknown, number_read, three_read, five_read};
+ghost use Rattle.vt_screen.specs.Sgr.{attrs_after_setting, color_setting, silent_read, set, unhandled_read, number_read, three_read, five_read};
 ghost use Rattle.vt_screen.specs.Sgr.{rgb_read, index_read, setting_read, form_read, part_read, group_read};
 ghost use Rattle.vt_screen.specs.declared.sgr.GroupRead.{GroupRead};
 
@@ -100,7 +100,7 @@ pub struct GroupRead {
 impl Setting {
     /// Returns `attrs` with the setting applied.
     pub fn applied_to(self, attrs: Attrs) -> Attrs
-        ensures { result ≡ rendered self attrs }
+        ensures { result ≡ attrs_after_setting self attrs }
     {
         let mut attrs = attrs;
         match self {
@@ -119,7 +119,7 @@ impl Setting {
 impl Layer {
     /// Returns the setting that changes the color of the layer to `color`.
     fn colored(self, color: Color) -> Setting
-        ensures { result ≡ colored self color }
+        ensures { result ≡ color_setting self color }
     {
         match self {
             Layer::Front => Setting::Foreground(color),
@@ -132,7 +132,7 @@ impl GroupRead {
     /// Returns a result that changes nothing, after which the next group is
     /// interpreted according to `wanted`.
     fn silent(wanted: Wanted) -> Self
-        ensures { result ≡ silent wanted }
+        ensures { result ≡ silent_read wanted }
     {
         GroupRead {
             reading: Reading::Silent,
@@ -154,7 +154,7 @@ impl GroupRead {
     /// Returns the result for an unknown group, after which the next group is
     /// interpreted as a setting.
     fn unknown() -> Self
-        ensures { result ≡ unknown }
+        ensures { result ≡ unhandled_read }
     {
         GroupRead {
             reading: Reading::Unhandled,
@@ -298,7 +298,7 @@ fn read_form(layer: Layer, group: &[u16]) -> GroupRead
 /// group is a single number of at most 255.
 #[tactic(auto, using(std::proofs::lemmas::Bool::Decides::nat_tests))]
 fn part_of(group: &[u16]) -> Option<u8>
-    ensures { MatchOption result ((next : ℕ → GroupRead) → part_read group.now next ≡ silent Wanted.Stopped)
+    ensures { MatchOption result ((next : ℕ → GroupRead) → part_read group.now next ≡ silent_read Wanted.Stopped)
         (λ part. (next : ℕ → GroupRead) → part_read group.now next ≡ next part) }
 {
     match group {
@@ -309,7 +309,7 @@ fn part_of(group: &[u16]) -> Option<u8>
 
 /// Interprets a group as the palette index of a color.
 fn read_index(layer: Layer, group: &[u16]) -> GroupRead
-    ensures { result ≡ part_read group.now (λ i. set (colored layer (Color.Idx i))) }
+    ensures { result ≡ part_read group.now (λ i. set (color_setting layer (Color.Idx i))) }
 {
     match part_of(group) {
         Some(index) => GroupRead::set(layer.colored(Color::Idx(index))),
@@ -319,7 +319,7 @@ fn read_index(layer: Layer, group: &[u16]) -> GroupRead
 
 /// Interprets a group as the red component of a color.
 fn read_red(layer: Layer, group: &[u16]) -> GroupRead
-    ensures { result ≡ part_read group.now (λ r. silent (Wanted.Green layer r)) }
+    ensures { result ≡ part_read group.now (λ r. silent_read (Wanted.Green layer r)) }
 {
     match part_of(group) {
         Some(red) => GroupRead::silent(Wanted::Green(layer, red)),
@@ -329,7 +329,7 @@ fn read_red(layer: Layer, group: &[u16]) -> GroupRead
 
 /// Interprets a group as the green component of a color.
 fn read_green(layer: Layer, red: u8, group: &[u16]) -> GroupRead
-    ensures { result ≡ part_read group.now (λ g. silent (Wanted.Blue layer red g)) }
+    ensures { result ≡ part_read group.now (λ g. silent_read (Wanted.Blue layer red g)) }
 {
     match part_of(group) {
         Some(green) => GroupRead::silent(Wanted::Blue(layer, red, green)),
@@ -339,7 +339,7 @@ fn read_green(layer: Layer, red: u8, group: &[u16]) -> GroupRead
 
 /// Interprets a group as the blue component of a color.
 fn read_blue(layer: Layer, red: u8, green: u8, group: &[u16]) -> GroupRead
-    ensures { result ≡ part_read group.now (λ b. set (colored layer (Color.Rgb red green b))) }
+    ensures { result ≡ part_read group.now (λ b. set (color_setting layer (Color.Rgb red green b))) }
 {
     match part_of(group) {
         Some(blue) => GroupRead::set(layer.colored(Color::Rgb(red, green, blue))),

@@ -13,23 +13,23 @@ use Rattle.vt_screen.specs.Screen.{ScreenValue, fresh_screen}
 use Rattle.vt_show.specs.declared.mode.Mode.{Mode}
 use Rattle.std.specs.declared.result.Result.{Result}
 use Rattle.std.specs.Io.KnownBytes.{Consumes}
-use Rattle.vt100.specs.Parser.{Parsing, Ran, parsing, quietly}
+use Rattle.vt100.specs.Parser.{ParserValue, Ran, parser_value, does_nothing}
 use Rattle.vt100.proofs.Running.{ran_then}
 use Rattle.vt_show.specs.Internals.{HasReadBytes}
 use Rattle.vt_show.specs.Shown.{IsOfMode, ReadsForText, screen_text}
 
-pub read_none : (left : Option (List ℕ)) (p : Parsing (Unit {0})) → HasReadBytes left left p p
+pub read_none : (left : Option (List ℕ)) (p : ParserValue (Unit {0})) → HasReadBytes left left p p
 read_none left p = record { bytes = []; reads = Consumes-nil left; ran = λ s stands. (stands, refl) }
 
-pub read_on : (left at rest : Option (List ℕ)) (bytes : List ℕ) (p q r : Parsing (Unit {0})) →
-    HasReadBytes left at p q → Consumes at rest bytes → Ran quietly q bytes r → HasReadBytes left rest p r
+pub read_on : (left at rest : Option (List ℕ)) (bytes : List ℕ) (p q r : ParserValue (Unit {0})) →
+    HasReadBytes left at p q → Consumes at rest bytes → Ran does_nothing q bytes r → HasReadBytes left rest p r
 read_on left at rest bytes p q r so reads ran = record {
   bytes = so.bytes ++ bytes;
   reads = Consumes-trans left at rest so.bytes bytes so.reads reads;
-  ran = ran_then quietly p q r so.bytes bytes so.ran ran;
+  ran = ran_then does_nothing p q r so.bytes bytes so.ran ran;
 }
 
-pub read_end : (left at rest : Option (List ℕ)) (p q : Parsing (Unit {0})) → HasReadBytes left at p q →
+pub read_end : (left at rest : Option (List ℕ)) (p q : ParserValue (Unit {0})) → HasReadBytes left at p q →
     Consumes at rest [] → HasReadBytes left rest p q
 read_end left at rest p q so reads = record {
   bytes = so.bytes;
@@ -42,9 +42,9 @@ ok_ran (Ok x) P e h = h
 ok_ran (Err x) P e h = cc
 
 -- A statement about the output for the bytes that were read holds for the text of the screen after these bytes.
-pub for_text : (mode : Mode) (rows cols : ℕ) (left rest : Option (List ℕ)) (p q : Parsing (Unit {0}))
+pub for_text : (mode : Mode) (rows cols : ℕ) (left rest : Option (List ℕ)) (p q : ParserValue (Unit {0}))
     (screen : ScreenValue) (text : List ℕ) (Holds : List ℕ → Type 0)
-    → StandsFor p.scanner start → p ≡ parsing p.scanner (fresh_screen rows cols 0) p.callbacks
+    → StandsFor p.scanner start → p ≡ parser_value p.scanner (fresh_screen rows cols 0) p.callbacks
     → HasReadBytes left rest p q → screen ≡ q.screen → text ≡ screen_text mode screen → IsOfMode mode text → Holds text
     → ReadsForText mode rows cols left rest Holds
 for_text mode rows cols left rest p q screen text Holds stands fresh so shown is made holds = record {
@@ -52,8 +52,8 @@ for_text mode rows cols left rest p q screen text Holds stands fresh so shown is
   reads = so.reads;
   screen = q.screen;
   shows =
-      subst (λ (s : ScreenValue). FoldsTo (Performs quietly) (state tt s) (run start so.bytes).events (state tt q.screen))
-      (ap (λ (z : Parsing (Unit {0})). z.screen) fresh) (so.ran start stands).1;
+      subst (λ (s : ScreenValue). FoldsTo (Performs does_nothing) (state tt s) (run start so.bytes).events (state tt q.screen))
+      (ap (λ (z : ParserValue (Unit {0})). z.screen) fresh) (so.ran start stands).1;
   text = subst Holds (is ∙ ap (screen_text mode) shown) holds;
   controls = subst (IsOfMode mode) (is ∙ ap (screen_text mode) shown) made;
 }

@@ -2,13 +2,13 @@
 use Rattle.std.specs.Prelude.{◌≡◌, ℕ, List, ◌++◌}
 use Rattle.std.specs.Io.KnownBytes.{Appends, Consumes}
 use Rattle.std.specs.declared.option.Option.{Option}
-use Rattle.vt100.specs.Parser.{Parsing, Ran, quietly}
+use Rattle.vt100.specs.Parser.{ParserValue, Ran, does_nothing}
 
 -- Some bytes were read from the input, and the parser has parsed them.
-pub record HasReadBytes (left rest : Option (List ℕ)) (old new : Parsing (Unit {0})) : Type 0 where
+pub record HasReadBytes (left rest : Option (List ℕ)) (old new : ParserValue (Unit {0})) : Type 0 where
   pub bytes : List ℕ
   pub reads : Consumes left rest bytes
-  pub ran : Ran quietly old bytes new
+  pub ran : Ran does_nothing old bytes new
 
 -- A prefix of the bytes `all` has been written, and the bytes `rest` remain to be written.
 pub record HasWrittenTo (all rest : List ℕ) (old new : Option (List ℕ)) : Type 0 where

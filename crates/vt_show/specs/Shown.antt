@@ -4,7 +4,7 @@ use Rattle.std.specs.List.{FoldsTo}
 use Rattle.std.specs.Io.KnownBytes.{Appends, Consumes, IsAtEnd, Keeps}
 use Rattle.std.specs.declared.option.Option.{Option}
 use Rattle.std.specs.declared.result.Result.{Result}
-use Rattle.vt_rows.specs.Basic.{unwritten}
+use Rattle.vt_rows.specs.Basic.{nothing_written}
 use Rattle.vt_scan.specs.Automaton.{start}
 use Rattle.vt_scan.specs.Run as scan
 use Rattle.vt_screen.specs.Capture.{basic_texts}
@@ -13,7 +13,7 @@ use Rattle.vt_screen.specs.MadeOf.{IsMadeOf, capture_finals, drawing_controls, d
 use Rattle.vt_screen.specs.Run.{Performs, state}
 use Rattle.vt_screen.specs.Screen.{ScreenValue, fresh_screen, visible_rows}
 use Rattle.vt_screen.specs.Shown.{shown_text}
-use Rattle.vt100.specs.Parser.{quietly}
+use Rattle.vt100.specs.Parser.{does_nothing}
 use Rattle.vt_show.specs.declared.faults.Fault.{Fault}
 use Rattle.vt_show.specs.declared.faults.Fault.TheVariants.{Write}
 use Rattle.vt_show.specs.declared.mode.Mode.{Mode}
@@ -23,14 +23,14 @@ use Rattle.vt_show.specs.declared.mode.Mode.TheVariants.{Plain, Formatted, Basic
 -- parsed the input.
 abbrev pub ShowsAfter : ℕ → ℕ → List ℕ → ScreenValue → Type 0
 ShowsAfter rows cols input screen =
-    FoldsTo (Performs quietly) (state tt (fresh_screen rows cols 0)) (scan.run start input).events (state tt screen)
+    FoldsTo (Performs does_nothing) (state tt (fresh_screen rows cols 0)) (scan.run start input).events (state tt screen)
 
 -- The output of `vtshow` for a mode and a screen: the string that `Screen::contents`, `Screen::contents_formatted` or
 -- `Screen::contents_formatted_basic` returns.
 abbrev pub screen_text : Mode → ScreenValue → List ℕ
 screen_text Plain screen = contents_of screen
 screen_text Formatted screen = shown_text screen
-screen_text Basic screen = basic_texts unwritten (visible_rows screen)
+screen_text Basic screen = basic_texts nothing_written (visible_rows screen)
 
 -- The output has only the control characters and sequences that the given mode allows: line ends for `Plain`, drawing
 -- sequences for `Formatted`, and line ends and SGR for `Basic`.

@@ -34,8 +34,8 @@ fn shows_row(reader: &Screen, screen: &Screen, row: u16) -> bool {
         return false;
     };
     let is_blank = cell.is_wide() || !(cell.has_contents() || cell.is_wide_continuation());
-    let goes_on = screen.row_wrapped(row) && !is_blank && row != rows.get().saturating_sub(1);
-    shows_last(read, cell) && reader.row_wrapped(row) == goes_on
+    let is_wrapped = screen.row_wrapped(row) && !is_blank && row != rows.get().saturating_sub(1);
+    shows_last(read, cell) && reader.row_wrapped(row) == is_wrapped
 }
 
 /// Returns whether `read` is what a terminal displays in the last column for `cell`: a blank with

@@ -1,7 +1,7 @@
 -- The effects of callbacks that change the screen.
 use Rattle.std.specs.Prelude.{ℕ, ◌≡◌, ◌⊎◌, ◌<◌, Bool, true}
 use Rattle.vt_screen.specs.Calls.{CallValue, Resize, AudibleBell}
-use Rattle.vt_screen.specs.Pages.{resized}
+use Rattle.vt_screen.specs.Pages.{screen_after_resize}
 use Rattle.vt_screen.specs.Screen.{ScreenValue, scrolled_back}
 
 -- The callbacks and the screen are unchanged.
@@ -16,7 +16,7 @@ Becomes wanted old before new after = ((new ≡ old) × (after ≡ wanted)) ⊎ 
 -- The screen is resized as the program requests, if the size has at least one row and one column. The callbacks record
 -- whether an allocation for a resize has ever failed.
 pub record Obeys (rows cols : ℕ) (old : Bool) (before : ScreenValue) (new : Bool) (after : ScreenValue) : Type 0 where
-  pub sized : 0 < rows → 0 < cols → Becomes (resized rows cols before) old before new after
+  pub sized : 0 < rows → 0 < cols → Becomes (screen_after_resize rows cols before) old before new after
   pub no_rows : rows ≡ 0 → Stays old before new after
   pub no_cols : cols ≡ 0 → Stays old before new after
 

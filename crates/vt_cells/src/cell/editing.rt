@@ -1,8 +1,8 @@
 //! Functions that change a cell in place.
 
 ghost use Rattle.std.specs.Prelude.{◌≡◌, ◌≢◌, false, Some, if◌then◌else◌, encode_utf8};
-ghost use Rattle.vt_cells.specs.Cell.{blank, glyph, is_blank, is_right_half, marked, widened, redrawn, IsCell};
-ghost use Rattle.vt_cells.specs.CellInternals.{spaced};
+ghost use Rattle.vt_cells.specs.Cell.{blank, glyph, is_blank, is_right_half, cell_with_mark, cell_made_wide, cell_with_attrs, IsCell};
+ghost use Rattle.vt_cells.specs.CellInternals.{cell_as_glyph};
 ghost use Rattle.vt_cells.specs.Glyph.{columns_of};
 
 use super::making::{blank, glyph, push_char, space};
@@ -36,7 +36,7 @@ pub fn set_glyph(cell: &mut Cell, c: char, wide: bool, attrs: Attrs)
 pub fn append(cell: &mut Cell, c: char)
     requires shown { is_right_half cell.old ≡ false }
     requires mark { columns_of c ≡ Some 0 }
-    ensures { cell.new ≡ marked c cell.old }
+    ensures { cell.new ≡ cell_with_mark c cell.old }
 {
     fill_blank(cell);
     put_mark(cell, c);
@@ -44,7 +44,7 @@ pub fn append(cell: &mut Cell, c: char)
 
 /// Turns a blank into a space; leaves any other cell unchanged.
 fn fill_blank(cell: &mut Cell)
-    ensures { cell.new ≡ spaced cell.old }
+    ensures { cell.new ≡ cell_as_glyph cell.old }
 {
     if is_blank(cell) {
         *cell = space(attrs(cell));
@@ -56,7 +56,7 @@ fn put_mark(cell: &mut Cell, c: char)
     requires glyph { is_blank cell.old ≡ false }
     requires shown { is_right_half cell.old ≡ false }
     requires mark { columns_of c ≡ Some 0 }
-    ensures { cell.new ≡ marked c cell.old }
+    ensures { cell.new ≡ cell_with_mark c cell.old }
 {
     let shape = cell.head.shape();
     let len = shape.len();
@@ -71,8 +71,8 @@ fn put_mark(cell: &mut Cell, c: char)
 /// The new width must be that of the glyph's first character. If the glyph contains U+FE0F
 /// (variation selector 16), either width is allowed.
 pub fn set_wide(cell: &mut Cell, wide: bool)
-    requires { IsCell (widened wide cell.old) }
-    ensures { cell.new ≡ widened wide cell.old }
+    requires { IsCell (cell_made_wide wide cell.old) }
+    ensures { cell.new ≡ cell_made_wide wide cell.old }
 {
     let len = cell.head.shape().len();
     if len > 0 {
@@ -83,7 +83,7 @@ pub fn set_wide(cell: &mut Cell, wide: bool)
 /// Sets the attributes of a blank or a glyph; leaves a continuation cell unchanged.
 #[inline]
 pub fn set_attrs(cell: &mut Cell, attrs: Attrs)
-    ensures { cell.new ≡ redrawn attrs cell.old }
+    ensures { cell.new ≡ cell_with_attrs attrs cell.old }
 {
     let shape = cell.head.shape();
     if !shape.is_right_half() {

@@ -2,8 +2,8 @@
 
 ghost use Rattle.std.specs.Prelude.{◌≡◌, ◌++◌, ◌<◌, ◌≤◌, length, OnErr, OnOk};
 ghost use Rattle.vt_cells.specs.Op as op;
-ghost use Rattle.vt_cells.specs.Op.{bytes_of, change_numbers, change_text, csi, joined};
-ghost use Rattle.vt_cells.specs.BufferInternals.{gathered};
+ghost use Rattle.vt_cells.specs.Op.{bytes_of, change_numbers, change_text, csi, semicolon_list};
+ghost use Rattle.vt_cells.specs.BufferInternals.{buffered_text};
 ghost use Rattle.vt_cells.specs.Sinks.{IsStopped};
 
 use crate::attrs::Attrs;
@@ -45,12 +45,12 @@ impl ChangeAttrs {
     #[inline]
     #[tactic(auto, unfolding(crate::specs::Op::change_text))]
     pub fn add<S: Sink>(&self, sink: &mut S, buffer: &mut Buffer) -> Result<(), S::Error>
-        ensures text { OnOk result (gathered (S.text sink.new) buffer.new
-            ≡ gathered (S.text sink.old) buffer.old ++ change_text self.now.was self.now.new) }
+        ensures text { OnOk result (buffered_text (S.text sink.new) buffer.new
+            ≡ buffered_text (S.text sink.old) buffer.old ++ change_text self.now.was self.now.new) }
         ensures grows { OnOk result (length (S.text sink.old) ≤ length (S.text sink.new)) }
         ensures err { OnErr result (IsStopped S.refuses (S.text sink.old)
             (buffer.old ++ change_text self.now.was self.now.new) (S.text sink.new)) }
-        ensures some { OnErr result (0 < length (change_text self.now.was self.now.new)) }
+        ensures nonempty { OnErr result (0 < length (change_text self.now.was self.now.new)) }
     {
         if self.was.is_same(&self.new) {
             Ok(())
@@ -69,11 +69,11 @@ impl ChangeAttrs {
     /// Returns the sink's error. Part of the output may have been written by then.
     #[inline(never)]
     fn add_numbers<S: Sink>(&self, sink: &mut S, buffer: &mut Buffer) -> Result<(), S::Error>
-        ensures text { OnOk result (gathered (S.text sink.new) buffer.new
-            ≡ gathered (S.text sink.old) buffer.old ++ csi (joined (change_numbers self.now.was self.now.new)) 0x6D) }
+        ensures text { OnOk result (buffered_text (S.text sink.new) buffer.new
+            ≡ buffered_text (S.text sink.old) buffer.old ++ csi (semicolon_list (change_numbers self.now.was self.now.new)) 0x6D) }
         ensures grows { OnOk result (length (S.text sink.old) ≤ length (S.text sink.new)) }
         ensures err { OnErr result (IsStopped S.refuses (S.text sink.old)
-            (buffer.old ++ csi (joined (change_numbers self.now.was self.now.new)) 0x6D) (S.text sink.new)) }
+            (buffer.old ++ csi (semicolon_list (change_numbers self.now.was self.now.new)) 0x6D) (S.text sink.new)) }
     {
         let mut text = ChangeText::new();
         text.write(&self.was, &self.new);
@@ -89,7 +89,7 @@ impl ChangeAttrs {
     #[inline(never)]
     fn write_numbers<S: Sink>(&self, sink: &mut S) -> Result<(), S::Error>
         ensures { OnOk result (S.text sink.new
-            ≡ S.text sink.old ++ csi (joined (change_numbers self.now.was self.now.new)) 0x6D) }
+            ≡ S.text sink.old ++ csi (semicolon_list (change_numbers self.now.was self.now.new)) 0x6D) }
     {
         let mut text = ChangeText::new();
         text.write(&self.was, &self.new);

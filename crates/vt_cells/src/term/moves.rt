@@ -1,7 +1,7 @@
 //! Sequences that move the cursor to a column or a position.
 
 ghost use Rattle.vt_cells.specs.Op as op;
-ghost use Rattle.vt_cells.specs.Op.{bytes_of, bytes_of_all, moving};
+ghost use Rattle.vt_cells.specs.Op.{bytes_of, bytes_of_all, cursor_move_ops};
 
 use crate::pos::Pos;
 use crate::sink::Sink;
@@ -70,7 +70,7 @@ pub struct MoveFromTo {
 }
 
 impl BufWrite for MoveFromTo {
-    ghost bytes = { λ it. bytes_of_all (moving it.from.row it.from.col it.to.row it.to.col) };
+    ghost bytes = { λ it. bytes_of_all (cursor_move_ops it.from.row it.from.col it.to.row it.to.col) };
 
     fn write_buf<S: Sink>(&self, sink: &mut S) -> Result<(), S::Error> {
         let MoveFromTo { from, to } = *self;

@@ -3,9 +3,9 @@
 ghost use Rattle.std.specs.Prelude.{◌≡◌, ◌+◌, ◌≤◌, ◌<◌, ℕ, List, [], ◌∷◌, ◌++◌};
 ghost use Rattle.std.specs.Prelude.{length, if◌then◌else◌};
 ghost use Rattle.vt_cells.specs.Attrs.{same_bool, same_color, same_intensity};
-ghost use Rattle.vt_cells.specs.ChangeInternals.{separated, separated_all, style_part, without_separator};
+ghost use Rattle.vt_cells.specs.ChangeInternals.{number_after_semicolon, separated_all, style_part, without_separator};
 ghost use Rattle.vt_cells.specs.Op.{background_numbers, change_numbers, csi};
-ghost use Rattle.vt_cells.specs.Op.{foreground_numbers, intensity_number, joined, part};
+ghost use Rattle.vt_cells.specs.Op.{foreground_numbers, intensity_number, semicolon_list, part};
 
 use crate::attrs::{Attrs, Intensity};
 use crate::color::Color;
@@ -55,7 +55,7 @@ impl ChangeText {
     #[inline(always)]
     pub fn write(&mut self, was: &Attrs, new: &Attrs)
         requires { self.old ≡ [] }
-        ensures { self.new ≡ csi (joined (change_numbers was.now new.now)) 0x6D }
+        ensures { self.new ≡ csi (semicolon_list (change_numbers was.now new.now)) 0x6D }
     {
         self.put(b'm');
         self.put_style(was, new);
@@ -228,7 +228,7 @@ impl ChangeText {
     #[inline]
     fn put_number(&mut self, number: u8)
         requires { length self.old + 4 ≤ 64 }
-        ensures value { self.new ≡ separated number ++ self.old }
+        ensures value { self.new ≡ number_after_semicolon number ++ self.old }
         ensures room { length self.new ≤ length self.old + 4 }
     {
         self.start = write_digits(u64::from(number), &mut self.bytes, self.start);

@@ -142,7 +142,7 @@ fn free_row(lines: &[Line], from: usize, rows: usize) -> usize
     requires table { (k : ℕ) → k < length lines.now → (line_at lines.now k).place < length lines.now }
     requires distinct { (j k : ℕ) → j < length lines.now → k < length lines.now →
         (line_at lines.now j).place ≡ (line_at lines.now k).place → j ≡ k }
-    requires some { (row : ℕ) × (row < rows) × (row < length lines.now) × (rows ≤ (line_at lines.now row).place) }
+    requires nonempty { (row : ℕ) × (row < rows) × (row < length lines.now) × (rows ≤ (line_at lines.now row).place) }
     ensures after { from ≤ result }
     ensures inside { result < length lines.now }
     ensures found { (line_at lines.now result).place < rows }

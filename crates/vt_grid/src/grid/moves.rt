@@ -4,7 +4,7 @@ ghost use Rattle.std.specs.Prelude.{◌≡◌, ◌+◌, ◌<◌, ◌⊎◌, if�
 ghost use Rattle.vt_grid.specs.Moves.{carriage_return, cursor_restored, cursor_saved};
 ghost use Rattle.vt_grid.specs.Moves.{moved_left, moved_right, moved_to, target_row};
 ghost use Rattle.vt_grid.specs.Regions.{in_region, last_row, moved_down, moved_to_column, moved_to_row};
-ghost use Rattle.vt_grid.specs.Regions.{moved_up, next_line, origin_set, previous_line, region_set, tabbed};
+ghost use Rattle.vt_grid.specs.Regions.{moved_up, next_line, origin_set, previous_line, region_set, page_after_tab};
 
 use super::Grid;
 use vt_cells::Pos;
@@ -48,7 +48,7 @@ impl Grid {
     /// (HT). When a wrap is pending, the cursor moves to the last column.
     #[inline]
     pub fn col_tab(&mut self)
-        ensures { self.new ≡ tabbed self.old }
+        ensures { self.new ≡ page_after_tab self.old }
     {
         let ahead = 8 - self.pos.col % 8;
         self.pos.col = self.pos.col.saturating_add(ahead).min(self.size.cols - 1);

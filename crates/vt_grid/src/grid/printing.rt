@@ -2,14 +2,14 @@
 
 ghost use Rattle.std.specs.Prelude.{◌≡◌, ◌≢◌, ◌+◌, ◌-◌, ◌&&◌, ◌==◌, ◌<◌, ◌≤◌, [], Some};
 ghost use Rattle.std.specs.Prelude.{encode_utf8, false, if◌then◌else◌, length, nat_lt, not, slice_set, true};
-ghost use Rattle.vt_cells.specs.Cell.{IsCell, attrs_of, glyph, is_right_half, is_wide, marked, text_of};
+ghost use Rattle.vt_cells.specs.Cell.{IsCell, attrs_of, glyph, is_right_half, is_wide, cell_with_mark, text_of};
 ghost use Rattle.vt_cells.specs.Glyph.{IsGlyphText, columns_of, is_selector, is_wide_text};
 ghost use Rattle.vt_rows.specs.Cells.{at, widened_at};
 ghost use Rattle.vt_grid.specs.Internals.{IsSelected, mark_out, room_out, wide_out, wide_printed};
 ghost use Rattle.vt_grid.specs.Outgoing.{printed_out};
 ghost use Rattle.vt_grid.specs.Page.{IsPage, cursor_row, with_row};
 ghost use Rattle.vt_grid.specs.Printing.{carries, glyph_put, lifted_page, made_narrow, mark_column, mark_printed};
-ghost use Rattle.vt_grid.specs.Printing.{mark_put, printed, room_made, takes_mark, width_followed, with_cursor_cells};
+ghost use Rattle.vt_grid.specs.Printing.{mark_put, page_after_print, room_made, takes_mark, width_followed, with_cursor_cells};
 ghost use Rattle.vt_grid.specs.Sending.{LetsRowsGo};
 
 use super::Grid;
@@ -46,7 +46,7 @@ impl Grid {
         requires reported { c ≢ 0xFFFD }
         requires columns { width ≡ columns_of c }
         ensures { LetsRowsGo L.leaves (length self.old.rows) self.old.width (printed_out c attrs self.old)
-            self.old above.old leaving.old (printed c attrs self.old) self.new above.new leaving.new result }
+            self.old above.old leaving.old (page_after_print c attrs self.old) self.new above.new leaving.new result }
     {
         let Some(width) = width else {
             return Ok(());
@@ -100,7 +100,7 @@ impl Grid {
     ) -> Result<(), Error>
         ensures room { LetsRowsGo L.leaves (length self.old.rows) self.old.width (room_out columns self.old)
             self.old above.old leaving.old (room_made columns self.old) self.new above.new leaving.new result }
-        ensures some { 0 < self.old.width }
+        ensures nonempty { 0 < self.old.width }
     {
         if self.pos.col > self.size.cols.saturating_sub(columns) {
             self.wrap(above, leaving)?;
@@ -140,7 +140,7 @@ impl Grid {
     #[tactic(auto, unfolding(crate::specs::Printing::carries))]
     fn carries(&self, mark: char) -> bool
         requires mark { columns_of mark ≡ Some 0 }
-        requires some { 0 < self.now.column }
+        requires after_first { 0 < self.now.column }
         ensures { result ≡ carries mark self.now }
     {
         mark == '\u{FE0F}'
@@ -153,11 +153,11 @@ impl Grid {
     /// `mark`, and takes more than one column once `mark` is added.
     fn grows_wide(&self, mark: char) -> bool
         requires mark { columns_of mark ≡ Some 0 }
-        requires some { 0 < self.now.column }
+        requires after_first { 0 < self.now.column }
         ensures { result
             ≡ ((takes_mark (at (cursor_row self.now).cells (mark_column self.now))
             && not (is_wide (at (cursor_row self.now).cells (mark_column self.now))))
-            && is_wide_text (text_of (marked mark (at (cursor_row self.now).cells (mark_column self.now))))) }
+            && is_wide_text (text_of (cell_with_mark mark (at (cursor_row self.now).cells (mark_column self.now))))) }
     {
         let col = self.mark_col();
         self.takes_mark(col) && !self.is_wide(col) && self.is_wide_with(col, mark)
@@ -169,7 +169,7 @@ impl Grid {
         requires mark { columns_of mark ≡ Some 0 }
         requires inside { col < length (cursor_row self.now).cells }
         requires shown { is_right_half (at (cursor_row self.now).cells col) ≡ false }
-        ensures { result ≡ is_wide_text (text_of (marked mark (at (cursor_row self.now).cells col))) }
+        ensures { result ≡ is_wide_text (text_of (cell_with_mark mark (at (cursor_row self.now).cells col))) }
     {
         let mut cell = *self.page_rows.cell(self.pos.row, col);
         cell::append(&mut cell, mark);
@@ -182,7 +182,7 @@ impl Grid {
     #[tactic(auto, unfolding(crate::specs::Printing::mark_printed))]
     fn mark_cell(&mut self, mark: char, attrs: Attrs)
         requires mark { columns_of mark ≡ Some 0 }
-        requires some { 0 < self.old.column }
+        requires after_first { 0 < self.old.column }
         requires stays { carries mark self.old ≡ false }
         ensures { self.new ≡ mark_printed mark attrs self.old }
     {
@@ -287,10 +287,10 @@ impl Grid {
             self.old above.old leaving.old (mark_printed mark attrs self.old) self.new above.new leaving.new result }
     {
         let col = self.mark_col();
-        let goes_on = self.row_wrapped(self.pos.row);
+        let is_wrapped = self.row_wrapped(self.pos.row);
         let cell = self.lift(col, attrs);
         if let Err(error) = self.wrap(above, leaving) {
-            self.put_back(col, cell, goes_on);
+            self.put_back(col, cell, is_wrapped);
             return Err(error);
         }
         self.put_wide_cell(widened(cell, mark, attrs));
@@ -308,15 +308,15 @@ impl Grid {
 
     /// Puts a removed cell back at a column of the cursor's row, and restores the row's wrapped
     /// flag.
-    fn put_back(&mut self, col: u16, cell: Cell, goes_on: bool)
+    fn put_back(&mut self, col: u16, cell: Cell, is_wrapped: bool)
         requires inside { col < length (cursor_row self.old).cells }
         requires page { IsPage (with_row self.old.row
-            (record { cells = slice_set (cursor_row self.old).cells col cell; wrapped = goes_on }) self.old) }
+            (record { cells = slice_set (cursor_row self.old).cells col cell; wrapped = is_wrapped }) self.old) }
         ensures { self.new
             ≡ with_row self.old.row
-            (record { cells = slice_set (cursor_row self.old).cells col cell; wrapped = goes_on }) self.old }
+            (record { cells = slice_set (cursor_row self.old).cells col cell; wrapped = is_wrapped }) self.old }
     {
-        self.page_rows.put_back(self.pos.row, col, cell, goes_on);
+        self.page_rows.put_back(self.pos.row, col, cell, is_wrapped);
     }
 
     /// Puts the wide glyph `cell` at the cursor, and moves the cursor past it.
@@ -409,7 +409,7 @@ fn widened(mut cell: Cell, mark: char, attrs: Attrs) -> Cell
     requires sound { IsCell cell }
     requires room { takes_mark cell ≡ true }
     requires shown { is_right_half cell ≡ false }
-    ensures { result ≡ glyph (text_of (marked mark cell)) true attrs }
+    ensures { result ≡ glyph (text_of (cell_with_mark mark cell)) true attrs }
 {
     cell::append(&mut cell, mark);
     cell::set_attrs(&mut cell, attrs);

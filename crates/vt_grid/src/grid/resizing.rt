@@ -59,7 +59,7 @@ impl Grid {
         above: &mut Scrollback,
         leaving: &mut L,
     ) -> Result<(), Error>
-        requires some { 0 < rows }
+        requires nonempty { 0 < rows }
         requires fewer { rows ≤ length self.old.rows }
         ensures { ResizesPage L.leaves rows self.old.width self.old above.old leaving.old
             self.new above.new leaving.new result }

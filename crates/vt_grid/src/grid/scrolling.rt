@@ -99,28 +99,28 @@ impl Grid {
             self.old above.old leaving.old (wrapped_page self.old) self.new above.new leaving.new result }
     {
         let left = left_row(self.pos.row, self.scroll_top, self.scroll_bottom);
-        let goes_on = self.goes_on();
+        let is_wrapped = self.is_wrapped();
         self.line_feed(above, leaving)?;
-        self.leave(left, goes_on);
+        self.leave(left, is_wrapped);
         Ok(())
     }
 
     /// Returns whether a wrap would mark the cursor's row as wrapped.
-    fn goes_on(&self) -> bool
+    fn is_wrapped(&self) -> bool
         ensures { result ≡ (goes_down self.now && not (ends_blank (cursor_row self.now).cells)) }
     {
         (self.pos.row == self.scroll_bottom || self.pos.row + 1 < self.size.rows)
             && !self.page_rows.ends_blank(self.pos.row)
     }
 
-    /// Sets the wrapped flag of `left`, the row from which the cursor wrapped, to `goes_on`, and
+    /// Sets the wrapped flag of `left`, the row from which the cursor wrapped, to `is_wrapped`, and
     /// moves the cursor to the first column.
-    fn leave(&mut self, left: Option<u16>, goes_on: bool)
-        requires page { IsPage (flagged_left left goes_on self.old) }
+    fn leave(&mut self, left: Option<u16>, is_wrapped: bool)
+        requires page { IsPage (flagged_left left is_wrapped self.old) }
         requires inside { IfSome left (λ row. row < length self.old.rows) }
-        ensures { self.new ≡ record (flagged_left left goes_on self.old) { column = 0 } }
+        ensures { self.new ≡ record (flagged_left left is_wrapped self.old) { column = 0 } }
     {
-        self.page_rows.wrap_left(left, goes_on);
+        self.page_rows.wrap_left(left, is_wrapped);
         self.pos.col = 0;
     }
 }

@@ -18,7 +18,7 @@ impl Grid {
     /// character.
     #[inline]
     pub fn print_text(&mut self, text: &[u8], attrs: Attrs)
-        requires some { 0 < length text.now }
+        requires nonempty { 0 < length text.now }
         requires room { self.old.column + length text.now ≤ self.old.width }
         requires printable { IsPrintableAscii text.now }
         ensures { self.new ≡ printed_text text.now attrs self.old }
@@ -30,7 +30,7 @@ impl Grid {
     /// cursor past them.
     #[inline]
     fn put_text(&mut self, text: &[u8], attrs: Attrs)
-        requires some { 0 < length text.now }
+        requires nonempty { 0 < length text.now }
         requires room { self.old.column + length text.now ≤ self.old.width }
         requires printable { IsPrintableAscii text.now }
         ensures value { self.new ≡ text_put text.now attrs self.old }
@@ -48,7 +48,7 @@ impl Grid {
     /// character.
     #[inline]
     pub fn print_narrow_text(&mut self, text: &[char], attrs: Attrs)
-        requires some { 0 < length text.now }
+        requires nonempty { 0 < length text.now }
         requires room { self.old.column + length text.now ≤ self.old.width }
         requires narrow { IsNarrowText text.now }
         ensures { self.new ≡ printed_text text.now attrs self.old }
@@ -60,7 +60,7 @@ impl Grid {
     /// cursor past them.
     #[inline]
     fn put_narrow_text(&mut self, text: &[char], attrs: Attrs)
-        requires some { 0 < length text.now }
+        requires nonempty { 0 < length text.now }
         requires room { self.old.column + length text.now ≤ self.old.width }
         requires narrow { IsNarrowText text.now }
         ensures value { self.new ≡ text_put text.now attrs self.old }
@@ -78,7 +78,7 @@ impl Grid {
     /// character.
     #[inline]
     pub fn print_wide_text(&mut self, text: &[char], attrs: Attrs)
-        requires some { 0 < length text.now }
+        requires nonempty { 0 < length text.now }
         requires room { self.old.column + 2 * length text.now ≤ self.old.width }
         requires wide { IsWideText text.now }
         ensures { self.new ≡ printed_text text.now attrs self.old }
@@ -90,7 +90,7 @@ impl Grid {
     /// cursor past them.
     #[inline]
     fn put_wide_text(&mut self, text: &[char], attrs: Attrs)
-        requires some { 0 < length text.now }
+        requires nonempty { 0 < length text.now }
         requires room { self.old.column + 2 * length text.now ≤ self.old.width }
         requires wide { IsWideText text.now }
         ensures value { self.new ≡ wide_text_put text.now attrs self.old }

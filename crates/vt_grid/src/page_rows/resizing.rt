@@ -5,7 +5,7 @@ ghost use Rattle.std.specs.Prelude.{length, replicate, slice_index_or};
 ghost use Rattle.vt_cells.specs.Attrs.{default_attrs};
 ghost use Rattle.vt_cells.specs.Refusals.{OnlyOutOfMemory};
 ghost use Rattle.vt_rows.specs.Row.{RowValue, IsRow, blank_row, resized_row};
-ghost use Rattle.vt_grid.specs.Internals.{refilled, taken_over};
+ghost use Rattle.vt_grid.specs.Internals.{row_after_refill, taken_over};
 ghost use Rattle.vt_rows.specs.Cells.{IsPaired};
 ghost use Rattle.vt_grid.specs.Resize.{rows_resized, taken_back, window};
 ghost use Rattle.vt_grid.specs.PageRows.{blank_page_rows, page_row, with_blank_rows, with_page_row};
@@ -13,8 +13,8 @@ ghost use Rattle.vt_grid.specs.PageRows.{blank_page_rows, page_row, with_blank_r
 use super::PageRows;
 use crate::scrollback::Scrollback;
 use vt_cells::{Cell, Error};
-use vt_rows::cuts;
 use vt_rows::row::flag_kept;
+use vt_rows::trimming;
 
 impl PageRows {
     /// Appends default blank rows until there are `rows` rows.
@@ -58,7 +58,7 @@ impl PageRows {
     /// down by `up` rows, over blank rows at its bottom. The wrapped flag of the last row is
     /// cleared.
     pub fn bring_back(&mut self, up: u16, above: &mut Scrollback)
-        requires some { 0 < length self.old.rows }
+        requires nonempty { 0 < length self.old.rows }
         requires inside { up ≤ length self.old.rows }
         requires blank { (k : ℕ) (d : RowValue) → length self.old.rows ≤ k + up → k < length self.old.rows →
             slice_index_or self.old.rows k d ≡ blank_row default_attrs self.old.width }
@@ -83,7 +83,7 @@ impl PageRows {
     /// Keeps `rows` rows, beginning with row `down`, and removes the others. The wrapped flag of
     /// the last row is cleared.
     pub fn keep_rows(&mut self, down: u16, rows: u16)
-        requires some { 0 < rows }
+        requires nonempty { 0 < rows }
         requires inside { down + rows ≤ length self.old.rows }
         requires sound { All (IsRow self.old.width) self.old.rows }
         ensures rows { (above : List RowValue) → self.new.rows
@@ -118,7 +118,7 @@ impl PageRows {
         self.flat = fresh.flat;
     }
 
-    /// Copies the cells in `from` into the blank row `row`, as [`cuts::refit`] does. Sets the row's
+    /// Copies the cells in `from` into the blank row `row`, as [`trimming::refit`] does. Sets the row's
     /// wrapped flag to `wrapped` if the two widths are equal, otherwise to `false`.
     #[tactic(auto, using(crate::proofs::Flats::columns_counted))]
     pub fn fit_row(&mut self, row: usize, from: &[Cell], wrapped: bool)
@@ -130,8 +130,8 @@ impl PageRows {
             (resized_row (length (page_row self.old row).cells) (record { cells = from.now; wrapped = wrapped }))
             self.old }
     {
-        let goes_on = flag_kept(wrapped, from.len() == usize::from(self.flat.width));
-        self.edit_row_and_flag(row, goes_on, |cells| cuts::refit(cells, from));
+        let is_wrapped = flag_kept(wrapped, from.len() == usize::from(self.flat.width));
+        self.edit_row_and_flag(row, is_wrapped, |cells| trimming::refit(cells, from));
     }
 
     /// Copies the rows of `rows`, starting at row `down`, into the blank rows of this page,
@@ -169,7 +169,7 @@ fn fill(fresh: &mut PageRows, rows: &PageRows, down: usize, up: usize, above: &m
     ensures above { above.new ≡ taken_back up above.old }
     ensures by_index { (k : ℕ) (d : RowValue) → k < length fresh.old.rows →
         slice_index_or fresh.new.rows k d
-        ≡ refilled down up above.old.rows rows.now.rows (slice_index_or fresh.old.rows k d) k d }
+        ≡ row_after_refill down up above.old.rows rows.now.rows (slice_index_or fresh.old.rows k d) k d }
 {
     above.give_back(fresh, up);
     fresh.take_rows(rows, down, up);

@@ -17,7 +17,7 @@ impl PageRows {
     pub fn put_text(&mut self, row: u16, col: u16, text: &[u8], attrs: Attrs)
         requires inside { row < length self.old.rows }
         requires paired { IsPaired (page_row self.old row).cells }
-        requires some { 0 < length text.now }
+        requires nonempty { 0 < length text.now }
         requires columns { col + length text.now ≤ length (page_row self.old row).cells }
         requires printable { IsPrintableAscii text.now }
         ensures { self.new ≡ with_row_cells row (put_text col text.now attrs (page_row self.old row).cells) self.old }
@@ -33,7 +33,7 @@ impl PageRows {
     pub fn put_narrow_text(&mut self, row: u16, col: u16, text: &[char], attrs: Attrs)
         requires inside { row < length self.old.rows }
         requires paired { IsPaired (page_row self.old row).cells }
-        requires some { 0 < length text.now }
+        requires nonempty { 0 < length text.now }
         requires columns { col + length text.now ≤ length (page_row self.old row).cells }
         requires narrow { IsNarrowText text.now }
         ensures { self.new ≡ with_row_cells row (put_text col text.now attrs (page_row self.old row).cells) self.old }
@@ -49,7 +49,7 @@ impl PageRows {
     pub fn put_wide_text(&mut self, row: u16, col: u16, text: &[char], attrs: Attrs)
         requires inside { row < length self.old.rows }
         requires paired { IsPaired (page_row self.old row).cells }
-        requires some { 0 < length text.now }
+        requires nonempty { 0 < length text.now }
         requires columns { col + 2 * length text.now ≤ length (page_row self.old row).cells }
         requires wide { IsWideText text.now }
         ensures { self.new

@@ -10,7 +10,7 @@ ghost use Rattle.vt_rows.specs.Basic.{shown_text, written_after};
 ghost use Rattle.vt_rows.specs.Internals.{Gathers, cell_text};
 
 use super::{BasicFormattedCaptureState, RowContents};
-use crate::cuts;
+use crate::trimming;
 use vt_cells::term::ChangeAttrs;
 use vt_cells::{Attrs, Buffer, Cell, Sink, cell};
 
@@ -40,10 +40,10 @@ impl RowContents<'_> {
         ensures err { OnErr result (state.new ≡ state.old) }
         ensures stopped { OnErr result
             (IsStopped S.refuses (S.text sink.old) (basic_text state.old self.now) (S.text sink.new)) }
-        ensures some { OnErr result (0 < length (basic_text state.old self.now)) }
+        ensures nonempty { OnErr result (0 < length (basic_text state.old self.now)) }
     {
         write_line_end(sink, state.is_due)?;
-        let cells = &self.cells[..cuts::trimmed_len(self.cells)];
+        let cells = &self.cells[..trimming::trimmed_len(self.cells)];
         state.attrs = write_cells(sink, cells, state.attrs)?;
         state.is_due = !self.wrapped;
         Ok(())
@@ -68,7 +68,7 @@ fn write_cells<S: Sink>(sink: &mut S, cells: &[Cell], attrs: Attrs) -> Result<At
     ensures attrs { IfOk result (λ last. last ≡ attrs_after_all attrs cells.now) }
     ensures stopped { OnErr result
         (IsStopped S.refuses (S.text sink.old) (cells_text attrs cells.now) (S.text sink.new)) }
-    ensures some { OnErr result (0 < length (cells_text attrs cells.now)) }
+    ensures nonempty { OnErr result (0 < length (cells_text attrs cells.now)) }
 {
     let mut buffer = Buffer::new();
     let mut last = attrs;
@@ -94,7 +94,7 @@ fn add_cell<S: Sink>(
     ensures attrs { OnOk result (attrs.new ≡ attrs_after attrs.old cell.now) }
     ensures stopped { OnErr result
         (IsStopped S.refuses (S.text sink.old) (buffer.old ++ cell_text attrs.old cell.now) (S.text sink.new)) }
-    ensures some { OnErr result (0 < length (cell_text attrs.old cell.now)) }
+    ensures nonempty { OnErr result (0 < length (cell_text attrs.old cell.now)) }
 {
     if cell.is_wide_continuation() {
         return Ok(());
@@ -123,7 +123,7 @@ fn keeps_attrs(cell: &Cell, attrs: &Attrs) -> bool
     if cell.is_wide_continuation() {
         return true;
     }
-    cuts::is_default(cell)
+    trimming::is_default(cell)
 }
 
 /// Returns the text that is written for a cell, which is a space for a blank.

@@ -1,7 +1,7 @@
 //! The state that a capture carries from one row to the next.
 
 ghost use Rattle.std.specs.Prelude.{◌≡◌};
-ghost use Rattle.vt_rows.specs.Basic.{unwritten};
+ghost use Rattle.vt_rows.specs.Basic.{nothing_written};
 
 use std::marker::Model;
 use vt_cells::Attrs;
@@ -25,7 +25,7 @@ impl Model for BasicFormattedCaptureState {
 impl BasicFormattedCaptureState {
     /// Returns the state before the first row: default attributes and no pending newline.
     pub fn new() -> Self
-        ensures { result ≡ unwritten }
+        ensures { result ≡ nothing_written }
     {
         BasicFormattedCaptureState {
             attrs: Attrs::new(),
@@ -36,10 +36,10 @@ impl BasicFormattedCaptureState {
 
 impl Default for BasicFormattedCaptureState {
     ghost use Rattle.std.specs.Prelude.{◌≡◌};
-    ghost use Rattle.vt_rows.specs.Basic.{unwritten};
+    ghost use Rattle.vt_rows.specs.Basic.{nothing_written};
 
     fn default() -> Self
-        ensures { result ≡ unwritten }
+        ensures { result ≡ nothing_written }
     {
         BasicFormattedCaptureState::new()
     }

@@ -5,15 +5,15 @@ ghost use Rattle.std.specs.Prelude.{[], IsTrue, None, Some, false, length, slice
 ghost use Rattle.vt_scan.specs.Automaton.{is_parameter};
 ghost use Rattle.vt_scan.specs.Internals.{Begins, Opens};
 ghost use Rattle.vt_scan.specs.Scanner.{EndsEscape, Feeds, FeedsAll, ends_command, ends_sequence, is_final};
-ghost use Rattle.vt_scan.specs.Scanner.{is_intermediate, is_marker, leads_in, starts_skipped, starts_string};
+ghost use Rattle.vt_scan.specs.Scanner.{is_intermediate, is_marker, is_introducer, starts_skipped, starts_string};
 ghost use Rattle.vt_scan.specs.declared.event.Event.{Event};
 ghost use Rattle.vt_scan.specs.declared.table.Ending.{Ending};
 ghost use Rattle.vt_scan.specs.declared.table.Kind.{Kind};
-ghost use Rattle.vt_scan.specs.declared.table.Turn.{Turn};
+ghost use Rattle.vt_scan.specs.declared.table.Transition.{Transition};
 
 use super::Scanner;
 use crate::lengths::escapes_len;
-use crate::table::{Ending, Kind, Turn, turn_at};
+use crate::table::{Ending, Kind, Transition, transition_at};
 
 impl Scanner {
     /// Parses the leading bytes that introduce a sequence, and returns how many it parsed. Such
@@ -22,17 +22,17 @@ impl Scanner {
     /// them causes no event and allocates nothing. If all bytes are parsed, the next call continues
     /// where this one stopped.
     #[inline]
-    pub fn lead_in(&mut self, bytes: &[u8]) -> usize
+    pub fn take_introducer(&mut self, bytes: &[u8]) -> usize
         ensures inside { result ≤ length bytes.now }
         ensures fed { FeedsAll self.old (take result bytes.now) self.new [] }
         ensures longest { result < length bytes.now →
-            leads_in self.new.kind self.new.unfinished (slice_index_or bytes.now result 0) ≡ false }
+            is_introducer self.new.kind self.new.unfinished (slice_index_or bytes.now result 0) ≡ false }
     {
         match self.kind {
-            Kind::Ground => self.lead_from_text(bytes),
-            Kind::Escape => self.lead_from_escape(bytes),
+            Kind::Ground => self.take_introducer_in_ground(bytes),
+            Kind::Escape => self.take_introducer_after_escape(bytes),
             Kind::CsiEntry => self.lead_from_entry(bytes),
-            Kind::CsiParam => self.lead_parameters(bytes),
+            Kind::CsiParam => self.take_parameter_bytes(bytes),
             _ => 0,
         }
     }
@@ -40,14 +40,14 @@ impl Scanner {
     /// Parses `byte` if it is the final byte of a control sequence without intermediates. Returns
     /// whether it was parsed. If so, that sequence is the only event.
     #[inline(always)]
-    pub fn final_byte(&mut self, byte: u8) -> bool
+    pub fn take_final_byte(&mut self, byte: u8) -> bool
         ensures answers { result ≡ ends_sequence self.old.kind byte }
         ensures fed { IsTrue result
             → Feeds self.old byte self.new (record { first = Some (Event.Csi byte); second = None }) }
         ensures kept { result ≡ false → self.new ≡ self.old }
     {
         match self.kind {
-            Kind::CsiEntry | Kind::CsiParam => self.ends_with(byte),
+            Kind::CsiEntry | Kind::CsiParam => self.take_if_final(byte),
             _ => false,
         }
     }
@@ -55,15 +55,18 @@ impl Scanner {
     /// Parses `byte` if it is the final byte of an escape sequence. Returns whether it was parsed.
     /// If so, that sequence is the only event.
     #[inline]
-    pub fn escape_byte(&mut self, byte: u8) -> bool
+    pub fn take_escape_byte(&mut self, byte: u8) -> bool
         ensures answers { IsTrue result ↔ EndsEscape self.old.kind byte }
         ensures fed { IsTrue result
             → Feeds self.old byte self.new (record { first = Some (Event.Escape byte); second = None }) }
         ensures kept { result ≡ false → self.new ≡ self.old }
     {
         match self.kind {
-            Kind::Escape => self.dispatches(turn_at(Kind::Escape, byte)),
-            Kind::EscapeIntermediate => self.dispatches(turn_at(Kind::EscapeIntermediate, byte)),
+            Kind::Escape => self.dispatches(transition_at(Kind::Escape, byte)),
+            Kind::EscapeIntermediate => self.dispatches(transition_at(
+                Kind::EscapeIntermediate,
+                byte,
+            )),
             _ => false,
         }
     }
@@ -86,15 +89,15 @@ impl Scanner {
     /// Parses the leading bytes that introduce a sequence, starting from the ground state, and
     /// returns how many it parsed. Tests for ESC and `[` together first.
     #[inline(always)]
-    fn lead_from_text(&mut self, bytes: &[u8]) -> usize
+    fn take_introducer_in_ground(&mut self, bytes: &[u8]) -> usize
         requires { self.old.kind ≡ Kind.Ground }
         ensures inside { result ≤ length bytes.now }
         ensures fed { FeedsAll self.old (take result bytes.now) self.new [] }
         ensures longest { result < length bytes.now →
-            leads_in self.new.kind self.new.unfinished (slice_index_or bytes.now result 0) ≡ false }
+            is_introducer self.new.kind self.new.unfinished (slice_index_or bytes.now result 0) ≡ false }
     {
-        if !self.takes_opening(bytes) {
-            return self.lead_by_bytes(bytes);
+        if !self.take_opening(bytes) {
+            return self.take_introducer_by_bytes(bytes);
         }
         let more = self.lead_from_entry(&bytes[2..]);
         2 + more
@@ -104,31 +107,31 @@ impl Scanner {
     /// returns how many it parsed. Tests for ESC and `[` separately, because the input may end
     /// between them.
     #[inline]
-    fn lead_by_bytes(&mut self, bytes: &[u8]) -> usize
+    fn take_introducer_by_bytes(&mut self, bytes: &[u8]) -> usize
         requires { self.old.kind ≡ Kind.Ground }
         ensures inside { result ≤ length bytes.now }
         ensures fed { FeedsAll self.old (take result bytes.now) self.new [] }
         ensures longest { result < length bytes.now →
-            leads_in self.new.kind self.new.unfinished (slice_index_or bytes.now result 0) ≡ false }
+            is_introducer self.new.kind self.new.unfinished (slice_index_or bytes.now result 0) ≡ false }
     {
         if bytes.is_empty() {
             return 0;
         }
-        if !self.takes_escape(bytes[0]) {
+        if !self.take_escape(bytes[0]) {
             return 0;
         }
-        let more = self.lead_from_escape(&bytes[1..]);
+        let more = self.take_introducer_after_escape(&bytes[1..]);
         1 + more
     }
 
     /// Parses the bytes after an ESC that introduce a sequence, and returns how many it parsed.
     #[inline(always)]
-    fn lead_from_escape(&mut self, bytes: &[u8]) -> usize
+    fn take_introducer_after_escape(&mut self, bytes: &[u8]) -> usize
         requires { self.old.kind ≡ Kind.Escape }
         ensures inside { result ≤ length bytes.now }
         ensures fed { FeedsAll self.old (take result bytes.now) self.new [] }
         ensures longest { result < length bytes.now →
-            leads_in self.new.kind self.new.unfinished (slice_index_or bytes.now result 0) ≡ false }
+            is_introducer self.new.kind self.new.unfinished (slice_index_or bytes.now result 0) ≡ false }
     {
         let escapes = self.takes_escapes(bytes);
         let more = self.lead_after_escapes(&bytes[escapes..]);
@@ -144,18 +147,18 @@ impl Scanner {
         ensures inside { result ≤ length bytes.now }
         ensures fed { FeedsAll self.old (take result bytes.now) self.new [] }
         ensures longest { result < length bytes.now →
-            leads_in self.new.kind self.new.unfinished (slice_index_or bytes.now result 0) ≡ false }
+            is_introducer self.new.kind self.new.unfinished (slice_index_or bytes.now result 0) ≡ false }
     {
         if bytes.is_empty() {
             return 0;
         }
-        if self.takes_intermediate(bytes[0]) {
+        if self.take_intermediate(bytes[0]) {
             return 1;
         }
         if self.takes_string_start(bytes[0]) {
             return 1;
         }
-        if !self.takes_bracket(bytes[0]) {
+        if !self.take_bracket(bytes[0]) {
             return 0;
         }
         let more = self.lead_from_entry(&bytes[1..]);
@@ -170,21 +173,21 @@ impl Scanner {
         ensures inside { result ≤ length bytes.now }
         ensures fed { FeedsAll self.old (take result bytes.now) self.new [] }
         ensures longest { result < length bytes.now →
-            leads_in self.new.kind self.new.unfinished (slice_index_or bytes.now result 0) ≡ false }
+            is_introducer self.new.kind self.new.unfinished (slice_index_or bytes.now result 0) ≡ false }
     {
         if bytes.is_empty() {
             return 0;
         }
         if !self.takes_marker(bytes[0]) {
-            return self.lead_parameters(bytes);
+            return self.take_parameter_bytes(bytes);
         }
-        let more = self.lead_parameters(&bytes[1..]);
+        let more = self.take_parameter_bytes(&bytes[1..]);
         1 + more
     }
 
     /// Parses the leading parameter bytes of a control sequence, and returns how many it parsed.
     #[inline(always)]
-    fn lead_parameters(&mut self, bytes: &[u8]) -> usize
+    fn take_parameter_bytes(&mut self, bytes: &[u8]) -> usize
         requires { (self.old.kind ≡ Kind.CsiEntry) ⊎ (self.old.kind ≡ Kind.CsiParam) }
         ensures inside { result ≤ length bytes.now }
         ensures fed { FeedsAll self.old (take result bytes.now) self.new [] }
@@ -201,7 +204,7 @@ impl Scanner {
 
     /// Parses `byte` if it ends a control sequence, and returns whether it was parsed.
     #[inline(always)]
-    fn ends_with(&mut self, byte: u8) -> bool
+    fn take_if_final(&mut self, byte: u8) -> bool
         requires { (self.old.kind ≡ Kind.CsiEntry) ⊎ (self.old.kind ≡ Kind.CsiParam) }
         ensures answers { result ≡ is_final byte }
         ensures fed { IsTrue result
@@ -238,13 +241,13 @@ impl Scanner {
 
     /// Enters the ground state if `turn` dispatches an escape sequence, and returns whether it does.
     #[inline(always)]
-    fn dispatches(&mut self, turn: Turn) -> bool
-        ensures answers { IsTrue result ↔ (turn ≡ Turn.End Kind.Ground Ending.EscDispatch) }
+    fn dispatches(&mut self, turn: Transition) -> bool
+        ensures answers { IsTrue result ↔ (turn ≡ Transition.End Kind.Ground Ending.EscDispatch) }
         ensures begins { IsTrue result → Begins self.old self.new Kind.Ground }
         ensures kept { result ≡ false → self.new ≡ self.old }
     {
         match turn {
-            Turn::End(Kind::Ground, Ending::EscDispatch) => {
+            Transition::End(Kind::Ground, Ending::EscDispatch) => {
                 self.begin(Kind::Ground);
                 true
             }
@@ -254,7 +257,7 @@ impl Scanner {
 
     /// Parses a leading `ESC [` if no character is incomplete, and returns whether it was parsed.
     #[inline(always)]
-    fn takes_opening(&mut self, bytes: &[u8]) -> bool
+    fn take_opening(&mut self, bytes: &[u8]) -> bool
         requires { self.old.kind ≡ Kind.Ground }
         ensures opens { IsTrue result → Opens bytes.now }
         ensures fresh { IsTrue result → self.old.unfinished ≡ [] }
@@ -270,7 +273,7 @@ impl Scanner {
 
     /// Parses `byte` if it is a `[` after ESC, and returns whether it was parsed.
     #[inline]
-    fn takes_bracket(&mut self, byte: u8) -> bool
+    fn take_bracket(&mut self, byte: u8) -> bool
         requires { self.old.kind ≡ Kind.Escape }
         ensures answers { result ≡ (byte == 0x5B) }
         ensures begins { IsTrue result → self.new.kind ≡ Kind.CsiEntry }
@@ -286,7 +289,7 @@ impl Scanner {
 
     /// Parses `byte` if it is an intermediate after ESC, and returns whether it was parsed.
     #[inline]
-    fn takes_intermediate(&mut self, byte: u8) -> bool
+    fn take_intermediate(&mut self, byte: u8) -> bool
         requires { self.old.kind ≡ Kind.Escape }
         ensures answers { result ≡ is_intermediate byte }
         ensures kind { IsTrue result → self.new.kind ≡ Kind.EscapeIntermediate }
@@ -359,7 +362,7 @@ impl Scanner {
     /// Parses `byte` if it is ESC and no character is incomplete, and returns whether it was
     /// parsed.
     #[inline]
-    fn takes_escape(&mut self, byte: u8) -> bool
+    fn take_escape(&mut self, byte: u8) -> bool
         requires { self.old.kind ≡ Kind.Ground }
         ensures answers { result ≡ ((byte == 0x1B) && (length self.old.unfinished == 0)) }
         ensures begins { IsTrue result → self.new.kind ≡ Kind.Escape }

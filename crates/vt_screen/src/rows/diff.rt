@@ -4,7 +4,7 @@
 ghost use Rattle.std.specs.Prelude.{◌≡◌, ◌≤◌, length};
 ghost use Rattle.vt_grid.specs.Page.{SameSize};
 ghost use Rattle.vt_screen.specs.RowsShown.{changed_text, texts_from};
-ghost use Rattle.vt_screen.specs.Shown.{shown};
+ghost use Rattle.vt_screen.specs.Shown.{display};
 
 use crate::screen::Screen;
 use std::marker::Model;
@@ -31,11 +31,11 @@ impl<'a> Model for RowsDiff<'a> {
     ghost use Rattle.vt_grid.specs.Page.{SameSize};
     ghost use Rattle.vt_screen.specs.Internals.{IsColumns};
     ghost use Rattle.vt_screen.specs.RowsShown.{changed_text, texts_from};
-    ghost use Rattle.vt_screen.specs.Shown.{shown};
+    ghost use Rattle.vt_screen.specs.Shown.{display};
 
     ghost Value = { List (List ℕ) };
 
-    ghost view = { λ r. texts_from (changed_text r.start r.stop (shown r.screen.now) (shown r.prev.now))
+    ghost view = { λ r. texts_from (changed_text r.start r.stop (display r.screen.now) (display r.prev.now))
         r.row (length r.screen.now.page.rows) };
 
     ghost invariant = { λ r. IsColumns r.start r.stop r.screen.now × SameSize r.screen.now.page r.prev.now.page };
@@ -49,7 +49,7 @@ impl<'a> RowsDiff<'a> {
         requires stop { stop ≤ screen.now.page.width }
         requires size { SameSize screen.now.page prev.now.page }
         ensures { result
-            ≡ texts_from (changed_text start stop (shown screen.now) (shown prev.now)) 0 (length screen.now.page.rows) }
+            ≡ texts_from (changed_text start stop (display screen.now) (display prev.now)) 0 (length screen.now.page.rows) }
     {
         RowsDiff {
             screen,

@@ -2,7 +2,7 @@
 
 ghost use Rattle.std.specs.Prelude.{◌≡◌, ◌≤◌, length};
 ghost use Rattle.vt_screen.specs.RowsShown.{formatted_text, texts_from};
-ghost use Rattle.vt_screen.specs.Shown.{shown};
+ghost use Rattle.vt_screen.specs.Shown.{display};
 
 use crate::screen::Screen;
 use std::marker::Model;
@@ -27,11 +27,11 @@ impl<'a> Model for RowsFormatted<'a> {
     ghost use Rattle.std.specs.Prelude.{List, ℕ, length};
     ghost use Rattle.vt_screen.specs.Internals.{IsColumns};
     ghost use Rattle.vt_screen.specs.RowsShown.{formatted_text, texts_from};
-    ghost use Rattle.vt_screen.specs.Shown.{shown};
+    ghost use Rattle.vt_screen.specs.Shown.{display};
 
     ghost Value = { List (List ℕ) };
 
-    ghost view = { λ r. texts_from (formatted_text r.start r.stop (shown r.screen.now))
+    ghost view = { λ r. texts_from (formatted_text r.start r.stop (display r.screen.now))
         r.row (length r.screen.now.page.rows) };
 
     ghost invariant = { λ r. IsColumns r.start r.stop r.screen.now };
@@ -43,7 +43,7 @@ impl<'a> RowsFormatted<'a> {
     pub(crate) fn new(screen: &'a Screen, start: u16, stop: u16) -> RowsFormatted<'a>
         requires order { start ≤ stop }
         requires stop { stop ≤ screen.now.page.width }
-        ensures { result ≡ texts_from (formatted_text start stop (shown screen.now)) 0 (length screen.now.page.rows) }
+        ensures { result ≡ texts_from (formatted_text start stop (display screen.now)) 0 (length screen.now.page.rows) }
     {
         RowsFormatted {
             screen,

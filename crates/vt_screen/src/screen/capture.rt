@@ -3,7 +3,7 @@
 ghost use Rattle.std.specs.Prelude.{◌≡◌, ◌≤◌, ◌++◌, OnErr, OnOk, length};
 ghost use Rattle.std.specs.List.{slice_range};
 ghost use Rattle.vt_cells.specs.Refusals.{OnlyOutOfMemory};
-ghost use Rattle.vt_rows.specs.Basic.{Written, unwritten};
+ghost use Rattle.vt_rows.specs.Basic.{Written, nothing_written};
 ghost use Rattle.vt_redraw.specs.Refusals.{RefusedOnlyIfSome};
 ghost use Rattle.vt_screen.specs.Capture.{IfGiven, StopsBehind, all_rows, basic_texts};
 ghost use Rattle.vt_screen.specs.Capture.{captured_rows, captured_text, given_state, written_after_all};
@@ -31,10 +31,10 @@ impl Screen {
     /// Returns `Error::OutOfMemory` if the text cannot be allocated. Empty text
     /// needs no allocation.
     pub fn contents_formatted_basic(&self) -> Result<String, Error>
-        ensures text { IfText result (λ text. text ≡ basic_texts unwritten (visible_rows self.now)) }
+        ensures text { IfText result (λ text. text ≡ basic_texts nothing_written (visible_rows self.now)) }
         ensures controls { IfText result (IsMadeOf capture_finals plain_controls) }
         ensures memory { OnlyOutOfMemory result }
-        ensures some { RefusedOnlyIfSome result (basic_texts unwritten (visible_rows self.now)) }
+        ensures nonempty { RefusedOnlyIfSome result (basic_texts nothing_written (visible_rows self.now)) }
     {
         let mut text = String::new(self.alloc);
         match self.write_contents_formatted_basic(&mut text, BasicFormattedCaptureRange::Visible) {
@@ -65,7 +65,7 @@ impl Screen {
         ensures err { OnErr result ((state : Written)
             × (StopsBehind S.refuses (S.text sink.old) (given_state range.entry) (captured_rows range.entry self.now)
             (S.text sink.new) state × IfGiven range.exit (λ given. given ≡ state))) }
-        ensures some { RefusedOnlyIfSome result (captured_text range.entry self.now) }
+        ensures nonempty { RefusedOnlyIfSome result (captured_text range.entry self.now) }
     {
         match range {
             BasicFormattedCaptureRange::Full(state) => self.write_all_rows(sink, state),

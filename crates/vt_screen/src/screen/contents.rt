@@ -74,7 +74,7 @@ impl Screen {
         ensures text { IfText result (λ text. text ≡ between_of start_row start_col end_row end_col self.now) }
         ensures controls { IfText result (IsMadeOf [] plain_controls) }
         ensures memory { OnlyOutOfMemory result }
-        ensures some { RefusedOnlyIfSome result (between_of start_row start_col end_row end_col self.now) }
+        ensures nonempty { RefusedOnlyIfSome result (between_of start_row start_col end_row end_col self.now) }
     {
         let mut text = String::new(self.alloc);
         let start = Pos {
@@ -134,7 +134,7 @@ impl Screen {
         ensures text { IfSome result
             (λ item. IfText item (λ text. text ≡ plain_text start stop (visible_row self.now row).cells)) }
         ensures memory { IfSome result (λ item. IfErr item (λ error. error ≡ Error.OutOfMemory)) }
-        ensures some { IfSome result
+        ensures nonempty { IfSome result
             (λ item. RefusedOnlyIfSome item (plain_text start stop (visible_row self.now row).cells)) }
     {
         let found = self.visible_row(row)?;
@@ -148,13 +148,13 @@ impl Screen {
             (S.text sink.new ≡ S.text sink.old ++ lines_of self.now.page.width false (visible_rows self.now)) }
     {
         let size = self.grid.size();
-        let mut goes_on = false;
+        let mut is_wrapped = false;
         for row in 0..size.rows {
             let Some(found) = self.visible_row(row) else {
                 return Ok(());
             };
-            write_line(sink, &found, usize::from(size.cols), goes_on)?;
-            goes_on = found.wrapped();
+            write_line(sink, &found, usize::from(size.cols), is_wrapped)?;
+            is_wrapped = found.wrapped();
         }
         Ok(())
     }
@@ -165,7 +165,7 @@ impl Screen {
     fn write_between<S: Sink>(&self, sink: &mut S, start: Pos, end: Pos) -> Result<(), S::Error>
         ensures text { OnOk result
             (S.text sink.new ≡ S.text sink.old ++ between_of start.row start.col end.row end.col self.now) }
-        ensures some { RefusedOnlyIfSome result (between_of start.row start.col end.row end.col self.now) }
+        ensures nonempty { RefusedOnlyIfSome result (between_of start.row start.col end.row end.col self.now) }
     {
         let size = self.grid.size();
         let past = past_row(end.row, size.rows);
@@ -187,7 +187,7 @@ impl Screen {
         requires { row < length self.now.page.rows }
         ensures text { OnOk result
             (S.text sink.new ≡ S.text sink.old ++ part_of start.row start.col end.row end.col self.now row) }
-        ensures some { RefusedOnlyIfSome result (part_of start.row start.col end.row end.col self.now row) }
+        ensures nonempty { RefusedOnlyIfSome result (part_of start.row start.col end.row end.col self.now row) }
     {
         let cols = self.grid.size().cols;
         let Some(found) = self.visible_row(row) else {
@@ -232,32 +232,32 @@ fn text_of(alloc: Global, row: &RowContents<'_>, start: usize, stop: usize) -> R
 
 /// Writes the text of a row, cut to `cols` columns, followed by a newline
 /// unless the row is wrapped. Writes another newline first if no glyph begins
-/// in this row and the previous row is wrapped (`goes_on`).
+/// in this row and the previous row is wrapped (`is_wrapped`).
 fn write_line<S: Sink>(
     sink: &mut S,
     row: &RowContents<'_>,
     cols: usize,
-    goes_on: bool,
+    is_wrapped: bool,
 ) -> Result<(), S::Error>
     ensures { OnOk result (S.text sink.new
-        ≡ S.text sink.old ++ (gap_line cols goes_on row.now ++ (plain_text 0 cols row.now.cells ++ line_end row.now))) }
+        ≡ S.text sink.old ++ (gap_line cols is_wrapped row.now ++ (plain_text 0 cols row.now.cells ++ line_end row.now))) }
 {
-    write_gap_line(sink, row, cols, goes_on)?;
+    write_gap_line(sink, row, cols, is_wrapped)?;
     plain::write_contents(sink, row.cells(), 0, cols)?;
     write_line_end(sink, row)
 }
 
 /// Writes a newline if no glyph begins in the row and the previous row is
-/// wrapped (`goes_on`).
+/// wrapped (`is_wrapped`).
 fn write_gap_line<S: Sink>(
     sink: &mut S,
     row: &RowContents<'_>,
     cols: usize,
-    goes_on: bool,
+    is_wrapped: bool,
 ) -> Result<(), S::Error>
-    ensures { OnOk result (S.text sink.new ≡ S.text sink.old ++ gap_line cols goes_on row.now) }
+    ensures { OnOk result (S.text sink.new ≡ S.text sink.old ++ gap_line cols is_wrapped row.now) }
 {
-    if goes_on && !plain::has_contents(row.cells(), 0, cols) {
+    if is_wrapped && !plain::has_contents(row.cells(), 0, cols) {
         sink.write_str("\n")
     } else {
         Ok(())
@@ -267,7 +267,7 @@ fn write_gap_line<S: Sink>(
 /// Writes a newline after a row, unless the row is wrapped.
 fn write_line_end<S: Sink>(sink: &mut S, row: &RowContents<'_>) -> Result<(), S::Error>
     ensures text { OnOk result (S.text sink.new ≡ S.text sink.old ++ line_end row.now) }
-    ensures some { RefusedOnlyIfSome result (line_end row.now) }
+    ensures nonempty { RefusedOnlyIfSome result (line_end row.now) }
 {
     if row.wrapped() {
         Ok(())
@@ -285,7 +285,7 @@ fn write_end_unless<S: Sink>(
 ) -> Result<(), S::Error>
     ensures text { OnOk result
         (S.text sink.new ≡ S.text sink.old ++ (if is_last then [] else line_end row.now)) }
-    ensures some { RefusedOnlyIfSome result (if is_last then [] else line_end row.now) }
+    ensures nonempty { RefusedOnlyIfSome result (if is_last then [] else line_end row.now) }
 {
     if is_last {
         Ok(())

@@ -74,7 +74,7 @@ impl Screen {
         ensures empty { IfText result (λ text. text ≡ [] → self.now.modes ≡ prev.now.modes) }
         ensures none { IfText result (λ text. self.now.modes ≡ prev.now.modes → text ≡ []) }
         ensures memory { OnlyOutOfMemory result }
-        ensures some { RefusedOnlyIfSome result (input_change prev.now.modes self.now.modes) }
+        ensures nonempty { RefusedOnlyIfSome result (input_change prev.now.modes self.now.modes) }
         ensures never { self.now.modes ≡ prev.now.modes → IsOk result }
     {
         let mut text = String::new(self.alloc);
@@ -108,7 +108,7 @@ impl Screen {
     ) -> Result<(), S::Error>
         ensures text { OnOk result
             (S.text sink.new ≡ S.text sink.old ++ input_change prev.now.modes self.now.modes) }
-        ensures some { RefusedOnlyIfSome result (input_change prev.now.modes self.now.modes) }
+        ensures nonempty { RefusedOnlyIfSome result (input_change prev.now.modes self.now.modes) }
     {
         let (was, new) = (prev.modes, self.modes);
         write_keypad(sink, was.application_keypad, new.application_keypad)?;
@@ -123,7 +123,7 @@ impl Screen {
 /// for a setting that does not change.
 fn write_mouse_and_style<S: Sink>(sink: &mut S, was: Modes, new: Modes) -> Result<(), S::Error>
     ensures text { OnOk result (S.text sink.new ≡ S.text sink.old ++ mouse_and_style_text was new) }
-    ensures some { RefusedOnlyIfSome result (mouse_and_style_text was new) }
+    ensures nonempty { RefusedOnlyIfSome result (mouse_and_style_text was new) }
 {
     let mouse_mode = MouseProtocolMode {
         was: was.mouse_mode,
@@ -146,7 +146,7 @@ fn write_mouse_and_style<S: Sink>(sink: &mut S, was: Modes, new: Modes) -> Resul
 /// Writes nothing if `was` equals `new`.
 fn write_keypad<S: Sink>(sink: &mut S, was: bool, new: bool) -> Result<(), S::Error>
     ensures text { OnOk result (S.text sink.new ≡ S.text sink.old ++ where_changed was new (keypad_text new)) }
-    ensures some { RefusedOnlyIfSome result (where_changed was new (keypad_text new)) }
+    ensures nonempty { RefusedOnlyIfSome result (where_changed was new (keypad_text new)) }
 {
     if was == new {
         return Ok(());
@@ -159,7 +159,7 @@ fn write_keypad<S: Sink>(sink: &mut S, was: bool, new: bool) -> Result<(), S::Er
 fn write_cursor_keys<S: Sink>(sink: &mut S, was: bool, new: bool) -> Result<(), S::Error>
     ensures text { OnOk result
         (S.text sink.new ≡ S.text sink.old ++ where_changed was new (application_cursor_text new)) }
-    ensures some { RefusedOnlyIfSome result (where_changed was new (application_cursor_text new)) }
+    ensures nonempty { RefusedOnlyIfSome result (where_changed was new (application_cursor_text new)) }
 {
     if was == new {
         return Ok(());
@@ -171,7 +171,7 @@ fn write_cursor_keys<S: Sink>(sink: &mut S, was: bool, new: bool) -> Result<(), 
 /// `new`. Writes nothing if `was` equals `new`.
 fn write_paste<S: Sink>(sink: &mut S, was: bool, new: bool) -> Result<(), S::Error>
     ensures text { OnOk result (S.text sink.new ≡ S.text sink.old ++ where_changed was new (bracketed_paste_text new)) }
-    ensures some { RefusedOnlyIfSome result (where_changed was new (bracketed_paste_text new)) }
+    ensures nonempty { RefusedOnlyIfSome result (where_changed was new (bracketed_paste_text new)) }
 {
     if was == new {
         return Ok(());

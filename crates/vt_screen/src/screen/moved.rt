@@ -8,7 +8,7 @@ ghost use Rattle.std.specs.Prelude.{◌≡◌, ◌≤◌, ◌++◌, [], IsOk, On
 ghost use Rattle.vt_cells.specs.Attrs.{default_attrs};
 ghost use Rattle.vt_cells.specs.Refusals.{OnlyOutOfMemory};
 ghost use Rattle.vt_grid.specs.Page.{IsPage, SameSize};
-ghost use Rattle.vt_redraw.specs.Moved.{IsBand, moved, scrolling_text};
+ghost use Rattle.vt_redraw.specs.Moved.{IsBand, picture_after_move, scrolling_text};
 ghost use Rattle.vt_redraw.specs.Picture.{picture_of};
 ghost use Rattle.vt_redraw.specs.Shifted.{IsMoving, IsRowShift};
 ghost use Rattle.vt_redraw.specs.ShiftInternals.{AppendsShifting};
@@ -16,7 +16,7 @@ ghost use Rattle.vt_redraw.specs.Refusals.{RefusedOnlyIfSome};
 ghost use Rattle.vt_screen.specs.Again.{KeepsPlain};
 ghost use Rattle.vt_screen.specs.MadeOf.{IsMadeOf, drawing_controls, scrolling_finals};
 ghost use Rattle.vt_screen.specs.Screen.{IsColored, IsScreen};
-ghost use Rattle.vt_screen.specs.Shown.{IsSameIfEmpty, RedrawsFrom, ShowsOwnPage, shown, shown_change};
+ghost use Rattle.vt_screen.specs.Shown.{IsSameIfEmpty, RedrawsFrom, ShowsOwnPage, display, display_change};
 ghost use Rattle.vt_screen.specs.TextResults.{IfText};
 
 use crate::screen::Screen;
@@ -63,16 +63,16 @@ impl Screen {
     /// ```
     pub fn contents_diff_scrolling(&self, prev: &Screen) -> Result<String, Error>
         requires { SameSize self.now.page prev.now.page }
-        ensures text { IfText result (IsMoving (shown self.now) (shown prev.now)) }
+        ensures text { IfText result (IsMoving (display self.now) (display prev.now)) }
         ensures controls { IfText result (IsMadeOf scrolling_finals drawing_controls) }
         ensures again { IfText result KeepsPlain }
-        ensures shorter { IfText result (λ text. length text ≤ length (shown_change prev.now self.now)) }
+        ensures shorter { IfText result (λ text. length text ≤ length (display_change prev.now self.now)) }
         ensures redraws { IfText result (RedrawsFrom prev.now self.now) }
         ensures empty { IfText result (IsSameIfEmpty prev.now self.now) }
-        ensures none { IfText result (λ text. shown self.now ≡ shown prev.now → text ≡ []) }
+        ensures none { IfText result (λ text. display self.now ≡ display prev.now → text ≡ []) }
         ensures memory { OnlyOutOfMemory result }
-        ensures some { RefusedOnlyIfSome result (shown_change prev.now self.now) }
-        ensures never { shown self.now ≡ shown prev.now → IsOk result }
+        ensures nonempty { RefusedOnlyIfSome result (display_change prev.now self.now) }
+        ensures never { display self.now ≡ display prev.now → IsOk result }
     {
         let text = self.contents_diff(prev)?;
         // Only for the proof: a named result lets the prover find the clauses of the call.
@@ -89,15 +89,15 @@ impl Screen {
     /// allocated.
     fn shortened(&self, prev: &Screen, text: String) -> Result<String, Error>
         requires size { SameSize self.now.page prev.now.page }
-        requires text { string_bytes text ≡ shown_change prev.now self.now }
+        requires text { string_bytes text ≡ display_change prev.now self.now }
         ensures whole { IsScreen self.now }
         ensures colored { IsColored self.now }
         ensures other { IsScreen prev.now }
         ensures other_colored { IsColored prev.now }
-        ensures text { IfText result (IsMoving (shown self.now) (shown prev.now)) }
-        ensures shorter { IfText result (λ text. length text ≤ length (shown_change prev.now self.now)) }
+        ensures text { IfText result (IsMoving (display self.now) (display prev.now)) }
+        ensures shorter { IfText result (λ text. length text ≤ length (display_change prev.now self.now)) }
         ensures memory { OnlyOutOfMemory result }
-        ensures some { RefusedOnlyIfSome result (shown_change prev.now self.now) }
+        ensures nonempty { RefusedOnlyIfSome result (display_change prev.now self.now) }
     {
         match likely_move(&self.view(), &prev.view(), text.as_str()) {
             None => Ok(text),
@@ -115,10 +115,10 @@ impl Screen {
     /// allocated.
     fn shorter_of(&self, prev: &Screen, band: Band, text: String) -> Result<String, Error>
         requires size { SameSize self.now.page prev.now.page }
-        requires band { IsBand (length (shown prev.now).rows) band }
-        requires text { string_bytes text ≡ shown_change prev.now self.now }
-        ensures text { IfText result (IsMoving (shown self.now) (shown prev.now)) }
-        ensures shorter { IfText result (λ text. length text ≤ length (shown_change prev.now self.now)) }
+        requires band { IsBand (length (display prev.now).rows) band }
+        requires text { string_bytes text ≡ display_change prev.now self.now }
+        ensures text { IfText result (IsMoving (display self.now) (display prev.now)) }
+        ensures shorter { IfText result (λ text. length text ≤ length (display_change prev.now self.now)) }
         ensures memory { OnlyOutOfMemory result }
     {
         let mut moved = String::new(self.alloc);
@@ -138,9 +138,9 @@ impl Screen {
         band: Band,
     ) -> Result<(), S::Error>
         requires size { SameSize self.now.page prev.now.page }
-        requires band { IsBand (length (shown prev.now).rows) band }
+        requires band { IsBand (length (display prev.now).rows) band }
         ensures text { OnOk result
-            (S.text sink.new ≡ S.text sink.old ++ scrolling_text band (shown self.now) (shown prev.now)) }
+            (S.text sink.new ≡ S.text sink.old ++ scrolling_text band (display self.now) (display prev.now)) }
     {
         write_moves(sink, &prev.view(), band)?;
         write_contents_diff(sink, &self.view(), &prev.moved_view(band))
@@ -161,10 +161,10 @@ impl Screen {
         text: String,
     ) -> Result<String, Error>
         requires size { SameSize self.now.page prev.now.page }
-        requires first { IsRowShift (length (shown prev.now).rows) (shown prev.now).width first }
-        requires text { string_bytes text ≡ shown_change prev.now self.now }
-        ensures text { IfText result (IsMoving (shown self.now) (shown prev.now)) }
-        ensures shorter { IfText result (λ text. length text ≤ length (shown_change prev.now self.now)) }
+        requires first { IsRowShift (length (display prev.now).rows) (display prev.now).width first }
+        requires text { string_bytes text ≡ display_change prev.now self.now }
+        ensures text { IfText result (IsMoving (display self.now) (display prev.now)) }
+        ensures shorter { IfText result (λ text. length text ≤ length (display_change prev.now self.now)) }
         ensures memory { OnlyOutOfMemory result }
     {
         if prev.scrollback.offset() != 0 {
@@ -193,8 +193,8 @@ impl Screen {
         requires size { SameSize self.now.page prev.now.page }
         requires own { ShowsOwnPage prev.now }
         requires page { grid.old ≡ prev.now.page }
-        requires first { IsRowShift (length (shown prev.now).rows) (shown prev.now).width first }
-        ensures { OnOk result (AppendsShifting (S.text sink.old) (S.text sink.new) (shown self.now) (shown prev.now)) }
+        requires first { IsRowShift (length (display prev.now).rows) (display prev.now).width first }
+        ensures { OnOk result (AppendsShifting (S.text sink.old) (S.text sink.new) (display self.now) (display prev.now)) }
     {
         write_change(sink, prev.attrs(), Attrs::new())?;
         write_row_shifts(sink, grid, &self.view(), &prev.view(), first)?;
@@ -219,8 +219,8 @@ impl Screen {
     /// Returns a view of what a terminal displays after it has displayed this
     /// screen and then moved the rows of `band`.
     fn moved_view(&self, band: Band) -> View<'_>
-        requires { IsBand (length (shown self.now).rows) band }
-        ensures { result ≡ moved band (shown self.now) }
+        requires { IsBand (length (display self.now).rows) band }
+        ensures { result ≡ picture_after_move band (display self.now) }
     {
         View::moved(&self.scrollback, &self.grid, self.hidden, band)
     }

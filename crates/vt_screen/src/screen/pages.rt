@@ -3,8 +3,8 @@
 
 ghost use Rattle.std.specs.Prelude.{◌≡◌, IsErr, IsSome, None, OnErr, OnOk};
 ghost use Rattle.vt_cells.specs.Refusals.{OnlyOutOfMemory};
-ghost use Rattle.vt_screen.specs.Internals.{exchanged, with_fresh_other, with_fresh_page, with_other};
-ghost use Rattle.vt_screen.specs.Pages.{entered};
+ghost use Rattle.vt_screen.specs.Internals.{screen_after_exchange, with_fresh_other, with_fresh_page, with_other};
+ghost use Rattle.vt_screen.specs.Pages.{screen_after_enter};
 ghost use Rattle.vt_screen.specs.Screen.{IsScreen};
 ghost use Rattle.vt_screen.specs.Steps as step;
 ghost use Rattle.vt_screen.specs.Steps.{Grows, display_after};
@@ -132,7 +132,7 @@ fn make_other(screen: &mut Screen) -> Result<(), Error>
 /// Switches to the alternate page, which must have been created.
 fn show_alternate(screen: &mut Screen)
     requires { IsSome screen.old.other }
-    ensures { screen.new ≡ entered screen.old }
+    ensures { screen.new ≡ screen_after_enter screen.old }
 {
     if screen.is_alternate {
         return;
@@ -143,7 +143,7 @@ fn show_alternate(screen: &mut Screen)
 
 /// Swaps the active and the inactive page, if the inactive page exists.
 pub(super) fn exchange(screen: &mut Screen)
-    ensures { screen.new ≡ exchanged screen.old }
+    ensures { screen.new ≡ screen_after_exchange screen.old }
 {
     let Some(other) = &mut screen.other else {
         return;

@@ -88,7 +88,7 @@ pub fn room(screen: &Screen) -> u16
 /// scrolls off the page, and no callback is invoked.
 #[inline]
 pub fn print_text(screen: &mut Screen, text: &[u8])
-    requires some { 0 < length text.now }
+    requires nonempty { 0 < length text.now }
     requires room { screen.old.page.column + length text.now ≤ screen.old.page.width }
     requires printable { IsPrintableAscii text.now }
     ensures { screen.new ≡ screen_after_text text.now screen.old }
@@ -102,7 +102,7 @@ pub fn print_text(screen: &mut Screen, text: &[u8])
 /// row scrolls off the page, and no callback is invoked.
 #[inline]
 pub fn print_narrow_text(screen: &mut Screen, text: &[char])
-    requires some { 0 < length text.now }
+    requires nonempty { 0 < length text.now }
     requires room { screen.old.page.column + length text.now ≤ screen.old.page.width }
     requires narrow { IsNarrowText text.now }
     ensures { screen.new ≡ screen_after_text text.now screen.old }
@@ -116,7 +116,7 @@ pub fn print_narrow_text(screen: &mut Screen, text: &[char])
 /// scrolls off the page, and no callback is invoked.
 #[inline]
 pub fn print_wide_text(screen: &mut Screen, text: &[char])
-    requires some { 0 < length text.now }
+    requires nonempty { 0 < length text.now }
     requires room { screen.old.page.column + 2 * length text.now ≤ screen.old.page.width }
     requires wide { IsWideText text.now }
     ensures { screen.new ≡ screen_after_text text.now screen.old }

@@ -26,8 +26,8 @@ ghost use Rattle.vt_screen.specs.MadeOf.{IsMadeOf, drawing_controls, drawing_fin
 ghost use Rattle.vt_screen.specs.Screen.{IsColored, IsScreen, ScreenValue, above_page};
 ghost use Rattle.vt_screen.specs.Touched.{TouchesNear, TouchesOnly};
 ghost use Rattle.vt_screen.specs.Shown.{IsReader, IsReaderOfRows, IsSameIfEmpty, KeepsRest, Redraws, RedrawsFrom};
-ghost use Rattle.vt_screen.specs.Shown.{SetsAttrs, TakesCursor, Turns, attributes_text, shown};
-ghost use Rattle.vt_screen.specs.Shown.{shown_change, shown_text};
+ghost use Rattle.vt_screen.specs.Shown.{SetsAttrs, TakesCursor, Turns, attributes_text, display};
+ghost use Rattle.vt_screen.specs.Shown.{display_change, shown_text};
 ghost use Rattle.vt_screen.specs.TextResults.{IfText};
 
 use crate::screen::Screen;
@@ -51,7 +51,7 @@ impl Screen {
     ///
     /// Returns `Error::OutOfMemory` if the copy cannot be allocated.
     pub fn shown_copy(&self) -> Result<Screen, Error>
-        ensures shown { IfOk result (λ screen. shown screen ≡ shown self.now) }
+        ensures shown { IfOk result (λ screen. display screen ≡ display self.now) }
         ensures size { IfOk result (λ screen. SameSize screen.page self.now.page) }
         ensures memory { OnlyOutOfMemory result }
     {
@@ -69,7 +69,7 @@ impl Screen {
     /// Returns `Error::OutOfMemory` if the copy cannot be allocated.
     #[tactic(auto, using(crate::proofs::Kept::kept_alone))]
     fn page_copy(&self) -> Result<Screen, Error>
-        ensures shown { (above_page self.now).offset ≡ 0 → IfOk result (λ screen. shown screen ≡ shown self.now) }
+        ensures shown { (above_page self.now).offset ≡ 0 → IfOk result (λ screen. display screen ≡ display self.now) }
         ensures size { IfOk result (λ screen. SameSize screen.page self.now.page) }
         ensures memory { OnlyOutOfMemory result }
     {
@@ -110,7 +110,7 @@ impl Screen {
     /// assert!(parser.screen().is_steady());
     /// ```
     pub fn is_steady(&self) -> bool
-        ensures { IsTrue result ↔ IsSteady (shown self.now) }
+        ensures { IsTrue result ↔ IsSteady (display self.now) }
     {
         is_steady(&self.view())
     }
@@ -153,10 +153,10 @@ impl Screen {
         ensures text { IfText result (λ text. text ≡ shown_text self.now) }
         ensures controls { IfText result (IsMadeOf drawing_finals drawing_controls) }
         ensures again { IfText result KeepsPlain }
-        ensures redraws { IfText result (Redraws (shown self.now) (IsReader (shown self.now)) KeepsRest) }
+        ensures redraws { IfText result (Redraws (display self.now) (IsReader (display self.now)) KeepsRest) }
         ensures same { IfText result (λ text. (other : ScreenValue) → IsScreen other → IsColored other →
-            SamePictureSize (shown self.now) (shown other) → IsSteady (shown self.now) → IsSteady (shown other) →
-            text ≡ shown_text other → shown self.now ≡ shown other) }
+            SamePictureSize (display self.now) (display other) → IsSteady (display self.now) → IsSteady (display other) →
+            text ≡ shown_text other → display self.now ≡ display other) }
         ensures memory { OnlyOutOfMemory result }
     {
         let mut text = String::new(self.alloc);
@@ -205,14 +205,14 @@ impl Screen {
     /// ```
     pub fn contents_formatted_reset(&self) -> Result<String, Error>
         ensures colored { IsColored self.now }
-        ensures text { IfText result (λ text. text ≡ reset_text (shown self.now)) }
+        ensures text { IfText result (λ text. text ≡ reset_text (display self.now)) }
         ensures controls { IfText result (IsMadeOf drawing_finals reset_controls) }
         ensures again { IfText result MakesPlain }
         ensures redraws { IfText result
-            (Redraws (shown self.now) (IsReaderInAnyRegion (shown self.now)) KeepsRestButRegion) }
+            (Redraws (display self.now) (IsReaderInAnyRegion (display self.now)) KeepsRestButRegion) }
         ensures same { IfText result (λ text. (other : ScreenValue) → IsScreen other → IsColored other →
-            SamePictureSize (shown self.now) (shown other) → IsSteady (shown self.now) → IsSteady (shown other) →
-            text ≡ reset_text (shown other) → shown self.now ≡ shown other) }
+            SamePictureSize (display self.now) (display other) → IsSteady (display self.now) → IsSteady (display other) →
+            text ≡ reset_text (display other) → display self.now ≡ display other) }
         ensures memory { OnlyOutOfMemory result }
     {
         let mut text = String::new(self.alloc);
@@ -259,16 +259,16 @@ impl Screen {
     /// ```
     pub fn contents_diff(&self, prev: &Screen) -> Result<String, Error>
         requires { SameSize self.now.page prev.now.page }
-        ensures text { IfText result (λ text. text ≡ shown_change prev.now self.now) }
+        ensures text { IfText result (λ text. text ≡ display_change prev.now self.now) }
         ensures controls { IfText result (IsMadeOf drawing_finals drawing_controls) }
         ensures again { IfText result KeepsPlain }
         ensures redraws { IfText result (RedrawsFrom prev.now self.now) }
         ensures empty { IfText result (IsSameIfEmpty prev.now self.now) }
-        ensures none { IfText result (λ text. shown self.now ≡ shown prev.now → text ≡ []) }
+        ensures none { IfText result (λ text. display self.now ≡ display prev.now → text ≡ []) }
         ensures touches { IfText result (TouchesNear prev.now self.now) }
         ensures memory { OnlyOutOfMemory result }
-        ensures some { RefusedOnlyIfSome result (shown_change prev.now self.now) }
-        ensures never { shown self.now ≡ shown prev.now → IsOk result }
+        ensures nonempty { RefusedOnlyIfSome result (display_change prev.now self.now) }
+        ensures never { display self.now ≡ display prev.now → IsOk result }
     {
         let mut text = String::new(self.alloc);
         match self.write_contents_diff(&mut text, prev) {
@@ -296,13 +296,13 @@ impl Screen {
     ///
     /// Returns `Error::OutOfMemory` if the output cannot be allocated.
     pub fn cursor_state_formatted(&self) -> Result<String, Error>
-        ensures text { IfText result (λ text. text ≡ bytes_of_all (cursor_state (shown self.now))) }
+        ensures text { IfText result (λ text. text ≡ bytes_of_all (cursor_state (display self.now))) }
         ensures controls { IfText result (IsMadeOf drawing_finals drawing_controls) }
         ensures again { IfText result KeepsPlain }
-        ensures turns { IfText result (λ text. IsSteady (shown self.now) →
-            Turns (IsReaderOfRows (shown self.now)) text (TakesCursor (shown self.now))) }
-        ensures touches { IfText result (λ text. IsSteady (shown self.now) →
-            TouchesOnly (IsReaderOfRows (shown self.now)) text (MayPlace (shown self.now))) }
+        ensures turns { IfText result (λ text. IsSteady (display self.now) →
+            Turns (IsReaderOfRows (display self.now)) text (TakesCursor (display self.now))) }
+        ensures touches { IfText result (λ text. IsSteady (display self.now) →
+            TouchesOnly (IsReaderOfRows (display self.now)) text (MayPlace (display self.now))) }
         ensures memory { OnlyOutOfMemory result }
     {
         let mut text = String::new(self.alloc);
@@ -347,7 +347,7 @@ impl Screen {
     fn write_contents_formatted_reset<S: Sink>(&self, sink: &mut S) -> Result<(), S::Error>
         ensures whole { IsScreen self.now }
         ensures colored { IsColored self.now }
-        ensures text { OnOk result (S.text sink.new ≡ S.text sink.old ++ reset_text (shown self.now)) }
+        ensures text { OnOk result (S.text sink.new ≡ S.text sink.old ++ reset_text (display self.now)) }
     {
         let view = self.view();
         sink.write_str("\x1b[?6l\x1b[r")?;
@@ -365,8 +365,8 @@ impl Screen {
         ensures colored { IsColored self.now }
         ensures other { IsScreen prev.now }
         ensures other_colored { IsColored prev.now }
-        ensures text { OnOk result (S.text sink.new ≡ S.text sink.old ++ shown_change prev.now self.now) }
-        ensures some { RefusedOnlyIfSome result (shown_change prev.now self.now) }
+        ensures text { OnOk result (S.text sink.new ≡ S.text sink.old ++ display_change prev.now self.now) }
+        ensures nonempty { RefusedOnlyIfSome result (display_change prev.now self.now) }
     {
         write_contents_diff(sink, &self.view(), &prev.view())
     }
@@ -375,14 +375,14 @@ impl Screen {
     fn write_cursor_state<S: Sink>(&self, sink: &mut S) -> Result<(), S::Error>
         ensures whole { IsScreen self.now }
         ensures colored { IsColored self.now }
-        ensures text { OnOk result (S.text sink.new ≡ S.text sink.old ++ bytes_of_all (cursor_state (shown self.now))) }
+        ensures text { OnOk result (S.text sink.new ≡ S.text sink.old ++ bytes_of_all (cursor_state (display self.now))) }
     {
         write_cursor_state(sink, &self.view())
     }
 
     /// Returns a view of the picture that the screen displays.
     pub(super) fn view(&self) -> View<'_>
-        ensures value { result ≡ shown self.now }
+        ensures value { result ≡ display self.now }
         ensures whole { IsScreen self.now }
         ensures colored { IsColored self.now }
     {

@@ -8,7 +8,7 @@ ghost use Rattle.vt_grid.specs.Resize.{page_resized};
 ghost use Rattle.vt_grid.specs.Scrollback.{no_scrollback};
 ghost use Rattle.vt_screen.specs.Internals.{IsNothing, IsPageSize, pages_resized, reports_of_pages};
 ghost use Rattle.vt_screen.specs.Pages as pages;
-ghost use Rattle.vt_screen.specs.Pages.{calls_resized, reports_of, resized};
+ghost use Rattle.vt_screen.specs.Pages.{calls_resized, reports_of, screen_after_resize};
 ghost use Rattle.vt_screen.specs.CallsOfRun.{TakesCalls};
 
 use super::Screen;
@@ -41,7 +41,7 @@ impl Screen {
     /// Returns `Error::OutOfMemory` if an allocation fails. On error, the
     /// screen is unchanged.
     pub fn set_size(&mut self, rows: NonZeroU16, cols: NonZeroU16) -> Result<(), Error>
-        ensures ok { OnOk result (self.new ≡ resized rows.value cols.value self.old) }
+        ensures ok { OnOk result (self.new ≡ screen_after_resize rows.value cols.value self.old) }
         ensures err { OnErr result (self.new ≡ self.old) }
         ensures grows { IsErr result → pages.has_size rows.value cols.value self.old ≡ false }
         ensures memory { OnlyOutOfMemory result }
@@ -65,7 +65,7 @@ pub fn set_size_with_cb<CB: Callbacks>(
     rows: NonZeroU16,
     cols: NonZeroU16,
 ) -> Result<(), Error>
-    ensures ok { OnOk result (screen.new ≡ resized rows.value cols.value screen.old) }
+    ensures ok { OnOk result (screen.new ≡ screen_after_resize rows.value cols.value screen.old) }
     ensures called { OnOk result
         (TakesCalls CB.does callbacks.old (calls_resized rows.value cols.value screen.old) callbacks.new) }
     ensures err { OnErr result ((screen.new ≡ screen.old) × (callbacks.new ≡ callbacks.old)) }
@@ -105,7 +105,7 @@ fn resize_pages<CB: Callbacks>(
 ) -> Result<(), Error>
     requires size { IsPageSize size.rows size.cols }
     requires other { pages.has_size size.rows size.cols screen.old ≡ false }
-    ensures ok { OnOk result (screen.new ≡ resized size.rows size.cols screen.old) }
+    ensures ok { OnOk result (screen.new ≡ screen_after_resize size.rows size.cols screen.old) }
     ensures called { OnOk result
         (TakesCalls CB.does callbacks.old (calls_resized size.rows size.cols screen.old) callbacks.new) }
     ensures err { OnErr result ((screen.new ≡ screen.old) × (callbacks.new ≡ callbacks.old)) }

@@ -12,7 +12,7 @@ ghost use Rattle.vt_screen.specs.RowsShown.{DrawsRow, EachLinked, EachOff, EachU
 ghost use Rattle.vt_screen.specs.RowsShown.{IsOff, IsRowReader, IsWholeRow, IsWrapReader, changed_rows, changed_text};
 ghost use Rattle.vt_screen.specs.RowsShown.{formatted_rows, formatted_text, range_end, shown_row, text_at};
 ghost use Rattle.vt_screen.specs.Screen.{IsColored, IsScreen};
-ghost use Rattle.vt_screen.specs.Shown.{Makes, Turns, shown};
+ghost use Rattle.vt_screen.specs.Shown.{Makes, Turns, display};
 ghost use Rattle.vt_screen.specs.TextResults.{AnswersText};
 
 use crate::rows::{RowsDiff, RowsFormatted};
@@ -53,12 +53,12 @@ impl Screen {
         ensures controls { (r : ℕ) → r < length self.now.page.rows →
             IsMadeOf drawing_finals drawing_controls (text_at result r) }
         ensures count { length result ≡ length self.now.page.rows }
-        ensures draws { IsSteady (shown self.now) → EachUncut start width self.now
+        ensures draws { IsSteady (display self.now) → EachUncut start width self.now
             (λ r. DrawsRow start width self.now r (blank_row default_attrs self.now.page.width) (text_at result r)) }
-        ensures off { IsSteady (shown self.now) → EachUncut start width self.now
-            (λ r. Makes (IsBlankReader (shown self.now) r start) (text_at result r) (IsOff r)) }
-        ensures linked { IsWholeRow start width self.now.page.width → IsSteady (shown self.now) →
-            EachLinked self.now (λ r. Turns (IsWrapReader (shown self.now) r) (text_at result (r + 1))
+        ensures off { IsSteady (display self.now) → EachUncut start width self.now
+            (λ r. Makes (IsBlankReader (display self.now) r start) (text_at result r) (IsOff r)) }
+        ensures linked { IsWholeRow start width self.now.page.width → IsSteady (display self.now) →
+            EachLinked self.now (λ r. Turns (IsWrapReader (display self.now) r) (text_at result (r + 1))
             (HasLinked r (shown_row self.now (r + 1)))) }
     {
         // Only for the proof: this call makes the screen's invariant available.
@@ -102,11 +102,11 @@ impl Screen {
         ensures controls { (r : ℕ) → r < length self.now.page.rows →
             IsMadeOf drawing_finals drawing_controls (text_at result r) }
         ensures count { length result ≡ length self.now.page.rows }
-        ensures draws { IsSteady (shown self.now) → EachUncut start width self.now
+        ensures draws { IsSteady (display self.now) → EachUncut start width self.now
             (λ r. CutsNone start (range_end start width self.now.page.width) (shown_row prev.now r).cells →
             DrawsRow start width self.now r (shown_row prev.now r) (text_at result r)) }
-        ensures off { IsWholeRow start width self.now.page.width → IsSteady (shown self.now) → EachOff self.now
-            (λ r. Makes (IsRowReader (shown self.now) r 0 (shown_row prev.now r)) (text_at result r) (IsOff r)) }
+        ensures off { IsWholeRow start width self.now.page.width → IsSteady (display self.now) → EachOff self.now
+            (λ r. Makes (IsRowReader (display self.now) r 0 (shown_row prev.now r)) (text_at result r) (IsOff r)) }
         ensures empty { IsWholeRow start width self.now.page.width → (r : ℕ) → r < length self.now.page.rows →
             (text_at result r ≡ []) ↔ (shown_row self.now r ≡ shown_row prev.now r) }
     {
@@ -149,7 +149,7 @@ impl Screen {
     pub(crate) fn row_formatted(&self, row: u16, start: u16, stop: u16) -> Result<String, Error>
         requires inside { row < length self.now.page.rows }
         requires columns { IsColumns start stop self.now }
-        ensures { AnswersText result (formatted_text start stop (shown self.now) row) }
+        ensures { AnswersText result (formatted_text start stop (display self.now) row) }
     {
         let mut text = String::new(self.alloc);
         match write_row_formatted(&mut text, &self.view(), row, start, stop) {
@@ -175,7 +175,7 @@ impl Screen {
         requires size { SameSize self.now.page prev.now.page }
         requires inside { row < length self.now.page.rows }
         requires columns { IsColumns start stop self.now }
-        ensures { AnswersText result (changed_text start stop (shown self.now) (shown prev.now) row) }
+        ensures { AnswersText result (changed_text start stop (display self.now) (display prev.now) row) }
     {
         let mut text = String::new(self.alloc);
         match write_row_diff(&mut text, &self.view(), &prev.view(), row, start, stop) {

@@ -11,7 +11,7 @@ ghost use Rattle.vt_redraw.specs.Refusals.{RefusedOnlyIfSome};
 ghost use Rattle.vt_redraw.specs.Steady.{IsSteady};
 ghost use Rattle.vt_screen.specs.MadeOf.{IsMadeOf, drawing_finals, state_controls};
 ghost use Rattle.vt_screen.specs.Screen.{IsColored, IsScreen};
-ghost use Rattle.vt_screen.specs.Shown.{shown};
+ghost use Rattle.vt_screen.specs.Shown.{display};
 ghost use Rattle.vt_screen.specs.States.{GivesState, IsStateReader, IsStateReaderOf, state_change, state_text};
 ghost use Rattle.vt_screen.specs.TextResults.{IfText};
 
@@ -93,13 +93,13 @@ impl Screen {
         ensures text { IfText result (λ text. text ≡ state_change prev.now self.now) }
         ensures controls { IfText result (IsMadeOf drawing_finals state_controls) }
         ensures gives { IfText result (GivesState (IsStateReaderOf self.now prev.now) self.now) }
-        ensures empty { IfText result (λ text. IsSteady (shown self.now) → text ≡ [] →
-            (shown self.now ≡ shown prev.now) × (self.now.modes ≡ prev.now.modes)) }
+        ensures empty { IfText result (λ text. IsSteady (display self.now) → text ≡ [] →
+            (display self.now ≡ display prev.now) × (self.now.modes ≡ prev.now.modes)) }
         ensures none { IfText result
-            (λ text. shown self.now ≡ shown prev.now → self.now.modes ≡ prev.now.modes → text ≡ []) }
+            (λ text. display self.now ≡ display prev.now → self.now.modes ≡ prev.now.modes → text ≡ []) }
         ensures memory { OnlyOutOfMemory result }
-        ensures some { RefusedOnlyIfSome result (state_change prev.now self.now) }
-        ensures never { shown self.now ≡ shown prev.now → self.now.modes ≡ prev.now.modes → IsOk result }
+        ensures nonempty { RefusedOnlyIfSome result (state_change prev.now self.now) }
+        ensures never { display self.now ≡ display prev.now → self.now.modes ≡ prev.now.modes → IsOk result }
     {
         let mut text = String::new(self.alloc);
         match self.write_state_diff(&mut text, prev) {
@@ -126,7 +126,7 @@ impl Screen {
         ensures other { IsScreen prev.now }
         ensures other_colored { IsColored prev.now }
         ensures text { OnOk result (S.text sink.new ≡ S.text sink.old ++ state_change prev.now self.now) }
-        ensures some { RefusedOnlyIfSome result (state_change prev.now self.now) }
+        ensures nonempty { RefusedOnlyIfSome result (state_change prev.now self.now) }
     {
         self.write_contents_diff(sink, prev)?;
         self.write_input_mode_diff(sink, prev)

@@ -2,7 +2,7 @@
 
 ghost use Rattle.std.specs.Prelude.{IfOk};
 ghost use Rattle.vt_tests.specs.Changing.{Becomes, Exchanges, LooksBack, Resizes};
-ghost use Rattle.vt_screen.specs.Pages.{resized};
+ghost use Rattle.vt_screen.specs.Pages.{screen_after_resize};
 ghost use Rattle.vt_screen.specs.Screen.{scrolled_back};
 ghost use Rattle.vt100.specs.Parser.{Ran};
 
@@ -41,7 +41,7 @@ impl Resizer {
     }
 
     fn give(&mut self, screen: &mut Screen, rows: NonZeroU16, cols: NonZeroU16)
-        ensures { Becomes (resized rows.value cols.value screen.old) self.old screen.old self.new screen.new }
+        ensures { Becomes (screen_after_resize rows.value cols.value screen.old) self.old screen.old self.new screen.new }
     {
         if screen.set_size(rows, cols).is_err() {
             self.is_refused = true;

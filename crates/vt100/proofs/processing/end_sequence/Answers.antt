@@ -1,11 +1,11 @@
 -- The byte that ends a control sequence or an escape sequence.
 use Rattle.std.proofs.Common.{[], ◌∷◌, ◌∙◌, List, ℕ, get_or, inl, inr, refl, subst, sym, arith}
 use Rattle.std.proofs.lemmas.List.{take_more}
-use Rattle.vt_scan.specs.Scanner.{Feeds, Held}
+use Rattle.vt_scan.specs.Scanner.{Feeds, ScannerValue}
 use Rattle.vt_scan.specs.declared.event.Event.TheVariants.{Csi, Escape, Osc}
 use Rattle.vt_scan.proofs.Feeding.{one_event}
 use Rattle.vt_scan.proofs.Leading.{feeds_none}
-use Rattle.vt100.specs.Parser.{Ran, parsing, stage}
+use Rattle.vt100.specs.Parser.{Ran, parser_value, stage}
 use Rattle.vt100.proofs.Refusing.{stopped_at_first}
 use Rattle.vt100.proofs.Running.{byte_ran, known_ran, released_ran, some_read, stopped_in, stopped_within}
 use Rattle.vt100.proofs.processing.end_sequence.Goals as goal
@@ -16,37 +16,37 @@ returns-in-Err-clause-read g c =
     let bytes = c.args.bytes.now in
     let byte = get_or bytes 0 0 in
     let held = c.args.scanner.now in
-    let before = parsing held c.args.screen.now c.args.callbacks.now in
-    let now = parsing c.final_byte.new.self c.control_sequence.new.screen c.control_sequence.new.callbacks in
-    let fed = c.final_byte.ensures.fed c.if-final_byte.true in
+    let before = parser_value held c.args.screen.now c.args.callbacks.now in
+    let now = parser_value c.take_final_byte.new.self c.control_sequence.new.screen c.control_sequence.new.callbacks in
+    let fed = c.take_final_byte.ensures.fed c.if-take_final_byte.true in
     let stops = inl (c.in-Err.ensures.stopped refl) in
     stopped_in does before now bytes 0
-    (inr (stopped_within does before before now c.final_byte.new.self bytes 0 (one_event (Csi byte)) c.requires
+    (inr (stopped_within does before before now c.take_final_byte.new.self bytes 0 (one_event (Csi byte)) c.requires
     (known_ran does before before [] [] (feeds_none held) refl) fed stops))
-    (stopped_at_first does before now c.final_byte.new.self bytes (one_event (Csi byte)) c.requires fed stops)
+    (stopped_at_first does before now c.take_final_byte.new.self bytes (one_event (Csi byte)) c.requires fed stops)
 
 pub returns-in-Ok-clause-read : goal.returns-in-Ok-clause-read
 returns-in-Ok-clause-read g c =
     let does = g.CB.Callbacks.does in
     let bytes = c.args.bytes.now in
     let byte = get_or bytes 0 0 in
-    let before = parsing c.args.scanner.now c.args.screen.now c.args.callbacks.now in
-    let now = parsing c.final_byte.new.self c.control_sequence.new.screen c.control_sequence.new.callbacks in
+    let before = parser_value c.args.scanner.now c.args.screen.now c.args.callbacks.now in
+    let now = parser_value c.take_final_byte.new.self c.control_sequence.new.screen c.control_sequence.new.callbacks in
     some_read does before now bytes 1 c.requires
     (subst (λ (text : List ℕ). Ran does before text now) (sym (take_more bytes 0 0 c.requires))
-    (byte_ran does before now byte (one_event (Csi byte)) (c.final_byte.ensures.fed c.if-final_byte.true)
+    (byte_ran does before now byte (one_event (Csi byte)) (c.take_final_byte.ensures.fed c.if-take_final_byte.true)
     (stage now, c.in-Ok.ensures.done, refl)))
 
-pub returns-then-escape_byte-clause-read : goal.returns-then-escape_byte-clause-read
-returns-then-escape_byte-clause-read g c =
+pub returns-then-take_escape_byte-clause-read : goal.returns-then-take_escape_byte-clause-read
+returns-then-take_escape_byte-clause-read g c =
     let does = g.CB.Callbacks.does in
     let bytes = c.args.bytes.now in
     let byte = get_or bytes 0 0 in
-    let before = parsing c.args.scanner.now c.args.screen.now c.args.callbacks.now in
-    let now = parsing c.escape_byte.new.self c.escape_sequence.new.screen c.escape_sequence.new.callbacks in
-    let fed : Feeds c.args.scanner.now byte c.escape_byte.new.self (one_event (Escape byte)) =
-    subst (λ (held : Held). Feeds held byte c.escape_byte.new.self (one_event (Escape byte)))
-    (c.final_byte.ensures.kept c.if-final_byte.false) (c.escape_byte.ensures.fed c.if-escape_byte.true) in
+    let before = parser_value c.args.scanner.now c.args.screen.now c.args.callbacks.now in
+    let now = parser_value c.take_escape_byte.new.self c.escape_sequence.new.screen c.escape_sequence.new.callbacks in
+    let fed : Feeds c.args.scanner.now byte c.take_escape_byte.new.self (one_event (Escape byte)) =
+    subst (λ (held : ScannerValue). Feeds held byte c.take_escape_byte.new.self (one_event (Escape byte)))
+    (c.take_final_byte.ensures.kept c.if-take_final_byte.false) (c.take_escape_byte.ensures.fed c.if-take_escape_byte.true) in
     some_read does before now bytes 1 c.requires
     (subst (λ (text : List ℕ). Ran does before text now) (sym (take_more bytes 0 0 c.requires))
     (byte_ran does before now byte (one_event (Escape byte)) fed (stage now, c.escape_sequence.ensures, refl)))
@@ -56,12 +56,12 @@ returns-then-command_byte-clause-read g c =
     let does = g.CB.Callbacks.does in
     let bytes = c.args.bytes.now in
     let byte = get_or bytes 0 0 in
-    let before = parsing c.args.scanner.now c.args.screen.now c.args.callbacks.now in
-    let told = parsing c.command_byte.new.self c.command.new.screen c.command.new.callbacks in
-    let now = parsing c.release_text.new.self c.command.new.screen c.command.new.callbacks in
+    let before = parser_value c.args.scanner.now c.args.screen.now c.args.callbacks.now in
+    let told = parser_value c.command_byte.new.self c.command.new.screen c.command.new.callbacks in
+    let now = parser_value c.release_text.new.self c.command.new.screen c.command.new.callbacks in
     let fed : Feeds c.args.scanner.now byte c.command_byte.new.self (one_event Osc) =
-    subst (λ (held : Held). Feeds held byte c.command_byte.new.self (one_event Osc))
-    (c.escape_byte.ensures.kept c.if-escape_byte.false ∙ c.final_byte.ensures.kept c.if-final_byte.false)
+    subst (λ (held : ScannerValue). Feeds held byte c.command_byte.new.self (one_event Osc))
+    (c.take_escape_byte.ensures.kept c.if-take_escape_byte.false ∙ c.take_final_byte.ensures.kept c.if-take_final_byte.false)
     (c.command_byte.ensures.fed c.if-command_byte.true) in
     some_read does before now bytes 1 c.requires
     (subst (λ (text : List ℕ). Ran does before text now) (sym (take_more bytes 0 0 c.requires))
@@ -72,8 +72,8 @@ returns-then-command_byte-clause-read g c =
 pub returns-in-Ok-clause-last : goal.returns-in-Ok-clause-last
 returns-in-Ok-clause-last g c = inr (omega arith, λ s stands. refl)
 
-pub returns-then-escape_byte-clause-last : goal.returns-then-escape_byte-clause-last
-returns-then-escape_byte-clause-last g c = inr (omega arith, λ s stands. refl)
+pub returns-then-take_escape_byte-clause-last : goal.returns-then-take_escape_byte-clause-last
+returns-then-take_escape_byte-clause-last g c = inr (omega arith, λ s stands. refl)
 
 pub returns-then-command_byte-clause-last : goal.returns-then-command_byte-clause-last
 returns-then-command_byte-clause-last g c = inr (omega arith, λ s stands. refl)

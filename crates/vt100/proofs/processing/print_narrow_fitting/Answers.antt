@@ -3,7 +3,7 @@ use Rattle.std.proofs.lemmas.List.{length-take}
 use Rattle.vt_scan.specs.Automaton.{Character}
 use Rattle.vt_screen.specs.Screen.{ScreenValue}
 use Rattle.vt_screen.specs.Texts.{screen_after_text}
-use Rattle.vt100.specs.Parser.{Ran, parsing}
+use Rattle.vt100.specs.Parser.{Ran, parser_value}
 use Rattle.vt100.proofs.NarrowRuns.{narrow_folds}
 use Rattle.vt100.proofs.Running.{known_ran, some_read}
 use Rattle.vt100.proofs.processing.print_narrow_fitting.Goals as goal
@@ -20,10 +20,10 @@ returns g c =
     let size : length text ≡ run.0 = omega (arith, length-take run.0 c.narrow_text-count.new.text, found.room) in
     let room : screen.page.column + length text ≤ screen.page.width =
     omega (arith, size, found.room, found.same, c.requires.room, c.if-count-eq0.false) in
-    let before = parsing held screen c.args.callbacks.now in
+    let before = parser_value held screen c.args.callbacks.now in
     let folds = narrow_folds does text c.args.callbacks.now screen found.narrow room in
-    some_read does before (parsing held c.print_narrow_text.new.screen c.args.callbacks.now) bytes run.1 found.inside
-    (subst (λ (after : ScreenValue). Ran does before (take run.1 bytes) (parsing held after c.args.callbacks.now))
+    some_read does before (parser_value held c.print_narrow_text.new.screen c.args.callbacks.now) bytes run.1 found.inside
+    (subst (λ (after : ScreenValue). Ran does before (take run.1 bytes) (parser_value held after c.args.callbacks.now))
     (sym c.print_narrow_text.ensures)
-    (known_ran does before (parsing held (screen_after_text text screen) c.args.callbacks.now)
+    (known_ran does before (parser_value held (screen_after_text text screen) c.args.callbacks.now)
     (take run.1 bytes) (map Character text) found.fed folds))

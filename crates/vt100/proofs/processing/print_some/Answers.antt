@@ -4,7 +4,7 @@ use Rattle.std.proofs.lemmas.List.{length-take, take-take, take_more}
 use Rattle.vt_scan.specs.Scanner.{ReadsItself}
 use Rattle.vt_scan.proofs.Feeding.{text_feeds}
 use Rattle.vt_screen.specs.Screen.{ScreenValue}
-use Rattle.vt100.specs.Parser.{Ran, parsing, stage}
+use Rattle.vt100.specs.Parser.{Ran, parser_value, stage}
 use Rattle.vt100.proofs.Plain.{printable_of, text_ran}
 use Rattle.vt100.proofs.Refusing.{stopped_at_first}
 use Rattle.vt100.proofs.Running.{byte_ran, one_character, text_answer, some_read, stopped_in, stopped_within}
@@ -17,8 +17,8 @@ returns-in-Err-clause-read g c =
     let does = g.CB.Callbacks.does in
     let bytes = c.args.bytes.now in
     let held = c.args.scanner.now in
-    let before = parsing held c.args.screen.now c.args.callbacks.now in
-    let now = parsing held c.print_apart.new.screen c.print_apart.new.callbacks in
+    let before = parser_value held c.args.screen.now c.args.callbacks.now in
+    let now = parser_value held c.print_apart.new.screen c.print_apart.new.callbacks in
     let byte = get_or bytes 0 0 in
     let code = c.from-then-count-eq0.result in
     let itself = c.requires.itself in
@@ -26,22 +26,22 @@ returns-in-Err-clause-read g c =
     c.from-then-count-eq0.ensures in
     let stops = inl (c.in-Err.ensures.stopped refl) in
     stopped_in does before now bytes 0
-    (inr (stopped_within does before before now held bytes 0 (one_character code) c.requires.some
+    (inr (stopped_within does before before now held bytes 0 (one_character code) c.requires.nonempty
     (λ s stands. (stands, refl)) feeds stops))
-    (stopped_at_first does before now held bytes (one_character code) c.requires.some feeds stops)
+    (stopped_at_first does before now held bytes (one_character code) c.requires.nonempty feeds stops)
 
 pub returns-in-Ok-clause-read : goal.returns-in-Ok-clause-read
 returns-in-Ok-clause-read g c =
     let held = c.args.scanner.now in
-    let before = parsing held c.args.screen.now c.args.callbacks.now in
-    let now = parsing held c.print_apart.new.screen c.print_apart.new.callbacks in
+    let before = parser_value held c.args.screen.now c.args.callbacks.now in
+    let now = parser_value held c.print_apart.new.screen c.print_apart.new.callbacks in
     let byte = get_or c.args.bytes.now 0 0 in
     let code = c.from-then-count-eq0.result in
     let itself = c.requires.itself in
     let feeds = text_feeds held byte itself.0 itself.1 itself.2 (omega (arith, itself.3)) in
-    some_read g.CB.Callbacks.does before now c.args.bytes.now 1 c.requires.some
+    some_read g.CB.Callbacks.does before now c.args.bytes.now 1 c.requires.nonempty
     (subst (λ (bytes : List ℕ). Ran g.CB.Callbacks.does before bytes now)
-    (sym (take_more c.args.bytes.now 0 0 c.requires.some))
+    (sym (take_more c.args.bytes.now 0 0 c.requires.nonempty))
     (byte_ran g.CB.Callbacks.does before now byte (one_character code)
     (text_answer held byte code feeds c.from-then-count-eq0.ensures) (stage now, c.in-Ok.ensures.done, refl)))
 
@@ -65,7 +65,7 @@ pub returns-clause-read : goal.returns-clause-read
 returns-clause-read g c =
     let held = c.args.scanner.now in
     let screen = c.args.screen.now in
-    let before = parsing held screen c.args.callbacks.now in
+    let before = parser_value held screen c.args.callbacks.now in
     let text = take c.text_len-count.result c.args.bytes.now in
     let cut = length-take c.min-fitting.result c.args.bytes.now in
     let size = length-take c.text_len-count.result c.args.bytes.now in
@@ -73,9 +73,9 @@ returns-clause-read g c =
     omega (arith, cut, size, c.text_len-count.ensures.inside, c.min-fitting.ensures, c.from.ensures, c.room.ensures) in
     let inside : c.text_len-count.result ≤ length c.args.bytes.now =
     omega (arith, cut, c.text_len-count.ensures.inside) in
-    some_read g.CB.Callbacks.does before (parsing held c.print_text.new.screen c.args.callbacks.now) c.args.bytes.now
+    some_read g.CB.Callbacks.does before (parser_value held c.print_text.new.screen c.args.callbacks.now) c.args.bytes.now
     c.text_len-count.result inside
-    (subst (λ (after : ScreenValue). Ran g.CB.Callbacks.does before text (parsing held after c.args.callbacks.now))
+    (subst (λ (after : ScreenValue). Ran g.CB.Callbacks.does before text (parser_value held after c.args.callbacks.now))
     (sym c.print_text.ensures)
     (text_ran g.CB.Callbacks.does text held c.args.callbacks.now screen
     (plain_text g (goal.at.returns-clause-read g c).After-text_len-count) room))

@@ -4,7 +4,7 @@ use Rattle.vt_scan.specs.Automaton.{Character}
 use Rattle.vt_scan.specs.Scanner.{FeedsAll}
 use Rattle.vt_screen.specs.Screen.{ScreenValue}
 use Rattle.vt_screen.specs.Texts.{screen_after_text}
-use Rattle.vt100.specs.Parser.{Ran, parsing}
+use Rattle.vt100.specs.Parser.{Ran, parser_value}
 use Rattle.vt100.proofs.WideRuns.{wide_folds}
 use Rattle.vt100.proofs.Running.{known_ran, some_read}
 use Rattle.vt100.proofs.processing.print_wide_some.Goals as goal
@@ -28,10 +28,10 @@ returns g c =
     let fed : FeedsAll held (take (3 * count) bytes) held (map Character text) =
     subst (λ (bs : List ℕ). FeedsAll held bs held (map Character text))
     (take-take (3 * count) most bytes within) found.fed in
-    let before = parsing held screen c.args.callbacks.now in
+    let before = parser_value held screen c.args.callbacks.now in
     let folds = wide_folds does text c.args.callbacks.now screen found.wide room in
-    some_read does before (parsing held c.print_wide_text.new.screen c.args.callbacks.now) bytes (3 * count) inside
-    (subst (λ (after : ScreenValue). Ran does before (take (3 * count) bytes) (parsing held after c.args.callbacks.now))
+    some_read does before (parser_value held c.print_wide_text.new.screen c.args.callbacks.now) bytes (3 * count) inside
+    (subst (λ (after : ScreenValue). Ran does before (take (3 * count) bytes) (parser_value held after c.args.callbacks.now))
     (sym c.print_wide_text.ensures)
-    (known_ran does before (parsing held (screen_after_text text screen) c.args.callbacks.now)
+    (known_ran does before (parser_value held (screen_after_text text screen) c.args.callbacks.now)
     (take (3 * count) bytes) (map Character text) fed folds))

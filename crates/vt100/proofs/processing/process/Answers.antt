@@ -1,6 +1,6 @@
 use Rattle.std.proofs.Common.{◌≡◌, ℕ, ◌-◌, List, length, take, drop, refl, ap, subst, arith}
 use Rattle.std.proofs.lemmas.List.{length-drop, take_all}
-use Rattle.vt100.specs.Parser.{Ran, Stopped, parsing}
+use Rattle.vt100.specs.Parser.{Ran, Stopped, parser_value}
 use Rattle.vt100.proofs.Running.{ran_on, stopped_then}
 use Rattle.vt100.proofs.processing.process.Goals as goal
 
@@ -13,9 +13,9 @@ loop-at-preserved g c =
     let at = c.loop-at.at in
     let count = c.in-Ok.count in
     let bytes = c.args.bytes.now in
-    let before = parsing c.args.scanner.now c.args.screen.now c.args.callbacks.now in
-    let so_far = parsing c.loop-at.scanner c.loop-at.screen c.loop-at.callbacks in
-    let now = parsing c.process_some.new.scanner c.process_some.new.screen c.process_some.new.callbacks in
+    let before = parser_value c.args.scanner.now c.args.screen.now c.args.callbacks.now in
+    let so_far = parser_value c.loop-at.scanner c.loop-at.screen c.loop-at.callbacks in
+    let now = parser_value c.process_some.new.scanner c.process_some.new.screen c.process_some.new.callbacks in
     let rest = all_left bytes at in
     let size = length-drop at bytes in
     let more =
@@ -30,9 +30,9 @@ loop-at-preserved g c =
 pub returns-in-Err-clause-stopped : goal.returns-in-Err-clause-stopped
 returns-in-Err-clause-stopped g c e =
     let bytes = c.args.bytes.now in
-    let before = parsing c.args.scanner.now c.args.screen.now c.args.callbacks.now in
-    let so_far = parsing c.loop-at.scanner c.loop-at.screen c.loop-at.callbacks in
-    let now = parsing c.process_some.new.scanner c.process_some.new.screen c.process_some.new.callbacks in
+    let before = parser_value c.args.scanner.now c.args.screen.now c.args.callbacks.now in
+    let so_far = parser_value c.loop-at.scanner c.loop-at.screen c.loop-at.callbacks in
+    let now = parser_value c.process_some.new.scanner c.process_some.new.screen c.process_some.new.callbacks in
     stopped_then g.CB.Callbacks.does before so_far now bytes c.loop-at.at c.loop-at.invariant.ran
     (subst (λ (left : List ℕ). Stopped g.CB.Callbacks.does so_far left now)
     (all_left bytes c.loop-at.at) (c.in-Err.ensures.read.stopped refl))

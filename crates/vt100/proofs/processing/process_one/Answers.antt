@@ -1,7 +1,7 @@
 -- A complete character of several bytes.
 use Rattle.std.proofs.Common.{◌-◌, [], ◌∷◌, inl, inr, refl, take, arith, rules}
 use Rattle.vt_scan.specs.Automaton.{Character}
-use Rattle.vt100.specs.Parser.{parsing, stage}
+use Rattle.vt100.specs.Parser.{parser_value, stage}
 use Rattle.vt100.proofs.Refusing.{stopped_at_last}
 use Rattle.vt100.proofs.Running.{known_ran, known_stopped, some_read, stopped_in}
 use Rattle.vt100.proofs.processing.process_one.Goals as goal
@@ -11,8 +11,8 @@ returns-in-Err-clause-read g c =
     let does = g.CB.Callbacks.does in
     let bytes = c.args.bytes.now in
     let held = c.args.scanner.now in
-    let before = parsing held c.args.screen.now c.args.callbacks.now in
-    let now = parsing held c.print.new.screen c.print.new.callbacks in
+    let before = parser_value held c.args.screen.now c.args.callbacks.now in
+    let now = parser_value held c.print.new.screen c.print.new.callbacks in
     let count = c.in-Some.count in
     let events = Character c.in-Some.character ∷ [] in
     let stops = inl (c.in-Err.ensures.stopped refl) in
@@ -24,8 +24,8 @@ returns-in-Err-clause-read g c =
 pub returns-in-Ok-clause-read : goal.returns-in-Ok-clause-read
 returns-in-Ok-clause-read g c =
     let held = c.args.scanner.now in
-    let before = parsing held c.args.screen.now c.args.callbacks.now in
-    let now = parsing held c.print.new.screen c.print.new.callbacks in
+    let before = parser_value held c.args.screen.now c.args.callbacks.now in
+    let now = parser_value held c.print.new.screen c.print.new.callbacks in
     some_read g.CB.Callbacks.does before now c.args.bytes.now c.in-Some.count (search rules)
     (known_ran g.CB.Callbacks.does before now
     (take c.in-Some.count c.args.bytes.now) (Character c.in-Some.character ∷ [])

@@ -1,5 +1,5 @@
 use Rattle.std.proofs.Common.{◌≡◌, ℕ, [], inr, refl, subst, take, arith}
-use Rattle.vt100.specs.Parser.{Ran, parsing}
+use Rattle.vt100.specs.Parser.{Ran, parser_value}
 use Rattle.vt100.proofs.Refusing.{stopped_at_after, stopped_at_first}
 use Rattle.vt100.proofs.Running.{known_ran, stopped_in, stopped_within}
 use Rattle.vt100.proofs.processing.process_rest.Goals as goal
@@ -9,13 +9,13 @@ returns-in-Err-clause-read g c =
     let does = g.CB.Callbacks.does in
     let bytes = c.args.bytes.now in
     let collected = c.in-Ok.collected in
-    let before = parsing c.args.scanner.now c.args.screen.now c.args.callbacks.now in
-    let led = parsing c.command_text.new.self c.args.screen.now c.args.callbacks.now in
+    let before = parser_value c.args.scanner.now c.args.screen.now c.args.callbacks.now in
+    let led = parser_value c.take_command_text.new.self c.args.screen.now c.args.callbacks.now in
     let zero : collected ≡ 0 = omega (arith, c.if-collected-gt0.false) in
     let ran : Ran does before (take 0 bytes) led =
     subst (λ (n : ℕ). Ran does before (take n bytes) led) zero
     (known_ran does before led (take collected bytes) [] c.in-Ok.ensures.fed refl) in
-    let now = parsing c.feed.new.self c.perform_each.new.screen c.perform_each.new.callbacks in
+    let now = parser_value c.feed.new.self c.perform_each.new.screen c.perform_each.new.callbacks in
     let events = c.in-Ok-feed.events in
     let fed = c.in-Ok-feed.ensures.fed in
     let stops = c.in-Err.ensures.stopped refl in

@@ -1,7 +1,7 @@
 -- The bytes that lead into a sequence, and the byte after them if it ends the sequence.
 use Rattle.std.proofs.Common.{[], ◌≤◌, ◌+◌, List, ℕ, drop, length, refl, subst, take, rules}
 use Rattle.vt_scan.proofs.Lists.{all_left}
-use Rattle.vt100.specs.Parser.{CallsByLast, Ran, Stopped, StoppedAt, parsing}
+use Rattle.vt100.specs.Parser.{CallsByLast, Ran, Stopped, StoppedAt, parser_value}
 use Rattle.vt100.proofs.Refusing.{stopped_at_then}
 use Rattle.vt100.proofs.Running.{known_ran, led_by_last, ran_on, some_read, stopped_in, stopped_then}
 use Rattle.vt100.proofs.processing.process_sequence.Goals as goal
@@ -10,11 +10,11 @@ pub returns-in-Err-clause-read : goal.returns-in-Err-clause-read
 returns-in-Err-clause-read g c =
     let does = g.CB.Callbacks.does in
     let bytes = c.args.bytes.now in
-    let leading = c.lead_in-leading.result in
-    let led = parsing c.lead_in-leading.new.self c.args.screen.now c.args.callbacks.now in
-    let before = parsing c.args.scanner.now c.args.screen.now c.args.callbacks.now in
-    let now = parsing c.end_sequence.new.scanner c.end_sequence.new.screen c.end_sequence.new.callbacks in
-    let fed = c.lead_in-leading.ensures.fed in
+    let leading = c.take_introducer-leading.result in
+    let led = parser_value c.take_introducer-leading.new.self c.args.screen.now c.args.callbacks.now in
+    let before = parser_value c.args.scanner.now c.args.screen.now c.args.callbacks.now in
+    let now = parser_value c.end_sequence.new.scanner c.end_sequence.new.screen c.end_sequence.new.callbacks in
+    let fed = c.take_introducer-leading.ensures.fed in
     let there : StoppedAt does led (drop leading bytes) c.in-Err.before now =
     subst (λ (left : List ℕ). StoppedAt does led left c.in-Err.before now) (all_left bytes leading)
     c.in-Err.ensures.read.where_stopped in
@@ -29,23 +29,23 @@ pub returns-in-Ok-clause-read : goal.returns-in-Ok-clause-read
 returns-in-Ok-clause-read g c =
     let does = g.CB.Callbacks.does in
     let bytes = c.args.bytes.now in
-    let leading = c.lead_in-leading.result in
+    let leading = c.take_introducer-leading.result in
     let count = c.in-Ok.last in
-    let before = parsing c.args.scanner.now c.args.screen.now c.args.callbacks.now in
-    let led = parsing c.lead_in-leading.new.self c.args.screen.now c.args.callbacks.now in
-    let now = parsing c.end_sequence.new.scanner c.end_sequence.new.screen c.end_sequence.new.callbacks in
+    let before = parser_value c.args.scanner.now c.args.screen.now c.args.callbacks.now in
+    let led = parser_value c.take_introducer-leading.new.self c.args.screen.now c.args.callbacks.now in
+    let now = parser_value c.end_sequence.new.scanner c.end_sequence.new.screen c.end_sequence.new.callbacks in
     let inside : leading + count ≤ length bytes = search rules in
     some_read does before now bytes (leading + count) inside
-    (ran_on does before led now bytes leading count c.lead_in-leading.ensures.inside
-    (known_ran does before led (take leading bytes) [] c.lead_in-leading.ensures.fed refl)
+    (ran_on does before led now bytes leading count c.take_introducer-leading.ensures.inside
+    (known_ran does before led (take leading bytes) [] c.take_introducer-leading.ensures.fed refl)
     (subst (λ (left : List ℕ). Ran does led (take count left) now) (all_left bytes leading)
     c.in-Ok.ensures.read.ran))
 
 pub returns-in-Ok-clause-last : goal.returns-in-Ok-clause-last
 returns-in-Ok-clause-last g c =
     let bytes = c.args.bytes.now in
-    let leading = c.lead_in-leading.result in
-    led_by_last c.args.callbacks.now c.end_sequence.new.callbacks c.args.scanner.now c.lead_in-leading.new.self
-    bytes leading c.in-Ok.last c.lead_in-leading.ensures.fed
-    (subst (λ (left : List ℕ). CallsByLast c.args.callbacks.now c.lead_in-leading.new.self left c.in-Ok.last
+    let leading = c.take_introducer-leading.result in
+    led_by_last c.args.callbacks.now c.end_sequence.new.callbacks c.args.scanner.now c.take_introducer-leading.new.self
+    bytes leading c.in-Ok.last c.take_introducer-leading.ensures.fed
+    (subst (λ (left : List ℕ). CallsByLast c.args.callbacks.now c.take_introducer-leading.new.self left c.in-Ok.last
     c.end_sequence.new.callbacks) (all_left bytes leading) c.in-Ok.ensures.last)

@@ -3,7 +3,7 @@ use Rattle.std.proofs.Common.{◌≡◌, List, ℕ, get_or, inl, inr, refl, subs
 use Rattle.std.proofs.lemmas.List.{take_more}
 use Rattle.vt_scan.specs.declared.event.Event.TheVariants.{Executed}
 use Rattle.vt_scan.proofs.Feeding.{one_event}
-use Rattle.vt100.specs.Parser.{CallsByLast, Ran, parsing, stage}
+use Rattle.vt100.specs.Parser.{CallsByLast, Ran, parser_value, stage}
 use Rattle.vt100.proofs.Refusing.{stopped_at_first}
 use Rattle.vt100.proofs.Running.{byte_ran, later_by_last, map_some, read_behind, some_read, stopped_in, stopped_within}
 use Rattle.vt100.proofs.processing.process_some.Goals as goal
@@ -14,8 +14,8 @@ returns-in-Err-clause-read g c =
     let held = c.args.scanner.now in
     let bytes = c.args.bytes.now in
     let byte = get_or bytes 0 0 in
-    let before = parsing held c.args.screen.now c.args.callbacks.now in
-    let now = parsing held c.execute.new.screen c.execute.new.callbacks in
+    let before = parser_value held c.args.screen.now c.args.callbacks.now in
+    let now = parser_value held c.execute.new.screen c.execute.new.callbacks in
     let fed = c.is_control.ensures.feeds c.if-is_control.true in
     let stops = inl (c.in-Err.ensures.stopped refl) in
     stopped_in does before now bytes 0
@@ -29,8 +29,8 @@ returns-in-Ok-clause-read g c =
     let held = c.args.scanner.now in
     let bytes = c.args.bytes.now in
     let byte = get_or bytes 0 0 in
-    let before = parsing held c.args.screen.now c.args.callbacks.now in
-    let now = parsing held c.execute.new.screen c.execute.new.callbacks in
+    let before = parser_value held c.args.screen.now c.args.callbacks.now in
+    let now = parser_value held c.execute.new.screen c.execute.new.callbacks in
     some_read does before now bytes 1 c.requires
     (subst (λ (text : List ℕ). Ran does before text now) (sym (take_more bytes 0 0 c.requires))
     (byte_ran does before now byte (one_event (Executed byte)) (c.is_control.ensures.feeds c.if-is_control.true)
@@ -40,9 +40,9 @@ pub returns-clause-read : goal.returns-clause-read
 returns-clause-read g c =
     let does = g.CB.Callbacks.does in
     let bytes = c.args.bytes.now in
-    let before = parsing c.args.scanner.now c.args.screen.now c.args.callbacks.now in
-    let led = parsing c.process_sequence.new.scanner c.process_sequence.new.screen c.process_sequence.new.callbacks in
-    let now = parsing c.process_rest.new.scanner c.process_rest.new.screen c.process_rest.new.callbacks in
+    let before = parser_value c.args.scanner.now c.args.screen.now c.args.callbacks.now in
+    let led = parser_value c.process_sequence.new.scanner c.process_sequence.new.screen c.process_sequence.new.callbacks in
+    let now = parser_value c.process_rest.new.scanner c.process_rest.new.screen c.process_rest.new.callbacks in
     let zero : c.in_ok-count-2.count ≡ 0 = omega (arith, c.if-count-gt0.false) in
     let ran : Ran does before (take 0 bytes) led =
     subst (λ (n : ℕ). Ran does before (take n bytes) led) zero c.in_ok-count-2.ensures.read.ran in
@@ -53,8 +53,8 @@ returns-in-Ok-clause-last g c = inr (omega arith, λ s stands. refl)
 
 pub returns-clause-last : goal.returns-clause-last
 returns-clause-last g c =
-    let before = parsing c.args.scanner.now c.args.screen.now c.args.callbacks.now in
-    let led = parsing c.process_sequence.new.scanner c.process_sequence.new.screen c.process_sequence.new.callbacks in
+    let before = parser_value c.args.scanner.now c.args.screen.now c.args.callbacks.now in
+    let led = parser_value c.process_sequence.new.scanner c.process_sequence.new.screen c.process_sequence.new.callbacks in
     let zero : c.in_ok-count-2.count ≡ 0 = omega (arith, c.if-count-gt0.false) in
     map_some (λ k. CallsByLast led.callbacks led.scanner c.args.bytes.now k c.process_rest.new.callbacks)
     (λ k. CallsByLast before.callbacks before.scanner c.args.bytes.now k c.process_rest.new.callbacks)

@@ -10,7 +10,7 @@ use Rattle.vt100.proofs.repeating.repeat_some.Goals as goal
 
 pub returns-in_err-text : goal.returns-in_err-text
 returns-in_err-text g c = record {
-  some = search rules;
+  progress = search rules;
   most = search rules;
   done = search rules;
   stopped = λ e. first_refused g.CB.Callbacks.does c.args.left c.args.byte c.args.callbacks.now c.text.new.callbacks
@@ -22,7 +22,7 @@ returns-in_err-text g c = record {
 
 pub returns-then-count-eq0 : goal.returns-then-count-eq0
 returns-then-count-eq0 g c = record {
-  some = omega arith;
+  progress = omega arith;
   most = c.requires.left;
   done =
       taken g.CB.Callbacks.does (Print c.args.byte) c.args.callbacks.now c.text.new.callbacks
@@ -37,7 +37,7 @@ pub returns : goal.returns
 returns g c =
     let room : c.args.screen.now.page.column + c.min-count.result ≤ c.args.screen.now.page.width = search rules in
     record {
-      some = search rules;
+      progress = search rules;
       most = search rules;
       done =
           subst (λ (after : ScreenValue). Does g.CB.Callbacks.does c.args.callbacks.now c.args.screen.now

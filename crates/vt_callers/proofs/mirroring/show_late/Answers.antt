@@ -1,7 +1,7 @@
 use Rattle.std.proofs.Common.{◌∙◌, ap, subst, sym}
 use Rattle.vt_screen.specs.Screen.{IsScreen, ScreenValue}
 use Rattle.std.specs.Prelude.{Ok, Option}
-use Rattle.vt100.specs.Parser.{Ran, quietly}
+use Rattle.vt100.specs.Parser.{Ran, does_nothing}
 use Rattle.vt_mirror.specs.Calls.{Asks, Drawn}
 use Rattle.vt_mirror.specs.Viewers.{ViewersValue, next_number}
 use Rattle.vt_mirror.specs.declared.update.Update.{Update}
@@ -12,7 +12,7 @@ pub returns-clause-read : goal.returns-clause-read
 returns-clause-read g c =
     let asks = subst (λ (o : Option Update). Asks Drawn c.join.new.self c.in_ok-viewer.viewer (Ok o) c.update.new.self)
     c.in-Some.is c.in_ok-answer.ensures.call in
-    subst (Ran quietly c.args.mirror.now.parser c.args.output.now)
+    subst (Ran does_nothing c.args.mirror.now.parser c.args.output.now)
     (sym (asks.answers.parser ∙ c.join.ensures.parser)) c.in_ok-process.ensures.call.parser.ran
 
 pub returns-clause-shows : goal.returns-clause-shows

@@ -6,7 +6,7 @@ use Rattle.vt_scan.specs.Automaton.{start}
 use Rattle.vt_screen.specs.Screen.{IsScreen, ScreenValue, fresh_screen}
 use Rattle.vt_screen.specs.Streamed.{HasNoRis}
 use Rattle.vt_screen.specs.CallsOfRun.{screen_in}
-use Rattle.vt100.specs.Parser.{Parsing}
+use Rattle.vt100.specs.Parser.{ParserValue}
 use Rattle.vt100.specs.Streams.{MakesCall, ParserCall, Process, whole_text}
 use Rattle.vt_callers.proofs.Runs.{fresh_parser}
 use Rattle.vt_callers.proofs.recording.record.Goals as goal
@@ -22,11 +22,11 @@ returns-clause-text c = λ none main.
     let makes : FoldsTo (MakesCall Records) p calls q = (q, c.in_ok-process.ensures.call.ran, refl) in
     let begun = c.in_ok-parser.ensures.ground in
     let shown : p.screen ≡ fresh_screen rows cols c.args.capacity =
-    ap (λ (r : Parsing Recorded). r.screen) c.in_ok-parser.ensures.shown in
+    ap (λ (r : ParserValue Recorded). r.screen) c.in_ok-parser.ensures.shown in
     let sound : IsScreen p.screen =
     subst (λ (s : ScreenValue). IsScreen s) c.screen.ensures.value c.size.ensures.whole in
     let fresh = fresh_parser rows cols c.args.capacity p c.args.rows.ok c.args.cols.ok sound begun shown in
-    let nothing = ap (λ (r : Parsing Recorded). r.callbacks) c.in_ok-parser.ensures.shown ∙ c.new-recorder.ensures in
+    let nothing = ap (λ (r : ParserValue Recorded). r.callbacks) c.in_ok-parser.ensures.shown ∙ c.new-recorder.ensures in
     let called = c.one_text.ensures.called p q calls start c.recorded.ensures.recorder.leaves begun makes in
     let there : q.screen.is_alternate ≡ false =
     ap (λ (s : ScreenValue). s.is_alternate) (called.0 ∙ ap (λ (s : ScreenValue). screen_in start s output) shown)

@@ -3,7 +3,7 @@ use Rattle.vt_scan.specs.Automaton.{start}
 use Rattle.vt_screen.specs.Contents.{contents_of}
 use Rattle.vt_screen.specs.Screen.{ScreenValue, fresh_screen}
 use Rattle.vt_screen.specs.CallsOfRun.{screen_in}
-use Rattle.vt100.specs.Parser.{Parsing}
+use Rattle.vt100.specs.Parser.{ParserValue}
 use Rattle.vt100.specs.Streams.{ParserCall, Process}
 use Rattle.vt_callers.proofs.screen_test.output_shows.Goals as goal
 
@@ -13,7 +13,7 @@ returns-clause-shows c =
     let q = c.process.new.self in
     let calls : List ParserCall = Process c.args.output.now ∷ [] in
     let shown : p.screen ≡ fresh_screen c.args.rows.value c.args.cols.value 0 =
-    ap (λ (r : Parsing (Unit {0})). r.screen) c.in_ok-parser.ensures.shown in
+    ap (λ (r : ParserValue (Unit {0})). r.screen) c.in_ok-parser.ensures.shown in
     let called = c.one_text.ensures.called p q calls start (λ call old new before after t. t.1)
     c.in_ok-parser.ensures.ground (q, c.in_ok-process.ensures.call.ran, refl) in
     let same : c.screen.result.now

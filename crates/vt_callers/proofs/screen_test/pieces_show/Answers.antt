@@ -3,7 +3,7 @@ use Rattle.vt_scan.specs.Automaton.{start}
 use Rattle.vt_screen.specs.Contents.{contents_of}
 use Rattle.vt_screen.specs.Screen.{ScreenValue, fresh_screen}
 use Rattle.vt_screen.specs.CallsOfRun.{screen_in}
-use Rattle.vt100.specs.Parser.{Parsing, pieces_joined}
+use Rattle.vt100.specs.Parser.{ParserValue, pieces_joined}
 use Rattle.vt100.specs.Streams.{ParserCall, Process}
 use Rattle.vt_callers.proofs.screen_test.pieces_show.Goals as goal
 
@@ -14,7 +14,7 @@ returns-clause-shows c =
     let bytes : List ℕ = pieces_joined (map (λ (piece : Bor (List ℕ)). piece.now) c.args.pieces.now) in
     let calls : List ParserCall = Process bytes ∷ [] in
     let shown : p.screen ≡ fresh_screen c.args.rows.value c.args.cols.value 0 =
-    ap (λ (r : Parsing (Unit {0})). r.screen) c.in_ok-parser.ensures.shown in
+    ap (λ (r : ParserValue (Unit {0})). r.screen) c.in_ok-parser.ensures.shown in
     let called = c.one_text.ensures.called p q calls start (λ call old new before after t. t.1)
     c.in_ok-parser.ensures.ground (q, c.in_ok-read_pieces.ensures.ran, refl) in
     let same : c.screen.result.now ≡ screen_in start (fresh_screen c.args.rows.value c.args.cols.value 0) bytes

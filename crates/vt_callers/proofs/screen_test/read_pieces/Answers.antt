@@ -1,7 +1,7 @@
 use Rattle.std.proofs.Common.{ℕ, List, [], Bor, get_or, map, rules, sym, subst, take}
 use Rattle.std.proofs.lemmas.List.{map_more, take_all}
 use Rattle.std.specs.List.{FoldsTo}
-use Rattle.vt100.specs.Parser.{Ran, quietly}
+use Rattle.vt100.specs.Parser.{Ran, does_nothing}
 use Rattle.vt_callers.proofs.Runs.{ran_more}
 use Rattle.vt_callers.proofs.screen_test.read_pieces.Goals as goal
 
@@ -12,7 +12,7 @@ nothing = record { ref_ptr = (0, 0); now = [] }
 pub loop-piece-preserved : goal.loop-piece-preserved
 loop-piece-preserved c = record {
   folds =
-      subst (λ (pieces : List (List ℕ)). FoldsTo (Ran quietly) c.args.parser.now pieces c.process.new.self)
+      subst (λ (pieces : List (List ℕ)). FoldsTo (Ran does_nothing) c.args.parser.now pieces c.process.new.self)
       (sym (map_more (λ (piece : Bor (List ℕ)). piece.now) c.args.pieces.now
       c.loop-piece.piece-index nothing c.loop-piece-test.true))
       (ran_more (map (λ (piece : Bor (List ℕ)). piece.now) (take c.loop-piece.piece-index c.args.pieces.now))
@@ -25,6 +25,6 @@ pub returns-clause-ran : goal.returns-clause-ran
 returns-clause-ran c =
     c.pieces.ensures.list c.args.parser.now c.loop-piece.parser
     (map (λ (piece : Bor (List ℕ)). piece.now) c.args.pieces.now)
-    (subst (λ (pieces : List (Bor (List ℕ))). FoldsTo (Ran quietly) c.args.parser.now
+    (subst (λ (pieces : List (Bor (List ℕ))). FoldsTo (Ran does_nothing) c.args.parser.now
     (map (λ (piece : Bor (List ℕ)). piece.now) pieces) c.loop-piece.parser)
     (take_all c.loop-piece.piece-index c.args.pieces.now c.loop-piece-test.false) c.loop-piece.invariant.folds)

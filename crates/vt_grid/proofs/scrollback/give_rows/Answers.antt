@@ -21,7 +21,7 @@ loop-k-init c =
       left = sym (take_all (length kept + n - n) kept (omega arith));
       width = refl;
       few = omega arith;
-      some = omega arith;
+      nonempty = omega arith;
     }
 
 pub returns-in_default-clause-kept : goal.returns-in_default-clause-kept
@@ -47,7 +47,7 @@ returns-in_default-clause-by_index c =
     sym (ap length inv.left ∙ omega (arith, length-take (length kept + at.k - n) kept, inv.few)) ∙ none in
     moved_all (λ j. length kept + j - n) at.k n kept c.args.page.now.rows
     at.page.rows (λ j. nat_lt j n && nat_le n (length kept + j))
-    (λ j h. let some = inv.some in grind (arith, nat_tests)) inv.moved
+    (λ j h. let some = inv.nonempty in grind (arith, nat_tests)) inv.moved
 
 pub fit_row-requires-clause-blank : goal.fit_row-requires-clause-blank
 fit_row-requires-clause-blank c =
@@ -71,7 +71,7 @@ fit_row-requires-clause-paired c =
     let len : deque_len at.kept ≡ length kept + at.k - n =
     at.kept.ok.0 ∙ (ap length inv.left ∙ omega (arith, length-take (length kept + at.k - n) kept, inv.few)) in
     let found : c.in-Some.row ≡ get_or at.kept.items (length kept + (at.k - 1) - n) c.in-Some.row
-    = c.in-Some.ensures.lookup ∙ ap (λ (i : ℕ). get_or at.kept.items i c.in-Some.row) (omega (arith, len, inv.some)) in
+    = c.in-Some.ensures.lookup ∙ ap (λ (i : ℕ). get_or at.kept.items i c.in-Some.row) (omega (arith, len, inv.nonempty)) in
     let some : 0 < deque_len at.kept = omega (arith, c.in-Some.ensures.cases) in
     let there = last_taken (length kept + at.k - n) (length kept + (at.k - 1) - n) kept
     at.kept.items c.in-Some.row inv.left (omega (arith, len, some)) (omega (arith, inv.few)) found in
@@ -89,7 +89,7 @@ loop-k-preserved c =
     let len : deque_len at.kept ≡ length kept + at.k - n =
     at.kept.ok.0 ∙ (ap length inv.left ∙ omega (arith, length-take (length kept + at.k - n) kept, inv.few)) in
     let found : c.in-Some.row ≡ get_or at.kept.items (length kept + (at.k - 1) - n) c.in-Some.row
-    = c.in-Some.ensures.lookup ∙ ap (λ (i : ℕ). get_or at.kept.items i c.in-Some.row) (omega (arith, len, inv.some)) in
+    = c.in-Some.ensures.lookup ∙ ap (λ (i : ℕ). get_or at.kept.items i c.in-Some.row) (omega (arith, len, inv.nonempty)) in
     let some : 0 < deque_len at.kept = omega (arith, c.in-Some.ensures.cases) in
     let there = last_taken (length kept + at.k - n) (length kept + (at.k - 1) - n) kept
     at.kept.items c.in-Some.row inv.left (omega (arith, len, some)) (omega (arith, inv.few)) found in
@@ -118,7 +118,7 @@ loop-k-preserved c =
           (c.in-Some.ensures.rest ∙ ap (λ (m : ℕ). take m at.kept.items) (omega (arith, len, some)));
       width = ap (λ (s : PageRowsValue). s.width) c.fit_row.ensures ∙ inv.width;
       few = omega (arith, inv.few);
-      some = omega (arith, len, some);
+      nonempty = omega (arith, len, some);
     }
 
 pub returns-clause-kept : goal.returns-clause-kept
@@ -134,4 +134,4 @@ returns-clause-by_index c =
     let inv = at.invariant in
     moved_all (λ j. length kept + j - n) at.k n kept c.args.page.now.rows
     at.page.rows (λ j. nat_lt j n && nat_le n (length kept + j))
-    (λ j h. let some = inv.some in grind (arith, nat_tests)) inv.moved
+    (λ j h. let some = inv.nonempty in grind (arith, nat_tests)) inv.moved

@@ -9,7 +9,7 @@ invariant-loop-k l = record {
   left : l.kept.items ≡ take (length l.fn.kept.items + l.k - l.up) l.fn.kept.items;
   width : l.page.width ≡ l.fn.page.width;
   few : l.k ≤ l.up;
-  some : l.up ≤ length l.fn.kept.items + l.k;
+  nonempty : l.up ≤ length l.fn.kept.items + l.k;
 }
 
 abbrev pub decreases-loop-k : goal.decreases-loop-k

@@ -41,7 +41,7 @@ loop-preserved g c =
       c.read.auto.buf,
       c.min-size.ensures,
       c.saturating_sub-left.ensures,
-      c.loop.invariant.some,
+      c.loop.invariant.nonempty,
     ))
     (omega (arith, c.if-left-eq0.false))
     c.loop.invariant

@@ -8,7 +8,7 @@ pub loop-init : goal.loop-init
 loop-init g c =
     begun_written c.args.every c.args.viewer c.args.mirror.now c.write_update.new.mirror
     (g.R.Read.remaining c.args.reader.now) (g.W.Write.contents c.args.writer.now)
-    (g.W.Write.contents c.write_update.new.writer) c.requires.some c.requires.begun c.in_ok-write_update.ensures.writes
+    (g.W.Write.contents c.write_update.new.writer) c.requires.nonempty c.requires.begun c.in_ok-write_update.ensures.writes
 
 pub returns-in_err-write_update : goal.returns-in_err-write_update
 returns-in_err-write_update g c = record {
@@ -88,7 +88,7 @@ loop-preserved g c =
     (g.R.Read.remaining c.args.reader.now) (g.R.Read.remaining c.loop.reader)
     (g.R.Read.remaining c.read_stretch.new.reader) (g.W.Write.contents c.args.writer.now)
     (g.W.Write.contents c.loop.writer) (g.W.Write.contents c.write_update-in-loop.new.writer)
-    (search rules) c.requires.some c.requires.begun.scanner c.loop.invariant c.in_ok-is_whole.ensures.stretch
+    (search rules) c.requires.nonempty c.requires.begun.scanner c.loop.invariant c.in_ok-is_whole.ensures.stretch
     c.in_ok-write_update-2.ensures.writes
 
 pub returns : goal.returns

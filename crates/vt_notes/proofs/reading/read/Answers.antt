@@ -3,7 +3,7 @@ use Rattle.std.proofs.Common.{◌≡◌, ℕ, true, List, [], Bor, map, take, ge
 use Rattle.std.proofs.lemmas.List.{map_more, take_all}
 use Rattle.std.specs.List.{FoldsTo}
 use Rattle.vt_screen.specs.Screen.{fresh_screen}
-use Rattle.vt100.specs.Parser.{Ran, pieces_joined, parsing}
+use Rattle.vt100.specs.Parser.{Ran, pieces_joined, parser_value}
 use Rattle.vt_notes.specs.Noting.{Noted, NotesIt}
 use Rattle.vt_notes.proofs.Runs.{HasRead, has_read, read_more}
 use Rattle.vt_notes.proofs.reading.read.Goals as goal
@@ -28,7 +28,7 @@ at_end c =
     has_read c.in_ok-parser.parser c.loop-piece.parser (fresh_screen c.args.rows.value c.args.cols.value 0)
     (map (λ (piece : Bor (List ℕ)). piece.now) c.args.pieces.now)
     (c.in_ok-parser.ensures.shown
-    ∙ ap (λ (notes : Noted). parsing c.in_ok-parser.parser.scanner
+    ∙ ap (λ (notes : Noted). parser_value c.in_ok-parser.parser.scanner
     (fresh_screen c.args.rows.value c.args.cols.value 0) notes)
     c.new.ensures)
     c.in_ok-parser.ensures.ground

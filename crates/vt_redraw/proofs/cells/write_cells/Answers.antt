@@ -22,5 +22,5 @@ returns-then-first-cols-clause-writes g c =
     record {
       bytes = sym (append-nil text) ∙ ap (λ (w : Scripted). text ++ bytes_of_all w.ops) (sym none);
       stands = ap (λ (w : Scripted). w.pen) (sym none);
-      goes_on = ap (λ (w : Scripted). w.flag) (sym none);
+      is_wrapped = ap (λ (w : Scripted). w.flag) (sym none);
     }

@@ -3,7 +3,7 @@ use Rattle.vt_cells.proofs.Sinks.{on_err}
 use Rattle.vt_cells.specs.Cell.{attrs_of, is_blank, is_wide, text_of}
 use Rattle.vt_cells.specs.Glyph.{glyph_columns}
 use Rattle.vt_cells.specs.Op.{Print, bytes_of_all}
-use Rattle.vt_cells.specs.BufferInternals.{gathered}
+use Rattle.vt_cells.specs.BufferInternals.{buffered_text}
 use Rattle.vt_redraw.specs.Script.{placed_op, erase_run, flag_behind, flag_past, pen_at}
 use Rattle.vt_redraw.proofs.CellSteps.{glyph_leads, next_run, run_some}
 use Rattle.vt_redraw.proofs.Refusals.{gathers_behind, buffer_some, some_behind, some_first, start_some}
@@ -16,12 +16,12 @@ returns-then-not-is_blank g c =
       leads =
           glyph_leads c.args.pos.row c.args.pos.col c.columns-count.result c.args.pen.now c.gather_glyph.new.pen
           c.args.flag.now c.flag_behind.result c.args.cells.now.cells c.args.over.now.cells c.cell-cell.result.now
-          (gathered (text c.args.sink.now) c.args.buffer.now)
-          (gathered (text c.gather_glyph.new.sink) c.gather_glyph.new.buffer) c.cell-cell.ensures c.requires.inside
+          (buffered_text (text c.args.sink.now) c.args.buffer.now)
+          (buffered_text (text c.gather_glyph.new.sink) c.gather_glyph.new.buffer) c.cell-cell.ensures c.requires.inside
           c.requires.range.inside c.requires.other (sym c.is_blank.ensures ∙ c.if-not-is_blank.true)
           c.columns-count.ensures c.in_ok-gather_glyph.ensures.gathers.text c.in_ok-gather_glyph.ensures.pen
           (search rules);
-      some = search rules;
+      nonempty = search rules;
       inside = search rules;
       grows = c.in_ok-gather_glyph.ensures.gathers.grows;
       refused = search rules;
@@ -38,11 +38,11 @@ returns g c =
       leads =
           next_run c.args.pos.row c.args.pos.col c.run-count.result c.args.pen.now c.write_run.new.pen
           c.args.flag.now c.flag_past.result c.args.cells.now.cells c.args.over.now.cells c.attrs-attrs.result
-          (gathered (text c.args.sink.now) c.args.buffer.now)
-          (gathered (text c.write_run.new.sink) c.flush.new.self) c.requires.inside c.requires.range.inside
+          (buffered_text (text c.args.sink.now) c.args.buffer.now)
+          (buffered_text (text c.write_run.new.sink) c.flush.new.self) c.requires.inside c.requires.range.inside
           c.requires.other blank same c.run-count.ensures.value behind.text c.in_ok-write_run.ensures.pen
           c.flag_past.ensures;
-      some =
+      nonempty =
           run_some c.attrs-attrs.result c.args.cells.now.cells c.args.pos.col c.run-count.result c.requires.inside
           blank same c.run-count.ensures.value;
       inside = search rules;
@@ -60,7 +60,7 @@ returns-in_err-gather_glyph g c =
     let bytes = bytes_of_all (placed_op c.args.pen.now row col (attrs_of x) (Print (text_of x))) in
     record {
       leads = search rules;
-      some = search rules;
+      nonempty = search rules;
       inside = search rules;
       grows = search rules;
       refused =
@@ -71,18 +71,18 @@ returns-in_err-gather_glyph g c =
           c.args.flag.now (flag_behind c.args.flag.now (is_wide x) (drop (col + n) ys)) c.args.cells.now.cells ys x []
           bytes c.cell-cell.ensures c.requires.inside c.requires.range.inside c.requires.other
           (sym c.is_blank.ensures ∙ c.if-not-is_blank.true) c.columns-count.ensures refl refl refl))
-          c.in_err-gather_glyph.ensures.gathers.some);
+          c.in_err-gather_glyph.ensures.gathers.nonempty);
     }
 
 pub returns-in_err-flush : goal.returns-in_err-flush
 returns-in_err-flush g c = record {
   leads = search rules;
-  some = search rules;
+  nonempty = search rules;
   inside = search rules;
   grows = search rules;
   refused =
       on_err c.from_residual-in_err-flush.result
-      (some_first c.args.buffer.now _ (c.in_err-flush.ensures.some refl));
+      (some_first c.args.buffer.now _ (c.in_err-flush.ensures.nonempty refl));
 }
 
 pub returns-in_err-write_run : goal.returns-in_err-write_run
@@ -95,7 +95,7 @@ returns-in_err-write_run g c =
     let bytes = bytes_of_all (placed_op c.args.pen.now row col attrs (erase_run n (drop (col + n) ys))) in
     record {
       leads = search rules;
-      some = search rules;
+      nonempty = search rules;
       inside = search rules;
       grows = search rules;
       refused =
@@ -107,5 +107,5 @@ returns-in_err-write_run g c =
           c.requires.range.inside c.requires.other
           (ap is_blank (sym c.cell-cell.ensures) ∙ (sym c.is_blank.ensures ∙ c.if-not-is_blank.false))
           (c.attrs-attrs.ensures ∙ ap attrs_of c.cell-cell.ensures) c.run-count.ensures.value refl refl refl)
-          c.in_err-write_run.ensures.ops.some));
+          c.in_err-write_run.ensures.ops.nonempty));
     }

@@ -1,5 +1,5 @@
 use Rattle.std.proofs.Common.{◌∙◌, ◌+◌, rules, sym, ap, arith}
-use Rattle.vt_cells.specs.BufferInternals.{gathered}
+use Rattle.vt_cells.specs.BufferInternals.{buffered_text}
 use Rattle.vt_redraw.specs.Internals.{cells_from}
 use Rattle.vt_redraw.proofs.CellSteps.{leads_then, leads_text, passes_cell, passes_leads, passes_then, cells_end}
 use Rattle.std.proofs.Common.{refl}
@@ -14,7 +14,7 @@ loop-col-preserved-then-stands g c =
     let xs = c.args.cells.now.cells in
     let ys = c.args.over.now.cells in
     let row = c.args.pos.row in
-    let now = gathered (text l.sink) l.buffer in
+    let now = buffered_text (text l.sink) l.buffer in
     let next = c.next_other-col.result in (
       leads_then (text c.args.sink.now) now now (cells_from row c.args.pos.col c.args.pen.now c.args.flag.now xs ys)
           (cells_from row l.col l.pen l.flag xs ys) (cells_from row next l.pen l.flag xs ys)
@@ -40,25 +40,25 @@ returns-clause-writes g c =
     record {
       bytes =
           c.in_ok-flush.ensures.text
-          ∙ leads_text (gathered (text l.sink) l.buffer) (text c.args.sink.now)
+          ∙ leads_text (buffered_text (text l.sink) l.buffer) (text c.args.sink.now)
           (cells_from row l.col l.pen l.flag xs ys)
           (cells_from row c.args.pos.col c.args.pen.now c.args.flag.now xs ys) l.pen l.flag none l.invariant.0;
       stands = ap (λ w. w.pen) (sym none) ∙ l.invariant.0.pen;
-      goes_on = ap (λ w. w.flag) (sym none) ∙ l.invariant.0.flag;
+      is_wrapped = ap (λ w. w.flag) (sym none) ∙ l.invariant.0.flag;
     }
 
-pub returns-in_err-col-clause-some : goal.returns-in_err-col-clause-some
-returns-in_err-col-clause-some g c =
+pub returns-in_err-col-clause-nonempty : goal.returns-in_err-col-clause-nonempty
+returns-in_err-col-clause-nonempty g c =
     let l = c.loop-col in
     let text = g.S.Sink.text in
     on_err c.from_residual.result
     (leads_some (text c.args.sink.now) (text l.sink) l.buffer _ _ l.invariant.0 l.invariant.1
     c.in_err-col.ensures.refused)
 
-pub returns-in_err-flush-clause-some : goal.returns-in_err-flush-clause-some
-returns-in_err-flush-clause-some g c =
+pub returns-in_err-flush-clause-nonempty : goal.returns-in_err-flush-clause-nonempty
+returns-in_err-flush-clause-nonempty g c =
     let l = c.loop-col in
     let text = g.S.Sink.text in
     on_err c.from_residual-in_err-flush.result
     (leads_some (text c.args.sink.now) (text l.sink) l.buffer _ _ l.invariant.0 l.invariant.1
-    (some_first l.buffer _ (c.in_err-flush.ensures.some refl)))
+    (some_first l.buffer _ (c.in_err-flush.ensures.nonempty refl)))

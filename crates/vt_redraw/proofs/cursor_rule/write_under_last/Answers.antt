@@ -10,12 +10,12 @@ use Rattle.vt_redraw.proofs.cursor_rule.write_under_last.Goals as goal
 pub returns-in_err-write_change : goal.returns-in_err-write_change
 returns-in_err-write_change g c = record {
   text = search rules;
-  some =
+  nonempty =
       on_err c.from_residual-in_err-write_change.result
       (subst (λ (z : RowValue). 0 < length (bytes_of_all (under_last c.args.pen c.args.found c.args.row z.cells)))
       c.row.ensures.value
       (under_last_some c.args.pen c.write_last.new.pen c.args.found c.args.row c.row.result.cells
-      c.in_ok-write_last.ensures.pen c.in_err-write_change.ensures.some));
+      c.in_ok-write_last.ensures.pen c.in_err-write_change.ensures.nonempty));
 }
 
 pub returns : goal.returns
@@ -31,10 +31,10 @@ returns g c =
           ∙ ap (λ (z : RowValue). text c.args.sink.now
           ++ bytes_of_all (under_last c.args.pen c.args.found c.args.row z.cells)) c.row.ensures.value)
           c.write_feeds.ensures.text;
-      some =
+      nonempty =
           on_err_weaker c.write_feeds.result
           (λ some. subst (λ (z : RowValue). 0
           < length (bytes_of_all (under_last c.args.pen c.args.found c.args.row z.cells))) c.row.ensures.value
           (feeds_some c.args.pen c.args.found c.args.row c.row.result.cells some))
-          c.write_feeds.ensures.some;
+          c.write_feeds.ensures.nonempty;
     }

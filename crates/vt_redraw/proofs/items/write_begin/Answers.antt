@@ -59,8 +59,8 @@ returns-clause-leads g c =
       grows = grown _ _ _ c.in_ok-write_run.ensures.ops.text;
     }
 
-pub returns-in_err-write_run-clause-some : goal.returns-in_err-write_run-clause-some
-returns-in_err-write_run-clause-some g c =
+pub returns-in_err-write_run-clause-nonempty : goal.returns-in_err-write_run-clause-nonempty
+returns-in_err-write_run-clause-nonempty g c =
     let xs = c.args.cells.now.cells in
     let ys = c.args.over.now.cells in
     let row = c.args.pos.row in
@@ -80,4 +80,4 @@ returns-in_err-write_run-clause-some g c =
     (ap is_right_half (sym c.cell.ensures) ∙ (sym c.is_wide_continuation.ensures ∙ c.if-not-is_wide_continuation.false))
     (ap is_right_half (sym c.cell-2.ensures) ∙ (sym c.is_wide_continuation-2.ensures ∙ c.if-is_wide_continuation.false))
     (c.run-count.ensures.value ∙ ap (λ a. blank_run a (drop (col + 1) xs)) c.new-attrs.ensures) refl refl refl refl)
-    (subst (λ (a : Attrs). 0 < length (bytes a)) c.new-attrs.ensures c.in_err-write_run.ensures.ops.some))
+    (subst (λ (a : Attrs). 0 < length (bytes a)) c.new-attrs.ensures c.in_err-write_run.ensures.ops.nonempty))

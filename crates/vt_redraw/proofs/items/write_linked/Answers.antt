@@ -30,8 +30,8 @@ returns g c =
     (ap (λ (a : Attrs). pen_at r 0 a) c.new.ensures) c.in_ok-link.ensures.links in
     record {
       text = on_ok_weaker c.write_cells.result (λ more. wrote _ more.bytes) c.write_cells.ensures.writes;
-      some =
+      nonempty =
           on_err_weaker c.write_cells.result
           (text_behind_some start _ mid (bytes_of_all rest.ops) _ c.in_ok-link.ensures.links.bytes (wrote _ refl))
-          c.write_cells.ensures.some;
+          c.write_cells.ensures.nonempty;
     }

@@ -43,7 +43,7 @@ returns g c =
           on_ok_weaker c.write_range.result
           (λ more. more.bytes ∙ ap (λ (w : Scripted). text c.args.sink.now ++ bytes_of_all w.ops) range)
           c.write_range.ensures.writes;
-      some =
+      nonempty =
           on_err_weaker c.write_range.result (subst (λ (w : Scripted). 0 < length (bytes_of_all w.ops)) range)
-          c.write_range.ensures.some;
+          c.write_range.ensures.nonempty;
     }

@@ -73,7 +73,7 @@ returns-clause-text g c =
     (λ more. whole_item r start stop x y w c.write_range.new.pen c.write_range.new.flag (text c.args.sink.now)
     (text c.write_range.new.sink) (text c.write_end.new.sink) (sym c.is_whole.ensures ∙ c.if-not-is_whole.false) e
     c.in_ok-write_range.ensures.writes.bytes
-    c.in_ok-write_range.ensures.writes.stands c.in_ok-write_range.ensures.writes.goes_on more
+    c.in_ok-write_range.ensures.writes.stands c.in_ok-write_range.ensures.writes.is_wrapped more
     ∙ (ap (λ (z : RowValue). text c.args.sink.now ++ bytes_of_all (item_of_difference r start stop z y).ops)
     c.row-cells.ensures.value
     ∙ ap (λ (z : RowValue). text c.args.sink.now
@@ -81,8 +81,8 @@ returns-clause-text g c =
     (c.row-over.ensures.value ∙ ap (λ n. row_or n c.args.prev.now.rows r) (sym c.requires.size.width))))
     c.write_end.ensures.text
 
-pub returns-in_err-write_range-clause-some : goal.returns-in_err-write_range-clause-some
-returns-in_err-write_range-clause-some g c =
+pub returns-in_err-write_range-clause-nonempty : goal.returns-in_err-write_range-clause-nonempty
+returns-in_err-write_range-clause-nonempty g c =
     let x = c.row-cells.result in
     let y = c.row-over.result in
     let r = c.args.row in
@@ -100,10 +100,10 @@ returns-in_err-write_range-clause-some g c =
     (range_wrote r start stop (pen_at r start c.new.result) c.wrapped-flag.result cut x.cells y.cells c.requires.order
     c.up_to.ensures.cells (ap (λ (a : Attrs). pen_at r start a) c.new.ensures)
     ∙ ap (λ b. range_written r start stop b x.cells y.cells) c.wrapped-flag.ensures)
-    c.in_err-write_range.ensures.some)))
+    c.in_err-write_range.ensures.nonempty)))
 
-pub returns-clause-some : goal.returns-clause-some
-returns-clause-some g c =
+pub returns-clause-nonempty : goal.returns-clause-nonempty
+returns-clause-nonempty g c =
     let text = g.S.Sink.text in
     let x = c.row-cells.result in
     let y = c.row-over.result in
@@ -131,5 +131,5 @@ returns-clause-some g c =
     (text_behind_some (text c.args.sink.now) (bytes_of_all w.ops) mid more _ c.in_ok-write_range.ensures.writes.bytes
     (whole_item r start stop x y w c.write_range.new.pen c.write_range.new.flag (text c.args.sink.now) mid (mid ++ more)
     (sym c.is_whole.ensures ∙ c.if-not-is_whole.false) e c.in_ok-write_range.ensures.writes.bytes
-    c.in_ok-write_range.ensures.writes.stands c.in_ok-write_range.ensures.writes.goes_on refl) some)))
-    c.write_end.ensures.some
+    c.in_ok-write_range.ensures.writes.stands c.in_ok-write_range.ensures.writes.is_wrapped refl) some)))
+    c.write_end.ensures.nonempty

@@ -16,4 +16,4 @@ returns-then-has_contents c =
     ap not (c.eq.ensures
     ∙ (sym (same_cell-eq c.cell-cell.result.now c.cell.result.now)
     ∙ (ap (λ z. same_cell z c.cell.result.now) c.cell-cell.ensures ∙ ap (λ z. same_cell x z) c.cell.ensures)))
-    ∙ (sym (ap (λ b. b && not (same_cell x y)) glyph) ∙ sym (starts_at xs ys c.requires.some c.requires.over))
+    ∙ (sym (ap (λ b. b && not (same_cell x y)) glyph) ∙ sym (starts_at xs ys c.requires.nonempty c.requires.over))

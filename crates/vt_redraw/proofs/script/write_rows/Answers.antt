@@ -20,13 +20,13 @@ returns-in_err-on-clause-ops g c =
     let row = row_written 0 0 c.args.pen.now y.wrapped x y.cells in
     record {
       text = search rules;
-      some =
+      nonempty =
           on_err c.from_residual.result
           (start_some (bytes_of_all row.ops) _ _
           (top_leads width c.args.pen.now row.pen row.flag xs ys x y [] (bytes_of_all row.ops)
-          c.rows-last.ensures.some c.requires.size.height c.row-above.ensures.value
+          c.rows-last.ensures.nonempty c.requires.size.height c.row-above.ensures.value
           (c.row.ensures.value ∙ ap (λ n. row_or n ys 0) (sym c.requires.size.width)) (wrote_all [] row))
-          c.in_err-on.ensures.some);
+          c.in_err-on.ensures.nonempty);
     }
 
 pub loop-row-init : goal.loop-row-init
@@ -37,12 +37,12 @@ loop-row-init g c =
       leads =
           top_leads c.args.view.now.width c.args.pen.now c.write_top.new.pen c.in_ok-on.on
           c.args.view.now.rows ys c.row-above.result c.row.result (text c.args.sink.now) (text c.write_top.new.sink)
-          c.rows-last.ensures.some c.requires.size.height c.row-above.ensures.value
+          c.rows-last.ensures.nonempty c.requires.size.height c.row-above.ensures.value
           (c.row.ensures.value ∙ ap (λ n. row_or n ys 0) (sym c.requires.size.width)) c.in_ok-on.ensures.writes;
       grows = grown _ _ _ c.in_ok-on.ensures.writes.bytes;
       above = c.row-above.ensures.value;
       sound = c.row-above.ensures.sound;
-      some = c.row-above.ensures.some;
+      nonempty = c.row-above.ensures.nonempty;
     }
 
 pub returns-in_err-link-clause-ops : goal.returns-in_err-link-clause-ops
@@ -62,7 +62,7 @@ returns-in_err-link-clause-ops g c =
     let before = c.loop-row-test.true in
     record {
       text = search rules;
-      some =
+      nonempty =
           on_err c.from_residual-in_err-link.result
           (rest_some (text c.args.sink.now) (text l.sink) (rows_under r width l.pen l.on xs ys) _ l.invariant.leads
           l.invariant.grows
@@ -72,7 +72,7 @@ returns-in_err-link-clause-ops g c =
           c.row-cells.ensures.value
           (c.row-over.ensures.value ∙ ap (λ n. row_or n ys (r + 1)) (sym c.requires.size.width))
           (linked_all [] link) (wrote_all first row))
-          (some_first first (bytes_of_all row.ops) c.in_err-link.ensures.some)));
+          (some_first first (bytes_of_all row.ops) c.in_err-link.ensures.nonempty)));
     }
 
 pub returns-in_err-on-2-clause-ops : goal.returns-in_err-on-2-clause-ops
@@ -93,7 +93,7 @@ returns-in_err-on-2-clause-ops g c =
     let before = c.loop-row-test.true in
     record {
       text = search rules;
-      some =
+      nonempty =
           on_err c.from_residual-in_err-on-2.result
           (rest_some (text c.args.sink.now) (text l.sink) (rows_under r width l.pen l.on xs ys) _ l.invariant.leads
           l.invariant.grows
@@ -102,7 +102,7 @@ returns-in_err-on-2-clause-ops g c =
           (mid ++ bytes_of_all row.ops) (omega arith) c.requires.size.height l.invariant.above c.row-cells.ensures.value
           (c.row-over.ensures.value ∙ ap (λ n. row_or n ys (r + 1)) (sym c.requires.size.width))
           c.in_ok-link.ensures.links (wrote_all mid row))
-          (grown _ _ _ c.in_ok-link.ensures.links.bytes) c.in_err-on-2.ensures.some));
+          (grown _ _ _ c.in_ok-link.ensures.links.bytes) c.in_err-on-2.ensures.nonempty));
     }
 
 pub loop-row-preserved : goal.loop-row-preserved
@@ -136,7 +136,7 @@ loop-row-preserved g c =
       grows = omega (arith, first, then, so_far);
       above = c.row-cells.ensures.value;
       sound = c.row-cells.ensures.sound;
-      some = c.row-cells.ensures.some;
+      nonempty = c.row-cells.ensures.nonempty;
     }
 
 pub returns-clause-ops : goal.returns-clause-ops
@@ -153,7 +153,7 @@ returns-clause-ops g c =
           leads_text (text l.sink) (text c.args.sink.now) (rows_under l.row width l.pen l.on xs ys)
           (rows_written c.args.pen.now xs ys) l.pen l.on (rows_end width l.row l.pen l.on xs ys (omega arith))
           l.invariant.leads;
-      some = search rules;
+      nonempty = search rules;
     }
 
 pub returns-clause-pen : goal.returns-clause-pen

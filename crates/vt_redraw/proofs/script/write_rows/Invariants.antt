@@ -14,7 +14,7 @@ invariant-loop-row g l = record {
   grows : length (g.S.Sink.text l.fn.sink) ≤ length (g.S.Sink.text l.sink);
   above : l.above ≡ row_or l.view.width l.view.rows l.row;
   sound : IsRow l.view.width l.above;
-  some : 0 < length l.above.cells;
+  nonempty : 0 < length l.above.cells;
 }
 
 abbrev pub decreases-loop-row : goal.decreases-loop-row

@@ -10,6 +10,6 @@ pub returns-in-Some : goal.returns-in-Some
 returns-in-Some c holds =
     let view = c.args.view.now in
     let uncut = c.uncut_cells.ensures in
-    plain_row view.width (row_or view.width view.rows c.args.row) uncut.some uncut.sound
+    plain_row view.width (row_or view.width view.rows c.args.row) uncut.nonempty uncut.sound
     (subst (All (λ (cell : CellValue). has_selector cell ≡ false)) (sym c.in-Some.ensures.cells)
-    (none_resized view.width c.in-Some.cells.now uncut.some c.in-Some.ensures.paired (c.are_short.ensures holds)))
+    (none_resized view.width c.in-Some.cells.now uncut.nonempty c.in-Some.ensures.paired (c.are_short.ensures holds)))

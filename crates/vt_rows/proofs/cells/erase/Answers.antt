@@ -23,7 +23,7 @@ returns-clause-value c =
     omega (arith, length-take n (drop c.args.start xs), length-drop c.args.start xs) in
     rw (c.clear.ensures, l, c.blank_right.ensures, c.blank_left.ensures, c.new.ensures)
     (erase_steps c.args.start c.args.end default_blank (blanks c.args.attrs n) c.args.cells.now
-    c.requires.paired (length-replicate n (blank c.args.attrs)) c.requires.some c.requires.inside)
+    c.requires.paired (length-replicate n (blank c.args.attrs)) c.requires.nonempty c.requires.inside)
 
 pub returns-clause-paired : goal.returns-clause-paired
 returns-clause-paired c =

@@ -1,5 +1,5 @@
 use Rattle.std.proofs.Common.{◌≤◌, false, [], ◌∷◌, arith}
-use Rattle.vt_cells.specs.Cell.{glyph, widened}
+use Rattle.vt_cells.specs.Cell.{glyph, cell_made_wide}
 use Rattle.vt_rows.specs.Cells.{at}
 use Rattle.vt_rows.proofs.Pairs.{IsPaired-narrowed_at}
 use Rattle.vt_rows.proofs.Sound.{All-narrowed_at}
@@ -22,7 +22,7 @@ returns-clause-value c =
     let le : k ≤ k = omega arith in
     let space = glyph (0x20 ∷ []) false c.args.attrs in
     let steps = rw (left_blanked-none k cells c.requires.shown) at
-    (narrow_steps k space (widened false (at cells k)) cells c.requires.paired c.requires.inside) in
+    (narrow_steps k space (cell_made_wide false (at cells k)) cells c.requires.paired c.requires.inside) in
     rw (
       c.set_wide.ensures,
       c.space_right.ensures,

@@ -1,5 +1,5 @@
 use Rattle.std.proofs.Common.{◌+◌, ◌<◌, ◌≤◌, true, length, arith}
-use Rattle.vt_cells.specs.Cell.{blank, widened}
+use Rattle.vt_cells.specs.Cell.{blank, cell_made_wide}
 use Rattle.vt_rows.specs.Cells.{at}
 use Rattle.vt_rows.proofs.Pairs.{IsPaired-widened_at}
 use Rattle.vt_rows.proofs.Sound.{All-widened_at}
@@ -23,7 +23,7 @@ returns-clause-value c =
     let lt : k < length cells = omega arith in
     let le : k ≤ k + 1 = omega arith in
     let steps = rw (left_blanked-none k cells c.requires.shown) at
-    (wide_steps k (blank c.args.attrs) (widened true (at cells k)) cells c.requires.paired c.requires.inside) in
+    (wide_steps k (blank c.args.attrs) (cell_made_wide true (at cells k)) cells c.requires.paired c.requires.inside) in
     rw (
       c.right_half.ensures,
       c.set_wide.ensures,

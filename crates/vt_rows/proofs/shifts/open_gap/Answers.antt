@@ -2,13 +2,13 @@ use Rattle.std.proofs.Common.{◌≡◌, ◌+◌, ◌-◌, ◌∙◌, ℕ, ap, a
 use Rattle.std.proofs.lemmas.Bool.Decides.{nat_tests}
 use Rattle.vt_cells.specs.Cell.{default_blank}
 use Rattle.vt_rows.specs.Cells.{at}
-use Rattle.vt_rows.specs.Internals.{turn_source}
+use Rattle.vt_rows.specs.Internals.{rotation_source}
 use Rattle.vt_rows.proofs.shifts.open_gap.Goals as goal
 
 pub returns-then-count-eq1-clause-before : goal.returns-then-count-eq1-clause-before
 returns-then-count-eq1-clause-before c = λ k lt.
     let cells = c.args.cells.now in
-    let from : turn_source c.args.start (length cells) (length cells - c.args.start - c.args.count) k ≡ k =
+    let from : rotation_source c.args.start (length cells) (length cells - c.args.start - c.args.count) k ≡ k =
     grind (arith, nat_tests) in
     c.turn.ensures.by_index k default_blank ∙ ap (λ (j : ℕ). at cells j) from
 
@@ -16,7 +16,7 @@ pub returns-then-count-eq1-clause-after : goal.returns-then-count-eq1-clause-aft
 returns-then-count-eq1-clause-after c = λ k ge lt.
     let cells = c.args.cells.now in
     let start = c.args.start in
-    let from : turn_source start (length cells) (length cells - start - c.args.count) k
+    let from : rotation_source start (length cells) (length cells - start - c.args.count) k
     ≡ start + (k - (start + c.args.count)) =
     let one = c.if-count-eq1.true in grind (arith, nat_tests) in
     c.turn.ensures.by_index k default_blank ∙ ap (λ (j : ℕ). at cells j) from

@@ -1,5 +1,5 @@
 use Rattle.std.proofs.Common.{ap, refl, rules, ◌∙◌}
-use Rattle.vt100.specs.Parser.{parsing, stage}
+use Rattle.vt100.specs.Parser.{parser_value, stage}
 use Rattle.vt100.proofs.Quiet.{quietly_here, never_refused}
 use Rattle.vt100.proofs.parser.Parser.process.Goals as goal
 
@@ -14,8 +14,8 @@ returns-in-Err g c = record {
     for_good = search rules;
     harmless = search rules;
     quiet = λ state after ready stands told. absurd (never_refused g.CB.Callbacks.does
-        (parsing c.self.inside.scanner c.self.inside.screen c.self.inside.callbacks)
-        c.args.self.now (parsing c.process.new.scanner c.process.new.screen c.process.new.callbacks)
+        (parser_value c.self.inside.scanner c.self.inside.screen c.self.inside.callbacks)
+        c.args.self.now (parser_value c.process.new.scanner c.process.new.screen c.process.new.callbacks)
         c.args.bytes.now state after (ap (λ p. p.scanner) c.self.view_is)
         (ap stage c.self.view_is) (c.in-Err.ensures.stopped refl) stands told);
   };
@@ -33,7 +33,7 @@ returns-in-Ok g c = record {
     harmless = search rules;
     quiet = λ state after ready stands told.
         let quiet = quietly_here g.CB.Callbacks.does _ c.args.self.now
-        (parsing c.process.new.scanner c.process.new.screen c.process.new.callbacks)
+        (parser_value c.process.new.scanner c.process.new.screen c.process.new.callbacks)
         c.args.bytes.now state after c.self.view_is c.in-Ok.ensures.ran stands told in (
           refl,
           record {

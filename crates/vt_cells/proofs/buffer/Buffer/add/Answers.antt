@@ -1,6 +1,6 @@
 use Rattle.std.proofs.Common.{[], List, ℕ, refl, subst, append-nil, arith}
 use Rattle.std.proofs.lemmas.Result.{on_err_weaker}
-use Rattle.vt_cells.specs.BufferInternals.{gathered}
+use Rattle.vt_cells.specs.BufferInternals.{buffered_text}
 use Rattle.vt_cells.specs.Sinks.{IsStopped}
 use Rattle.vt_cells.proofs.Sinks.{on_err, stopped_after, stopped_first}
 use Rattle.vt_cells.proofs.buffer.Buffer.add.Goals as goal
@@ -9,10 +9,10 @@ pub returns-in_err-flush-clause-err : goal.returns-in_err-flush-clause-err
 returns-in_err-flush-clause-err g c =
     on_err c.from_residual.result (stopped_first g.S.Sink.refuses (g.S.Sink.text c.args.sink.now) c.args.self.now
     c.args.text.now (g.S.Sink.text c.flush.new.sink)
-    (c.in_err-flush.ensures.some refl) c.in_err-flush.ensures.err)
+    (c.in_err-flush.ensures.nonempty refl) c.in_err-flush.ensures.err)
 
 pub returns-then-text-room-clause-err : goal.returns-then-text-room-clause-err
-unfolding gathered
+unfolding buffered_text
 returns-then-text-room-clause-err g c =
     let start = g.S.Sink.text c.args.sink.now in
     let mid = g.S.Sink.text c.flush.new.sink in

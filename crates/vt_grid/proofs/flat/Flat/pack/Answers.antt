@@ -10,8 +10,8 @@ use Rattle.vt_grid.proofs.flat.Flat.pack.Goals.{then-from-rows, else-from-rows}
 pub loop-row-init : goal.loop-row-init
 loop-row-init c = record { state = packed_none c.args.rows c.args.self.now c.requires.flat }
 
-pub free_row-free-requires-clause-some : goal.free_row-free-requires-clause-some
-free_row-free-requires-clause-some c =
+pub free_row-free-requires-clause-nonempty : goal.free_row-free-requires-clause-nonempty
+free_row-free-requires-clause-nonempty c =
     let at = c.loop-row in
     let lines = at.self.lines.items in
     let inside : at.row < length lines = omega (arith, c.loop-row-test.true, at.invariant.state.len, c.requires.inside) in

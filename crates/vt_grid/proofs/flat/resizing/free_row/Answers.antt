@@ -10,8 +10,8 @@ loop-row-init c =
     record {
       after = omega arith;
       inside =
-          free_left c.args.rows c.args.from r.some.0 c.args.lines.now r.table r.distinct r.later
-          r.some.1 r.some.2 r.some.3;
+          free_left c.args.rows c.args.from r.nonempty.0 c.args.lines.now r.table r.distinct r.later
+          r.nonempty.1 r.nonempty.2 r.nonempty.3;
       later = r.later;
     }
 
@@ -30,7 +30,7 @@ loop-row-preserved c =
     record {
       after = omega (arith, inv.after);
       inside =
-          free_left c.args.rows (at.row + 1) r.some.0 c.args.lines.now r.table r.distinct later
-          r.some.1 r.some.2 r.some.3;
+          free_left c.args.rows (at.row + 1) r.nonempty.0 c.args.lines.now r.table r.distinct later
+          r.nonempty.1 r.nonempty.2 r.nonempty.3;
       later = later;
     }

@@ -1,7 +1,7 @@
 use Rattle.std.proofs.Common.{◌≡◌, ◌≤◌, ◌∙◌, length, refl, ap, arith}
 use Rattle.vt_grid.specs.Internals.{page_of}
 use Rattle.vt_grid.specs.Page.{Page}
-use Rattle.vt_grid.specs.Resize.{page_resized, returning, scrollback_resized}
+use Rattle.vt_grid.specs.Resize.{page_resized, returning_count, scrollback_resized}
 use Rattle.vt_grid.proofs.Heights.{added_sound, grown_above, grown_page, resized_sound}
 use Rattle.vt_grid.proofs.grid.Grid.add_own_rows.Goals as goal
 
@@ -18,7 +18,7 @@ invariant_of-self-2 c =
     let above = c.args.above.now in
     let page = page_of s.page_rows s.pos s.saved_pos s.scroll_top s.scroll_bottom s.origin_mode s.saved_origin_mode in
     let more : length page.rows ≤ h = omega (arith, c.requires, ap (λ (p : Page). length p.rows) c.self.view_is) in
-    let up : c.at_most-up.result ≡ returning h above page =
+    let up : c.at_most-up.result ≡ returning_count h above page =
     c.at_most-up.ensures ∙ omega (arith, i.height, c.theoretical_len.ensures.value) in
     let steps = grown_page h h s.size.cols c.at_most-up.result above c.leave_view.new.self page s.page_rows c.append_rows.new.self
     c.bring_back.new.self c.resized-self-inside.result c.resized-self-inside-2.result more refl i.width up c.leave_view.ensures
@@ -36,7 +36,7 @@ returns c =
     let above = c.args.above.now in
     let page = page_of s.page_rows s.pos s.saved_pos s.scroll_top s.scroll_bottom s.origin_mode s.saved_origin_mode in
     let more : length page.rows ≤ h = omega (arith, c.requires, ap (λ (p : Page). length p.rows) c.self.view_is) in
-    let up : c.at_most-up.result ≡ returning h above page =
+    let up : c.at_most-up.result ≡ returning_count h above page =
     c.at_most-up.ensures ∙ omega (arith, i.height, c.theoretical_len.ensures.value) in
     let steps = grown_page h h s.size.cols c.at_most-up.result above c.leave_view.new.self page s.page_rows c.append_rows.new.self
     c.bring_back.new.self c.resized-self-inside.result c.resized-self-inside-2.result more refl i.width up c.leave_view.ensures

@@ -1,7 +1,7 @@
 use Rattle.std.proofs.Common.{◌≡◌, ◌≤◌, ◌∙◌, length, refl, ap, arith}
 use Rattle.vt_grid.specs.Internals.{page_of}
 use Rattle.vt_grid.specs.Page.{Page}
-use Rattle.vt_grid.specs.Resize.{page_resized, returning, scrollback_resized}
+use Rattle.vt_grid.specs.Resize.{page_resized, returning_count, scrollback_resized}
 use Rattle.vt_grid.proofs.Heights.{added_blank, added_sound, grown_above, grown_page, resized_sound}
 use Rattle.vt_grid.proofs.grid.Grid.add_rows_to_both.Goals as goal
 
@@ -36,7 +36,7 @@ invariant_of-self-2 c =
     let above = c.args.above.now in
     let page = page_of s.page_rows s.pos s.saved_pos s.scroll_top s.scroll_bottom s.origin_mode s.saved_origin_mode in
     let more : length page.rows ≤ h = omega (arith, c.requires.own, ap (λ (p : Page). length p.rows) c.self.view_is) in
-    let up : c.at_most-up.result ≡ returning h above page =
+    let up : c.at_most-up.result ≡ returning_count h above page =
     c.at_most-up.ensures ∙ omega (arith, i.height, c.theoretical_len.ensures.value) in
     let steps = grown_page h h s.size.cols c.at_most-up.result above c.leave_view.new.self page s.page_rows c.append_rows_to_both.new.self
     c.bring_back.new.self c.resized-self-inside.result c.resized-self-inside-2.result more refl i.width up c.leave_view.ensures
@@ -54,7 +54,7 @@ invariant_of-other-2 c =
     let above = c.args.other_above.now in
     let page = page_of s.page_rows s.pos s.saved_pos s.scroll_top s.scroll_bottom s.origin_mode s.saved_origin_mode in
     let more : length page.rows ≤ h = omega (arith, c.requires.other, ap (λ (p : Page). length p.rows) c.other.view_is) in
-    let up : c.at_most-other_up.result ≡ returning h above page =
+    let up : c.at_most-other_up.result ≡ returning_count h above page =
     c.at_most-other_up.ensures ∙ omega (arith, i.height, c.theoretical_len-2.ensures.value) in
     let steps = grown_page h h s.size.cols c.at_most-other_up.result above c.leave_view-2.new.self page s.page_rows c.append_rows_to_both.new.other
     c.bring_back-2.new.self c.resized-other-inside.result c.resized-other-inside-2.result more refl i.width up c.leave_view-2.ensures
@@ -72,7 +72,7 @@ returns-clause-own c =
     let above = c.args.above.now in
     let page = page_of s.page_rows s.pos s.saved_pos s.scroll_top s.scroll_bottom s.origin_mode s.saved_origin_mode in
     let more : length page.rows ≤ h = omega (arith, c.requires.own, ap (λ (p : Page). length p.rows) c.self.view_is) in
-    let up : c.at_most-up.result ≡ returning h above page =
+    let up : c.at_most-up.result ≡ returning_count h above page =
     c.at_most-up.ensures ∙ omega (arith, i.height, c.theoretical_len.ensures.value) in
     let steps = grown_page h h s.size.cols c.at_most-up.result above c.leave_view.new.self page s.page_rows c.append_rows_to_both.new.self
     c.bring_back.new.self c.resized-self-inside.result c.resized-self-inside-2.result more refl i.width up c.leave_view.ensures
@@ -97,7 +97,7 @@ returns-clause-other c =
     let above = c.args.other_above.now in
     let page = page_of s.page_rows s.pos s.saved_pos s.scroll_top s.scroll_bottom s.origin_mode s.saved_origin_mode in
     let more : length page.rows ≤ h = omega (arith, c.requires.other, ap (λ (p : Page). length p.rows) c.other.view_is) in
-    let up : c.at_most-other_up.result ≡ returning h above page =
+    let up : c.at_most-other_up.result ≡ returning_count h above page =
     c.at_most-other_up.ensures ∙ omega (arith, i.height, c.theoretical_len-2.ensures.value) in
     let steps = grown_page h h s.size.cols c.at_most-other_up.result above c.leave_view-2.new.self page s.page_rows c.append_rows_to_both.new.other
     c.bring_back-2.new.self c.resized-other-inside.result c.resized-other-inside-2.result more refl i.width up c.leave_view-2.ensures

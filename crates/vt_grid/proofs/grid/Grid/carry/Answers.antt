@@ -15,9 +15,9 @@ put_back-requires-clause-inside g c =
     let carried = carried_of c.args.mark c.args.self.now c.requires.carried in
     let row = ap (λ (q : Page). (row_at c.args.self.now q.row).wrapped) c.self.view_is in
     let parts = put_back_parts c.mark_col-col.result c.args.mark c.args.attrs c.args.self.now
-    c.wrap.new.self c.lift-cell.result c.row_wrapped-goes_on.result c.mark_col-col.ensures.page carried
+    c.wrap.new.self c.lift-cell.result c.row_wrapped-is_wrapped.result c.mark_col-col.ensures.page carried
     c.mark_col-col.ensures.value (c.in-Err.ensures.err.0 ∙ c.lift-cell.ensures.value)
-    c.lift-cell.ensures.lifted (c.row_wrapped-goes_on.ensures ∙ row) in
+    c.lift-cell.ensures.lifted (c.row_wrapped-is_wrapped.ensures ∙ row) in
     parts.0
 
 pub put_back-requires-clause-page : goal.put_back-requires-clause-page
@@ -25,9 +25,9 @@ put_back-requires-clause-page g c =
     let carried = carried_of c.args.mark c.args.self.now c.requires.carried in
     let row = ap (λ (q : Page). (row_at c.args.self.now q.row).wrapped) c.self.view_is in
     let parts = put_back_parts c.mark_col-col.result c.args.mark c.args.attrs c.args.self.now
-    c.wrap.new.self c.lift-cell.result c.row_wrapped-goes_on.result c.mark_col-col.ensures.page carried
+    c.wrap.new.self c.lift-cell.result c.row_wrapped-is_wrapped.result c.mark_col-col.ensures.page carried
     c.mark_col-col.ensures.value (c.in-Err.ensures.err.0 ∙ c.lift-cell.ensures.value)
-    c.lift-cell.ensures.lifted (c.row_wrapped-goes_on.ensures ∙ row) in
+    c.lift-cell.ensures.lifted (c.row_wrapped-is_wrapped.ensures ∙ row) in
     subst IsPage (sym parts.1) c.mark_col-col.ensures.page
 
 pub returns-in-Err : goal.returns-in-Err
@@ -35,9 +35,9 @@ returns-in-Err g c =
     let carried = carried_of c.args.mark c.args.self.now c.requires.carried in
     let row = ap (λ (q : Page). (row_at c.args.self.now q.row).wrapped) c.self.view_is in
     let parts = put_back_parts c.mark_col-col.result c.args.mark c.args.attrs c.args.self.now
-    c.wrap.new.self c.lift-cell.result c.row_wrapped-goes_on.result c.mark_col-col.ensures.page carried
+    c.wrap.new.self c.lift-cell.result c.row_wrapped-is_wrapped.result c.mark_col-col.ensures.page carried
     c.mark_col-col.ensures.value (c.in-Err.ensures.err.0 ∙ c.lift-cell.ensures.value)
-    c.lift-cell.ensures.lifted (c.row_wrapped-goes_on.ensures ∙ row) in
+    c.lift-cell.ensures.lifted (c.row_wrapped-is_wrapped.ensures ∙ row) in
     record {
       page = search rules;
       sent = search rules;

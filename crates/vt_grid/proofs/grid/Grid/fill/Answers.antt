@@ -1,8 +1,8 @@
 use Rattle.std.proofs.Common.{◌≡◌, ◌<◌, ◌^◌, ◌∙◌, ℕ, length, take, refl, sym, ap, subst, arith, rules}
 use Rattle.vt_grid.specs.Internals.{IsSized, page_of}
 use Rattle.vt_grid.specs.Page.{Page}
-use Rattle.vt_grid.specs.Resize.{out_of_view, leaving, returning, page_resized, scrollback_resized}
-use Rattle.vt_grid.specs.Scrollback.{Scrollback, pushed}
+use Rattle.vt_grid.specs.Resize.{out_of_view, leaving_count, returning_count, page_resized, scrollback_resized}
+use Rattle.vt_grid.specs.Scrollback.{Scrollback, scrollback_after_push}
 use Rattle.vt_grid.specs.PageRows.{PageRowsValue}
 use Rattle.vt_grid.proofs.Resizing.{offset-pushed, page_by_steps, above_by_steps, page_page_resized, sized_resized}
 use Rattle.vt_grid.proofs.grid.Grid.fill.Goals as goal
@@ -22,12 +22,12 @@ invariant_of-self g c =
     let above = c.args.above.now in
     let page = page_of s.page_rows s.pos s.saved_pos s.scroll_top s.scroll_bottom s.origin_mode s.saved_origin_mode in
     let rows : c.size-size.result.rows ≡ h = c.size-size.ensures.rows in
-    let down : c.saturating_sub-down.result ≡ leaving h page =
+    let down : c.saturating_sub-down.result ≡ leaving_count h page =
     c.saturating_sub-down.ensures ∙ omega (arith, c.saturating_sub.ensures, rows, i.height) in
-    let up : c.at_most-up.result ≡ returning h above page =
+    let up : c.at_most-up.result ≡ returning_count h above page =
     c.at_most-up.ensures ∙ omega (arith, c.saturating_sub-2.ensures, rows, i.height, c.theoretical_len.ensures.value) in
     let sent = c.in_ok-push_out_of_view.ensures.pushed.sent.0
-    ∙ ap (λ (n : ℕ). pushed s.size.rows s.size.cols (take n page.rows) (out_of_view above)) c.from.ensures in
+    ∙ ap (λ (n : ℕ). scrollback_after_push s.size.rows s.size.cols (take n page.rows) (out_of_view above)) c.from.ensures in
     let steps = page_by_steps h w s.size.rows s.size.cols c.saturating_sub-down.result
     c.at_most-up.result above c.push_out_of_view.new.self page s.page_rows
     c.refit.new.self c.resized-self-inside.result c.resized-self-inside-2.result
@@ -50,12 +50,12 @@ returns g c =
     let above = c.args.above.now in
     let page = page_of s.page_rows s.pos s.saved_pos s.scroll_top s.scroll_bottom s.origin_mode s.saved_origin_mode in
     let rows : c.size-size.result.rows ≡ h = c.size-size.ensures.rows in
-    let down : c.saturating_sub-down.result ≡ leaving h page =
+    let down : c.saturating_sub-down.result ≡ leaving_count h page =
     c.saturating_sub-down.ensures ∙ omega (arith, c.saturating_sub.ensures, rows, i.height) in
-    let up : c.at_most-up.result ≡ returning h above page =
+    let up : c.at_most-up.result ≡ returning_count h above page =
     c.at_most-up.ensures ∙ omega (arith, c.saturating_sub-2.ensures, rows, i.height, c.theoretical_len.ensures.value) in
     let sent = c.in_ok-push_out_of_view.ensures.pushed.sent.0
-    ∙ ap (λ (n : ℕ). pushed s.size.rows s.size.cols (take n page.rows) (out_of_view above)) c.from.ensures in
+    ∙ ap (λ (n : ℕ). scrollback_after_push s.size.rows s.size.cols (take n page.rows) (out_of_view above)) c.from.ensures in
     let steps = page_by_steps h w s.size.rows s.size.cols c.saturating_sub-down.result
     c.at_most-up.result above c.push_out_of_view.new.self page s.page_rows
     c.refit.new.self c.resized-self-inside.result c.resized-self-inside-2.result

@@ -14,7 +14,7 @@ invariant_of-self c =
     (page_of page_rows pos s.saved_pos s.scroll_top s.scroll_bottom s.origin_mode s.saved_origin_mode))
     (sym c.wrap_left.ensures)
     (subst (IsSized s.size.rows s.size.cols)
-    (sym (flagged_page c.args.left c.args.goes_on s.page_rows s.pos s.saved_pos
+    (sym (flagged_page c.args.left c.args.is_wrapped s.page_rows s.pos s.saved_pos
     s.scroll_top s.scroll_bottom s.origin_mode s.saved_origin_mode))
-    (sized_left s.size.rows s.size.cols c.args.left c.args.goes_on
+    (sized_left s.size.rows s.size.cols c.args.left c.args.is_wrapped
     page c.self.invariant (rw (← c.self.view_is) at c.requires.page)))

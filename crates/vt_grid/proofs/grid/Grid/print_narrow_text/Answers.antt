@@ -6,4 +6,4 @@ pub returns : goal.returns
 returns c =
     c.put_narrow_text.ensures.value
     ∙ text_printed c.args.text.now c.args.attrs c.args.self.now
-    c.put_narrow_text.ensures.page c.requires.some c.requires.narrow c.requires.room
+    c.put_narrow_text.ensures.page c.requires.nonempty c.requires.narrow c.requires.room

@@ -7,5 +7,5 @@ pub returns : goal.returns
 returns c =
     c.put_text.ensures.value
     ∙ text_printed c.args.text.now c.args.attrs c.args.self.now
-    c.put_text.ensures.page c.requires.some
+    c.put_text.ensures.page c.requires.nonempty
     (narrow_printable c.args.text.now c.requires.printable) c.requires.room

@@ -6,4 +6,4 @@ pub returns : goal.returns
 returns c =
     c.put_wide_text.ensures.value
     ∙ wide_text_printed c.args.text.now c.args.attrs c.args.self.now
-    c.put_wide_text.ensures.page c.requires.some c.requires.wide c.requires.room
+    c.put_wide_text.ensures.page c.requires.nonempty c.requires.wide c.requires.room

@@ -2,7 +2,7 @@ use Rattle.std.proofs.Common.{◌≡◌, ◌+◌, ◌-◌, ◌≤◌, ◌∙◌,
 use Rattle.std.proofs.lemmas.List.{length-replicate}
 use Rattle.vt_cells.specs.Attrs.{default_attrs}
 use Rattle.vt_cells.specs.Cell.{default_blank}
-use Rattle.vt_rows.specs.Internals.{turn_source}
+use Rattle.vt_rows.specs.Internals.{rotation_source}
 use Rattle.vt_rows.specs.Row.{RowValue, blank_row}
 use Rattle.vt_grid.specs.Flat.{rows_of}
 use Rattle.vt_grid.specs.Internals.{given_back}
@@ -52,7 +52,7 @@ give_back-requires-clause-blank c = λ k d h.
 pub wrap-requires : goal.wrap-requires
 wrap-requires c = omega (
   arith,
-  c.requires.some,
+  c.requires.nonempty,
   c.len-len.ensures,
   c.give_back.ensures.len,
   ap (λ (s : PageRowsValue). length s.rows) c.self.view_is,
@@ -71,7 +71,7 @@ returns-clause-rows c = λ own few e.
     let count : length turned ≡ h = counted_turned flat c.rotate.new.self c.rotate.ensures.len ∙ all in
     ap (λ (s : PageRowsValue). s.rows) c.wrap.ensures
     ∙ brought_back old.width c.give_back.new.page.width h c.args.up (n - 1) c.args.above.now.rows own old.rows turned
-    c.give_back.new.page.rows e few c.requires.some c.requires.sound (c.give_back.ensures.len ∙ count)
+    c.give_back.new.page.rows e few c.requires.nonempty c.requires.sound (c.give_back.ensures.len ∙ count)
     (c.give_back.ensures.width ∙ (c.rotate.ensures.width ∙ ap (λ (s : PageRowsValue). s.width) c.self.view_is))
     (ap (λ (m : ℕ). m - 1) c.len-len.ensures)
     (λ k d l.
@@ -79,7 +79,7 @@ returns-clause-rows c = λ own few e.
     c.rotate.ensures.cells c.rotate.ensures.width c.rotate.ensures.len c.rotate.ensures.lines k d
     (omega (arith, all, l))
     ∙ (λ z. get_or (c.self.view_is z).rows
-    (turn_source 0 (c.len-len.ensures z) (c.len-len.ensures z - c.from-up.ensures z) k) d))
+    (rotation_source 0 (c.len-len.ensures z) (c.len-len.ensures z - c.from-up.ensures z) k) d))
     (λ k d l.
     c.give_back.ensures.by_index k d (omega (arith, count, l))
     ∙ ap (λ (u : ℕ). given_back u c.args.above.now.rows (get_or turned k d) k d) c.from-up.ensures)

@@ -12,10 +12,10 @@ returns g c =
     let new = c.edit-edited.new.arg2 in
     let edited = row_printed r c.part-start.result.0 c.part-start.result.1
     flat c.wrap.new.self c.deref_mut.result.now new
-    c.wrapped-goes_on.result c.flag_left-goes_on.result c.self.invariant c.part-start.ensures.line
+    c.wrapped-is_wrapped.result c.flag_left-is_wrapped.result c.self.invariant c.part-start.ensures.line
     c.wrap.ensures.cells c.deref_mut.ensures.value c.part-start.ensures.start
     c.part-start.ensures.end c.part-start.ensures.inside c.edit-edited.auto.arg2 c.wrap.ensures.width
-    c.wrap.ensures.lines c.wrapped-goes_on.ensures c.flag_left-goes_on.ensures in
+    c.wrap.ensures.lines c.wrapped-is_wrapped.ensures c.flag_left-is_wrapped.ensures in
     let cells = ap (λ (items : List CellValue). slice_range items c.part-start.result.0 c.part-start.result.1)
     c.deref_mut.ensures.value
     ∙ c.part-start.ensures.row in

@@ -10,7 +10,7 @@ returns g c =
     let r = c.args.row in
     let new = c.edit.new.arg2 in
     let edited = row_changed r c.part-start.result.0 c.part-start.result.1 c.self.inside.flat
-    c.wrap.new.self c.deref_mut.result.now new c.args.goes_on c.self.invariant c.part-start.ensures.line
+    c.wrap.new.self c.deref_mut.result.now new c.args.is_wrapped c.self.invariant c.part-start.ensures.line
     c.wrap.ensures.cells c.deref_mut.ensures.value c.part-start.ensures.start c.part-start.ensures.end
     c.part-start.ensures.inside c.edit.auto.arg2 c.wrap.ensures.width c.wrap.ensures.lines in
     let cells = ap (λ (items : List CellValue). slice_range items c.part-start.result.0 c.part-start.result.1)
@@ -19,5 +19,5 @@ returns g c =
     let lent = cells ∙ (λ z. (page_row (c.self.view_is z) r).cells) in (
       new,
       record { shown = _; shows = lent; left = _; met = c.edit.ensures; leaves = refl },
-      edited ∙ (λ z. with_page_row r (record { cells = new; wrapped = c.args.goes_on }) (c.self.view_is z)),
+      edited ∙ (λ z. with_page_row r (record { cells = new; wrapped = c.args.is_wrapped }) (c.self.view_is z)),
     )

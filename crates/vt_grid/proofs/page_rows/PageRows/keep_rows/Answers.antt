@@ -1,5 +1,5 @@
 use Rattle.std.proofs.Common.{◌≡◌, ◌-◌, ◌∙◌, ℕ, length, get_or, sym, ap, arith}
-use Rattle.vt_rows.specs.Internals.{turn_source}
+use Rattle.vt_rows.specs.Internals.{rotation_source}
 use Rattle.vt_grid.specs.Flat.{line_at, row_in, rows_of}
 use Rattle.vt_grid.specs.PageRows.{PageRowsValue}
 use Rattle.vt_grid.specs.Resize.{rows_resized, window}
@@ -32,7 +32,7 @@ wrap-requires c =
     let kept = c.truncate.new.self in
     omega (
       arith,
-      c.requires.some,
+      c.requires.nonempty,
       c.from-rows.ensures,
       c.truncate.ensures.len,
       rows_counted kept.width kept.cells.items kept.lines.items,
@@ -53,7 +53,7 @@ returns-clause-rows c = λ above.
     rows_counted kept.width kept.cells.items kept.lines.items ∙ c.truncate.ensures.len in
     ap (λ (s : PageRowsValue). s.rows) c.wrap.ensures
     ∙ (kept_rows old.width kept.width h c.args.down rows (rows - 1) above old.rows (rows_of turned) (rows_of kept)
-    (λ _. h) (omega (arith, c.requires.inside, c.from-rows.ensures)) (omega (arith, c.requires.some, c.from-rows.ensures))
+    (λ _. h) (omega (arith, c.requires.inside, c.from-rows.ensures)) (omega (arith, c.requires.nonempty, c.from-rows.ensures))
     c.requires.sound size
     (c.truncate.ensures.width ∙ (c.rotate.ensures.width ∙ ap (λ (s : PageRowsValue). s.width) c.self.view_is))
     (λ _. rows - 1)
@@ -62,7 +62,7 @@ returns-clause-rows c = λ above.
     (omega (arith, all, c.len-len.ensures))
     c.rotate.ensures.cells c.rotate.ensures.width c.rotate.ensures.len c.rotate.ensures.lines k d
     (omega (arith, all, l))
-    ∙ (λ z. get_or (c.self.view_is z).rows (turn_source 0 (c.len-len.ensures z) (c.from.ensures z) k) d))
+    ∙ (λ z. get_or (c.self.view_is z).rows (rotation_source 0 (c.len-len.ensures z) (c.from.ensures z) k) d))
     (λ k d l.
     row_found kept.width k kept.cells.items kept.lines.items d (omega (arith, l, c.truncate.ensures.len))
     ∙ (ap (λ (v : ℕ). row_in v kept.cells.items (line_at kept.lines.items k)) c.truncate.ensures.width

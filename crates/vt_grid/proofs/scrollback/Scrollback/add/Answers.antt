@@ -2,7 +2,7 @@ use Rattle.std.proofs.Common.{◌≡◌, ℕ, ◌+◌, ◌<◌, length, take, mi
 use Rattle.std.proofs.lemmas.List.{length-take}
 use Rattle.std.proofs.lemmas.List.Elements.{All-take}
 use Rattle.vt_rows.specs.Row.{IsRow}
-use Rattle.vt_grid.specs.Scrollback.{Scrollback, IsScrollback, greatest, pushed}
+use Rattle.vt_grid.specs.Scrollback.{Scrollback, IsScrollback, greatest, scrollback_after_push}
 use Rattle.vt_grid.proofs.Scrolling.{IsScrollback-pushed, added_is}
 use Rattle.vt_grid.proofs.scrollback.Scrollback.add.Goals as goal
 
@@ -45,7 +45,7 @@ returns-clause-added c = λ height width.
     let n : length gone ≡ 1 = omega (arith, length-take 1 c.args.page.now.rows, c.requires.page.inside) in
     let room = subst (λ (a : Scrollback). length a.rows < a.capacity) (sym c.self.view_is) c.requires.room in
     let hidden = ap (λ (a : Scrollback). a.offset) c.self.view_is ∙ c.requires.hidden in
-    subst (λ (old : Scrollback). new ≡ pushed height width gone old) c.self.view_is
+    subst (λ (old : Scrollback). new ≡ scrollback_after_push height width gone old) c.self.view_is
     (added_is height width gone above c.push_copy.new.rows.items
     c.saturating_add-self-inside.result room hidden n c.in_ok-push_copy.ensures.rows
     (c.saturating_add-self-inside.ensures ∙ ap (λ (m : ℕ). min (inside.theoretical + m) greatest) (sym n)))

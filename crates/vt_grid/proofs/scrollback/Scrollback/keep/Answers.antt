@@ -120,7 +120,7 @@ invariant_of-self-2 g c =
     (All-take (IsRow c.args.page.now.width) c.args.count rows c.requires.page.rows.sound) in
     let all = pushed_is c.args.size.rows c.args.size.cols gone above c.push_rows.new.kept.items
     c.grow_in_view.new.rows.items c.saturating_add-self-inside.result c.followed-self-inside.result
-    (omega (arith, n, c.requires.some)) kept c.grow_in_view.ensures in
+    (omega (arith, n, c.requires.nonempty)) kept c.grow_in_view.ensures in
     subst IsScrollback (sym all)
     (IsScrollback-pushed c.args.size.rows c.args.size.cols gone above wide c.self.invariant)
 
@@ -153,7 +153,7 @@ returns g c =
       theoretical = c.saturating_add-self-inside.result;
       offset = c.followed-self-inside.result;
     } in
-    let some : 0 < length gone = omega (arith, n, c.requires.some) in
+    let some : 0 < length gone = omega (arith, n, c.requires.nonempty) in
     let all = pushed_is c.args.size.rows c.args.size.cols gone above c.push_rows.new.kept.items
     c.grow_in_view.new.rows.items c.saturating_add-self-inside.result
     c.followed-self-inside.result some kept c.grow_in_view.ensures in

@@ -24,7 +24,7 @@ returns g c = λ height width.
     let gone = take c.args.count c.args.page.now.rows in
     let n : length gone ≡ c.args.count =
     omega (arith, length-take c.args.count c.args.page.now.rows, c.requires.page.inside) in
-    let some : 0 < length gone = omega (arith, n, c.requires.some) in
+    let some : 0 < length gone = omega (arith, n, c.requires.nonempty) in
     let none = ap (λ (a : Scrollback). a.capacity) c.self.view_is ∙ c.requires.none in
     subst (λ (old : Scrollback). Sends g.L.Leaving.leaves height width
     gone old c.args.leaving.now new c.report_trimmed.new.leaving)

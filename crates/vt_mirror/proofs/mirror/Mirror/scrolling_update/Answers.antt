@@ -3,7 +3,7 @@ use Rattle.std.proofs.lemmas.Bool.{false≢true}
 use Rattle.std.specs.Prelude.{string_bytes}
 use Rattle.vt_redraw.specs.Steady.{IsSteady}
 use Rattle.vt_screen.specs.Screen.{IsColored, IsScreen, ScreenValue}
-use Rattle.vt_screen.specs.Shown.{shown}
+use Rattle.vt_screen.specs.Shown.{display}
 use Rattle.vt_mirror.specs.Calls.{Scrolling, Scrolls}
 use Rattle.vt_mirror.specs.Viewers.{note_of}
 use Rattle.vt_mirror.proofs.Sharing.{CopiesScreen, sharing_scrolled, unchanged_scrolling}
@@ -31,9 +31,9 @@ returns-then-is_current-clause-ok c =
     let is = subst (λ (s : ScreenValue). IsScreen s) c.screen-screen.ensures.value c.size.ensures.whole in
     let colored = subst (λ (s : ScreenValue). IsColored s) c.screen-screen.ensures.value c.size.ensures.colored in
     let same : it.0 ≡ screen = subst (CopiesScreen c.self.inside.parser) it.2 c.self.invariant.current in
-    let steady : IsSteady (shown screen) =
-    subst (λ (s : ScreenValue). IsSteady (shown s)) same
-    (of_noted (λ (s : ScreenValue). IsSteady (shown s)) (note_of c.self.inside.viewers.viewers c.args.viewer)
+    let steady : IsSteady (display screen) =
+    subst (λ (s : ScreenValue). IsSteady (display s)) same
+    (of_noted (λ (s : ScreenValue). IsSteady (display s)) (note_of c.self.inside.viewers.viewers c.args.viewer)
     c.in-Some.noted.now c.in-Some.ensures.some (c.is_steady.ensures.0 c.if-not-is_steady.false) it.0 it.1) in
     diff_update Scrolling _ _ c.args.viewer it.0 c.new-text.result c.self.view_is it.1
     (subst (λ (s : ScreenValue). Scrolls screen s (string_bytes c.new-text.result)) (sym same)

@@ -9,7 +9,7 @@ returns-then-is_same-clause-ops g c = record {
   text =
       rw (change_none c.args.self.now.attrs c.args.new (sym c.is_same.ensures ∙ c.if-is_same.true))
       (sym (append-nil _));
-  some = search rules;
+  nonempty = search rules;
 }
 
 pub returns-then-is_same-clause-pen : goal.returns-then-is_same-clause-pen

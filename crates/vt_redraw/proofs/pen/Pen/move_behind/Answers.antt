@@ -8,5 +8,5 @@ returns-then-is_at-clause-gathers g c = record {
       rw (going_none c.args.self.now c.args.to.row c.args.to.col (sym c.is_at.ensures ∙ c.if-is_at.true))
       (sym (append-nil _));
   grows = omega arith;
-  some = search rules;
+  nonempty = search rules;
 }

@@ -7,5 +7,5 @@ returns-then-is_at-clause-ops g c = record {
   text =
       rw (going_none c.args.self.now c.args.to.row c.args.to.col (sym c.is_at.ensures ∙ c.if-is_at.true))
       (sym (append-nil _));
-  some = search rules;
+  nonempty = search rules;
 }

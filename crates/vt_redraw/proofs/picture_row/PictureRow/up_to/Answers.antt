@@ -1,6 +1,6 @@
 use Rattle.std.proofs.Common.{◌≡◌, min, length, take, ap, sym, ◌∙◌, arith}
 use Rattle.vt_rows.specs.Row.{RowValue}
-use Rattle.vt_redraw.specs.Internals.{filled}
+use Rattle.vt_redraw.specs.Internals.{cells_filled_to}
 use Rattle.vt_redraw.proofs.Filling.{filled_taken, length-filled}
 use Rattle.vt_redraw.proofs.picture_row.PictureRow.up_to.Goals as goal
 
@@ -15,6 +15,6 @@ returns-clause-cells c =
     let same = c.from.ensures in
     let least = c.min-kept.ensures in
     let kept : c.min-kept.result ≡ min (length v.cells.now) stop = omega arith in
-    ap (λ n. filled (take n v.cells.now) stop v.end) kept
+    ap (λ n. cells_filled_to (take n v.cells.now) stop v.end) kept
     ∙ (filled_taken v.cells.now v.cols stop v.end (omega arith) inside
     ∙ ap (λ (z : RowValue). take stop z.cells) c.self.view_is)

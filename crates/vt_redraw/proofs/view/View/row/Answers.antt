@@ -31,8 +31,8 @@ returns-in-InView-clause-sound c =
     (row_sound v.source v.above.now v.rows.now.rows v.cols
     v.pen v.hidden c.args.row c.self.invariant.0 (omega arith)))
 
-pub returns-in-InView-clause-some : goal.returns-in-InView-clause-some
-returns-in-InView-clause-some c =
+pub returns-in-InView-clause-nonempty : goal.returns-in-InView-clause-nonempty
+returns-in-InView-clause-nonempty c =
     let size = (returns-in-InView-clause-sound c).columns in
     let width = ap (λ (p : Picture). p.width) c.self.view_is in
     let some = c.self.invariant.0.columns in
@@ -56,8 +56,8 @@ returns-in-Moved-clause-sound c =
     (row_sound v.source v.above.now v.rows.now.rows v.cols
     v.pen v.hidden c.args.row c.self.invariant.0 (omega arith)))
 
-pub returns-in-Moved-clause-some : goal.returns-in-Moved-clause-some
-returns-in-Moved-clause-some c =
+pub returns-in-Moved-clause-nonempty : goal.returns-in-Moved-clause-nonempty
+returns-in-Moved-clause-nonempty c =
     let size = (returns-in-Moved-clause-sound c).columns in
     let width = ap (λ (p : Picture). p.width) c.self.view_is in
     let some = c.self.invariant.0.columns in

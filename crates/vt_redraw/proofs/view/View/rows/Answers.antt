@@ -10,8 +10,8 @@ returns-clause-value c =
     ∙ (sym (viewed_height v.source v.above.now v.rows.now.rows v.cols v.pen v.hidden)
     ∙ ap (λ (p : Picture). length p.rows) c.self.view_is)
 
-pub returns-clause-some : goal.returns-clause-some
-returns-clause-some c =
+pub returns-clause-nonempty : goal.returns-clause-nonempty
+returns-clause-nonempty c =
     let v = c.self.inside in
     let size = sym (viewed_height v.source v.above.now v.rows.now.rows v.cols v.pen v.hidden)
     ∙ ap (λ (p : Picture). length p.rows) c.self.view_is in

@@ -1,6 +1,6 @@
 use Rattle.std.proofs.Common.{ap, arith, false, refl, sym, ◌∙◌}
 use Rattle.vt_cells.specs.Attrs.{default_attrs}
-use Rattle.vt_rows.specs.Cells.{resized}
+use Rattle.vt_rows.specs.Cells.{cells_after_resize}
 use Rattle.vt_rows.specs.Row.{RowValue, blank_row}
 use Rattle.vt_grid.specs.Page.{row_or}
 use Rattle.vt_grid.specs.Scrollback.{visible}
@@ -19,7 +19,7 @@ returns-in_default c =
       paired = tt;
       sound = view_row_sound v.source v.above.now v.rows.now.rows v.cols v.pen v.hidden c.args.row c.args.self.now
           c.self.view_is c.self.invariant.0 c.requires;
-      some = omega arith;
+      nonempty = omega arith;
     }
 
 pub returns-in_err-found-clause-sound : goal.returns-in_err-found-clause-sound
@@ -38,7 +38,7 @@ returns-clause-cells c =
     let is = c.cells_of.ensures
     ∙ ap (λ (row : RowValue). row.cells) (c.in_ok-found.ensures.value (blank_row default_attrs v.cols)) in
     sym (ap (λ (row : RowValue). row.cells) (found ∙ ap (λ (p : Picture). row_or p.width p.rows c.args.row) c.self.view_is))
-    ∙ (ap (resized v.cols) (sym is) ∙ ap (λ n. resized n cells) (ap (λ (p : Picture). p.width) c.self.view_is))
+    ∙ (ap (cells_after_resize v.cols) (sym is) ∙ ap (λ n. cells_after_resize n cells) (ap (λ (p : Picture). p.width) c.self.view_is))
 
 pub returns-clause-sound : goal.returns-clause-sound
 returns-clause-sound c =

@@ -1,13 +1,13 @@
 -- A byte when no character is incomplete.
 use Rattle.std.proofs.Common.{◌∙◌, ◌≢◌, ap, sym, arith}
-use Rattle.vt_scan.specs.Scanner.{Held}
+use Rattle.vt_scan.specs.Scanner.{ScannerValue}
 use Rattle.vt_scan.proofs.Feeding.{fresh_character, fresh_control, fresh_escape, fresh_begun, fresh_broken}
 use Rattle.vt_scan.proofs.Standing.{stands_plain}
 use Rattle.vt_scan.proofs.automaton.Scanner.feed_fresh.Goals as goal
 
 pub returns-then-begin-clause-follows : goal.returns-then-begin-clause-follows
 returns-then-begin-clause-follows c =
-    fresh_begun _ c.args.byte c.none-then-begin.result (ap (λ (h : Held). h.kind) c.self.view_is ∙ c.requires.kind)
+    fresh_begun _ c.args.byte c.none-then-begin.result (ap (λ (h : ScannerValue). h.kind) c.self.view_is ∙ c.requires.kind)
     c.if-begin.ensures.keeps (omega arith) (sym c.if-begin.ensures.answers) c.none-then-begin.ensures
 
 pub returns-in-27-clause-follows : goal.returns-in-27-clause-follows
@@ -26,11 +26,11 @@ returns-in-32-to-127-clause-follows c =
 
 pub returns-else-begin-clause-follows : goal.returns-else-begin-clause-follows
 returns-else-begin-clause-follows c =
-    fresh_broken _ c.args.byte c.one-in_default.result (ap (λ (h : Held). h.kind) c.self.view_is ∙ c.requires.kind)
+    fresh_broken _ c.args.byte c.one-in_default.result (ap (λ (h : ScannerValue). h.kind) c.self.view_is ∙ c.requires.kind)
     c.if-begin.ensures.keeps (omega arith) (sym c.if-begin.ensures.answers) c.one-in_default.ensures
 
 pub invariant_of-self : goal.invariant_of-self
-invariant_of-self c = stands_plain _ (ap (λ (h : Held). h.kind) c.self.view_is ∙ c.requires.kind)
+invariant_of-self c = stands_plain _ (ap (λ (h : ScannerValue). h.kind) c.self.view_is ∙ c.requires.kind)
 
 pub invariant_of-self-in_default : goal.invariant_of-self-in_default
-invariant_of-self-in_default c = stands_plain _ (ap (λ (h : Held). h.kind) c.self.view_is ∙ c.requires.kind)
+invariant_of-self-in_default c = stands_plain _ (ap (λ (h : ScannerValue). h.kind) c.self.view_is ∙ c.requires.kind)

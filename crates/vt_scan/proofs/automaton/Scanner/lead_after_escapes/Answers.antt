@@ -1,7 +1,7 @@
 -- One byte, and the introducing bytes after it.
 use Rattle.std.proofs.Common.{◌<◌, ◌∙◌, [], List, ℕ, arith, drop, get_or, length, subst, sym, take}
 use Rattle.std.proofs.lemmas.Bool.Decides.{nat_tests}
-use Rattle.vt_scan.specs.Scanner.{Feeds, FeedsAll, Held}
+use Rattle.vt_scan.specs.Scanner.{Feeds, FeedsAll, ScannerValue}
 use Rattle.vt_scan.proofs.Feeding.{no_event}
 use Rattle.vt_scan.proofs.Leading.{feeds_first}
 use Rattle.vt_scan.proofs.Lists.{all_left, take_next}
@@ -13,15 +13,15 @@ returns-clause-fed c =
     let more = c.lead_from_entry-more.result in
     let told = c.if-is_empty.ensures in
     let some : 0 < length bytes = grind (arith, nat_tests) in
-    let rest : FeedsAll c.takes_bracket.new.self (take more (drop 1 bytes)) c.lead_from_entry-more.new.self [] =
-    subst (λ (left : List ℕ). FeedsAll c.takes_bracket.new.self (take more left) c.lead_from_entry-more.new.self [])
+    let rest : FeedsAll c.take_bracket.new.self (take more (drop 1 bytes)) c.lead_from_entry-more.new.self [] =
+    subst (λ (left : List ℕ). FeedsAll c.take_bracket.new.self (take more left) c.lead_from_entry-more.new.self [])
     (all_left bytes 1) c.lead_from_entry-more.ensures.fed in
-    let first : Feeds c.args.self.now (get_or bytes 0 0) c.takes_bracket.new.self no_event =
-    subst (λ (held : Held). Feeds held (get_or bytes 0 0) c.takes_bracket.new.self no_event)
+    let first : Feeds c.args.self.now (get_or bytes 0 0) c.take_bracket.new.self no_event =
+    subst (λ (held : ScannerValue). Feeds held (get_or bytes 0 0) c.take_bracket.new.self no_event)
     (c.takes_string_start.ensures.kept c.if-takes_string_start.false
-    ∙ c.takes_intermediate.ensures.kept c.if-takes_intermediate.false)
-    (c.takes_bracket.ensures.fed c.if-not-takes_bracket.false) in
+    ∙ c.take_intermediate.ensures.kept c.if-take_intermediate.false)
+    (c.take_bracket.ensures.fed c.if-not-take_bracket.false) in
     subst (λ (text : List ℕ). FeedsAll c.args.self.now text c.lead_from_entry-more.new.self [])
     (sym (take_next bytes more some))
-    (feeds_first c.args.self.now c.takes_bracket.new.self c.lead_from_entry-more.new.self (get_or bytes 0 0)
+    (feeds_first c.args.self.now c.take_bracket.new.self c.lead_from_entry-more.new.self (get_or bytes 0 0)
     (take more (drop 1 bytes)) first rest)

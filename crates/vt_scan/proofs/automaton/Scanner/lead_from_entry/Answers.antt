@@ -9,13 +9,13 @@ use Rattle.vt_scan.proofs.automaton.Scanner.lead_from_entry.Goals as goal
 pub returns-clause-fed : goal.returns-clause-fed
 returns-clause-fed c =
     let bytes = c.args.bytes.now in
-    let more = c.lead_parameters-more.result in
+    let more = c.take_parameter_bytes-more.result in
     let told = c.if-is_empty.ensures in
     let some : 0 < length bytes = grind (arith, nat_tests) in
-    let rest : FeedsAll c.takes_marker.new.self (take more (drop 1 bytes)) c.lead_parameters-more.new.self [] =
-    subst (λ (left : List ℕ). FeedsAll c.takes_marker.new.self (take more left) c.lead_parameters-more.new.self [])
-    (all_left bytes 1) c.lead_parameters-more.ensures.fed in
-    subst (λ (text : List ℕ). FeedsAll c.args.self.now text c.lead_parameters-more.new.self [])
+    let rest : FeedsAll c.takes_marker.new.self (take more (drop 1 bytes)) c.take_parameter_bytes-more.new.self [] =
+    subst (λ (left : List ℕ). FeedsAll c.takes_marker.new.self (take more left) c.take_parameter_bytes-more.new.self [])
+    (all_left bytes 1) c.take_parameter_bytes-more.ensures.fed in
+    subst (λ (text : List ℕ). FeedsAll c.args.self.now text c.take_parameter_bytes-more.new.self [])
     (sym (take_next bytes more some))
-    (feeds_first c.args.self.now c.takes_marker.new.self c.lead_parameters-more.new.self (get_or bytes 0 0)
+    (feeds_first c.args.self.now c.takes_marker.new.self c.take_parameter_bytes-more.new.self (get_or bytes 0 0)
     (take more (drop 1 bytes)) (c.takes_marker.ensures.fed c.if-not-takes_marker.false) rest)

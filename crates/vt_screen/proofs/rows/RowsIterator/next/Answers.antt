@@ -12,5 +12,5 @@ returns-clause-steps c =
       texts_more rows.screen.now rows.start rows.stop rows.row (omega arith),
       c.in_ok-item.ensures.text,
       c.in_ok-item.ensures.memory,
-      c.in_ok-item.ensures.some,
+      c.in_ok-item.ensures.nonempty,
     )

@@ -1,5 +1,5 @@
 use Rattle.std.proofs.Common.{◌≡◌, ℕ, List, ◌++◌, string_bytes, ap, sym, ◌∙◌, subst}
-use Rattle.vt_screen.specs.Shown.{shown, shown_change}
+use Rattle.vt_screen.specs.Shown.{display, display_change}
 use Rattle.vt_screen.proofs.Became.{difference_redraws}
 use Rattle.vt_screen.proofs.EqualTexts.{difference_none, difference_tells}
 use Rattle.vt_screen.proofs.TouchedTexts.{difference_touches}
@@ -13,7 +13,7 @@ use Rattle.vt_screen.proofs.screen.Screen.contents_diff.Goals as goal
 
 pub returns-in-Ok-clause-redraws : goal.returns-in-Ok-clause-redraws
 returns-in-Ok-clause-redraws c =
-    let bytes = shown_change c.args.prev.now c.args.self.now in
+    let bytes = display_change c.args.prev.now c.args.self.now in
     let told : string_bytes c.write_contents_diff.new.sink ≡ bytes =
     c.in-Ok.ensures.text ∙ ap (λ (before : List ℕ). before ++ bytes) c.new-text.ensures.bytes in
     let size = same_shown c.args.self.now c.args.prev.now c.requires in
@@ -22,7 +22,7 @@ returns-in-Ok-clause-redraws c =
 
 pub returns-in-Ok-clause-empty : goal.returns-in-Ok-clause-empty
 returns-in-Ok-clause-empty c steady empty =
-    let bytes = shown_change c.args.prev.now c.args.self.now in
+    let bytes = display_change c.args.prev.now c.args.self.now in
     let told : string_bytes c.write_contents_diff.new.sink ≡ bytes =
     c.in-Ok.ensures.text ∙ ap (λ (before : List ℕ). before ++ bytes) c.new-text.ensures.bytes in
     let size = same_shown c.args.self.now c.args.prev.now c.requires in
@@ -31,14 +31,14 @@ returns-in-Ok-clause-empty c steady empty =
 
 pub returns-in-Ok-clause-none : goal.returns-in-Ok-clause-none
 returns-in-Ok-clause-none c same =
-    let bytes = shown_change c.args.prev.now c.args.self.now in
+    let bytes = display_change c.args.prev.now c.args.self.now in
     let told : string_bytes c.write_contents_diff.new.sink ≡ bytes =
     c.in-Ok.ensures.text ∙ ap (λ (before : List ℕ). before ++ bytes) c.new-text.ensures.bytes in
-    told ∙ difference_none (shown c.args.self.now) (shown c.args.prev.now) same
+    told ∙ difference_none (display c.args.self.now) (display c.args.prev.now) same
 
 pub returns-in-Ok-clause-touches : goal.returns-in-Ok-clause-touches
 returns-in-Ok-clause-touches c steady =
-    let bytes = shown_change c.args.prev.now c.args.self.now in
+    let bytes = display_change c.args.prev.now c.args.self.now in
     let told : string_bytes c.write_contents_diff.new.sink ≡ bytes =
     c.in-Ok.ensures.text ∙ ap (λ (before : List ℕ). before ++ bytes) c.new-text.ensures.bytes in
     let size = same_shown c.args.self.now c.args.prev.now c.requires in
@@ -47,11 +47,11 @@ returns-in-Ok-clause-touches c steady =
 
 pub returns-in-Err-clause-never : goal.returns-in-Err-clause-never
 returns-in-Err-clause-never c same =
-    absurd (none_refused _ (difference_none (shown c.args.self.now) (shown c.args.prev.now) same) c.in-Err.ensures.some)
+    absurd (none_refused _ (difference_none (display c.args.self.now) (display c.args.prev.now) same) c.in-Err.ensures.nonempty)
 
 pub returns-in-Ok-clause-controls : goal.returns-in-Ok-clause-controls
 returns-in-Ok-clause-controls c =
-    let bytes = shown_change c.args.prev.now c.args.self.now in
+    let bytes = display_change c.args.prev.now c.args.self.now in
     let told : string_bytes c.write_contents_diff.new.sink ≡ bytes =
     c.in-Ok.ensures.text ∙ ap (λ (before : List ℕ). before ++ bytes) c.new-text.ensures.bytes in
     subst (IsMadeOf drawing_finals drawing_controls) (sym told)
@@ -59,7 +59,7 @@ returns-in-Ok-clause-controls c =
 
 pub returns-in-Ok-clause-again : goal.returns-in-Ok-clause-again
 returns-in-Ok-clause-again c =
-    let bytes = shown_change c.args.prev.now c.args.self.now in
+    let bytes = display_change c.args.prev.now c.args.self.now in
     let told : string_bytes c.write_contents_diff.new.sink ≡ bytes =
     c.in-Ok.ensures.text ∙ ap (λ (before : List ℕ). before ++ bytes) c.new-text.ensures.bytes in
     subst KeepsPlain (sym told)

@@ -1,7 +1,7 @@
 use Rattle.std.proofs.Common.{string_bytes}
 use Rattle.vt_screen.proofs.ShiftedRead.{moving_redraws, moving_tells}
 use Rattle.vt_screen.proofs.Viewing.{same_shown}
-use Rattle.vt_screen.specs.Shown.{shown}
+use Rattle.vt_screen.specs.Shown.{display}
 use Rattle.vt_screen.proofs.ContentTexts.{none_refused}
 use Rattle.vt_screen.proofs.EqualTexts.{difference_none}
 use Rattle.vt_screen.proofs.MadeOf.{moving_made}
@@ -34,13 +34,13 @@ returns-clause-empty c steady empty =
 
 pub returns-in_err-text-clause-never : goal.returns-in_err-text-clause-never
 returns-in_err-text-clause-never c same =
-    absurd (none_refused _ (difference_none (shown c.args.self.now) (shown c.args.prev.now) same)
-    c.in_err-text.ensures.some)
+    absurd (none_refused _ (difference_none (display c.args.self.now) (display c.args.prev.now) same)
+    c.in_err-text.ensures.nonempty)
 
 pub returns-in_err-shorter-clause-never : goal.returns-in_err-shorter-clause-never
 returns-in_err-shorter-clause-never c same =
-    absurd (none_refused _ (difference_none (shown c.args.self.now) (shown c.args.prev.now) same)
-    c.in_err-shorter.ensures.some)
+    absurd (none_refused _ (difference_none (display c.args.self.now) (display c.args.prev.now) same)
+    c.in_err-shorter.ensures.nonempty)
 
 pub returns-clause-controls : goal.returns-clause-controls
 returns-clause-controls c =

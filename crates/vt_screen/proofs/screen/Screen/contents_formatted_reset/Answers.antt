@@ -1,6 +1,6 @@
 use Rattle.std.proofs.Common.{◌≡◌, ℕ, List, ◌++◌, string_bytes, ap, sym, ◌∙◌, subst}
 use Rattle.vt_screen.specs.AnyRegion.{reset_text}
-use Rattle.vt_screen.specs.Shown.{shown}
+use Rattle.vt_screen.specs.Shown.{display}
 use Rattle.vt_screen.proofs.AnyRegion.{reset_redraws, resets_tell}
 use Rattle.vt_screen.specs.MadeOf.{IsMadeOf, drawing_finals, reset_controls}
 use Rattle.vt_screen.proofs.MadeOf.{reset_made}
@@ -10,7 +10,7 @@ use Rattle.vt_screen.proofs.screen.Screen.contents_formatted_reset.Goals as goal
 
 pub returns-in-Ok-clause-redraws : goal.returns-in-Ok-clause-redraws
 returns-in-Ok-clause-redraws c =
-    let bytes = reset_text (shown c.args.self.now) in
+    let bytes = reset_text (display c.args.self.now) in
     let told : string_bytes c.write_contents_formatted_reset.new.sink ≡ bytes =
     c.in-Ok.ensures.text ∙ ap (λ (before : List ℕ). before ++ bytes) c.new-text.ensures.bytes in
     reset_redraws c.args.self.now (string_bytes c.write_contents_formatted_reset.new.sink)
@@ -18,7 +18,7 @@ returns-in-Ok-clause-redraws c =
 
 pub returns-in-Ok-clause-same : goal.returns-in-Ok-clause-same
 returns-in-Ok-clause-same c other is colored size steady steady_other equal =
-    let bytes = reset_text (shown c.args.self.now) in
+    let bytes = reset_text (display c.args.self.now) in
     let told : string_bytes c.write_contents_formatted_reset.new.sink ≡ bytes =
     c.in-Ok.ensures.text ∙ ap (λ (before : List ℕ). before ++ bytes) c.new-text.ensures.bytes in
     resets_tell c.args.self.now other c.in-Ok.ensures.whole
@@ -26,7 +26,7 @@ returns-in-Ok-clause-same c other is colored size steady steady_other equal =
 
 pub returns-in-Ok-clause-controls : goal.returns-in-Ok-clause-controls
 returns-in-Ok-clause-controls c =
-    let bytes = reset_text (shown c.args.self.now) in
+    let bytes = reset_text (display c.args.self.now) in
     let told : string_bytes c.write_contents_formatted_reset.new.sink ≡ bytes =
     c.in-Ok.ensures.text ∙ ap (λ (before : List ℕ). before ++ bytes) c.new-text.ensures.bytes in
     subst (IsMadeOf drawing_finals reset_controls) (sym told)
@@ -34,7 +34,7 @@ returns-in-Ok-clause-controls c =
 
 pub returns-in-Ok-clause-again : goal.returns-in-Ok-clause-again
 returns-in-Ok-clause-again c =
-    let bytes = reset_text (shown c.args.self.now) in
+    let bytes = reset_text (display c.args.self.now) in
     let told : string_bytes c.write_contents_formatted_reset.new.sink ≡ bytes =
     c.in-Ok.ensures.text ∙ ap (λ (before : List ℕ). before ++ bytes) c.new-text.ensures.bytes in
     subst MakesPlain (sym told) (reset_makes c.args.self.now c.in-Ok.ensures.whole c.in-Ok.ensures.colored)

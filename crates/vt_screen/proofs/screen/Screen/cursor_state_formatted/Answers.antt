@@ -1,7 +1,7 @@
 use Rattle.std.proofs.Common.{◌≡◌, ℕ, List, ◌++◌, string_bytes, ap, ◌∙◌, sym, subst}
 use Rattle.vt_cells.specs.Op.{bytes_of_all}
 use Rattle.vt_redraw.specs.Redraw.{cursor_state}
-use Rattle.vt_screen.specs.Shown.{shown}
+use Rattle.vt_screen.specs.Shown.{display}
 use Rattle.vt_screen.proofs.CursorRead.{cursor_turns}
 use Rattle.vt_screen.proofs.TouchedTexts.{cursor_touches}
 use Rattle.vt_screen.specs.MadeOf.{IsMadeOf, drawing_finals, drawing_controls}
@@ -12,7 +12,7 @@ use Rattle.vt_screen.proofs.screen.Screen.cursor_state_formatted.Goals as goal
 
 pub returns-in-Ok-clause-turns : goal.returns-in-Ok-clause-turns
 returns-in-Ok-clause-turns c =
-    let bytes = bytes_of_all (cursor_state (shown c.args.self.now)) in
+    let bytes = bytes_of_all (cursor_state (display c.args.self.now)) in
     let told : string_bytes c.write_cursor_state.new.sink ≡ bytes =
     c.in-Ok.ensures.text ∙ ap (λ (before : List ℕ). before ++ bytes) c.new-text.ensures.bytes in
     cursor_turns c.args.self.now (string_bytes c.write_cursor_state.new.sink)
@@ -20,7 +20,7 @@ returns-in-Ok-clause-turns c =
 
 pub returns-in-Ok-clause-touches : goal.returns-in-Ok-clause-touches
 returns-in-Ok-clause-touches c steady =
-    let bytes = bytes_of_all (cursor_state (shown c.args.self.now)) in
+    let bytes = bytes_of_all (cursor_state (display c.args.self.now)) in
     let told : string_bytes c.write_cursor_state.new.sink ≡ bytes =
     c.in-Ok.ensures.text ∙ ap (λ (before : List ℕ). before ++ bytes) c.new-text.ensures.bytes in
     cursor_touches c.args.self.now (string_bytes c.write_cursor_state.new.sink)
@@ -28,7 +28,7 @@ returns-in-Ok-clause-touches c steady =
 
 pub returns-in-Ok-clause-controls : goal.returns-in-Ok-clause-controls
 returns-in-Ok-clause-controls c =
-    let bytes = bytes_of_all (cursor_state (shown c.args.self.now)) in
+    let bytes = bytes_of_all (cursor_state (display c.args.self.now)) in
     let told : string_bytes c.write_cursor_state.new.sink ≡ bytes =
     c.in-Ok.ensures.text ∙ ap (λ (before : List ℕ). before ++ bytes) c.new-text.ensures.bytes in
     subst (IsMadeOf drawing_finals drawing_controls) (sym told)
@@ -36,7 +36,7 @@ returns-in-Ok-clause-controls c =
 
 pub returns-in-Ok-clause-again : goal.returns-in-Ok-clause-again
 returns-in-Ok-clause-again c =
-    let bytes = bytes_of_all (cursor_state (shown c.args.self.now)) in
+    let bytes = bytes_of_all (cursor_state (display c.args.self.now)) in
     let told : string_bytes c.write_cursor_state.new.sink ≡ bytes =
     c.in-Ok.ensures.text ∙ ap (λ (before : List ℕ). before ++ bytes) c.new-text.ensures.bytes in
     subst KeepsPlain (sym told) (cursor_keeps c.args.self.now c.in-Ok.ensures.whole c.in-Ok.ensures.colored)

@@ -29,7 +29,7 @@ returns-in-Ok-clause-none c same =
 
 pub returns-in-Err-clause-never : goal.returns-in-Err-clause-never
 returns-in-Err-clause-never c same =
-    absurd (none_refused _ (change_none c.args.prev.now.modes c.args.self.now.modes same) c.in-Err.ensures.some)
+    absurd (none_refused _ (change_none c.args.prev.now.modes c.args.self.now.modes same) c.in-Err.ensures.nonempty)
 
 pub returns-in-Ok-clause-controls : goal.returns-in-Ok-clause-controls
 returns-in-Ok-clause-controls c =

@@ -1,7 +1,7 @@
 use Rattle.std.proofs.Common.{length, ap, refl, subst, sym, ◌∙◌}
-use Rattle.vt_redraw.specs.Moved.{IsBand, moved}
+use Rattle.vt_redraw.specs.Moved.{IsBand, picture_after_move}
 use Rattle.vt_screen.specs.Screen.{ScreenValue}
-use Rattle.vt_screen.specs.Shown.{shown}
+use Rattle.vt_screen.specs.Shown.{display}
 use Rattle.vt_screen.specs.contracts.screen.Screen.{the_view}
 use Rattle.vt_screen.proofs.Shown.{shown_height}
 use Rattle.vt_screen.proofs.Viewing.{active_is, with_view_is}
@@ -15,7 +15,7 @@ moved-requires-clause-above c =
 pub moved-requires-clause-band : goal.moved-requires-clause-band
 moved-requires-clause-band c =
     subst (λ n. IsBand n c.args.band)
-    (ap (λ (t : ScreenValue). length (shown t).rows) (sym c.self.view_is) ∙ shown_height (the_view c.self.inside))
+    (ap (λ (t : ScreenValue). length (display t).rows) (sym c.self.view_is) ∙ shown_height (the_view c.self.inside))
     c.requires
 
 pub returns : goal.returns
@@ -23,5 +23,5 @@ returns c =
     let inside = c.self.inside in
     let s = the_view inside in
     c.moved.ensures s.attrs
-    ∙ ap (moved c.args.band)
-    (with_view_is s inside.scrollback inside.other_scrollback refl c.self.invariant.nothing ∙ ap shown c.self.view_is)
+    ∙ ap (picture_after_move c.args.band)
+    (with_view_is s inside.scrollback inside.other_scrollback refl c.self.invariant.nothing ∙ ap display c.self.view_is)

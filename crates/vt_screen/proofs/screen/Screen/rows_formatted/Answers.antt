@@ -1,6 +1,6 @@
 use Rattle.std.proofs.Common.{ℕ, List, length, ap, ◌∙◌, subst, sym}
 use Rattle.vt_screen.specs.RowsShown.{formatted_text, texts_from}
-use Rattle.vt_screen.specs.Shown.{shown}
+use Rattle.vt_screen.specs.Shown.{display}
 use Rattle.vt_screen.proofs.RowItemsTold.{formatted_linked, formatted_off, formatted_turns}
 use Rattle.vt_screen.proofs.RowTexts.{texts_count}
 use Rattle.vt_screen.specs.MadeOf.{IsMadeOf, drawing_controls, drawing_finals}
@@ -13,13 +13,13 @@ pub returns-clause-count : goal.returns-clause-count
 returns-clause-count c =
     let s = c.args.self.now in
     ap (λ (t : List (List ℕ)). length t) c.new.ensures
-    ∙ texts_count (formatted_text c.args.start c.range_end.result (shown s)) (length s.page.rows)
+    ∙ texts_count (formatted_text c.args.start c.range_end.result (display s)) (length s.page.rows)
 
 pub returns-clause-draws : goal.returns-clause-draws
 returns-clause-draws c =
     let s = c.args.self.now in
     let told = c.new.ensures
-    ∙ ap (λ (stop : ℕ). texts_from (formatted_text c.args.start stop (shown s)) 0 (length s.page.rows))
+    ∙ ap (λ (stop : ℕ). texts_from (formatted_text c.args.start stop (display s)) 0 (length s.page.rows))
     c.range_end.ensures.value in
     formatted_turns s c.args.start c.args.width c.new.result
     told c.sound.ensures.whole c.sound.ensures.colored c.requires
@@ -28,7 +28,7 @@ pub returns-clause-off : goal.returns-clause-off
 returns-clause-off c =
     let s = c.args.self.now in
     let told = c.new.ensures
-    ∙ ap (λ (stop : ℕ). texts_from (formatted_text c.args.start stop (shown s)) 0 (length s.page.rows))
+    ∙ ap (λ (stop : ℕ). texts_from (formatted_text c.args.start stop (display s)) 0 (length s.page.rows))
     c.range_end.ensures.value in
     formatted_off s c.args.start c.args.width c.new.result told c.sound.ensures.whole c.sound.ensures.colored c.requires
 
@@ -36,7 +36,7 @@ pub returns-clause-linked : goal.returns-clause-linked
 returns-clause-linked c =
     let s = c.args.self.now in
     let told = c.new.ensures
-    ∙ ap (λ (stop : ℕ). texts_from (formatted_text c.args.start stop (shown s)) 0 (length s.page.rows))
+    ∙ ap (λ (stop : ℕ). texts_from (formatted_text c.args.start stop (display s)) 0 (length s.page.rows))
     c.range_end.ensures.value in
     formatted_linked s c.args.start c.args.width c.new.result told c.sound.ensures.whole c.sound.ensures.colored
 
@@ -44,7 +44,7 @@ pub returns-clause-controls : goal.returns-clause-controls
 returns-clause-controls c r low =
     let s = c.args.self.now in
     let told = ap (λ (t : List (List ℕ)). text_at t r) c.new.ensures
-    ∙ texts_at (formatted_text c.args.start c.range_end.result (shown s)) r (length s.page.rows) low in
+    ∙ texts_at (formatted_text c.args.start c.range_end.result (display s)) r (length s.page.rows) low in
     subst (IsMadeOf drawing_finals drawing_controls) (sym told)
     (row_made s r c.args.start c.range_end.result c.sound.ensures.whole c.sound.ensures.colored
     low c.range_end.ensures.order c.range_end.ensures.inside)

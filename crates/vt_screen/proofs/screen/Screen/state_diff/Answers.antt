@@ -34,7 +34,7 @@ returns-in-Ok-clause-none c same same_modes =
 
 pub returns-in-Err-clause-never : goal.returns-in-Err-clause-never
 returns-in-Err-clause-never c same same_modes =
-    absurd (none_refused _ (state_none c.args.self.now c.args.prev.now same same_modes) c.in-Err.ensures.some)
+    absurd (none_refused _ (state_none c.args.self.now c.args.prev.now same same_modes) c.in-Err.ensures.nonempty)
 
 pub returns-in-Ok-clause-controls : goal.returns-in-Ok-clause-controls
 returns-in-Ok-clause-controls c =

@@ -3,7 +3,7 @@ use Rattle.vt_cells.proofs.Packing.{attrs_fit}
 use Rattle.vt_cells.specs.Attrs.{Attrs}
 use Rattle.vt_grid.specs.Scrollback.{visible}
 use Rattle.vt_redraw.specs.Picture.{picture_over}
-use Rattle.vt_screen.specs.Shown.{shown}
+use Rattle.vt_screen.specs.Shown.{display}
 use Rattle.vt_screen.specs.contracts.screen.Screen.{the_view}
 use Rattle.vt_cells.specs.Op.{FitsAttrs}
 use Rattle.vt_screen.specs.Screen.{ScreenValue, AreColored}
@@ -33,4 +33,4 @@ returns-clause-value c =
     ∙ (ap (λ (a : Attrs). picture_over (visible inside.scrollback s.page.rows)
     (record { page = s.page; attrs = a; saved_attrs = a; hidden = s.hidden }))
     attrs
-    ∙ (with_view_is s inside.scrollback inside.other_scrollback refl c.self.invariant.nothing ∙ ap shown c.self.view_is))
+    ∙ (with_view_is s inside.scrollback inside.other_scrollback refl c.self.invariant.nothing ∙ ap display c.self.view_is))

@@ -24,8 +24,8 @@ loop-row-preserved g c =
       omega (arith, longer, first),
     )
 
-pub returns-in_err-write_part-clause-some : goal.returns-in_err-write_part-clause-some
-returns-in_err-write_part-clause-some g c =
+pub returns-in_err-write_part-clause-nonempty : goal.returns-in_err-write_part-clause-nonempty
+returns-in_err-write_part-clause-nonempty g c =
     let r = c.loop-row.row in
     let past = c.past_row-past.result in
     let part = part_of c.args.start.row c.args.start.col c.args.end.row c.args.end.col c.args.self.now in
@@ -35,4 +35,4 @@ returns-in_err-write_part-clause-some g c =
     on_err c.from_residual.result
     (part_some (g.S.Sink.text c.args.sink.now) now (part r) rest _
     (ap (λ (xs : List ℕ). now ++ xs) (sym (parts_more part r past before)) ∙ c.loop-row.invariant.0)
-    c.loop-row.invariant.1 c.in_err-write_part.ensures.some)
+    c.loop-row.invariant.1 c.in_err-write_part.ensures.nonempty)

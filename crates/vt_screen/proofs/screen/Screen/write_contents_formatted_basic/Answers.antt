@@ -15,14 +15,14 @@ returns-in-Full-clause-err g c =
     (on_err_weaker c.write_all_rows.result (λ stops. (c.write_all_rows.new.state, (stops, refl)))
     c.write_all_rows.ensures.err)
 
-pub returns-in-Full-clause-some : goal.returns-in-Full-clause-some
-returns-in-Full-clause-some g c =
+pub returns-in-Full-clause-nonempty : goal.returns-in-Full-clause-nonempty
+returns-in-Full-clause-nonempty g c =
     on_err_weaker c.write_all_rows.result
     (λ stops. rw c.in-Full.is (some_texts g.S.Sink.refuses (g.S.Sink.text c.args.sink.now) _ _ _ _ stops))
     c.write_all_rows.ensures.err
 
-pub returns-in-Visible-clause-some : goal.returns-in-Visible-clause-some
-returns-in-Visible-clause-some g c =
+pub returns-in-Visible-clause-nonempty : goal.returns-in-Visible-clause-nonempty
+returns-in-Visible-clause-nonempty g c =
     on_err_weaker c.write_visible_rows.result
     (λ stops. rw c.in-Visible.is
     (subst (λ (before : Written). 0 < length (basic_texts before (visible_rows c.args.self.now))) c.new-state.ensures

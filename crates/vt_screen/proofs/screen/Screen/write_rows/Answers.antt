@@ -29,7 +29,7 @@ returns-in_err-write_formatted_basic g c =
           (g.S.Sink.text c.write_formatted_basic.new.sink) c.args.state.now c.loop-index.state
           c.write_formatted_basic.new.state (all_rows c.args.self.now) c.args.start c.loop-index.index c.args.end
           row inv.low c.loop-index-test.true inv.inside same inv.bytes inv.written
-          c.in_err-write_formatted_basic.ensures.err c.in_err-write_formatted_basic.ensures.some
+          c.in_err-write_formatted_basic.ensures.err c.in_err-write_formatted_basic.ensures.nonempty
           c.in_err-write_formatted_basic.ensures.stopped);
     }
 

@@ -7,7 +7,7 @@ use Rattle.vt_redraw.specs.Redraw.{difference}
 use Rattle.vt_redraw.specs.Script.{attr_ops}
 use Rattle.vt_redraw.specs.Shifted.{in_default_attrs}
 use Rattle.vt_redraw.proofs.Shifting.{shifted_size}
-use Rattle.vt_screen.specs.Shown.{shown}
+use Rattle.vt_screen.specs.Shown.{display}
 use Rattle.vt_screen.proofs.ShiftedViews.{first_inside, on_ok, shifted_is_page, shifted_view, shifting_written}
 use Rattle.vt_screen.proofs.Shown.{shown_height}
 use Rattle.vt_screen.proofs.Viewing.{same_shown}
@@ -16,7 +16,7 @@ use Rattle.vt_screen.proofs.screen.Screen.write_shifted_diff.Goals as goal
 pub write_row_shifts-requires-clause-size : goal.write_row_shifts-requires-clause-size
 write_row_shifts-requires-clause-size g c =
     subst (λ (p : Picture). SamePictureSize p c.view-2.result) (sym c.view.ensures.value)
-    (subst (λ (p : Picture). SamePictureSize (shown c.args.self.now) p) (sym c.view-2.ensures.value)
+    (subst (λ (p : Picture). SamePictureSize (display c.args.self.now) p) (sym c.view-2.ensures.value)
     (same_shown c.args.self.now c.args.prev.now c.requires.size))
 
 pub write_row_shifts-requires-clause-height : goal.write_row_shifts-requires-clause-height
@@ -43,12 +43,12 @@ write_contents_diff-requires g c =
     let shifts = c.in_ok-write_row_shifts.ensures in
     let same = same_shown self prev c.requires.size in
     subst (λ (p : Picture). SamePictureSize p c.view_of.result) (sym c.view-3.ensures.value)
-    (subst (λ (p : Picture). SamePictureSize (shown self) p)
+    (subst (λ (p : Picture). SamePictureSize (display self) p)
     (sym
     (c.view_of.ensures
     ∙ shifted_view prev c.args.first (text c.write_change.new.sink) (text c.write_row_shifts.new.sink)
     c.args.grid.now c.write_row_shifts.new.grid c.view-2.ensures.whole c.requires.own c.requires.page shifts))
-    (shifted_size (shown self) (in_default_attrs (shown prev)) (c.args.first ∷ shifts.rest)
+    (shifted_size (display self) (in_default_attrs (display prev)) (c.args.first ∷ shifts.rest)
     (record { width = same.width; height = same.height })))
 
 pub returns : goal.returns

@@ -29,5 +29,5 @@ returns c =
     let is : last ≡ get_or text (length text - 1) 0 =
     c.index-text-text.is ∙ get_or_default text (length text - 1) last 0 inside in
     (λ z. record s { page = c.print_narrow_text.ensures z; last = Some (is z) })
-    ∙ (sym (text_stepped_is text s c.requires.some c.requires.narrow c.screen.invariant.sound.has_columns)
+    ∙ (sym (text_stepped_is text s c.requires.nonempty c.requires.narrow c.screen.invariant.sound.has_columns)
     ∙ ap (screen_after_text text) c.screen.view_is)

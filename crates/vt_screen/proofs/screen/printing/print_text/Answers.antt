@@ -24,6 +24,6 @@ returns c =
     let s = the_view c.screen.inside in
     let text = c.args.text.now in
     (λ z. record s { page = c.print_text.ensures z; last = Some (c.from.ensures z) })
-    ∙ (sym (text_stepped_is text s c.requires.some (narrow_printable text c.requires.printable)
+    ∙ (sym (text_stepped_is text s c.requires.nonempty (narrow_printable text c.requires.printable)
     c.screen.invariant.sound.has_columns)
     ∙ ap (screen_after_text text) c.screen.view_is)

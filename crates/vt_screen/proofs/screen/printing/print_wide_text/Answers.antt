@@ -29,7 +29,7 @@ returns c =
     let is : last ≡ get_or text (length text - 1) 0 =
     c.index-text-text.is ∙ get_or_default text (length text - 1) last 0 inside in
     let room = rw (← c.screen.view_is) at c.requires.room in
-    let width : 2 ≤ s.page.width = omega (arith, room, c.requires.some) in
+    let width : 2 ≤ s.page.width = omega (arith, room, c.requires.nonempty) in
     (λ z. record s { page = c.print_wide_text.ensures z; last = Some (is z) })
-    ∙ (sym (wide_text_stepped_is text s c.requires.some c.requires.wide width)
+    ∙ (sym (wide_text_stepped_is text s c.requires.nonempty c.requires.wide width)
     ∙ ap (screen_after_text text) c.screen.view_is)

@@ -3,7 +3,7 @@ use Rattle.std.proofs.Common.{refl, subst, rules}
 use Rattle.std.specs.List.{FoldsTo}
 use Rattle.vt_cells.proofs.Packing.{attrs_fit}
 use Rattle.vt_grid.specs.Outgoing.{printed_out}
-use Rattle.vt_grid.specs.Scrollback.{reported}
+use Rattle.vt_grid.specs.Scrollback.{rows_reported}
 use Rattle.vt_screen.specs.Run.{CalledOnScroll}
 use Rattle.vt_screen.specs.contracts.screen.Screen.{the_view}
 use Rattle.vt_screen.proofs.Asides.{kept_sent, rows_printed_out}
@@ -26,7 +26,7 @@ invariant_of-screen-2 g c =
 pub returns-clause-done : goal.returns-clause-done
 returns-clause-done g c =
     let s = the_view c.screen.inside in
-    let rows = reported (printed_out c.args.c s.attrs s.page) c.screen.inside.scrollback in
+    let rows = rows_reported (printed_out c.args.c s.attrs s.page) c.screen.inside.scrollback in
     let sent = c.in_ok-print_columns.ensures.sent in
     let same = same_callbacks g.CB.Callbacks.does rows _ c.print_columns.new.leaving sent.1 in
     let all = reported_to g.CB.Callbacks.does s.is_alternate rows _ c.print_columns.new.leaving refl sent.1 in

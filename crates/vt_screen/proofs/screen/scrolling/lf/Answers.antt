@@ -2,7 +2,7 @@
 use Rattle.std.proofs.Common.{refl, subst, rules}
 use Rattle.std.specs.List.{FoldsTo}
 use Rattle.vt_grid.specs.Outgoing.{fed_out}
-use Rattle.vt_grid.specs.Scrollback.{reported}
+use Rattle.vt_grid.specs.Scrollback.{rows_reported}
 use Rattle.vt_screen.specs.Run.{CalledOnScroll}
 use Rattle.vt_screen.specs.contracts.screen.Screen.{the_view}
 use Rattle.vt_screen.proofs.Asides.{kept_sent, rows_fed_out}
@@ -23,7 +23,7 @@ invariant_of-screen-2 g c =
 pub returns-clause-done : goal.returns-clause-done
 returns-clause-done g c =
     let s = the_view c.screen.inside in
-    let rows = reported (fed_out s.page) c.screen.inside.scrollback in
+    let rows = rows_reported (fed_out s.page) c.screen.inside.scrollback in
     let sent = c.in_ok-line_feed.ensures.sent in
     let same = same_callbacks g.CB.Callbacks.does rows _ c.line_feed.new.leaving sent.1 in
     let all = reported_to g.CB.Callbacks.does s.is_alternate rows _ c.line_feed.new.leaving refl sent.1 in

@@ -2,7 +2,7 @@
 use Rattle.std.proofs.Common.{refl, subst, rules}
 use Rattle.std.specs.List.{FoldsTo}
 use Rattle.vt_grid.specs.Outgoing.{scrolled_out}
-use Rattle.vt_grid.specs.Scrollback.{reported}
+use Rattle.vt_grid.specs.Scrollback.{rows_reported}
 use Rattle.vt_screen.specs.Run.{CalledOnScroll}
 use Rattle.vt_screen.specs.contracts.screen.Screen.{the_view}
 use Rattle.vt_screen.proofs.Asides.{kept_sent, rows_scrolled_out}
@@ -23,7 +23,7 @@ invariant_of-screen-2 g c =
 pub returns-clause-done : goal.returns-clause-done
 returns-clause-done g c =
     let s = the_view c.screen.inside in
-    let rows = reported (scrolled_out c.args.count s.page) c.screen.inside.scrollback in
+    let rows = rows_reported (scrolled_out c.args.count s.page) c.screen.inside.scrollback in
     let sent = c.in_ok-scroll_up.ensures.sent in
     let same = same_callbacks g.CB.Callbacks.does rows _ c.scroll_up.new.leaving sent.1 in
     let all = reported_to g.CB.Callbacks.does s.is_alternate rows _ c.scroll_up.new.leaving refl sent.1 in

@@ -1,0 +1,315 @@
+//! Generating the texts and the output of screens.
+
+ghost use Rattle.std.specs.Prelude.{◌≡◌, ◌<◌, ◌≤◌, ◌&&◌, IfErr, IfOk, IsErr, Ok, false, length};
+ghost use Rattle.std.specs.Prelude.{nat_lt, string_bytes, true};
+ghost use Rattle.vt_cells.specs.Refusals.{OnlyOutOfMemory};
+ghost use Rattle.vt_grid.specs.Page.{SameSize};
+ghost use Rattle.vt_screen.specs.Contents.{between_of};
+ghost use Rattle.vt100_c.specs.Due.{IsAnswer, OnBoth, OnScreen, any_screens, due_on, due_on_both, has_start};
+ghost use Rattle.vt100_c.specs.Due.{of_one_size, same_size, status_in};
+ghost use Rattle.vt100_c.specs.Sources.{screen_in};
+ghost use Rattle.vt100_c.specs.Status.{ok, out_of_memory};
+ghost use Rattle.vt100_c.specs.Texts.{HasDifference, HasText, IsDifference, due_for, due_for_both, text_of};
+ghost use Rattle.vt100_c.specs.declared.output.Difference.TheVariants as between;
+
+use crate::object::{Source, screen_of};
+use crate::status::{BAD_ARGUMENT, OK, OTHER_SIZE, OUT_OF_MEMORY, WRONG_KIND};
+use vt100::{Error, Screen};
+
+/// The kinds of text and output that are generated from one screen.
+#[derive(Clone, Copy)]
+pub enum Text {
+    /// The displayed rows, without attributes.
+    Contents,
+
+    /// The text between two positions, each given as a row and a column,
+    /// without attributes.
+    Between(u16, u16, u16, u16),
+
+    /// The escape sequences that redraw the screen.
+    Formatted,
+
+    /// The escape sequences that redraw the screen on a terminal, whatever its
+    /// scroll region and origin mode are.
+    FormattedReset,
+
+    /// The displayed rows, with SGR sequences as the only escape sequences.
+    FormattedBasic,
+
+    /// The escape sequences that redraw the screen and set its input modes.
+    State,
+
+    /// The escape sequences that move the cursor and hide or show it.
+    CursorState,
+
+    /// The escape sequences that set the current attributes.
+    Attributes,
+
+    /// The escape sequences that set the input modes.
+    InputMode,
+}
+
+/// The kinds of output that turn one screen into another.
+#[derive(Clone, Copy)]
+pub enum Difference {
+    /// The escape sequences that change the display.
+    Contents,
+
+    /// The escape sequences that change the display, possibly by moving rows
+    /// first.
+    Scrolling,
+
+    /// The escape sequences that change the display and the input modes.
+    State,
+
+    /// The escape sequences that change the input modes.
+    InputMode,
+}
+
+/// Generates the text or output of the given kind from a source's screen.
+///
+/// # Errors
+///
+/// Returns `WRONG_KIND` if the source has no screen, `BAD_ARGUMENT` if a range
+/// of more than one row begins past the last column, or `OUT_OF_MEMORY` if an
+/// allocation fails.
+pub(crate) fn text_in(source: &Source, text: Text) -> Result<String, u8>
+    ensures text { IfOk result
+        (λ made. OnScreen (screen_in source.now) (λ screen. string_bytes made ≡ text_of text screen)) }
+    ensures answer { IsAnswer (due_on (due_for text) (screen_in source.now)) (status_in result) }
+    ensures nonempty { status_in result ≡ out_of_memory → OnScreen (screen_in source.now) (HasText text) }
+    ensures refused { IfErr result (λ status. ¬ (status ≡ ok)) }
+{
+    match screen_of(source) {
+        Some(screen) => text_of(screen, text),
+        None => Err(WRONG_KIND),
+    }
+}
+
+/// Generates the text or output of the given kind from a screen.
+///
+/// # Errors
+///
+/// Returns `BAD_ARGUMENT` if a range of several rows begins past the screen's
+/// columns, or `OUT_OF_MEMORY` if an allocation fails.
+fn text_of(screen: &Screen, text: Text) -> Result<String, u8>
+    ensures text { IfOk result (λ made. string_bytes made ≡ text_of text screen.now) }
+    ensures answer { IsAnswer (due_for text screen.now) (status_in result) }
+    ensures nonempty { status_in result ≡ out_of_memory → HasText text screen.now }
+    ensures refused { IfErr result (λ status. ¬ (status ≡ ok)) }
+{
+    match text {
+        Text::Contents => or_status(screen.contents()),
+        Text::Between(start_row, start_col, end_row, end_col) => {
+            between(screen, (start_row, start_col), (end_row, end_col))
+        }
+        Text::Formatted => or_status(screen.contents_formatted()),
+        Text::FormattedReset => or_status(screen.contents_formatted_reset()),
+        Text::FormattedBasic => or_status(screen.contents_formatted_basic()),
+        Text::State => or_status(screen.state_formatted()),
+        Text::CursorState => or_status(screen.cursor_state_formatted()),
+        Text::Attributes => or_status(screen.attributes_formatted()),
+        Text::InputMode => or_status(screen.input_mode_formatted()),
+    }
+}
+
+/// Returns the text between two positions.
+///
+/// # Errors
+///
+/// Returns `BAD_ARGUMENT` if a range of several rows begins past the screen's
+/// columns, or `OUT_OF_MEMORY` if an allocation fails.
+#[tactic(auto, using(crate::proofs::Refused::where_some))]
+fn between(screen: &Screen, start: (u16, u16), end: (u16, u16)) -> Result<String, u8>
+    ensures text { IfOk result
+        (λ made. string_bytes made ≡ between_of start.0 start.1 end.0 end.1 screen.now) }
+    ensures answer { IsAnswer (has_start start.0 start.1 end.0 screen.now) (status_in result) }
+    ensures nonempty { status_in result ≡ out_of_memory →
+        0 < length (between_of start.0 start.1 end.0 end.1 screen.now) }
+    ensures refused { IfErr result (λ status. ¬ (status ≡ ok)) }
+{
+    if is_outside(screen, start, end.0) {
+        return Err(BAD_ARGUMENT);
+    }
+    or_status(screen.contents_between(start.0, start.1, end.0, end.1))
+}
+
+/// Returns whether a range of several rows begins past the columns of the
+/// screen.
+fn is_outside(screen: &Screen, start: (u16, u16), end_row: u16) -> bool
+    ensures value { result ≡ (nat_lt start.0 end_row && nat_lt screen.now.page.width start.1) }
+    ensures inside { result ≡ false → start.0 < end_row → start.1 ≤ screen.now.page.width }
+{
+    let (_, cols) = screen.size();
+    start.0 < end_row && cols.get() < start.1
+}
+
+/// Generates the diff of the given kind from the screen of `prev` to the screen
+/// of `source`.
+///
+/// # Errors
+///
+/// Returns `WRONG_KIND` if either source has no screen, `OTHER_SIZE` if the two
+/// screens differ in size and the kind requires them to have the same size, or
+/// `OUT_OF_MEMORY` if an allocation fails.
+pub(crate) fn difference_in(
+    source: &Source,
+    prev: &Source,
+    difference: Difference,
+) -> Result<String, u8>
+    ensures text { IfOk result (λ made. OnBoth (screen_in source.now) (screen_in prev.now)
+        (λ screen prev. IsDifference difference screen prev (string_bytes made))) }
+    ensures answer { IsAnswer (due_on_both (due_for_both difference) (screen_in source.now) (screen_in prev.now))
+        (status_in result) }
+    ensures nonempty { status_in result ≡ out_of_memory →
+        OnBoth (screen_in source.now) (screen_in prev.now) (HasDifference difference) }
+    ensures refused { IfErr result (λ status. ¬ (status ≡ ok)) }
+{
+    let Some(screen) = screen_of(source) else {
+        return Err(WRONG_KIND);
+    };
+    match screen_of(prev) {
+        Some(prev) => difference_of(screen, prev, difference),
+        None => Err(WRONG_KIND),
+    }
+}
+
+/// Generates the diff of the given kind from `prev` to `screen`.
+///
+/// # Errors
+///
+/// Returns `OTHER_SIZE` if the two screens differ in size and the kind requires
+/// them to have the same size, or `OUT_OF_MEMORY` if an allocation fails.
+fn difference_of(screen: &Screen, prev: &Screen, difference: Difference) -> Result<String, u8>
+    ensures text { IfOk result (λ made. IsDifference difference screen.now prev.now (string_bytes made)) }
+    ensures answer { IsAnswer (due_for_both difference screen.now prev.now) (status_in result) }
+    ensures nonempty { status_in result ≡ out_of_memory → HasDifference difference screen.now prev.now }
+    ensures refused { IfErr result (λ status. ¬ (status ≡ ok)) }
+{
+    match difference {
+        Difference::Contents => contents_diff(screen, prev),
+        Difference::Scrolling => contents_diff_scrolling(screen, prev),
+        Difference::State => state_diff(screen, prev),
+        Difference::InputMode => input_mode_diff(screen, prev),
+    }
+}
+
+/// Returns the escape sequences that turn the display of `prev` into that of
+/// `screen`.
+///
+/// # Errors
+///
+/// Returns `OTHER_SIZE` if the two screens differ in size, or `OUT_OF_MEMORY`
+/// if an allocation fails.
+#[tactic(auto, using(crate::proofs::Refused::where_some))]
+fn contents_diff(screen: &Screen, prev: &Screen) -> Result<String, u8>
+    ensures text { IfOk result (λ made. IsDifference between.Contents screen.now prev.now (string_bytes made)) }
+    ensures answer { IsAnswer (of_one_size screen.now prev.now) (status_in result) }
+    ensures nonempty { status_in result ≡ out_of_memory → HasDifference between.Contents screen.now prev.now }
+    ensures refused { IfErr result (λ status. ¬ (status ≡ ok)) }
+{
+    if !is_sized_as(screen, prev) {
+        return Err(OTHER_SIZE);
+    }
+    or_status(screen.contents_diff(prev))
+}
+
+/// Returns the escape sequences that turn the display of `prev` into that of
+/// `screen`, moving rows first if they have scrolled.
+///
+/// # Errors
+///
+/// Returns `OTHER_SIZE` if the two screens differ in size, or `OUT_OF_MEMORY`
+/// if an allocation fails.
+#[tactic(auto, using(crate::proofs::Refused::where_some))]
+fn contents_diff_scrolling(screen: &Screen, prev: &Screen) -> Result<String, u8>
+    ensures text { IfOk result (λ made. IsDifference between.Scrolling screen.now prev.now (string_bytes made)) }
+    ensures answer { IsAnswer (of_one_size screen.now prev.now) (status_in result) }
+    ensures nonempty { status_in result ≡ out_of_memory → HasDifference between.Scrolling screen.now prev.now }
+    ensures refused { IfErr result (λ status. ¬ (status ≡ ok)) }
+{
+    if !is_sized_as(screen, prev) {
+        return Err(OTHER_SIZE);
+    }
+    or_status(screen.contents_diff_scrolling(prev))
+}
+
+/// Returns the escape sequences that turn the display and the input modes of
+/// `prev` into those of `screen`.
+///
+/// # Errors
+///
+/// Returns `OTHER_SIZE` if the two screens differ in size, or `OUT_OF_MEMORY`
+/// if an allocation fails.
+#[tactic(auto, using(crate::proofs::Refused::where_some))]
+fn state_diff(screen: &Screen, prev: &Screen) -> Result<String, u8>
+    ensures text { IfOk result (λ made. IsDifference between.State screen.now prev.now (string_bytes made)) }
+    ensures answer { IsAnswer (of_one_size screen.now prev.now) (status_in result) }
+    ensures nonempty { status_in result ≡ out_of_memory → HasDifference between.State screen.now prev.now }
+    ensures refused { IfErr result (λ status. ¬ (status ≡ ok)) }
+{
+    if !is_sized_as(screen, prev) {
+        return Err(OTHER_SIZE);
+    }
+    or_status(screen.state_diff(prev))
+}
+
+/// Returns the escape sequences that change the input modes of `prev` to those
+/// of `screen`.
+///
+/// # Errors
+///
+/// Returns `OUT_OF_MEMORY` if an allocation fails.
+#[tactic(auto, using(crate::proofs::Refused::where_some))]
+fn input_mode_diff(screen: &Screen, prev: &Screen) -> Result<String, u8>
+    ensures text { IfOk result (λ made. IsDifference between.InputMode screen.now prev.now (string_bytes made)) }
+    ensures answer { IsAnswer (any_screens screen.now prev.now) (status_in result) }
+    ensures nonempty { status_in result ≡ out_of_memory → HasDifference between.InputMode screen.now prev.now }
+    ensures refused { IfErr result (λ status. ¬ (status ≡ ok)) }
+{
+    or_status(screen.input_mode_diff(prev))
+}
+
+/// Returns whether two screens have the same size.
+pub(crate) fn is_sized_as(screen: &Screen, prev: &Screen) -> bool
+    ensures value { result ≡ same_size screen.now.page prev.now.page }
+    ensures size { result ≡ true → SameSize screen.now.page prev.now.page }
+{
+    let (rows, cols) = screen.size();
+    let (prev_rows, prev_cols) = prev.size();
+    rows.get() == prev_rows.get() && cols.get() == prev_cols.get()
+}
+
+/// Converts the error of a result, if there is one, to its status code.
+pub(crate) fn or_status(made: Result<String, Error>) -> Result<String, u8>
+    requires { OnlyOutOfMemory made }
+    ensures text { IfOk result (λ text. made ≡ Ok text) }
+    ensures answer { IsAnswer ok (status_in result) }
+    ensures memory { status_in result ≡ out_of_memory → IsErr made }
+    ensures refused { IfErr result (λ status. ¬ (status ≡ ok)) }
+{
+    match made {
+        Ok(text) => Ok(text),
+        Err(_) => Err(OUT_OF_MEMORY),
+    }
+}
+
+/// Moves the string in `made` to `place` and stores its length in `len`. If
+/// `made` is an error, stores nothing and returns the status code of the error.
+pub(crate) fn keep(place: &mut String, made: Result<String, u8>, len: &mut usize) -> u8
+    requires { IfErr made (λ status. ¬ (status ≡ ok)) }
+    ensures status { result ≡ status_in made }
+    ensures text { result ≡ ok → made ≡ Ok place.new }
+    ensures len { result ≡ ok → len.new ≡ length (string_bytes place.new) }
+    ensures refused { ¬ (result ≡ ok) → place.new ≡ place.old }
+    ensures refused_len { ¬ (result ≡ ok) → len.new ≡ len.old }
+{
+    match made {
+        Ok(text) => {
+            *len = text.len();
+            *place = text;
+            OK
+        }
+        Err(status) => status,
+    }
+}

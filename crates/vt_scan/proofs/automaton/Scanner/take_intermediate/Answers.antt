@@ -1,0 +1,24 @@
+-- An intermediate after ESC.
+use Rattle.std.proofs.Common.{◌∙◌, ap, refl, subst, sym}
+use Rattle.vt_scan.specs.Automaton.{State}
+use Rattle.vt_scan.specs.Scanner.{ScannerValue, StandsFor}
+use Rattle.vt_scan.proofs.Feeding.{no_event}
+use Rattle.vt_scan.proofs.Leading.{intermediate_feeds}
+use Rattle.vt_scan.proofs.Standing.{stands_fed}
+use Rattle.vt_scan.proofs.automaton.Scanner.take_intermediate.Goals as goal
+
+pub invariant_of-self : goal.invariant_of-self
+invariant_of-self c =
+    stands_fed c.args.self.now _ c.args.byte no_event
+    (intermediate_feeds c.args.self.now _ c.args.byte c.requires
+    (sym c.is_intermediate_byte-takes.ensures ∙ c.if-takes.true) refl
+    (ap (λ (h : ScannerValue). h.table) c.self.view_is)
+    (λ all e. c.push.ensures all (ap (λ (h : ScannerValue). h.intermediates) c.self.view_is ∙ e)))
+    (subst (λ (held : ScannerValue). ∥ ((state : State) × StandsFor held state) ∥₁) c.self.view_is c.self.invariant)
+
+pub returns-then-takes-clause-fed : goal.returns-then-takes-clause-fed
+returns-then-takes-clause-fed c = λ is.
+    intermediate_feeds c.args.self.now _ c.args.byte c.requires
+    (sym c.is_intermediate_byte-takes.ensures ∙ c.if-takes.true) refl
+    (ap (λ (h : ScannerValue). h.table) c.self.view_is)
+    (λ all e. c.push.ensures all (ap (λ (h : ScannerValue). h.intermediates) c.self.view_is ∙ e))

@@ -1,0 +1,21 @@
+-- One byte, and the introducing bytes after it.
+use Rattle.std.proofs.Common.{◌<◌, [], List, ℕ, arith, drop, get_or, length, subst, sym, take}
+use Rattle.std.proofs.lemmas.Bool.Decides.{nat_tests}
+use Rattle.vt_scan.specs.Scanner.{FeedsAll}
+use Rattle.vt_scan.proofs.Leading.{feeds_first}
+use Rattle.vt_scan.proofs.Lists.{all_left, take_next}
+use Rattle.vt_scan.proofs.automaton.Scanner.take_introducer_by_bytes.Goals as goal
+
+pub returns-clause-fed : goal.returns-clause-fed
+returns-clause-fed c =
+    let bytes = c.args.bytes.now in
+    let more = c.take_introducer_after_escape-more.result in
+    let told = c.if-is_empty.ensures in
+    let some : 0 < length bytes = grind (arith, nat_tests) in
+    let rest : FeedsAll c.take_escape.new.self (take more (drop 1 bytes)) c.take_introducer_after_escape-more.new.self [] =
+    subst (λ (left : List ℕ). FeedsAll c.take_escape.new.self (take more left) c.take_introducer_after_escape-more.new.self [])
+    (all_left bytes 1) c.take_introducer_after_escape-more.ensures.fed in
+    subst (λ (text : List ℕ). FeedsAll c.args.self.now text c.take_introducer_after_escape-more.new.self [])
+    (sym (take_next bytes more some))
+    (feeds_first c.args.self.now c.take_escape.new.self c.take_introducer_after_escape-more.new.self (get_or bytes 0 0)
+    (take more (drop 1 bytes)) (c.take_escape.ensures.fed c.if-not-take_escape.false) rest)
