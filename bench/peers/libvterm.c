@@ -39,7 +39,7 @@ static char *read_file(const char *path, size_t *len) {
 }
 
 int main(int argc, char **argv) {
-  if (argc != 7) {
+  if (argc != 7 || strcmp(argv[1], "process") != 0) {
     fprintf(stderr, "usage: libvterm process ROWS COLS CAPACITY TIMES FILE\n");
     return 2;
   }

@@ -4,8 +4,9 @@
 //! With WHAT `process`, one parser parses FILE TIMES times, in chunks of 4096 bytes. With any other
 //! WHAT, the parser parses the first half of FILE, keeps a copy of the screen, parses the rest, and
 //! then makes the call on the screen TIMES times. Prints the name of the call, the number of calls,
-//! and the number of bytes that they parsed or wrote. For `clone`, prints the number of rows copied
-//! instead, and for `steady` the number of calls that returned `true`.
+//! and the number of bytes that they parsed or wrote. For `clone`, `add-row` and `add-column`, prints
+//! the number of rows that the screens have instead, and for `steady` the number of calls that
+//! returned `true`.
 //!
 //! `vt_bench lengths ROWS COLS CAPACITY EVERY FILE` prints the total lengths in bytes of
 //! `contents_diff` and of `contents_diff_scrolling`. One diff is taken after every EVERY bytes of
@@ -27,7 +28,7 @@ use std::num::NonZeroU16;
 use std::rt::{Env, Files};
 use std::{env, fs};
 use texts::show_texts;
-use vt100::Parser;
+use vt100::{Parser, Screen};
 use work::Work;
 
 /// The number of bytes that a parser is given at a time.
@@ -97,8 +98,37 @@ fn measured(alloc: Global, task: Task, bytes: &[u8]) -> Result<usize> {
     if let Work::Process = task.work {
         return process_often(&mut parser, task.times, bytes);
     }
+    if let Work::AddRow | Work::AddColumn = task.work {
+        process(&mut parser, bytes)?;
+        return resize_often(parser.screen_mut(), task);
+    }
     let (first, rest) = bytes.split_at(bytes.len() / 2);
     call_often(&mut parser, task, first, rest)
+}
+
+/// Adds a row or a column to the screen and removes it again, `times` times. Returns the total of
+/// the screen's rows after each removal.
+fn resize_often(screen: &mut Screen, task: Task) -> Result<usize> {
+    let (rows, cols) = match task.work {
+        Work::AddRow => (one_more(task.rows)?, task.cols),
+        _ => (task.rows, one_more(task.cols)?),
+    };
+    let mut count = 0usize;
+    for _ in 0..task.times {
+        screen.set_size(rows, cols)?;
+        screen.set_size(task.rows, task.cols)?;
+        count = count.saturating_add(usize::from(screen.size().0.get()));
+    }
+    Ok(count)
+}
+
+/// Returns the number after `number`. Fails for 65535.
+fn one_more(number: NonZeroU16) -> Result<NonZeroU16> {
+    let next = number
+        .get()
+        .checked_add(1)
+        .context("the size is too large")?;
+    NonZeroU16::new(next).context("the size is zero")
 }
 
 /// Parses the bytes `times` times, and returns the number of bytes parsed.

@@ -31,6 +31,12 @@ pub enum Work {
 
     /// Tests whether the screen is steady.
     Steady,
+
+    /// Adds a row to the screen and removes it again.
+    AddRow,
+
+    /// Adds a column to the screen and removes it again.
+    AddColumn,
 }
 
 impl Work {
@@ -46,6 +52,8 @@ impl Work {
             "basic" => Some(Work::Basic),
             "clone" => Some(Work::Clone),
             "steady" => Some(Work::Steady),
+            "add-row" => Some(Work::AddRow),
+            "add-column" => Some(Work::AddColumn),
             _ => None,
         }
     }
@@ -54,7 +62,7 @@ impl Work {
     /// number of rows copied; for `Steady`, 1 if the screen is steady, otherwise 0.
     pub fn call(self, screen: &Screen, prev: &Screen) -> Result<usize, Error> {
         match self {
-            Work::Process => Ok(0),
+            Work::Process | Work::AddRow | Work::AddColumn => Ok(0),
             Work::Formatted => Ok(screen.contents_formatted()?.len()),
             Work::Diff => difference(screen, prev),
             Work::Scrolling => scrolling_difference(screen, prev),
