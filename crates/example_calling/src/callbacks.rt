@@ -11,7 +11,7 @@ const GREATEST: (u16, u16) = (200, 400);
 /// The maximum length, in bytes, of a command that a program may send: enough for a clipboard.
 const LONGEST: usize = 1 << 20;
 
-/// The control function CAN, which ends a command.
+/// The control character CAN, which ends an unfinished operating system command.
 const CANCEL: &[u8] = b"\x18";
 
 /// A window that contains a terminal.

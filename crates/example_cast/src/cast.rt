@@ -5,7 +5,7 @@ use serde_json::Value;
 use std::alloc::Global;
 use std::num::NonZeroU16;
 
-/// The versions of the format that are supported.
+/// The supported versions of asciinema's format.
 #[derive(Clone, Copy, PartialEq, Eq)]
 pub enum Version {
     /// Version 2: the time of an event is measured from the beginning of the recording.

@@ -49,8 +49,8 @@ impl Spot<'_> {
         is_empty && !self.paint.underline
     }
 
-    /// Returns whether the spot and `next` can be drawn as one text: both are ASCII and have the
-    /// same colors and style.
+    /// Returns whether the spot and `next` can be drawn as a single run of text: both are ASCII and
+    /// have the same colors and style.
     ///
     /// A glyph outside ASCII may come from a font of a different width and would then shift the
     /// glyphs after it.

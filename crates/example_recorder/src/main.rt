@@ -52,7 +52,7 @@ struct Log {
     text: String,
     /// The state between rows: whether a line end is pending, and the attributes written last.
     state: BasicFormattedCaptureState,
-    /// Whether memory for a row could not be allocated.
+    /// Whether a row is missing because memory for it could not be allocated.
     has_gap: bool,
 }
 

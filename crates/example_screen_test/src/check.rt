@@ -8,10 +8,10 @@ use vt100::{Cell, Screen};
 /// The reason why an expected text is not displayed.
 #[derive(Clone, Copy)]
 enum Miss {
-    /// A different text is displayed at its position.
+    /// A different text is displayed at the position of the expected text.
     Text,
 
-    /// The text is displayed at its position but lacks the given property.
+    /// The expected text is displayed at its position but lacks the given property.
     Property(Property),
 }
 

@@ -24,8 +24,8 @@ pub record ParserProcesses {S : Type 0} (does : CallRelation S)
   pub quiet : Processes old (processing bytes answer) new
 
 -- The effect of `process_unit`. On success, the first `count` bytes are read; if a callback was invoked, only the last
--- of these bytes issues events. If an allocation fails, the byte at index `count` required it; the bytes before that
--- byte issue no events, and the parser reads nothing more.
+-- of these bytes produces events. If an allocation fails, the byte at index `count` required it; the bytes before that
+-- byte produce no events, and the parser reads nothing more.
 pub record ParserReadsUnit {S : Type 0} (does : CallRelation S) (old : ParserValue S) (bytes : List ℕ) (count : ℕ)
     (answer : Result (Unit {0}) Error) (new : ParserValue S) : Type 0 where
   pub progress : IfOk answer (λ _. 0 < count)

@@ -13,15 +13,15 @@ use Rattle.vt_screen.specs.Run.{CallRelation, Breaks, Performs, Refuses, State, 
 use Rattle.vt100.specs.Parser.{ParserValue, Ran, Stopped, StoppedAt}
 use Rattle.vt100.specs.declared.sequence.Sequence.{Sequence}
 
--- Taking all of `steps` in order turns the callbacks `old` and the screen `before` into `new` and `after`.
+-- Taking all of the given steps in order turns the first callbacks and screen into the second.
 abbrev pub Does : {S : Type 0} → CallRelation S → S → ScreenValue → List Step → S → ScreenValue → Type 0
 Does does old before steps new after = FoldsTo (Takes does) (state old before) steps (state new after)
 
--- The steps in a prefix of `steps` are performed, and the next step fails to allocate memory.
+-- A prefix of the given steps is taken, and an allocation for the next step fails.
 abbrev pub Stops : {S : Type 0} → CallRelation S → S → ScreenValue → List Step → S → ScreenValue → Type 0
 Stops does old before steps new after = StopsIn (Takes does) Refuses (state old before) steps (state new after)
 
--- The effect of a call that takes all of `steps`, or stops at the first one whose allocation fails.
+-- The effect of a call that takes all of `steps`, or stops at the first step whose allocation fails.
 pub record DoesOrStops {S : Type 0} (does : CallRelation S)
     (old : S) (before : ScreenValue) (steps : List Step) (new : S) (after : ScreenValue)
     (result : Result (Unit {0}) Error) : Type 0 where
@@ -29,7 +29,7 @@ pub record DoesOrStops {S : Type 0} (does : CallRelation S)
   pub stopped : IsErr result → Stops does old before steps new after
   pub memory : OnlyOutOfMemory result
 
--- The effect of a call that takes `step` between one and `left` times and returns how many times, or stops when an
+-- The effect of a call that takes `step` between one and `left` times and returns the number of times, or stops when an
 -- allocation fails.
 pub record RepeatsOrStops {S : Type 0} (does : CallRelation S)
     (old : S) (before : ScreenValue) (left : ℕ) (step : Step) (new : S) (after : ScreenValue)
@@ -47,8 +47,8 @@ pub record PerformsOrBreaks {S : Type 0} (does : CallRelation S)
   pub stopped : IsErr result → StopsIn (Performs does) (Breaks does) old events new
   pub memory : OnlyOutOfMemory result
 
--- The effect of a call that reads a prefix of `bytes` and returns its length, or stops at a byte whose allocation
--- fails and returns the number of bytes before it as the error.
+-- The effect of a call that reads a prefix of `bytes` and returns the prefix's length, or stops at a byte for which an
+-- allocation fails and returns the number of earlier bytes as the error.
 pub record ReadsOrStops {S : Type 0} (does : CallRelation S)
     (old : ParserValue S) (bytes : List ℕ) (new : ParserValue S) (result : Result ℕ ℕ) : Type 0 where
   pub inside : IfOk result (λ count. count ≤ length bytes)

@@ -35,16 +35,16 @@ HasFreshScreen rows cols capacity callbacks parser =
 abbrev pub stage : {S : Type 0} → ParserValue S → screen.State S
 stage parser = screen.state parser.callbacks parser.screen
 
--- Parsing `bytes` takes the parser from `old` to `new`. For every state that the scanner of `old` stands for, the
--- scanner of `new` stands for the state after the bytes, and the callbacks and the screen take the steps of all events
--- in order.
+-- Parsing the given bytes turns the first parser into the second. For every state that the first parser's scanner
+-- stands for, the second parser's scanner stands for the state after the bytes, and the callbacks and the screen take
+-- the steps of all events in order.
 abbrev pub Ran : {S : Type 0} → CallRelation S → ParserValue S → List ℕ → ParserValue S → Type 0
 Ran does old bytes new =
     (state : State) → StandsFor old.scanner state
     → StandsFor new.scanner (scan.run state bytes).state
     × FoldsTo (Performs does) (stage old) (scan.run state bytes).events (stage new)
 
--- The byte at index `k` is appended to the text of an operating system command, which may require an allocation.
+-- The byte at the given index is appended to the text of an operating system command, which may require an allocation.
 abbrev pub Collects : State → List ℕ → ℕ → Type 0
 Collects state bytes k =
     transition_of (scan.run state (take k bytes)).state.kind (class_of (slice_index_or bytes k 0)) ≡ Collect OscString
@@ -65,7 +65,7 @@ StoppedWithin does old bytes new =
     (state : State) → StandsFor old.scanner state →
     StopsIn (Performs does) (Breaks does) (stage old) (scan.run state bytes).events (stage new)
 
--- Parsing the first `count` bytes invokes no callbacks, or only the last of these bytes issues events.
+-- Parsing the first `count` bytes invokes no callbacks, or only the last of these bytes produces events.
 abbrev pub CallsByLast : {S : Type 0} → S → ScannerValue → List ℕ → ℕ → S → Type 0
 CallsByLast old held bytes count new =
     (new ≡ old) ⊎ ((0 < count) × HasNoEvent held (take (count - 1) bytes))
@@ -78,15 +78,15 @@ does_nothing call old before new after = (new ≡ old) × (after ≡ before)
 abbrev pub Stopped : {S : Type 0} → CallRelation S → ParserValue S → List ℕ → ParserValue S → Type 0
 Stopped does old bytes new = StoppedBefore does old bytes new ⊎ StoppedWithin does old bytes new
 
--- An allocation for `byte` fails in the scanner state `state`: either the one that appends the byte to a command's
--- text, or one made by a step of one of the byte's events.
+-- An allocation for the given byte fails in the given state of the scanner: either the allocation that appends the byte
+-- to a command's text, or one made by a step of one of the byte's events.
 abbrev pub IsRefused : {S : Type 0} → CallRelation S → screen.State S → State → ℕ → screen.State S → Type 0
 IsRefused does old state byte new =
     ((new ≡ old) × (transition_of state.kind (class_of byte) ≡ Collect OscString))
     ⊎ StopsIn (Performs does) (Breaks does) old (step_in state.kind state.collected byte).events new
 
--- Parsing stopped at the byte at index `count` because an allocation for that byte failed. The bytes before it issue no
--- events.
+-- Parsing stopped at the byte at index `count` because an allocation for that byte failed. The bytes before it produce
+-- no events.
 pub record StoppedAt {S : Type 0} (does : CallRelation S)
     (old : ParserValue S) (bytes : List ℕ) (count : ℕ) (new : ParserValue S) : Type 0 where
   pub inside : count < length bytes
@@ -94,7 +94,7 @@ pub record StoppedAt {S : Type 0} (does : CallRelation S)
   pub refused : (state : State) → StandsFor old.scanner state →
       IsRefused does (stage old) (scan.run state (take count bytes)).state (slice_index_or bytes count 0) (stage new)
 
--- Parsing `bytes` never stops because of a failed allocation.
+-- Parsing the given bytes never stops because of a failed allocation.
 abbrev pub IsHarmless : {S : Type 0} →
     CallRelation S → ParserValue S → List ℕ → Type 0
 IsHarmless {S} does old bytes = (new : ParserValue S) → Stopped does old bytes new → ⊥

@@ -50,8 +50,8 @@ pub record IsFreshParser {S : Type 0} (rows cols capacity : ℕ) (parser : Parse
   pub ground : StandsFor parser.scanner start
   pub shown : parser.screen ≡ fresh_screen rows cols capacity
 
--- The text of everything that `bytes` write to a main page of `rows` rows and `cols` columns: the rows that scroll off
--- the top of the page, followed by the rows that remain on it.
+-- The text of everything that the given bytes write to a main page of `rows` rows and `cols` columns: the rows that
+-- scroll off the top of the page, followed by the rows that remain on it.
 abbrev pub whole_text : (rows cols : ℕ) → List ℕ → List ℕ
 whole_text rows cols bytes =
     let fresh = fresh_screen rows cols 0 in

@@ -144,9 +144,8 @@ pub fn print_apart<CB: Callbacks>(
     print(screen, callbacks, character)
 }
 
-/// Returns whether a character is reported instead of printed, which is the
-/// case for U+0080 to U+009F (the C1 controls) and for U+FFFD, which stands for
-/// malformed UTF-8.
+/// Returns whether a character is reported instead of printed: one of U+0080 to
+/// U+009F (the C1 controls), or U+FFFD, which stands for malformed UTF-8.
 #[inline]
 #[tactic(auto, using(crate::proofs::Stepping::tested_steps))]
 fn is_reported(character: char) -> bool

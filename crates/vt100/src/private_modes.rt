@@ -123,8 +123,8 @@ fn set_other_mode<CB: Callbacks>(
     }
 }
 
-/// Sets or resets mode 47: switches to the alternate page without clearing it
-/// if `on` is true, and back to the main page otherwise.
+/// Sets or resets mode 47: if `on` is true, switches to the alternate page
+/// without clearing it; otherwise switches back to the main page.
 ///
 /// # Errors
 ///

@@ -118,9 +118,9 @@ fn process_sequence<CB: Callbacks>(
     }
 }
 
-/// Parses the first byte if it ends a control sequence, an escape sequence or an
-/// operating system command, and performs what it ends. Returns the number of
-/// bytes read, 0 or 1.
+/// Parses the first byte if it ends a control sequence, an escape sequence or an operating system
+/// command, and performs the completed sequence or command. Returns the number of bytes read, 0 or
+/// 1.
 ///
 /// # Errors
 ///

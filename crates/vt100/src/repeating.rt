@@ -19,7 +19,8 @@ const TEXT_ROOM: usize = 64;
 /// # Errors
 ///
 /// Returns `Error::OutOfMemory` if there is not enough memory to keep a row
-/// that scrolls off the top. The characters printed before that remain.
+/// that scrolls off the top. Characters that were printed before the failure
+/// remain on the screen.
 pub fn repeat<CB: Callbacks>(
     screen: &mut Screen,
     callbacks: &mut CB,
@@ -46,7 +47,8 @@ pub fn repeat<CB: Callbacks>(
 /// # Errors
 ///
 /// Returns `Error::OutOfMemory` if there is not enough memory to keep a row
-/// that scrolls off the top. The characters printed before that remain.
+/// that scrolls off the top. Characters that were printed before the failure
+/// remain on the screen.
 fn repeat_ascii<CB: Callbacks>(
     screen: &mut Screen,
     callbacks: &mut CB,
@@ -96,8 +98,8 @@ fn repeat_some<CB: Callbacks>(
     Ok(count)
 }
 
-/// Prints a printable ASCII character `count` times in one edit. All of them
-/// must fit on the cursor's row.
+/// Prints a printable ASCII character `count` times in one edit. All `count`
+/// characters must fit on the cursor's row.
 #[inline]
 fn repeat_in_row(screen: &mut Screen, byte: u8, count: u16)
     requires low { 0x20 ≤ byte }
@@ -117,7 +119,8 @@ fn repeat_in_row(screen: &mut Screen, byte: u8, count: u16)
 /// # Errors
 ///
 /// Returns `Error::OutOfMemory` if there is not enough memory to keep a row
-/// that scrolls off the top. The characters printed before that remain.
+/// that scrolls off the top. Characters that were printed before the failure
+/// remain on the screen.
 fn repeat_other<CB: Callbacks>(
     screen: &mut Screen,
     callbacks: &mut CB,

@@ -68,7 +68,7 @@ parser_reads old new bytes (Err NoNumber) ran stopped before only other good har
 pub unit_read : (old new : ParserValue Logged) (bytes : List ℕ) (count : ℕ) (answer : Result (Unit {0}) Error)
     → ParserReadsUnit Logs old bytes count answer new → ReadsUnit old bytes count (status_of_result answer) new
 unit_read old new bytes count (Ok done) unit = record {
-  nonempty = λ _. unit.nonempty;
+  nonempty = λ _. unit.progress;
   inside = unit.inside;
   last = λ _. unit.last;
   ran = λ _. unit.ran;

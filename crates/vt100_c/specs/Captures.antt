@@ -7,7 +7,7 @@ use Rattle.vt_rows.specs.Pieces.{Piece, piece_end}
 abbrev pub IsPlace : List ℕ → ℕ → Type 0
 IsPlace text at = IsUtf8 text × IsCharBoundary text at
 
--- The index after the line feed at `end`, or `end` if there is no line feed at that index.
+-- The index after the line feed at the given index; if there is no line feed at that index, the given index itself.
 abbrev pub behind_line_end : List ℕ → ℕ → ℕ
 behind_line_end text end = if get_or text end 0 == 10 then end + 1 else end
 

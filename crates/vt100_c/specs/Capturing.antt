@@ -21,14 +21,14 @@ state_in (Capture written) = Some written
 
 -- ---- a value with a capture
 
--- The status of a call on a value and a capture: if both exist, the status that `due` determines from the value;
--- otherwise `wrong_kind`.
+-- The status of a call on a value and a capture: if both exist, the status that the given function determines from the
+-- value; otherwise `wrong_kind`.
 abbrev pub due_behind : {A : Type 0} → (A → ℕ) → Option A → Option Written → ℕ
 due_behind due None state = wrong_kind
 due_behind due (Some value) None = wrong_kind
 due_behind due (Some value) (Some state) = due value
 
--- The value and the capture state exist, and `Holds` holds for both.
+-- The value and the capture state exist, and the given predicate is true of them.
 abbrev pub OnCapture : {A : Type 0} → Option A → Option Written → (A → Written → Type 0) → Type 0
 OnCapture None state Holds = ⊥
 OnCapture (Some value) None Holds = ⊥
@@ -41,7 +41,7 @@ due_at_capture of due None capture = no_object
 due_at_capture of due (Some object) None = no_object
 due_at_capture of due (Some object) (Some capture) = due_behind due (of object.source) (state_in capture.source)
 
--- The status of a call on a handle and a capture, where the capture was moved out of the handle that held it.
+-- The status of a call on a handle and a capture, after the capture was moved out of its own handle.
 abbrev pub due_beside_capture : {A : Type 0} → (Source → Option A) → (A → ℕ) → Option Object → Object → ℕ
 due_beside_capture of due None capture = bad_argument
 due_beside_capture of due (Some object) capture = due_behind due (of object.source) (state_in capture.source)
@@ -62,7 +62,7 @@ pub record HoldsCapture (written : List ℕ) (state : Written) (held : Option Ob
 abbrev pub any_screen_is_due : ScreenValue → ℕ
 any_screen_is_due screen = ok
 
--- Appending the rows of the screen to a capture adds at least one byte.
+-- Appending the rows of the screen to a capture with the given state adds at least one byte.
 abbrev pub HaveText : ScreenValue → Written → Type 0
 HaveText screen state = 0 < length (basic_texts state (all_rows screen))
 
@@ -71,11 +71,11 @@ HaveText screen state = 0 < length (basic_texts state (all_rows screen))
 abbrev pub has_reported : ℕ → Logged → ℕ
 has_reported index log = if nat_lt index (length log.rows) then ok else bad_argument
 
--- The row exists, and `Holds` holds for this row.
+-- The row exists, and the given predicate is true of it.
 abbrev pub OnRow : Option RowValue → (RowValue → Type 0) → Type 0
 OnRow None Holds = ⊥
 OnRow (Some row) Holds = Holds row
 
--- The log has a row with the given index, and `Holds` holds for the row and the capture state.
+-- The log has a row with the given index, and the given predicate is true of this row and the capture state.
 abbrev pub OnReported : ℕ → (RowValue → Written → Type 0) → Logged → Written → Type 0
 OnReported index Holds log state = OnRow (slice_get log.rows index) (λ row. Holds row state)

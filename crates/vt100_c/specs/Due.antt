@@ -27,7 +27,7 @@ due_on due None = wrong_kind
 due_on due (Some screen) = due screen
 
 -- The status of a call on a handle: `no_object` if the handle is empty, `wrong_kind` if its object has no screen, and
--- otherwise the status that `due` determines from the screen.
+-- otherwise the status that the given function determines from the screen.
 abbrev pub due_at : (ScreenValue → ℕ) → Option Object → ℕ
 due_at due None = no_object
 due_at due (Some object) = due_on due (screen_in object.source)
@@ -58,7 +58,7 @@ abbrev pub has_start : (start_row start_col end_row : ℕ) → ScreenValue → �
 has_start start_row start_col end_row screen =
     if nat_lt start_row end_row && nat_lt screen.page.width start_col then bad_argument else ok
 
--- The screen exists, and `Holds` holds for this screen.
+-- The screen exists, and the given predicate is true of it.
 abbrev pub OnScreen : Option ScreenValue → (ScreenValue → Type 0) → Type 0
 OnScreen None Holds = ⊥
 OnScreen (Some screen) Holds = Holds screen
@@ -79,8 +79,8 @@ due_at_both due None prev = no_object
 due_at_both due (Some object) None = no_object
 due_at_both due (Some object) (Some prev) = due_on_both due (screen_in object.source) (screen_in prev.source)
 
--- The status of a call on a screen and the handle of a second screen: the status that `due` determines if both screens
--- exist, `bad_argument` if the handle is empty, and otherwise `wrong_kind`.
+-- The status of a call on a screen and the handle of a second screen: the status that the given function determines if
+-- both screens exist, `bad_argument` if the handle is empty, and otherwise `wrong_kind`.
 abbrev pub due_beside : (ScreenValue → ScreenValue → ℕ) → Option ScreenValue → Option Object → ℕ
 due_beside due screen None = bad_argument
 due_beside due screen (Some prev) = due_on_both due screen (screen_in prev.source)
@@ -96,7 +96,7 @@ same_size page other = (length page.rows == length other.rows) && (page.width ==
 abbrev pub of_one_size : ScreenValue → ScreenValue → ℕ
 of_one_size screen prev = if same_size screen.page prev.page then ok else other_size
 
--- Both screens exist, and `Holds` holds for both.
+-- Both screens exist, and the given predicate is true of them.
 abbrev pub OnBoth : Option ScreenValue → Option ScreenValue → (ScreenValue → ScreenValue → Type 0) → Type 0
 OnBoth None prev Holds = ⊥
 OnBoth (Some screen) None Holds = ⊥

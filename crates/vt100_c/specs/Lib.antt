@@ -1,6 +1,6 @@
 pub mod Status
 pub mod Records
-pub mod ScannerValue
+pub mod Held
 pub mod Sources
 pub mod Calls
 pub mod Life

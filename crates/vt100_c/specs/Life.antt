@@ -55,7 +55,7 @@ abbrev pub refusal_of : Option Source → ℕ
 refusal_of None = wrong_kind
 refusal_of (Some copy) = out_of_memory
 
--- The value is a saved screen that displays the same content as `screen` and has the same size.
+-- The value is a saved screen that displays the same content as the given screen and has the same size.
 abbrev pub IsShownCopy : ScreenValue → Source → Type 0
 IsShownCopy screen (Parser parser) = ⊥
 IsShownCopy screen (Screen copy) = (display copy ≡ display screen) × SameSize copy.page screen.page
@@ -74,13 +74,13 @@ SavesShown None old status new = (status ≡ no_object) × (new ≡ old)
 SavesShown (Some object) (Some old) status new = (status ≡ in_use) × (new ≡ Some old)
 SavesShown (Some object) None status new = SavesShownAs (screen_in object.source) status new
 
--- The status of a call that makes no copy of a displayed screen: `wrong_kind` if there is no screen, otherwise
+-- The status of a call that fails to copy the displayed screen: `wrong_kind` if there is no screen, otherwise
 -- `out_of_memory`.
 abbrev pub refusal_on : Option ScreenValue → ℕ
 refusal_on None = wrong_kind
 refusal_on (Some screen) = out_of_memory
 
--- The value after the screen `other`, if any, replaces the value's screen, if any.
+-- The value after its screen, if any, is replaced with the given screen, if any.
 abbrev pub with_other : Option ScreenValue → Source → Source
 with_other other (Parser parser) = Parser (record parser { screen = unwrap_or other parser.screen })
 with_other other (Screen screen) = Screen (unwrap_or other screen)
@@ -93,7 +93,8 @@ swap_status (Some own) (Some other) = ok
 swap_status (Some own) None = wrong_kind
 swap_status None other = wrong_kind
 
--- The object after the screen `other`, if any, replaces the object's screen, if any. The object's text is unchanged.
+-- The object after the screen that it contains, if any, is replaced with the given screen, if any. The object's text is
+-- unchanged.
 abbrev pub held_with_other : Option ScreenValue → Object → Object
 held_with_other other object = record object { source = with_other other object.source }
 

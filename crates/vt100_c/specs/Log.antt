@@ -45,7 +45,7 @@ with_emptied (Capture written) = Capture written
 abbrev pub Empties : Source → ℕ → Source → Type 0
 Empties old status new = (status ≡ due_to (log_in old)) × (new ≡ with_emptied old)
 
--- The value after its log, if any, is cleared and gets a new limit in bytes.
+-- The value after its log, if any, is cleared and its limit is set to `bytes` bytes.
 abbrev pub with_limit : (bytes : ℕ) → Source → Source
 with_limit bytes (Parser parser) =
     Parser (record parser { callbacks = nothing_logged parser.callbacks.wanted bytes })

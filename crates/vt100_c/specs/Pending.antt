@@ -26,12 +26,12 @@ abbrev pub due_to_parser : Option Object → ℕ
 due_to_parser None = no_object
 due_to_parser (Some object) = due_to (parser_in object.source)
 
--- The parser exists, and `Holds` holds for this parser.
+-- The parser exists, and the given predicate is true of it.
 abbrev pub OnParser : Option (ParserValue Logged) → (ParserValue Logged → Type 0) → Type 0
 OnParser None Holds = ⊥
 OnParser (Some parser) Holds = Holds parser
 
--- The handle holds a parser, and `Holds` holds for this parser.
+-- The handle holds a parser, and the given predicate is true of this parser.
 abbrev pub HoldsParser : Option Object → (ParserValue Logged → Type 0) → Type 0
 HoldsParser None Holds = ⊥
 HoldsParser (Some object) Holds = OnParser (parser_in object.source) Holds

@@ -55,8 +55,8 @@ batch = 65536
 abbrev pub are_bare_rows : (bytes rows : ℕ) → Bool
 are_bare_rows bytes rows = (bytes / 17 == rows) && (bytes % 17 == 0)
 
--- Whether reading continues: since `mark`, the log has recorded only rows without text, these rows take less than a
--- batch, and the log has neither reached its limit nor lost a record.
+-- Whether reading continues: since the given mark, the log has recorded only rows without text, these rows take less
+-- than a batch, and the log has neither reached its limit nor lost a record.
 abbrev pub is_quiet : Mark → Logged → Bool
 is_quiet mark log =
     are_bare_rows (length log.records - mark.len) (length log.rows - mark.rows)
@@ -123,8 +123,8 @@ pub record StopsUnread (mark : Mark) (old : ParserValue Logged) (bytes : List �
 
 -- ---- reading unit by unit
 
--- On success, the first `count` bytes are read, and if an event was recorded, only the last of these bytes issues
--- events. On failure, the byte at index `count` is not read, and the bytes before it issue no events.
+-- On success, the first `count` bytes are read, and if an event was recorded, only the last of these bytes produces
+-- events. On failure, the byte at index `count` is not read, and the bytes before it produce no events.
 pub record ReadsUnit (old : ParserValue Logged) (bytes : List ℕ) (count status : ℕ) (new : ParserValue Logged) : Type 0 where
   pub nonempty : status ≡ ok → 0 < count
   pub inside : count ≤ length bytes
@@ -135,8 +135,8 @@ pub record ReadsUnit (old : ParserValue Logged) (bytes : List ℕ) (count status
   pub failed_before : ¬ (status ≡ ok) → old.is_failed ≡ true → (status ≡ failed) × (count ≡ 0) × (new ≡ old)
   pub fails : ¬ (status ≡ ok) → new.is_failed ≡ true
 
--- Bytes are read until the input ends, an allocation fails, or the log has recorded, since `mark`, an event at which
--- reading stops.
+-- Bytes are read until the input ends, an allocation fails, or the log has recorded, since the given mark, an event at
+-- which reading stops.
 abbrev pub ReadsFrom : Mark → List ℕ → (used : ℕ) → ParserValue Logged → ℕ → ParserValue Logged → Type 0
 ReadsFrom mark bytes used old status new =
     ReadsAll mark old bytes used status new

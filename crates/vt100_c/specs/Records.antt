@@ -129,8 +129,8 @@ is_bare log = is_wanted log.wanted without_text
 abbrev pub is_due : CallValue → Logged → Bool
 is_due call log = log.is_whole && is_wanted log.wanted (kind_of call)
 
--- The number of bytes that the log's copy of the row that a call reports takes, saturating at the maximum of a 64-bit
--- word; 0 if the call reports no row.
+-- The size in bytes of the log's copy of the row that a call reports, limited to the maximum of a 64-bit word; 0 if the
+-- call reports no row.
 abbrev pub cells_size : CallValue → ℕ
 cells_size AudibleBell = 0
 cells_size VisualBell = 0
@@ -146,7 +146,7 @@ cells_size (UnhandledCsi first second groups byte) = 0
 cells_size (UnhandledOsc parts) = 0
 cells_size (OnScroll row alternate) = min (length (trimmed_row row).cells * 40) (2 ^ 64 - 1)
 
--- The rows, followed by the row that a call reports, if any, without that row's trailing default blanks.
+-- The given rows, followed by the row that a call reports, if any; that row's trailing default blanks are removed.
 abbrev pub rows_with : CallValue → List RowValue → List RowValue
 rows_with AudibleBell rows = rows
 rows_with VisualBell rows = rows

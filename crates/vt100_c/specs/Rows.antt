@@ -10,7 +10,7 @@ use Rattle.vt100_c.specs.Sources.{screen_in}
 use Rattle.vt100_c.specs.Status.{ok, bad_argument, other_size}
 use Rattle.vt100_c.specs.declared.object.Object.{Object}
 
--- The position at which each string of a list ends, if the strings are concatenated starting at position `at`.
+-- The position at which each string of a list ends, if the strings are concatenated starting at the given position.
 abbrev pub ends_from : ℕ → List (List ℕ) → List ℕ
 ends_from at [] = []
 ends_from at (text ∷ texts) = (at + length text) ∷ ends_from (at + length text) texts
@@ -43,7 +43,7 @@ have_range start room screen prev = if same_size screen.page prev.page then has_
 abbrev pub plain_rows : (start width : ℕ) → ScreenValue → List (List ℕ)
 plain_rows start width screen = row_texts start (start + width) (visible_rows screen)
 
--- The first `count` numbers of `ends` are the positions at which the strings `texts` end in their concatenation.
+-- The first `count` numbers of the list are the positions at which the given strings end in their concatenation.
 abbrev pub AreEnds : (count : ℕ) → List ℕ → List (List ℕ) → Type 0
 AreEnds count ends texts = take count ends ≡ ends_from 0 texts
 
@@ -64,7 +64,7 @@ pub record FitRows (start room : ℕ) (screen : ScreenValue) : Type 0 where
   pub column : start < screen.page.width
   pub places : length screen.page.rows ≤ room
 
--- The given screen exists, the given handle has a screen too, and `Holds` holds for both screens.
+-- The given screen exists, the given handle has a screen too, and the given predicate is true of both screens.
 abbrev pub HoldBeside : Option ScreenValue → Option Object → (ScreenValue → ScreenValue → Type 0) → Type 0
 HoldBeside screen None Holds = ⊥
 HoldBeside screen (Some prev) Holds = OnBoth screen (screen_in prev.source) Holds
@@ -79,8 +79,8 @@ pub record MakesRows (texts : ScreenValue → List (List ℕ)) (old : Option Obj
   pub made : status ≡ ok → HoldsScreen old (λ screen. GivesRows screen (texts screen) (text_at new) before after)
   pub refused : ¬ (status ≡ ok) → after ≡ before
 
--- For each row, the output that turns the row of the screen of `prev` into the row of the screen of `old` is generated,
--- and the end positions of these outputs are stored.
+-- For each row, output is generated that turns this row of the screen of `prev` into the same row of the screen of
+-- `old`; the end positions of these outputs are stored.
 pub record ChangesRows (start width : ℕ) (old prev : Option Object) (status : ℕ) (new : Option Object)
     (before after : List ℕ) : Type 0 where
   pub source : source_at new ≡ source_at old

@@ -24,11 +24,11 @@ color_for_c color.Default = record { kind = 0; red = 0; green = 0; blue = 0 }
 color_for_c (color.Idx index) = record { kind = 1; red = index; green = 0; blue = 0 }
 color_for_c (color.Rgb red green blue) = record { kind = 2; red = red; green = green; blue = blue }
 
--- The value if the test holds, and 0 otherwise.
+-- The given number if the test is true, and 0 otherwise.
 abbrev pub bit : ℕ → Bool → ℕ
 bit value is = if is then value else 0
 
--- The number is 1 if `Holds` holds, and 0 otherwise.
+-- The number is 1 if the given proposition is true, and 0 otherwise.
 abbrev pub IsBitFor : Type 0 → ℕ → Type 0
 IsBitFor Holds out = ((out ≡ 1) × Holds) ⊎ ((out ≡ 0) × ¬ Holds)
 

@@ -6,7 +6,7 @@ use Rattle.vt100_c.specs.declared.object.Source.TheVariants.{Parser, Screen, Mir
 use Rattle.vt_mirror.specs.Mirror.{MirrorValue}
 use Rattle.vt_screen.specs.Screen.{ScreenValue}
 
--- The screen of a parser or saved screen; other values have none.
+-- The screen of a parser or saved screen; other kinds of values have no screen.
 abbrev pub screen_in : Source → Option ScreenValue
 screen_in (Parser parser) = Some parser.screen
 screen_in (Screen screen) = Some screen
@@ -20,14 +20,14 @@ mirror_in (Screen screen) = None
 mirror_in (Mirror mirror) = Some mirror
 mirror_in (Capture written) = None
 
--- The number that C reads for a value's kind.
+-- The number that stands for a value's kind in the C interface.
 abbrev pub kind_of : Source → ℕ
 kind_of (Parser parser) = 1
 kind_of (Screen screen) = 2
 kind_of (Mirror mirror) = 3
 kind_of (Capture written) = 4
 
--- The number that C reads for the kind of a handle's value; 0 if the handle is empty.
+-- The number that stands for the kind of a handle's value in the C interface; 0 if the handle is empty.
 abbrev pub kind_held : Option Object → ℕ
 kind_held None = 0
 kind_held (Some object) = kind_of object.source

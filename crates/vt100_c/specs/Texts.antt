@@ -40,7 +40,8 @@ due_for _ screen = any_screen screen
 
 -- ---- two screens
 
--- The text is a difference that may move rows or columns first and is never longer than the one that moves nothing.
+-- The text is a difference that may move rows or columns first and is never longer than the difference that moves
+-- nothing.
 pub record IsScrollingDiff (screen prev : ScreenValue) (text : List ℕ) : Type 0 where
   pub draws : IsMoving (display screen) (display prev) text
   pub shorter : length text ≤ length (bytes_of_all (difference (display screen) (display prev)))

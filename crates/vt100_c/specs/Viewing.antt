@@ -78,7 +78,7 @@ abbrev pub due_to_mirror : Option Object → ℕ
 due_to_mirror None = no_object
 due_to_mirror (Some object) = due_to (mirror_in object.source)
 
--- The mirror exists, and `Holds` holds for this mirror.
+-- The mirror exists, and the given predicate is true of it.
 abbrev pub OnMirror : Option MirrorValue → (MirrorValue → Type 0) → Type 0
 OnMirror None Holds = ⊥
 OnMirror (Some mirror) Holds = Holds mirror

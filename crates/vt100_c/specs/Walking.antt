@@ -4,7 +4,7 @@ use Rattle.vt_rows.specs.CaptureRows.{AreRowsOf}
 use Rattle.vt_rows.specs.Pieces.{ArePiecesOf, Piece, piece_end}
 use Rattle.vt100_c.specs.Captures.{IsFirstPiece, IsFirstRow, IsPlace, no_place}
 
--- The start and end, in the whole text, of a slice whose index counts from byte `at`.
+-- The start and end positions, in the whole text, of a slice whose index is relative to the given byte index.
 abbrev pub place_from : ℕ → Piece → ℕ × ℕ
 place_from at piece = (at + piece.0, at + piece_end piece)
 
@@ -15,7 +15,7 @@ FindsPlain text at start end =
     (pieces : List Piece) × ArePiecesOf (drop at text) pieces × IsFirstPiece (length text) at pieces start end
 
 -- A sequence of calls to `vt100_next_plain` that return OK and find pieces at the given positions. The first call
--- starts at byte `at`, each later call starts at the end of the previous piece, and a final call finds no piece.
+-- starts at the given byte, each later call starts at the end of the previous piece, and a final call finds no piece.
 abbrev pub FindAllPlain : List ℕ → ℕ → List (ℕ × ℕ) → Type 0
 FindAllPlain text at [] = FindsPlain text at (length text) (length text)
 FindAllPlain text at (place ∷ places) =

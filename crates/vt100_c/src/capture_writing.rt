@@ -82,8 +82,8 @@ pub extern "C" fn vt100_capture_screen(
 /// Appends all rows of the screen in `handle` to the capture `object`, which
 /// was taken out of its own handle.
 ///
-/// An empty `handle` is the one from which `object` was taken: the caller
-/// passed the same handle twice. In that case, returns `BAD_ARGUMENT`.
+/// Returns `BAD_ARGUMENT` if `handle` is empty: `object` was taken out of it,
+/// so the caller passed the same handle twice.
 fn screen_beside(alloc: Global, object: &mut Object, handle: &mut Handle, len: &mut usize) -> u8
     ensures answer { IsAnswer (due_beside_capture screen_in any_screen_is_due handle.old.held object.old) result }
     ensures nonempty { result ≡ out_of_memory → HoldAtCapture screen_in handle.old.held (Some object.old) HaveText }
@@ -202,7 +202,9 @@ pub extern "C" fn vt100_capture_row(
 }
 
 /// Appends row `index` of the log in the handle `parser` to the capture
-/// `object`, which was taken out of its own handle. See also [`screen_beside`].
+/// `object`, which was taken out of its own handle. Returns `BAD_ARGUMENT` if
+/// `parser` is empty: `object` was taken out of it, so the caller passed the
+/// same handle twice.
 fn row_beside(
     alloc: Global,
     object: &mut Object,

@@ -139,8 +139,8 @@ fn make(
 /// Generates a diff of the given kind from the screen in `prev` to the screen
 /// of `object`, which was taken out of its own handle.
 ///
-/// An empty `prev` is the one from which `object` was taken: the caller passed
-/// the same handle twice. In that case, returns `BAD_ARGUMENT`.
+/// Returns `BAD_ARGUMENT` if `prev` is empty: `object` was taken out of it, so
+/// the caller passed the same handle twice.
 fn make_beside(
     alloc: Global,
     object: &mut Object,

@@ -51,7 +51,8 @@ pub extern "C" fn vt100_parser_new(
 }
 
 /// Saves a copy of a screen or a capture in the empty handle `out`. `handle`
-/// must hold a parser or a saved screen, whose screen is copied, or a capture.
+/// must hold a parser, a saved screen or a capture. For a parser, only its
+/// screen is copied.
 ///
 /// # Errors
 ///

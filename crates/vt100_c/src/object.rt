@@ -34,8 +34,8 @@ pub struct Object {
     pub(crate) text: String,
 }
 
-/// Returns the screen of a source if it is a parser or a saved screen,
-/// otherwise `None`.
+/// Returns the screen of a source, or `None` if the source is neither a
+/// parser nor a saved screen.
 pub(crate) fn screen_of(source: &Source) -> Option<&Screen>
     ensures some { IfSome result (λ screen. screen_in source.now ≡ Some screen.now) }
     ensures none { result ≡ None → screen_in source.now ≡ None }

@@ -150,7 +150,7 @@ fn is_outside(screen: &Screen, start: (u16, u16), end_row: u16) -> bool
 /// # Errors
 ///
 /// Returns `WRONG_KIND` if either source has no screen, `OTHER_SIZE` if the two
-/// screens differ in size and the kind requires them to have the same size, or
+/// screens differ in size and diffs of the given kind require equal sizes, or
 /// `OUT_OF_MEMORY` if an allocation fails.
 pub(crate) fn difference_in(
     source: &Source,
@@ -178,8 +178,8 @@ pub(crate) fn difference_in(
 ///
 /// # Errors
 ///
-/// Returns `OTHER_SIZE` if the two screens differ in size and the kind requires
-/// them to have the same size, or `OUT_OF_MEMORY` if an allocation fails.
+/// Returns `OTHER_SIZE` if the two screens differ in size and diffs of the
+/// given kind require equal sizes, or `OUT_OF_MEMORY` if an allocation fails.
 fn difference_of(screen: &Screen, prev: &Screen, difference: Difference) -> Result<String, u8>
     ensures text { IfOk result (λ made. IsDifference difference screen.now prev.now (string_bytes made)) }
     ensures answer { IsAnswer (due_for_both difference screen.now prev.now) (status_in result) }

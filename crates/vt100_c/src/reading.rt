@@ -100,8 +100,8 @@ fn read_mirror(mirror: &mut Mirror, bytes: &[u8]) -> u8
 }
 
 /// Parses bytes until an event, as [`vt100_process_until`] does. Returns the
-/// status code, which is `WRONG_KIND` if the source is not a parser, and the
-/// number of bytes parsed.
+/// status code and the number of bytes parsed. The status code is `WRONG_KIND`
+/// if the source is not a parser.
 fn process_until(source: &mut Source, bytes: &[u8]) -> (u8, usize)
     ensures { ReadsUntilEvent bytes.now result.1 source.old result.0 source.new }
 {

@@ -160,8 +160,9 @@ fn kept_row(alloc: Global, row: &RowContents<'_>) -> Result<Row, AllocError>
     }
 }
 
-/// Stores a copy of a row, without the default blanks at its end, after the
-/// first `count` rows. If a row is already stored there, its memory is reused.
+/// Stores a copy of a row after the first `count` rows. The default blanks at
+/// the end of the row are not copied. If a row is already stored there, its
+/// memory is reused.
 ///
 /// # Errors
 ///
@@ -189,8 +190,8 @@ pub(crate) fn hold_row(
     Ok(())
 }
 
-/// Turns the row `place` into a copy of `row`, without the default blanks at
-/// its end, reusing its memory.
+/// Turns the row `place` into a copy of `row` without the default blanks at its
+/// end. The memory of `place` is reused.
 ///
 /// # Errors
 ///

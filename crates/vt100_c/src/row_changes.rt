@@ -17,9 +17,10 @@ use std::alloc::Global;
 use vt100::Screen;
 
 /// Generates the escape sequences that turn each displayed row of `prev` into
-/// the same row of `handle`'s screen, in `width` columns starting at `start`
-/// ([`Screen::rows_diff`]). Stores their concatenation in `handle`, its length
-/// in `len`, and in `ends` the index at which the output for each row ends.
+/// the corresponding row of `handle`'s screen, in `width` columns starting at
+/// `start` ([`Screen::rows_diff`]). Stores their concatenation in `handle`, its
+/// length in `len`, and in `ends` the index at which the output for each row
+/// ends.
 ///
 /// `ends` must have an element for each row. Further elements are unchanged.
 ///
@@ -58,8 +59,8 @@ pub extern "C" fn vt100_rows_diff(
 /// of `source`, which was taken out of its own handle. `range` is the first
 /// column and the number of columns.
 ///
-/// An empty `prev` is the one from which `source` was taken: the caller passed
-/// the same handle twice. In that case, returns `BAD_ARGUMENT`.
+/// Returns `BAD_ARGUMENT` if `prev` is empty: the object with the value
+/// `source` was taken out of it, so the caller passed the same handle twice.
 fn beside(
     alloc: Global,
     source: &Source,

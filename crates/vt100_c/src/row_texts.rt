@@ -71,9 +71,9 @@ pub(crate) fn formatted(
 }
 
 /// Returns the concatenated output that turns each displayed row of `prev` into
-/// the same row of `screen`, in the columns of `range` (the first column and
-/// the number of columns). Stores in `ends` the index at which the output for
-/// each row ends.
+/// the corresponding row of `screen`, in the columns of `range` (the first
+/// column and the number of columns). Stores in `ends` the index at which the
+/// output for each row ends.
 ///
 /// # Errors
 ///

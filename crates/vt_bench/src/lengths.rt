@@ -17,7 +17,8 @@ pub struct Lengths {
     pub scrolling: usize,
 }
 
-/// The settings with which a file is parsed: the terminal, and how often its screen is compared.
+/// The settings for parsing a file: the size of the terminal, and how many bytes are parsed between
+/// two diffs of its screen.
 #[derive(Clone, Copy)]
 pub struct Reading {
     /// The number of rows.

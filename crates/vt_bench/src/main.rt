@@ -75,8 +75,8 @@ fn run<R: AllocGlobal + Env + Files + Print>(rt: &R) -> Result<()> {
     Ok(())
 }
 
-/// Parses a file in chunks. If `what` is `texts`, prints the output of the screen after each chunk;
-/// otherwise prints the total lengths of the diffs between the screens after consecutive chunks.
+/// Parses a file in chunks. If `what` is `texts`, prints the redraw and the diffs of the screen after
+/// each chunk. Otherwise, prints the total lengths of the diffs between successive screens.
 fn show_on_the_way<R: AllocGlobal + Files + Print>(
     rt: &R,
     what: &str,

@@ -20,9 +20,9 @@ use vt100::{Callbacks, Error, Parser};
 ///
 /// A terminal is plain if it is in ground state, with the full scroll region, origin mode off and
 /// no scrollback displayed. A display is steady if every visible glyph reproduces itself when
-/// printed. After the call, the terminal has the same display as the mirror, whatever the
-/// terminal's size was before, under three conditions: no viewer had joined the mirror before, the
-/// terminal was plain, and the mirror's display is steady.
+/// printed. After the call, the terminal has the same display as the mirror, provided that no
+/// viewer had joined the mirror before, the terminal was plain, and the mirror's display is steady.
+/// The terminal may have had any size before.
 ///
 /// # Errors
 ///

@@ -93,7 +93,7 @@ pub fn send_both<CB: Callbacks>(
 }
 
 /// Sends a complete redraw, as [`send_redraw`] does, over a connection that splits it into chunks
-/// of at most the given sizes and a final chunk with the rest.
+/// of at most the lengths in `sizes`, then a final chunk with whatever remains.
 ///
 /// # Errors
 ///
@@ -116,7 +116,8 @@ pub fn send_redraw_cut<CB: Callbacks>(
 }
 
 /// Sends the diff from `prev` to `screen`, as [`send_difference`] does, over a connection that
-/// splits it into chunks of at most the given sizes and a final chunk with the rest.
+/// splits it into chunks of at most the lengths in `sizes`, then a final chunk with whatever
+/// remains.
 ///
 /// # Errors
 ///
@@ -140,8 +141,9 @@ pub fn send_difference_cut<CB: Callbacks>(
     Ok(())
 }
 
-/// Sends a string in chunks of at most the given sizes and a final chunk with the rest. Output that
-/// is parsed without callbacks or allocations has the same effect however it is split.
+/// Sends `text` in chunks of at most the lengths in `sizes`, then whatever remains as a final
+/// chunk. If parsing `text` invokes no callbacks and allocates nothing, the result does not depend
+/// on how it is split.
 fn send_cut<CB: Callbacks>(
     text: &[u8],
     sizes: &[usize],

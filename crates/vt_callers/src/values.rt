@@ -53,7 +53,7 @@ pub fn same_cursor_style(style: &CursorStyle) -> CursorStyle
     style.clone().unwrap()
 }
 
-/// Returns the state of a capture without any rows.
+/// Returns the state of a capture that has no rows yet.
 pub fn first_state() -> BasicFormattedCaptureState
     ensures { result ≡ nothing_written }
 {

@@ -13,7 +13,8 @@ pub struct Case<'a> {
     pub cols: NonZeroU16,
     pub bytes: Vec<u8>,
 
-    /// The number of bytes that produce the screen from which diffs start.
+    /// The number of leading bytes that produce the screen from which diffs
+    /// start.
     pub before: usize,
 
     /// Whether the final screen is steady: each of its glyphs reproduces itself

@@ -37,8 +37,8 @@ fn is_drawn_by(alloc: Global, screen: &Screen, pieces: &[&[u8]], redraw: &str) -
     Ok(is_quiet && again.as_str() == redraw && has_same_picture(parser.screen(), screen))
 }
 
-/// Returns whether two screens, neither of which displays scrollback, have the same cells, wrapped
-/// flags and cursor.
+/// Returns whether two screens have the same cells, wrapped flags and cursor. Neither screen
+/// displays scrollback.
 fn has_same_picture(one: &Screen, other: &Screen) -> bool {
     let (rows, cols) = other.size();
     for row in 0..rows.get() {

@@ -10,11 +10,12 @@ use vt_notes::Notes;
 use vt100::{Parser, Screen};
 
 /// Replays a case: parses its bytes in one call, byte by byte, and in two chunks for every position
-/// of the split. Then compares the output with the case. Finally checks that a new parser that
-/// parses the output has the same display, after each prefix of the bytes and, if the case is
-/// steady, after all bytes.
+/// of the split. Then compares the output with the output recorded in the case. Finally feeds the
+/// output to a new parser and checks that it displays what the original parser displays: after each
+/// byte, unless a narrow glyph contains U+FE0F, and after all bytes if the case is steady.
 ///
-/// Prints a line for the first difference of each kind. Returns whether nothing differed.
+/// Prints a line for the first difference of each kind. Returns `true` if there were no
+/// differences.
 pub fn replay<R: AllocGlobal + Print>(rt: &R, case: &Case<'_>) -> Result<bool> {
     let is_shown = is_shown_however_cut(rt, case)?;
     let gives = are_texts_given(rt, case)?;
@@ -119,8 +120,8 @@ fn is_picture(alloc: Global, screen: &Screen, case: &Case<'_>) -> Result<bool> {
     Ok(picture.as_str() == case.picture.as_str())
 }
 
-/// Returns the first line of the case whose expected output differs from that of the screen after
-/// all bytes, or `None` if no line does.
+/// Returns the first line of `case` that specifies output other than that of the screen after all
+/// bytes, or `None` if there is no such line.
 fn differing_text<'a>(alloc: Global, case: &Case<'a>) -> Result<Option<&'a str>> {
     let prev = screen_before(alloc, case)?;
     let parser = fed(alloc, case, &[case.bytes.as_slice()])?;

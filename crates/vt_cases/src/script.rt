@@ -9,7 +9,7 @@ use std::num::NonZeroU16;
 use vt_notes::Notes;
 use vt100::{Parser, Screen};
 
-/// A script: a sequence of calls on a new parser, and the expected states in between.
+/// A script: a sequence of calls on a new parser, and the expected states between these calls.
 #[derive(Clone, Copy)]
 pub struct Script<'a> {
     pub name: &'a str,
@@ -21,8 +21,8 @@ pub struct Script<'a> {
     pub lines: &'a str,
 }
 
-/// Replays a script. Prints a line for each output and each state that differs. Returns whether
-/// nothing differed.
+/// Replays a script. Prints a line for each output and each state that differs. Returns `true` if
+/// there were no differences.
 pub fn replay<R: AllocGlobal + Print>(rt: &R, script: Script<'_>) -> Result<bool> {
     let notes = Notes::new(rt.alloc());
     let mut parser = Parser::new_with_callbacks(
@@ -93,8 +93,9 @@ fn size_of(words: &str) -> Result<(NonZeroU16, NonZeroU16)> {
     Ok((rows.parse::<NonZeroU16>()?, cols.parse::<NonZeroU16>()?))
 }
 
-/// Returns the first word of the first line whose output differs from that of `parser`, or `state`
-/// if the state differs. Returns `None` if nothing differs.
+/// Returns the first word of the first line whose specified output differs from that of `parser`. If
+/// all output agrees, returns the string `state` if the lines specify a different state, and `None`
+/// otherwise.
 fn differing_word<'a>(
     alloc: Global,
     parser: &Parser<Notes>,

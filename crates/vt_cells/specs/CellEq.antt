@@ -1,5 +1,5 @@
--- Equality of cells as `==` computes it, in a form that the laws of the standard library apply to. It equals
--- `same_cell`.
+-- Equality of cells as `==` computes it, in a form that the laws of the standard library apply to. This equality agrees
+-- with `same_cell`.
 use Rattle.std.specs.Prelude.{ℕ, Bool, nat_eq, bytes_eq, if◌then◌else◌}
 use mathlib.Core.Bool.{beq}
 use Rattle.std.specs.Ordering.{on, eq_of_both}

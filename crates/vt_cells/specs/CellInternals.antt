@@ -33,8 +33,8 @@ blank_shape = record { len = 0; wide = false; right_half = false }
 abbrev pub shape_of_cell : CellValue → ShapeValue
 shape_of_cell cell = record { len = length (text_of cell); wide = is_wide cell; right_half = is_right_half cell }
 
--- The shape of a cell that a byte stands for: five bits for the text's length, and one bit each for a wide glyph and
--- for a continuation cell.
+-- The shape that a byte stands for: five bits hold the length of the cell's text, and one bit each says whether the
+-- cell is a wide glyph and whether it is a continuation cell.
 abbrev pub shape_of : ℕ → ShapeValue
 shape_of bits = record { len = bits % 32; wide = bits / 32 % 2 == 1; right_half = bits / 64 == 1 }
 
@@ -46,7 +46,7 @@ shape_bits shape = shape.len + (if shape.wide then 32 else 0) + (if shape.right_
 abbrev pub half_shape : ShapeValue
 half_shape = record { len = 0; wide = false; right_half = true }
 
--- The head of a cell: its attributes and its shape, which is everything except the bytes of its text.
+-- The head of a cell: everything except the bytes of the cell's text, that is, the attributes and the shape.
 pub record HeadValue : Type 0 where
   pub attrs : Attrs
   pub shape : ShapeValue
@@ -55,12 +55,12 @@ pub record HeadValue : Type 0 where
 unfoldable pub same_head : HeadValue → HeadValue → Bool
 same_head a b = same_shape a.shape b.shape && same_attrs a.attrs b.attrs
 
--- The head of a cell: its attributes and its shape, which is everything except the bytes of its text.
+-- The head of a cell: everything except the bytes of the cell's text, that is, the attributes and the shape.
 abbrev pub head_of_cell : CellValue → HeadValue
 head_of_cell cell = record { attrs = attrs_of cell; shape = shape_of_cell cell }
 
--- The head of a cell that a word stands for: the low seven bits hold the shape, and the bits above them the packed
--- attributes.
+-- The head (attributes and shape) that a word stands for: the low seven bits hold the shape, and the remaining bits
+-- hold the packed attributes.
 abbrev pub head_of : ℕ → HeadValue
 head_of word = record { attrs = attrs_of_word (word / 128); shape = shape_of (word % 128) }
 
@@ -108,7 +108,7 @@ padded_text text = text ++ replicate (text_room - length text) 0
 unfoldable pub first_eight_bytes : List ℕ → List ℕ
 first_eight_bytes text = take 8 (padded_text text)
 
--- If all bytes of an array after the first `len` are zero, padding those `len` bytes gives the array.
+-- If all bytes of an array after the first `len` are zero, padding the first `len` bytes with zeros gives the array.
 pub padded_back : (len : ℕ) (contents : List ℕ) → length contents ≡ text_room → len ≤ text_room
     → ((k : ℕ) → len ≤ k → slice_index contents k ≡ 0) → padded_text (take len contents) ≡ contents
 padded_back len contents room bounded zeros =

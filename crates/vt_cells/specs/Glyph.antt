@@ -5,9 +5,9 @@ use Rattle.std.specs.List.{list_any, AllByRecursion}
 use Rattle.std.specs.Char.{encode_utf8, IsScalar}
 use Rattle.unicode_width.specs.Width.{char_width, str_width}
 
--- The number of columns of the character `c`, given the width that `unicode_width` returns for it: that width, but at
--- most 2. A character without a width takes one column if it is U+0100 or above; otherwise it is a control character,
--- and the result is `None` (UAX #11).
+-- The number of columns of a character, given the width that `unicode_width` returns for the character: that width, but
+-- at most 2. A character without a width takes one column if it is U+0100 or above; otherwise it is a control
+-- character, and the result is `None` (UAX #11).
 abbrev pub columns_or : ℕ → Option ℕ → Option ℕ
 columns_or c (Some width) = Some (min width 2)
 columns_or c None = if nat_lt c 0x100 then None else Some 1
@@ -40,8 +40,8 @@ marked_text text mark = if has_room text then text ++ encode_utf8 mark else text
 abbrev pub IsMark : ℕ → Type 0
 IsMark c = IsScalar c × (columns_of c ≡ Some 0)
 
--- The last text consists of the first one followed by the given combining characters, each appended while the text
--- before it was short enough.
+-- Appending the given combining characters to the first text gives the last text. Before each of them is appended, the
+-- text is short enough for one more combining character.
 abbrev pub Joins : List ℕ → List ℕ → List ℕ → Type 0
 Joins text [] whole = text ≡ whole
 Joins text (mark ∷ marks) whole = (has_room text ≡ true) × Joins (text ++ encode_utf8 mark) marks whole
@@ -60,5 +60,5 @@ pub record IsGlyphText (text : List ℕ) (wide : Bool) : Type 0 where
   pub reported : first ≢ 0xFFFD
   pub are_marks : AllByRecursion IsMark marks
   pub spelled : Joins (encode_utf8 first) marks text
-  -- Without U+FE0F among the combining characters, the width is that of the first character.
+  -- If U+FE0F is not among the combining characters, the glyph has the width of its first character.
   pub width : list_any is_selector marks ≡ false → columns_of first ≡ Some (glyph_columns wide)

@@ -37,7 +37,8 @@ pub data Op : Type 0 where
 abbrev pub csi : List ℕ → ℕ → List ℕ
 csi parameters final = 0x1B ∷ 0x5B ∷ (parameters ++ final ∷ [])
 
--- A control sequence with a count. It is empty if the count is 0, and has no parameter if the count is 1.
+-- The control sequence with the given count and final byte. The sequence is empty if the count is 0, and has no
+-- parameter if the count is 1.
 abbrev pub counted : ℕ → ℕ → List ℕ
 counted zero final = []
 counted (suc zero) final = csi [] final

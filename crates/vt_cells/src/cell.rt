@@ -103,8 +103,9 @@ impl Cell {
         self.has_text_of(other)
     }
 
-    /// Returns whether the two cells agree in everything except the bytes of their text: the length
-    /// and width of the text, whether the cell is a continuation cell, and the attributes.
+    /// Returns whether the two cells agree in everything except the bytes of their text, that is,
+    /// in the length and width of the text, in whether the cell is a continuation cell, and in the
+    /// attributes.
     #[inline]
     fn has_head_of(&self, other: &Cell) -> bool
         ensures value { result ≡ same_head (head_of_cell self.now) (head_of_cell other.now) }
@@ -141,8 +142,8 @@ impl Cell {
 
     /// Returns a bit mask that is 0 only if the two cells are equal.
     ///
-    /// It is also nonzero if `self` has more than seven bytes of text, because the rest of the text
-    /// is not compared.
+    /// The mask is also nonzero if `self` has more than seven bytes of text, because the rest of
+    /// the text is not compared.
     #[inline(always)]
     pub(crate) fn odd_bits(&self, other: &Cell) -> u64
         ensures { result ≡ 0 → self.now ≡ other.now }

@@ -38,25 +38,25 @@ pub enum MouseProtocolEncoding {
 /// The cursor style (DECSCUSR, parameters 0 to 6).
 #[derive(Clone, Copy, PartialEq, Eq, Debug, Default)]
 pub enum CursorStyle {
-    /// The terminal's default cursor (0).
+    /// The terminal's default cursor (DECSCUSR 0).
     #[default]
     Default,
 
-    /// A blinking block (1).
+    /// A blinking block (DECSCUSR 1).
     BlinkBlock,
 
-    /// A steady block (2).
+    /// A steady block (DECSCUSR 2).
     SteadyBlock,
 
-    /// A blinking underline (3).
+    /// A blinking underline (DECSCUSR 3).
     BlinkUnderline,
 
-    /// A steady underline (4).
+    /// A steady underline (DECSCUSR 4).
     SteadyUnderline,
 
-    /// A blinking vertical bar (5).
+    /// A blinking vertical bar (DECSCUSR 5).
     BlinkVerticalBar,
 
-    /// A steady vertical bar (6).
+    /// A steady vertical bar (DECSCUSR 6).
     SteadyVerticalBar,
 }

@@ -54,7 +54,7 @@ impl Shape {
         Shape { bits: RIGHT_HALF }
     }
 
-    /// Returns the packed byte, which uses the low seven bits.
+    /// Returns the shape packed into a byte, of which only the low seven bits are used.
     #[inline]
     #[tactic(auto, using(crate::proofs::Shapes::shape_small))]
     pub fn bits(&self) -> u8

@@ -17,12 +17,12 @@ const KEPT: usize = 100;
 const MAIN: &[u8] =
     b"\x1b[7mthe main page \xe4\xb8\xad\x1b[100b\r\n\x1b[32m$ \x1b[3S\x1b[m# \x1b[90b";
 
-/// Input that enters the alternate page, and prints there with other attributes.
+/// Input that enters the alternate page, and prints text with different attributes there.
 const ALTERNATE: &[u8] = b"\x1b[?1049h\x1b[1;4;33;44malternate \xe4\xb8\xad\x1b[200b\x1b[?25l";
 
 /// Feeds `bytes` to one terminal, the leader, and keeps a second terminal, the follower, equal to
-/// it with updates at the intervals of `pace`. The follower stays on its alternate page; at the
-/// end, its main page and scrollback must be unchanged.
+/// the leader by updates at random intervals, which `pace` chooses. The follower stays on its
+/// alternate page; at the end, its main page and scrollback must be unchanged.
 pub fn follow(
     alloc: Global,
     (rows, cols): (NonZeroU16, NonZeroU16),
@@ -103,8 +103,8 @@ fn difference(screen: &Screen, prev: &Screen, scrolls: bool) -> Result<String> {
     Ok(screen.contents_diff(prev)?)
 }
 
-/// Returns whether two screens, whose main pages are active, have the same cells, wrapped flags and
-/// scrollback.
+/// Returns whether two screens have the same cells, wrapped flags and scrollback. The main pages of
+/// both screens are active.
 fn has_kept(screen: &mut Screen, before: &mut Screen) -> Result<bool> {
     let rows = screen.size().0.get();
     let kept = screen.scrollback_len();

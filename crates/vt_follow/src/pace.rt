@@ -5,7 +5,7 @@ ghost use Rattle.std.specs.Prelude.{◌<◌};
 /// The maximum number of bytes between two updates.
 const MOST: u32 = 100;
 
-/// A linear congruential generator of lengths and other numbers.
+/// A linear congruential generator of random numbers.
 #[derive(Clone, Copy)]
 pub struct Pace {
     state: u32,
@@ -17,7 +17,7 @@ impl Pace {
         Pace { state: seed }
     }
 
-    /// Returns the next length, from 1 to 100.
+    /// Returns the number of bytes until the next update, from 1 to 100.
     pub fn next_length(&mut self) -> usize {
         1 + self.next_below(MOST) as usize
     }
@@ -35,7 +35,7 @@ impl Pace {
     }
 }
 
-/// Returns whether the next diff, after `count` earlier diffs, may move rows first. Two diffs that
+/// Returns whether the diff that follows `count` earlier diffs may move rows first. Two diffs that
 /// never move rows alternate with two diffs that may do so; each kind is therefore tested after
 /// itself and after the other kind.
 pub fn may_scroll(count: usize) -> bool {

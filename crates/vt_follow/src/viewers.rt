@@ -56,8 +56,8 @@ struct Hall {
     viewers: Vec<Viewer>,
 }
 
-/// Feeds `bytes` to a mirror in chunks, makes viewers join, leave and update in between, and
-/// updates all viewers at the end.
+/// Feeds `bytes` to a mirror in chunks, makes viewers join, leave and receive updates in between,
+/// and updates all viewers at the end.
 pub fn follow(
     alloc: Global,
     (rows, cols): (NonZeroU16, NonZeroU16),

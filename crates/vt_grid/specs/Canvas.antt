@@ -1,5 +1,5 @@
--- The canvas that a redraw draws on, and the effect of each operation on it. It consists of the active page, the
--- current attributes and the visibility of the cursor.
+-- The canvas that a redraw draws on, and the effect of each operation on the canvas. A canvas consists of the active
+-- page, the current and saved attributes, and the visibility of the cursor.
 use Rattle.std.specs.Prelude.{ℕ, Bool, List, [], ◌∷◌, Option, Some, None, chars, zero, suc, if◌then◌else◌}
 use Rattle.vt_cells.specs.Attrs.{default_attrs, changed_attrs, Attrs}
 use Rattle.vt_cells.specs.Op.{Op, Hide, ClearAttrs, MoveTo, MoveRight, NextRow, LineFeed, Backspace}

@@ -5,13 +5,14 @@ use Rattle.vt_rows.specs.Cells.{cells_after_erase}
 use Rattle.vt_rows.specs.Row.{blank_row, with_cells}
 use Rattle.vt_grid.specs.Page.{Page, cursor_row, with_row}
 
--- The page after `n` columns of the cursor's row, starting at column `c`, are erased.
+-- `erased_columns c n attrs page` is the page after `n` columns of the cursor's row, starting at column `c`, are
+-- erased.
 abbrev pub erased_columns : ℕ → ℕ → Attrs → Page → Page
 erased_columns c n attrs page =
     with_row page.row (with_cells (cursor_row page) (cells_after_erase c n attrs (cursor_row page).cells)) page
 
--- The page after `n` columns of the cursor's row, starting at the cursor, are erased (ECH), or all columns from the
--- cursor on if there are fewer than `n`. The page is unchanged if a wrap is pending or `n` is 0.
+-- The page after the given number of columns of the cursor's row, starting at the cursor, are erased (ECH), or all
+-- columns from the cursor on if there are fewer. The page is unchanged if a wrap is pending or the number is 0.
 unfoldable pub erased_chars : ℕ → Attrs → Page → Page
 erased_chars n attrs page =
     if (n == 0) || (page.column == page.width) then page

@@ -8,7 +8,7 @@ use Rattle.vt_rows.specs.Row.{RowValue}
 use Rattle.vt_grid.specs.declared.flat.Line.{Line}
 use Rattle.vt_grid.specs.declared.flat.Flat.{Flat}
 
--- The cells of one row, which are stored at the place with the given index.
+-- The cells of the row that is stored at the place with the given index.
 abbrev pub cells_at : ℕ → List CellValue → ℕ → List CellValue
 cells_at width cells place = slice_range cells (place * width) (place * width + width)
 
@@ -47,11 +47,11 @@ IsFlat flat = IsTable flat.width flat.cells.items flat.lines.items
 abbrev pub in_order : ℕ → List Line
 in_order n = map (λ place. record { place = place; wrapped = false }) (range_with_len 0 n)
 
--- The table entries of `n` rows that are not wrapped, the first of them at place `first`.
+-- The table entries of `n` rows that are not wrapped and are stored at consecutive places, starting at index `first`.
 abbrev pub lines_from : (first n : ℕ) → List Line
 lines_from first n = map (λ place. record { place = place; wrapped = false }) (range_with_len first n)
 
--- The storage has memory for this number of rows.
+-- The storage has enough memory for `rows` rows.
 pub record HasRoom (rows : ℕ) (flat : Flat) : Type 0 where
   pub cells : rows * flat.width ≤ vec_capacity flat.cells
   pub lines : rows ≤ vec_capacity flat.lines

@@ -6,12 +6,12 @@ use Rattle.vt_grid.specs.Page.{Page, scrolled_up}
 abbrev pub carriage_return : Page → Page
 carriage_return page = record page { column = 0 }
 
--- The page after the cursor moves left by `n` columns, but not beyond the first column (CUB, BS).
+-- The page after the cursor moves left by the given number of columns, but not beyond the first column (CUB, BS).
 abbrev pub moved_left : ℕ → Page → Page
 moved_left n page = record page { column = page.column - n }
 
--- The page after the cursor moves right by `n` columns, but not beyond the last column; a pending wrap is canceled
--- (CUF).
+-- The page after the cursor moves right by the given number of columns, but not beyond the last column; a pending wrap
+-- is canceled (CUF).
 abbrev pub moved_right : ℕ → Page → Page
 moved_right n page = record page { column = min (page.column + n) (page.width - 1) }
 

@@ -7,7 +7,8 @@ use Rattle.vt_grid.specs.Page.{Page}
 use Rattle.vt_grid.specs.Moves.{feeds_out}
 use Rattle.vt_grid.specs.Printing.{mark_column, lifted_page, pushes}
 
--- The rows that scroll off when the scroll region scrolls up by `n` rows, or by the region's height if `n` is greater.
+-- The rows that scroll off when the scroll region scrolls up by the given number of rows, or by the region's height if
+-- that is less.
 abbrev pub scrolled_out : ℕ → Page → List RowValue
 scrolled_out n page = if page.top == 0 then take (min n (page.bottom + 1)) page.rows else []
 
@@ -15,7 +16,7 @@ scrolled_out n page = if page.top == 0 then take (min n (page.bottom + 1)) page.
 abbrev pub fed_out : Page → List RowValue
 fed_out page = if feeds_out page then take 1 page.rows else []
 
--- The page just before a character of the given width makes the cursor wrap. If the character is a combining character,
+-- The page just before the cursor wraps for a character of the given width. If the character is a combining character,
 -- the glyph before the cursor moves to the next row too, and a blank replaces it.
 abbrev pub left_by : Option ℕ → Attrs → Page → Page
 left_by (Some zero) attrs page = lifted_page (mark_column page) attrs page

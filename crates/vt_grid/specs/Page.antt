@@ -40,7 +40,7 @@ cell_at page r c = at (row_at page r).cells c
 abbrev pub cursor_row : Page → RowValue
 cursor_row page = row_at page page.row
 
--- The page after row `r` is replaced with the given row.
+-- The page after the row at the given index is replaced with the given row.
 abbrev pub with_row : ℕ → RowValue → Page → Page
 with_row r row page = record page { rows = slice_set page.rows r row }
 
@@ -90,25 +90,26 @@ blank_page height width = record {
 
 -- ---- Moves of rows: row `r` was row `source r`, or is blank if that is past the end
 
--- A list of `n` rows, given by a function from a row's index to the row.
+-- A list of the given number of rows; the function maps a row's index to the row.
 abbrev pub by_row : ℕ → (ℕ → RowValue) → List RowValue
 by_row n f = map f (range_with_len 0 n)
 
--- The rows after they moved: row `r` is the former row `source r`, or a blank row of the given width if that index is
--- past the end.
+-- The rows after they have moved; the given function maps each row's index to the index that the row had before. A
+-- former index past the end stands for a blank row of the given width.
 unfoldable pub moved_rows : ℕ → (ℕ → ℕ) → List RowValue → List RowValue
 moved_rows width source rows = by_row (length rows) (λ r. row_or width rows (source r))
 
--- The index that row `r` had before rows `top` to `bottom` moved up by `n`; for a blank row that scrolled in, the index
--- `past`, which is past the end.
+-- `up_source past top bottom n r` is the index that row `r` had before rows `top` to `bottom` moved up by `n`. For a
+-- blank row that scrolled in, the result is `past`, an index past the end.
 abbrev pub up_source : ℕ → ℕ → ℕ → ℕ → ℕ → ℕ
 up_source past top bottom n r =
     if nat_le top r && nat_le r bottom then (if nat_le (r + n) bottom then r + n else past) else r
 
--- The rows after rows `top` to `bottom` move up by `n`; blank rows scroll in at the bottom.
+-- `rows_up width top bottom n rows` is the list `rows` after rows `top` to `bottom` move up by `n`; blank rows scroll
+-- in at the bottom.
 abbrev pub rows_up : ℕ → ℕ → ℕ → ℕ → List RowValue → List RowValue
 rows_up width top bottom n rows = moved_rows width (up_source (length rows) top bottom n) rows
 
--- The page after its scroll region scrolls up by `n` rows (SU).
+-- The page after its scroll region scrolls up by the given number of rows (SU).
 abbrev pub scrolled_up : ℕ → Page → Page
 scrolled_up n page = record page { rows = rows_up page.width page.top page.bottom n page.rows }

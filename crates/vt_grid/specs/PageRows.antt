@@ -29,11 +29,11 @@ blank_page_rows height width = record { rows = replicate height (blank_row defau
 abbrev pub page_row : PageRowsValue → ℕ → RowValue
 page_row page_rows r = row_or page_rows.width page_rows.rows r
 
--- The rows of a page after row `r` is replaced with the given row.
+-- The rows of a page after the row at the given index is replaced with the given row.
 abbrev pub with_page_row : ℕ → RowValue → PageRowsValue → PageRowsValue
 with_page_row r row page_rows = record page_rows { rows = slice_set page_rows.rows r row }
 
--- The rows of a page after the cells of row `r` are replaced, as when text is printed or erased.
+-- The rows of a page after the cells of the row at the given index are replaced, as when text is printed or erased.
 abbrev pub with_row_cells : ℕ → List CellValue → PageRowsValue → PageRowsValue
 with_row_cells r cells page_rows = with_page_row r (with_cells (page_row page_rows r) cells) page_rows
 

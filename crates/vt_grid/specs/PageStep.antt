@@ -16,7 +16,7 @@ use Rattle.vt_grid.specs.Shifts.{lines_deleted, chars_inserted, chars_deleted}
 use Rattle.vt_grid.specs.Erasing.{erased_below, erased_above, erased_page, erased_rest}
 use Rattle.vt_grid.specs.Erasing.{erased_start, erased_row, erased_chars}
 
--- The page after a step. Erased cells become blanks with the attributes `attrs`.
+-- The page after a step. Erased cells become blanks with the given attributes.
 abbrev pub page_after : Attrs → PageStep → Page → Page
 page_after attrs CarriageReturn page = carriage_return page
 page_after attrs ReverseIndex page = reverse_index page

@@ -1,5 +1,5 @@
--- Printing a character. Its width determines whether the cursor wraps first and how adjacent cells change (VT510
--- manual, DECAWM set).
+-- Printing a character. The character's width determines whether the cursor wraps first and how adjacent cells change
+-- (VT510 manual, DECAWM set).
 use Rattle.std.specs.Prelude.{ℕ, ◌+◌, ◌-◌, ◌==◌, ◌&&◌, nat_lt, not, Bool, true, false, List}
 use Rattle.std.specs.Prelude.{length, Option, Some, None, zero, suc, if◌then◌else◌}
 use Rattle.std.specs.Char.{encode_utf8}
@@ -15,7 +15,7 @@ use Rattle.vt_grid.specs.Moves.{line_feed, at_bottom, feeds_out}
 abbrev pub with_cursor_cells : List CellValue → Page → Page
 with_cursor_cells cells page = with_row page.row (with_cells (cursor_row page) cells) page
 
--- The page after the wrapped flag of row `r` is set to the given value.
+-- The page after the wrapped flag of the row at the given index is set to the given value.
 abbrev pub page_with_wrapped : ℕ → Bool → Page → Page
 page_with_wrapped r is_wrapped page = with_row r (record (row_at page r) { wrapped = is_wrapped }) page
 
@@ -30,7 +30,8 @@ left_row page =
 abbrev pub goes_down : Page → Bool
 goes_down page = if at_bottom page then true else nat_lt (page.row + 1) (length page.rows)
 
--- The page after the wrapped flag of the row that the cursor left in a wrap, if any, is set to the given value.
+-- The page after the wrapped flag of the given row, if any, is set to the given value. The row is the one that the
+-- cursor left in a wrap.
 abbrev pub flagged_left : Option ℕ → Bool → Page → Page
 flagged_left (Some r) is_wrapped page = page_with_wrapped r is_wrapped page
 flagged_left None is_wrapped page = page
@@ -92,12 +93,12 @@ wraps c page = wraps_for (columns_of c) c page
 abbrev pub pushes : ℕ → Page → Bool
 pushes c page = wraps c page && feeds_out page
 
--- The page after the glyph at column `k` of the cursor's row is replaced with a blank.
+-- The page after the glyph at the given column of the cursor's row is replaced with a blank.
 abbrev pub lifted_page : ℕ → Attrs → Page → Page
 lifted_page k attrs page = with_cursor_cells (cells_after_erase k 1 attrs (cursor_row page).cells) page
 
--- The page after a combining character is added to the cell at column `k` of the cursor's row. The width of that cell
--- is unchanged.
+-- `mark_put k mark page` is the page after the combining character `mark` is added to the cell at column `k` of the
+-- cursor's row. The width of this cell is unchanged.
 abbrev pub mark_put : ℕ → ℕ → Page → Page
 mark_put k mark page = with_cursor_cells (marked_at k mark (cursor_row page).cells) page
 
@@ -109,17 +110,17 @@ page_after_wrap mark attrs page =
     glyph_put (text_of (cell_with_mark mark (at (cursor_row page).cells k)))
     true attrs (wrapped_page (lifted_page k attrs page))
 
--- The page after the glyph at column `k`, to which U+FE0F was added, becomes wide in place.
+-- The page after the glyph at the given column becomes wide in place because U+FE0F was added to it.
 unfoldable pub made_wide : ℕ → Attrs → Page → Page
 made_wide k attrs page =
     record (with_cursor_cells (widened_at k attrs (cursor_row page).cells) page) { column = page.column + 1 }
 
--- The page after the glyph at column `k` becomes narrow; the cursor doesn't move.
+-- The page after the glyph at the given column becomes narrow; the cursor doesn't move.
 abbrev pub made_narrow : ℕ → Attrs → Page → Page
 made_narrow k attrs page = with_cursor_cells (narrowed_at k attrs (cursor_row page).cells) page
 
--- The page after the glyph at column `k` takes on the width of its whole text. On a page with one column, the glyph
--- stays narrow.
+-- The page after the glyph at the given column takes on the width of its whole text. On a page with one column, the
+-- glyph stays narrow.
 unfoldable pub width_followed : ℕ → Attrs → Page → Page
 width_followed k attrs page =
     let cell = at (cursor_row page).cells k in
@@ -136,7 +137,7 @@ mark_printed mark attrs page =
     then (if is_selector mark then width_followed k attrs (mark_put k mark page) else mark_put k mark page)
     else page
 
--- The page after a character that takes the given number of columns is printed.
+-- The page after printing a character that takes the given number of columns.
 abbrev pub printed_by : Option ℕ → ℕ → Attrs → Page → Page
 printed_by None c attrs page = page
 printed_by (Some zero) c attrs page = if page.column == 0 then page else mark_printed c attrs page

@@ -12,21 +12,21 @@ in_region page = nat_le page.top page.row && nat_le page.row page.bottom
 abbrev pub last_row : Page → ℕ
 last_row page = length page.rows - 1
 
--- The page after the cursor moves up by `n` rows (CUU), but not beyond the top of the scroll region if it starts inside
--- the region, and not beyond the first row otherwise.
+-- The page after the cursor moves up by the given number of rows (CUU), but not beyond the top of the scroll region if
+-- the cursor starts inside the region, and not beyond the first row otherwise.
 unfoldable pub moved_up : ℕ → Page → Page
 moved_up n page = record page { row = max (page.row - n) (if in_region page then page.top else 0) }
 
--- The page after the cursor moves down by `n` rows (CUD), but not beyond the bottom of the scroll region if it starts
--- inside the region, and not beyond the last row otherwise.
+-- The page after the cursor moves down by the given number of rows (CUD), but not beyond the bottom of the scroll
+-- region if the cursor starts inside the region, and not beyond the last row otherwise.
 unfoldable pub moved_down : ℕ → Page → Page
 moved_down n page = record page { row = min (page.row + n) (if in_region page then page.bottom else last_row page) }
 
--- The page after the cursor moves down by `n` rows as CUD does, and to the first column (CNL).
+-- The page after the cursor moves down by the given number of rows, as CUD does, and to the first column (CNL).
 abbrev pub next_line : ℕ → Page → Page
 next_line n page = carriage_return (moved_down n page)
 
--- The page after the cursor moves up by `n` rows as CUU does, and to the first column (CPL).
+-- The page after the cursor moves up by the given number of rows, as CUU does, and to the first column (CPL).
 abbrev pub previous_line : ℕ → Page → Page
 previous_line n page = carriage_return (moved_up n page)
 
@@ -43,9 +43,9 @@ moved_to_row r page = record page { row = min r (last_row page) }
 abbrev pub page_after_tab : Page → Page
 page_after_tab page = record page { column = min ((page.column / 8 + 1) * 8) (page.width - 1) }
 
--- The page after its scroll region is set to rows `top` to `bottom`, with `bottom` clamped to the last row, or to the
--- whole page if that range has fewer than two rows. The cursor moves to the first column of the region's first row
--- (DECSTBM).
+-- `region_set top bottom page` is the page after its scroll region is set to rows `top` to `bottom` (DECSTBM). `bottom`
+-- is clamped to the last row; if the range then has fewer than two rows, the region becomes the whole page. The cursor
+-- moves to the first column of the region's first row.
 unfoldable pub region_set : ℕ → ℕ → Page → Page
 region_set top bottom page =
     if nat_lt top (min bottom (last_row page))

@@ -16,10 +16,10 @@ leaving_count height page = (length page.rows - height) - (length page.rows - (p
 abbrev pub returning_count : ℕ → Scrollback → Page → ℕ
 returning_count height above page = min (height - length page.rows) above.theoretical
 
--- A window of `height` rows over the scrollback rows `above` followed by the page's `rows`. It begins `up` rows
--- before row `down` of the page. Rows outside the list are blank, such as scrollback rows that were discarded. For
--- example, with one scrollback row, a page of two rows, `down` 0 and `up` 2, a window of five rows has a blank row
--- for the discarded one, the scrollback row, the two page rows, and a blank row.
+-- The window of `height` rows that begins `up` rows before row `down` of the page, in the list of the scrollback rows
+-- `above` followed by the page's `rows`. Rows outside that list, such as discarded scrollback rows, are blank. For
+-- example, with one scrollback row, a page of two rows, and `down`, `up` and `height` equal to 0, 2 and 5, the window
+-- has a blank row for a discarded row, the scrollback row, the two page rows, and a blank row.
 unfoldable pub window : (width height down up : ℕ) → (above rows : List RowValue) → List RowValue
 window width height down up above rows =
     by_row height (λ k. if nat_lt (length above + down + k) up then blank_row default_attrs width
@@ -49,7 +49,7 @@ page_resized height width above page =
       width = width;
     }
 
--- Scrollback with none of its rows displayed.
+-- Scrollback after its offset is set to 0, so that none of its rows are displayed.
 abbrev pub out_of_view : Scrollback → Scrollback
 out_of_view above = record above { offset = 0 }
 
@@ -64,6 +64,7 @@ scrollback_resized height page above =
     taken_back (returning_count height above page)
     (scrollback_after_push (length page.rows) page.width (take (leaving_count height page) page.rows) (out_of_view above))
 
--- The rows that are reported instead of kept when a resize scrolls rows off the page, oldest first.
+-- The rows that are reported because scrollback doesn't keep them when a resize scrolls rows off the page, oldest
+-- first.
 abbrev pub resize_reports : ℕ → Page → Scrollback → List RowValue
 resize_reports height page above = rows_reported (take (leaving_count height page) page.rows) above

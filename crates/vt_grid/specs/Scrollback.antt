@@ -31,8 +31,8 @@ last_of n xs = drop (length xs - n) xs
 abbrev pub before_last : {X : Type 0} → ℕ → List X → List X
 before_last n xs = take (length xs - n) xs
 
--- The scrollback rows, followed by the rows that scrolled off the page, each of them without its trailing default
--- blanks.
+-- The scrollback rows, followed by the rows that scrolled off the page. The rows that scrolled off lose their trailing
+-- default blanks.
 abbrev pub rows_with_scrolled_off : List RowValue → Scrollback → List RowValue
 rows_with_scrolled_off gone above = above.rows ++ map trimmed_row gone
 
@@ -61,7 +61,7 @@ narrow_rows width [] = 0
 narrow_rows width (row ∷ rows) = (if nat_lt (length row.cells) width then 1 else 0) + narrow_rows width rows
 
 -- Scrollback with its displayed rows extended to the screen's width. The displayed rows begin `offset` rows before the
--- end of scrollback, and there are at most `height` of them.
+-- end of scrollback, where `offset` is the scrollback offset, and there are at most `height` of them.
 unfoldable pub grown_in_view : (height width : ℕ) → Scrollback → Scrollback
 grown_in_view height width above =
     let first = length above.rows - above.offset in
@@ -76,7 +76,7 @@ abbrev pub scrollback_after_push : (height width : ℕ) → List RowValue → Sc
 scrollback_after_push height width [] above = above
 scrollback_after_push height width (row ∷ gone) above = grown_in_view height width (kept_after (row ∷ gone) above)
 
--- The rows that are reported instead of kept when the given rows scroll off, oldest first.
+-- The rows that are reported because scrollback doesn't keep them when the given rows scroll off, oldest first.
 abbrev pub rows_reported : List RowValue → Scrollback → List RowValue
 rows_reported [] above = []
 rows_reported (row ∷ gone) above = before_last above.capacity (rows_with_scrolled_off (row ∷ gone) above)
@@ -102,13 +102,13 @@ abbrev pub Sends : {S : Type 0} → (S → RowValue → S → Type 0) →
 Sends leaves height width gone above old after new =
     (after ≡ scrollback_after_push height width gone above) × FoldsTo leaves old (rows_reported gone above) new
 
--- Scrollback after its offset is set to `n`, clamped to the number of its rows. The displayed rows are extended to the
--- screen's width.
+-- Scrollback after its offset is set to the given number of rows, clamped to the number of scrollback rows. The
+-- displayed rows are extended to the screen's width.
 unfoldable pub with_view : (height width : ℕ) → ℕ → Scrollback → Scrollback
 with_view height width n above = grown_in_view height width (record above { offset = min n (length above.rows) })
 
--- On a screen of the given height and width, setting the scrollback offset to `n` allocates memory, because a displayed
--- row must be extended.
+-- On a screen of the given height and width, setting the scrollback offset to the given number allocates memory,
+-- because a displayed row must be extended.
 abbrev pub ViewTakesMemory : (height width : ℕ) → ℕ → Scrollback → Type 0
 ViewTakesMemory height width n above = 0 < narrow_rows width (take height (last_of n above.rows))
 
@@ -116,7 +116,7 @@ ViewTakesMemory height width n above = 0 < narrow_rows width (take height (last_
 abbrev pub scrollback_after_clear : Scrollback → Scrollback
 scrollback_after_clear above = no_scrollback above.capacity
 
--- The displayed rows: the newest scrollback rows, as many as the offset, followed by rows of the page, up to the
--- height of the page.
+-- The displayed rows: the newest scrollback rows, as many as the scrollback offset says, followed by rows of the page,
+-- up to the height of the page.
 abbrev pub visible : Scrollback → List RowValue → List RowValue
 visible above rows = take (length rows) (last_of above.offset above.rows ++ rows)

@@ -45,7 +45,8 @@ pub record ResizesPage {S : Type 0} (leaves : S → RowValue → S → Type 0) (
   pub grows : IsErr result → TakesMemory (take (leaving_count height before) before.rows) (out_of_view was)
   pub memory : OnlyOutOfMemory result
 
--- The page is resized to this height, at least its own. If an allocation fails, nothing is changed.
+-- The page is resized to `height` rows, and `height` is at least the page's height. If an allocation fails, nothing is
+-- changed.
 pub record AddsRows (height : ℕ) (before : Page) (was : Scrollback) (after : Page) (kept : Scrollback)
     (result : Result (Unit {0}) Error) : Type 0 where
   pub page : OnOk result (after ≡ page_resized height before.width was before)

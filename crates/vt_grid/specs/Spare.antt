@@ -13,7 +13,8 @@ AreRows rows = All (λ row. IsRow (length row.cells) row) rows
 abbrev pub window_from : (first height : ℕ) → List RowValue → List RowValue
 window_from first height rows = take height (drop first rows)
 
--- The rows, after up to `height` of them, starting at row `first`, are extended to `width` if they are narrower.
+-- The list of rows after the rows of a range are extended to `width` if they are narrower. The range starts at row
+-- `first` and has up to `height` rows.
 abbrev pub grown_from : (first height width : ℕ) → List RowValue → List RowValue
 grown_from first height width rows =
     take first rows ++ (map (grown_row width) (window_from first height rows) ++ drop (first + height) rows)
@@ -22,12 +23,14 @@ grown_from first height width rows =
 abbrev pub in_view : ℕ → Scrollback → List RowValue
 in_view height above = window_from (length above.rows - above.offset) height above.rows
 
--- The oldest row of the scrollback `rows` is shorter than the first row of `gone` without its trailing default blanks.
+-- In `OldestIsShorter gone rows`, the oldest of the scrollback rows `rows` is shorter than the first row of `gone`
+-- without its trailing default blanks.
 abbrev pub OldestIsShorter : List RowValue → List RowValue → Type 0
 OldestIsShorter gone rows = (d : RowValue) →
     length (slice_index_or rows 0 d).cells < length (trimmed_row (slice_index_or gone 0 d)).cells
 
--- The rows `spare` are blank rows of the given width, enough to replace all narrower rows of `rows`.
+-- The rows `spare` are blank rows of the given width, and there are enough of them to replace all narrower rows of
+-- `rows`.
 pub record AreSpare (width : ℕ) (rows spare : List RowValue) : Type 0 where
   pub blank : All (λ row. row ≡ blank_row default_attrs width) spare
   pub enough : narrow_rows width rows ≤ length spare

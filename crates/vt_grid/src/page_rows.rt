@@ -145,8 +145,8 @@ impl PageRows {
         self.flat.wrap(row, wrapped);
     }
 
-    /// Sets the wrapped flag of `left`, the row from which the cursor wrapped, to `is_wrapped`. Does
-    /// nothing if `left` is `None`.
+    /// Sets the wrapped flag of `left`, the row from which the cursor wrapped, to `is_wrapped`.
+    /// Does nothing if `left` is `None`.
     pub fn wrap_left(&mut self, left: Option<u16>, is_wrapped: bool)
         requires { IfSome left (λ row. row < length self.old.rows) }
         ensures { self.new ≡ with_page_row_flag left is_wrapped self.old }
@@ -269,8 +269,8 @@ impl PageRows {
         self.edit_row(row, |cells| cells::lift(cells, usize::from(col), attrs))
     }
 
-    /// Puts a removed cell back at a column of a row, and sets the row's wrapped flag to `is_wrapped`.
-    /// The other cells are unchanged.
+    /// Puts a removed cell back at a column of a row, and sets the row's wrapped flag to
+    /// `is_wrapped`. The other cells are unchanged.
     pub fn put_back(&mut self, row: u16, col: u16, cell: Cell, is_wrapped: bool)
         requires inside { row < length self.old.rows }
         requires column { col < length (page_row self.old row).cells }

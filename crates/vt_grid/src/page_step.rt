@@ -30,12 +30,12 @@ pub enum PageStep {
     /// Moves the cursor left by a number of columns, stopping at the first column (BS, CUB).
     MoveLeft(u16),
 
-    /// Moves the cursor down by a number of rows, as [`PageStep::MoveDown`] does, and to the first
-    /// column (CNL).
+    /// Moves the cursor to the first column, and down by a number of rows as [`PageStep::MoveDown`]
+    /// does (CNL).
     NextLine(u16),
 
-    /// Moves the cursor up by a number of rows, as [`PageStep::MoveUp`] does, and to the first
-    /// column (CPL).
+    /// Moves the cursor to the first column, and up by a number of rows as [`PageStep::MoveUp`]
+    /// does (CPL).
     PreviousLine(u16),
 
     /// Moves the cursor right to the next column that is a multiple of 8, stopping at the last

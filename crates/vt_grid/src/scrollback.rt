@@ -113,8 +113,8 @@ impl Scrollback {
         self.theoretical
     }
 
-    /// Returns the number of rows by which the display is scrolled back. It may exceed the height
-    /// of the screen.
+    /// Returns the number of rows by which the display is scrolled back. The number may exceed the
+    /// height of the screen.
     #[inline]
     pub fn offset(&self) -> usize
         ensures { result ≡ self.now.offset }
@@ -190,8 +190,9 @@ impl Scrollback {
         Ok(())
     }
 
-    /// Moves the newest `up` rows back into the first `up` rows of a page, in order. These must be
-    /// blank. If fewer rows are kept, the topmost rows of the page stay blank.
+    /// Moves the newest `up` rows back into the first `up` rows of a page, in order. Those rows of
+    /// the page must be blank. If fewer than `up` rows are kept, the topmost rows of the page stay
+    /// blank.
     ///
     /// All `up` rows count as having come back, even rows that were not kept. The offset must be 0.
     pub fn give_back(&mut self, page: &mut PageRows, up: usize)
@@ -392,7 +393,8 @@ fn push_row<L: Leaving>(row: Row, kept: &mut VecDeque<Row>, capacity: usize, lea
     kept.push_back_reserved(row);
 }
 
-/// Moves the newest `up` rows into the first rows of a page, as [`Scrollback::give_back`] describes.
+/// Moves the newest `up` rows into the first rows of a page, as [`Scrollback::give_back`]
+/// describes.
 fn give_rows(kept: &mut VecDeque<Row>, page: &mut PageRows, up: usize)
     requires inside { up ≤ length page.old.rows }
     requires blank { (k : ℕ) (d : RowValue) → k < up → slice_index_or page.old.rows k d
@@ -447,9 +449,9 @@ fn narrow(row: &Row, columns: usize) -> usize
     if row.cols() < columns { 1 } else { 0 }
 }
 
-/// Extends the scrollback rows that a screen of the given size displays at the given offset to the
-/// width of the screen, if they are narrower. The rows in `spare` must be blank and as wide as the
-/// screen.
+/// Extends each displayed scrollback row that is narrower than the screen to the screen's width.
+/// The displayed rows are those that a screen of the given size displays at the given offset. The
+/// rows in `spare` must be blank and as wide as the screen.
 fn grow_in_view(rows: &mut VecDeque<Row>, offset: usize, size: Size, mut spare: Vec<Row>)
     requires inside { offset ≤ length rows.old.items }
     requires sound { AreRows rows.old.items }

@@ -12,7 +12,7 @@ AsksToMirror _ rows cols every = ⊥
 abbrev pub AskForNothing : List (List ℕ) → Type 0
 AskForNothing words = (rows cols every : ℕ) → AsksToMirror words rows cols every → ⊥
 
--- The arguments are valid, and `Holds` holds for the numbers that they specify.
+-- The arguments are valid, and the predicate `Holds` is true of the numbers that they specify.
 pub record AskFor (words : List (List ℕ)) (Holds : (rows cols every : ℕ) → Type 0) : Type 0 where
   pub rows : ℕ
   pub cols : ℕ

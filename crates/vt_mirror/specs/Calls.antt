@@ -88,7 +88,7 @@ pub record IsDiff (self prev : ScreenValue) (text : List ℕ) : Type 0 where
   pub empty : IsSameIfEmpty prev self text
   pub again : KeepsPlain text
 
--- The kind of a difference: one that moves no rows, or one that may move rows first.
+-- The kind of a difference: one that moves nothing, or one that may first move rows or columns.
 pub data Kind : Type 0 where
   Drawn : Kind
   Scrolling : Kind
@@ -101,8 +101,8 @@ pub record IsDrawn (self prev : ScreenValue) (text : List ℕ) : Type 0 where
   pub controls : IsMadeOf drawing_finals drawing_controls text
   pub touches : TouchesNear prev self text
 
--- The text is a difference that may move rows or columns first. It starts from a steady screen and is never longer
--- than the difference that moves nothing.
+-- The text is a difference that may move rows or columns first. The difference starts from a steady screen and is never
+-- longer than the difference that moves nothing.
 pub record Scrolls (self prev : ScreenValue) (text : List ℕ) : Type 0 where
   pub diff : IsDiff self prev text
   pub from_steady : IsSteady (display prev)
@@ -131,7 +131,7 @@ IsUpdate kind self (Some prev) (Diff text) = IsOfKind kind self prev (string_byt
 IsUpdate kind self (Some prev) (Full rows cols text) = IsFullAfter kind self prev rows cols (string_bytes text)
 IsUpdate kind self None update = IsFullUpdate self update
 
--- The viewer gets an update, and the mirror's screen, which is valid, is recorded for this viewer.
+-- The viewer gets an update, and the mirror's screen is recorded for this viewer. The screen is valid.
 pub record GivesUpdate (kind : Kind) (old : MirrorValue) (viewer : ℕ) (update : Update) (new : MirrorValue) : Type 0 where
   pub is : is_viewer old.viewers viewer ≡ true
   pub whole : IsScreen old.parser.screen

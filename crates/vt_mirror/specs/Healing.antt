@@ -35,8 +35,8 @@ pub record SeesAny {S : Type 0} (does : CallRelation S) (kind : Kind) (update : 
   pub takes : TakesFine does update old.viewer new.viewer
   pub seen : new.seen ≡ Some old.mirror.parser.screen
 
--- An update for the viewer `asked` is applied, as in `SeesAny`, by the viewer `number` if these are the same viewer;
--- otherwise the viewer `number` is unaffected.
+-- If the viewers `asked` and `number` are the same, this viewer applies the update as in `SeesAny`; otherwise the
+-- viewer `number` is unaffected.
 pub record IsTakenFine {S : Type 0} (does : CallRelation S) (number : ℕ) (kind : Kind) (asked : ℕ) (update : Update)
     (old new : Watching S) : Type 0 where
   pub own : asked ≡ number → SeesAny does kind update old new

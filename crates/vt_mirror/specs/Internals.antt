@@ -36,8 +36,8 @@ pub record WritesUpdatePart (old : MirrorValue) (viewer : ℕ) (new : MirrorValu
   pub gives : GivesUpdate Drawn old viewer update new
   pub part : AppendsPart written grown (text_of_update update)
 
--- The mirror read `bytes` from the input, which was `left` before and is `rest` now. The mirror's viewers and size are
--- unchanged.
+-- The mirror read `bytes` from the input. The input was `left` before and is `rest` now. The mirror's viewers and size
+-- are unchanged.
 pub record ReadsBytes (bytes : List ℕ) (old new : MirrorValue) (left rest : Option (List ℕ)) : Type 0 where
   pub reads : Consumes left rest bytes
   pub ran : Ran does_nothing old.parser bytes new.parser

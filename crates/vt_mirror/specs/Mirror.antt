@@ -8,10 +8,10 @@ use Rattle.vt_mirror.specs.Viewers.{ViewersValue, is_among, note_of}
 pub record MirrorValue : Type 0 where
   pub parser : ParserValue (Unit {0})
   pub viewers : ViewersValue
-  -- The numbers of the viewers that received an update after the last input and the last resize.
+  -- The numbers of the viewers that received an update since the last input and the last resize.
   pub current : List ℕ
 
--- Whether a viewer received an update after the last input and the last resize.
+-- Whether a viewer received an update since the last input and the last resize.
 abbrev pub is_current : MirrorValue → ℕ → Bool
 is_current mirror viewer = is_among mirror.current viewer
 

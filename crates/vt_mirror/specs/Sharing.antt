@@ -11,7 +11,7 @@ use Rattle.vt_mirror.specs.Calls.{IsDrawn, Scrolls}
 use Rattle.vt_mirror.specs.Kept.{KeptValue}
 use Rattle.vt_mirror.specs.Mirror.{IsMirror}
 
--- The text is the redraw of a screen.
+-- The text is the redraw of the screen `self`.
 pub record IsRedraw (self : ScreenValue) (text : List ℕ) : Type 0 where
   pub is : text ≡ bytes_of_all (redraw (display self))
   pub redraws : Redraws (display self) (IsReader (display self)) KeepsRest text

@@ -17,7 +17,7 @@ pub record ViewersValue : Type 0 where
 abbrev pub is_viewer : ViewersValue → ℕ → Bool
 is_viewer viewers viewer = list_any (is_at (nat_cmp viewer)) viewers.numbers
 
--- Whether `viewer` is in a list of viewer numbers.
+-- Whether the given viewer number is in a list of viewer numbers.
 abbrev pub is_among : (numbers : List ℕ) → ℕ → Bool
 is_among numbers viewer = list_any (is_at (nat_cmp viewer)) numbers
 

@@ -46,7 +46,7 @@ numbers_given [] = []
 numbers_given (Join (Ok viewer) ∷ calls) = viewer ∷ numbers_given calls
 numbers_given (_ ∷ calls) = numbers_given calls
 
--- The numbers count up from `n`, so no number occurs twice.
+-- The numbers of the list count up from the given number, so no number occurs twice.
 abbrev pub CountUp : ℕ → List ℕ → Type 0
 CountUp n [] = Unit {0}
 CountUp n (x ∷ xs) = (x ≡ n) × CountUp (n + 1) xs
@@ -88,8 +88,8 @@ pub record IsLeft {S : Type 0} (old new : Watching S) : Type 0 where
   pub viewer : new.viewer ≡ old.viewer
   pub seen : new.seen ≡ old.seen
 
--- An update for the viewer `asked` is applied by the viewer `number` if these are the same viewer; otherwise the
--- viewer `number` is unaffected.
+-- If the viewers `asked` and `number` are the same, this viewer applies the update; otherwise the viewer `number` is
+-- unaffected.
 pub record IsTakenBy {S : Type 0} (number asked : ℕ) (update : Update) (old new : Watching S) : Type 0 where
   pub own : asked ≡ number → Sees update old new
   pub others : asked ≢ number → IsLeft old new
@@ -114,7 +114,8 @@ pub record IsNew {S : Type 0} (watching : Watching S) : Type 0 where
   pub plain : IsPlainParser watching.viewer
   pub seen : watching.seen ≡ None
 
--- The viewer's terminal is plain. If it has received an update, it displays the screen of the last update.
+-- The viewer's terminal is plain. If the viewer has received an update, the terminal displays the screen of the last
+-- update.
 pub record ShowsSeen {S : Type 0} (watching : Watching S) : Type 0 where
   pub plain : IsPlainParser watching.viewer
   pub shows : IfSome watching.seen (λ screen. display watching.viewer.screen ≡ display screen)

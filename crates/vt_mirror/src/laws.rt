@@ -63,7 +63,7 @@ pub fn heals<CB: Callbacks>()
 {}
 
 /// States that a plain terminal that reads the output of [`run`](crate::run),
-/// split into any chunks, is plain afterwards and displays the final screen of
+/// split into any chunks, is plain afterward and displays the final screen of
 /// the run. Each call to `process` returns `Ok`. Callbacks, scrollback, the
 /// other page and the modes are unchanged.
 ///

@@ -175,12 +175,11 @@ impl Mirror {
     /// in that case. Reading the diff touches only what is near a change, as with
     /// `Screen::contents_diff`.
     ///
-    /// A plain terminal is one in ground state, with the full scroll region,
-    /// origin mode off and no scrollback displayed. If such a terminal is
-    /// resized to the size of each full update before it reads that update, and
-    /// reads all updates of one viewer in order, it displays the mirror's
-    /// screen as it was at the last update, provided that the screen was steady
-    /// at each update (see `Screen::contents_formatted`).
+    /// A plain terminal is one in ground state, with the full scroll region, origin mode off and no
+    /// scrollback displayed. Suppose that such a terminal reads all updates of one viewer in order,
+    /// and is resized to the size of each full update before it reads that update. It then displays
+    /// the mirror's screen as it was at the last update, provided that the screen was steady at
+    /// each update (see `Screen::contents_formatted`).
     ///
     /// # Errors
     ///
@@ -198,8 +197,8 @@ impl Mirror {
         Ok(Some(update))
     }
 
-    /// Returns the viewer's next update, as [`update`](Mirror::update) does,
-    /// but with a difference that may move rows or columns first.
+    /// Returns the viewer's next update, as [`update`](Mirror::update) does, except that a diff may
+    /// move rows or columns first.
     ///
     /// As with `Screen::contents_diff_scrolling`, the diff is never longer than the one that
     /// `update` would return, may be much shorter after text has scrolled, and may touch any row.
@@ -293,8 +292,8 @@ impl Mirror {
         Ok(Update::Diff(text))
     }
 
-    /// Returns a diff, which may move rows first, from the screen recorded for a viewer to the
-    /// current screen. Returns the full redraw instead if no screen is recorded or the recorded
+    /// Returns the diff from the screen recorded for a viewer to the current screen. The diff may
+    /// move rows first. Returns the full redraw instead if no screen is recorded or the recorded
     /// screen is not steady.
     ///
     /// # Errors

@@ -30,7 +30,8 @@ pub(crate) struct Viewers {
     /// The last version number that was assigned to a copy.
     version: u64,
 
-    /// A copy of the current screen, if one was made since it changed.
+    /// A copy of the current screen, if one was made since the screen last
+    /// changed.
     current: Option<Note>,
 
     /// The last computed diff to the current screen, for `Mirror::update`.

@@ -60,8 +60,8 @@ fn cells_of(
     Ok(cells)
 }
 
-/// Creates the contents of a row with the given cells. The row is wrapped if `is_wrapped` is true and
-/// its last column is not blank.
+/// Creates the contents of a row with the given cells. The row is wrapped if `is_wrapped` is true
+/// and its last column is not blank.
 fn row_of(cells: &[Cell], is_wrapped: bool) -> RowContents<'_>
     requires paired { IsPaired cells.now }
     requires sound { All IsCell cells.now }

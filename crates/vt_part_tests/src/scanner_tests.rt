@@ -72,7 +72,7 @@ fn feed_all(text: &mut String, scanner: &mut Scanner, bytes: &[u8]) -> Result<()
     Ok(())
 }
 
-/// Returns the events that the scanner reports for bytes that arrive in two chunks, as one string.
+/// Returns, as one string, the events that the scanner reports for bytes that arrive in two chunks.
 fn shown(alloc: Global, first: &[u8], second: &[u8]) -> Result<String, Fail> {
     let mut text = String::new(alloc);
     let mut scanner = Scanner::new(alloc);
@@ -234,7 +234,7 @@ fn ends_commands(rt: HostRuntime) -> Result<(), Fail> {
     Ok(())
 }
 
-/// Checks that the end of a long string is found, and that EM (0x19) does not end one.
+/// Checks that the end of a long string is found, and that EM (0x19) does not end such a string.
 #[test]
 fn finds_ends_of_long_strings(rt: HostRuntime) -> Result<(), Fail> {
     let mut scanner = Scanner::new(rt.alloc());

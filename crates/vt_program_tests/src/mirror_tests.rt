@@ -5,7 +5,8 @@ use std::alloc::Global;
 use std::test::Fail;
 use vt_mirror::{Mirror, Update};
 
-/// A call on a mirror, and what it must return. `process` and `set_size` must succeed.
+/// A call on a mirror, with its expected result. Calls of `process` and `set_size` have none: they
+/// must succeed.
 #[derive(Clone, Copy, Debug)]
 enum Call {
     /// Parses a string; the call must succeed.
@@ -30,8 +31,8 @@ enum Call {
     /// Requests an update for the viewer with the given number; the update must be the given diff.
     Diff(u64, &'static str),
 
-    /// Requests an update for the viewer with the given number; it must be a full update with the
-    /// given size, and with the given text after [`CLEAR`].
+    /// Requests an update for the viewer with the given number; the update must be a full update
+    /// with the given size, and with the given text after [`CLEAR`].
     Full(u64, (u16, u16), &'static str),
 
     /// Requests a scrolling update for a number that no viewer has.
@@ -41,8 +42,8 @@ enum Call {
     /// given diff.
     DiffScrolling(u64, &'static str),
 
-    /// Requests a scrolling update for the viewer with the given number; it must be a full update
-    /// with the given size, and with the given text after [`CLEAR`].
+    /// Requests a scrolling update for the viewer with the given number; the update must be a full
+    /// update with the given size, and with the given text after [`CLEAR`].
     FullScrolling(u64, (u16, u16), &'static str),
 }
 
@@ -69,8 +70,8 @@ const ONE_AND_ANOTHER: [Call; 16] = [
     Call::Join(2),
 ];
 
-/// Calls which show that each viewer is updated from its own state, and that numbers are not
-/// reused.
+/// Calls on a mirror with several viewers. Each viewer is updated from its own state, and numbers
+/// are not reused.
 #[rattlefmt::skip]
 const APART: [Call; 19] = [
     Call::Nobody(0),
@@ -94,8 +95,8 @@ const APART: [Call; 19] = [
     Call::Nobody(u64::MAX),
 ];
 
-/// Calls which show that a resize affects all viewers, including a viewer that has had no update so
-/// far, even if a second resize restores the earlier size.
+/// Calls that resize a mirror. A resize affects all viewers, including a viewer that has had no
+/// update so far, even if a second resize restores the earlier size.
 #[rattlefmt::skip]
 const RESIZED: [Call; 14] = [
     Call::Process("ab"),
@@ -142,8 +143,8 @@ const MIXED: [Call; 21] = [
     Call::NobodyScrolling(0),
 ];
 
-/// Calls which show that a viewer is up to date from its update to the next input or resize, not
-/// counting a resize to the current size.
+/// Calls that ask whether viewers are up to date. A viewer is up to date from its update until the
+/// next input or resize; a resize to the current size does not count.
 #[rattlefmt::skip]
 const CURRENT: [Call; 22] = [
     Call::Current(0, false),
@@ -170,8 +171,8 @@ const CURRENT: [Call; 22] = [
     Call::Current(0, false),
 ];
 
-/// Calls which show that viewers that keep up receive the same text as a single viewer, from
-/// `update` as well as from `update_scrolling`.
+/// Calls on a mirror with several viewers. Viewers that are up to date receive the same output as a
+/// single viewer would, from `update` as well as from `update_scrolling`.
 #[rattlefmt::skip]
 const TOGETHER: [Call; 16] = [
     Call::Join(0),

@@ -104,7 +104,7 @@ pub steady_grows_so : (width : ℕ) (text : List ℕ) (wide : Bool) (attrs : Att
     IsSteadyGlyph width text wide attrs ↔ Grows width start (encode_utf8 first) marks wide text
 steady_grows_so zero text wide attrs first marks start g le is columns = absurd (some wide le)
   where
-    nonempty : (wide : Bool) → glyph_columns wide ≤ 0 → ⊥
+    some : (wide : Bool) → glyph_columns wide ≤ 0 → ⊥
     some true h = omega arith
     some false h = omega arith
 steady_grows_so (suc n) text wide attrs first marks start g le is columns = (

@@ -19,8 +19,8 @@ pub record IsDrawnText (text : List ℕ) : Type 0 where
   pub spelled : encode_utf8_all characters ≡ text
   pub printable : AllByRecursion IsDrawn characters
 
--- The output of the operation is read back as the same operation. Positions are limited to 65534, because rows and
--- columns are 1-based in the output.
+-- The output of the operation is read back as the same operation. Rows and columns are at most 65534, because they are
+-- 1-based in the output.
 abbrev pub Fits : Op → Type 0
 Fits (Hide hidden) = Unit {0}
 Fits ClearAttrs = Unit {0}

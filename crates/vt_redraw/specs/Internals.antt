@@ -26,12 +26,12 @@ use Rattle.vt_redraw.specs.declared.pen.Pen.{Pen}
 use Rattle.vt_redraw.specs.declared.view.Source.{Source}
 use Rattle.vt_redraw.specs.declared.view.Source.TheVariants.{InView, Blank, Moved}
 
--- A row's stored cells, extended to `cols` columns with copies of the cell `end`.
+-- A row's stored cells, extended to the given number of columns with copies of the given cell.
 abbrev pub cells_filled_to : List CellValue → ℕ → CellValue → List CellValue
 cells_filled_to cells cols end = cells ++ replicate (cols - length cells) end
 
--- The stored cells of a picture's row fit in the row's `cols` columns, and the cell `end`, which fills the other
--- columns, is a blank.
+-- The stored cells of a picture's row fit in the row's `cols` columns. The cell `end` fills the other columns and is a
+-- blank.
 pub record IsFilled (cells : List CellValue) (cols : ℕ) (end : CellValue) : Type 0 where
   pub inside : length cells ≤ cols
   pub blank : is_blank end ≡ true
@@ -77,7 +77,7 @@ pub record IsRowUnder (r : ℕ) (upper cells over : List CellValue) : Type 0 whe
   pub last : IsPaired upper
   pub row : IsRowOver cells over
 
--- A row of a picture, truncated or extended to `width` columns. Its wrapped flag is cleared if its last column is then
+-- A row of a picture, truncated or extended to the given width. Its wrapped flag is cleared if its last column is then
 -- blank or if the row is the last one.
 abbrev pub cut_row : (is_last : Bool) → ℕ → RowValue → RowValue
 cut_row is_last width row = record {
@@ -103,7 +103,8 @@ pub record IsPageUnder (scrollback : Scrollback) (full : ℕ) (rows : List RowVa
   pub width : full ≡ columns
   pub nonempty : 0 < columns
 
--- Row `r` of the picture made of the given displayed rows, or a blank row if `r` is past the end.
+-- The row at the given index of a picture made from the given displayed rows, or a blank row if the index is past the
+-- end.
 abbrev pub row_seen : (is_last : Bool) → ℕ → List RowValue → ℕ → RowValue
 row_seen is_last width rows r = cut_row (is_last || (r + 1 == length rows)) width (row_or width rows r)
 
@@ -137,8 +138,8 @@ glyph_ops pen pos x = placed_op pen pos.row pos.col (attrs_of x) (Print (text_of
 abbrev pub run_ops : Pen → Pos → Attrs → (count : ℕ) → RowValue → List Op
 run_ops pen pos attrs count y = placed_op pen pos.row pos.col attrs (erase_run count (drop (pos.col + count) y.cells))
 
--- Whether the cell in column `c` of the row `x` needs no output, because the displayed row `y` has an equal cell there
--- or because the cell is the continuation cell of a wide character.
+-- Whether the cell of the row `x` in the given column needs no output, because the displayed row `y` has an equal cell
+-- there or because the cell is the continuation cell of a wide character.
 abbrev pub stands : ℕ → (x y : RowValue) → Bool
 stands c x y = is_right_half (at x.cells c) || same_cell (at x.cells c) (at y.cells c)
 
@@ -182,7 +183,8 @@ range_over pos pen flag x y =
 pub record Passes (c next : ℕ) (xs ys : List CellValue) : Type 0 where
   pub same : (r : ℕ) (pen : Pen) (flag : Bool) → cells_from r c pen flag xs ys ≡ cells_from r next pen flag xs ys
 
--- The effect of appending the output of `ops`. The call fails only if the sink rejects some nonempty output.
+-- The effect of appending the output of `ops` to the contents of a sink. The call fails only if the sink rejects some
+-- nonempty output.
 pub record AppendsOrStops {A E : Type 0} (result : Result A E) (start end : List ℕ) (ops : List Op) : Type 0 where
   pub text : OnOk result (end ≡ start ++ bytes_of_all ops)
   pub nonempty : RefusedOnlyIfSome result (bytes_of_all ops)
@@ -228,11 +230,11 @@ pub record Writes (start text : List ℕ) (pen : Pen) (flag : Bool) (whole : Scr
   pub stands : pen ≡ whole.pen
   pub is_wrapped : flag ≡ whole.flag
 
--- The output for row `r` after the link that joins this row to the row above was written.
+-- The output for row `r` that follows the link between this row and the row above.
 abbrev pub row_behind : ℕ → Link → Pen → (x y : RowValue) → Scripted
 row_behind r link pen x y = row_written r link.settled pen link.flag x y.cells
 
--- The output that turns the terminal's rows below row `r` from those of `ys` into those of `xs`.
+-- The output that turns the rows `ys`, displayed below row `r` of the terminal, into the rows `xs`.
 abbrev pub rows_under : (r width : ℕ) → Pen → Bool → (xs ys : List RowValue) → Scripted
 rows_under r width pen on xs ys = rows_below r pen (row_or width xs r) on (drop (r + 1) xs) (drop (r + 1) ys)
 

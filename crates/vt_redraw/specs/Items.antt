@@ -1,5 +1,5 @@
--- The output for a range of one row, from column `start` up to but excluding column `stop`. It is for a terminal with
--- default attributes whose cursor is at row `r`, column `start`.
+-- The output for a range of one row, from column `start` up to but excluding column `stop`. The output is for a
+-- terminal that has default attributes and whose cursor is at row `r`, column `start`.
 use Rattle.std.specs.Prelude.{◌≡◌, ℕ, zero, suc, ◌-◌, ◌==◌, ◌&&◌, not, Bool, true, false}
 use Rattle.std.specs.Prelude.{List, [], ◌∷◌, ◌++◌, length, take, drop, if◌then◌else◌}
 use Rattle.vt_cells.specs.Attrs.{default_attrs}
@@ -54,7 +54,7 @@ marked_on r w wanted cells =
       flag = w.flag;
     } else w
 
--- Whether the row above row `r` is wrapped.
+-- Whether the row above the row at the given index is wrapped.
 abbrev pub is_linked : (width : ℕ) → List RowValue → ℕ → Bool
 is_linked width rows zero = false
 is_linked width rows (suc r) = (row_or width rows r).wrapped
@@ -111,24 +111,25 @@ pub record AwaitsItem (self : Picture) (r c : ℕ) (stood : RowValue) (any : Can
   pub attrs : any.attrs ≡ default_attrs
   pub stands : row_at any.page r ≡ stood
 
--- The terminal's row `y` after the output of `item_of_difference` has replaced a range of its columns with those of the
--- row `x`.
+-- The row `y` of a terminal after the output of `item_of_difference` has replaced a range of its columns with those of
+-- the row `x`.
 abbrev pub changed_row : (r start stop : ℕ) → (x y : RowValue) → RowValue
 changed_row r start stop x y =
     record { cells = with_range start stop x.cells y.cells; wrapped = (item_of_difference r start stop x y).flag }
 
--- A blank row of the terminal after the output of `item_of_redraw` has drawn a range of the given row on it.
+-- A blank row of a terminal after the output of `item_of_redraw` has drawn a range of the given row on it.
 abbrev pub formatted_row : (start stop width : ℕ) → RowValue → RowValue
 formatted_row start stop width x =
     record { cells = with_range start stop x.cells (blanks default_attrs width); wrapped = false }
 
--- The canvas after row `r` is replaced with the given row, with the cursor position and attributes of a pen.
+-- The canvas after its row `r` is replaced with the given row, and its cursor position and attributes are replaced with
+-- those of a pen.
 abbrev pub row_drawn : ℕ → RowValue → Pen → Canvas → Canvas
 row_drawn r row pen any = record any {
   page = record (with_row r row any.page) { row = pen.row; column = pen.col };
   attrs = pen.attrs;
 }
 
--- The canvas with row `r` marked as wrapped.
+-- The canvas with the row at the given index marked as wrapped.
 abbrev pub going_on : ℕ → Canvas → Canvas
 going_on r any = record any { page = with_row r (record (row_at any.page r) { wrapped = true }) any.page }

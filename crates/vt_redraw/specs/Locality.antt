@@ -12,19 +12,19 @@ use Rattle.vt_redraw.specs.Redraw.{nearest}
 abbrev pub row_of_picture : Picture → ℕ → RowValue
 row_of_picture picture r = row_or picture.width picture.rows r
 
--- Row `r` differs between the two pictures, in its cells or its wrapped flag.
+-- The row at the given index differs between the two pictures, in its cells or its wrapped flag.
 abbrev pub Differs : (self prev : Picture) → ℕ → Type 0
 Differs self prev r = row_of_picture self r ≢ row_of_picture prev r
 
--- Row `r` or the row above it differs between the two pictures.
+-- The row at the given index, or the row above it, differs between the two pictures.
 abbrev pub IsNear : (self prev : Picture) → ℕ → Type 0
 IsNear self prev r = Differs self prev r ⊎ ((0 < r) × Differs self prev (r - 1))
 
--- The first column of the cell or wide glyph that covers column `k`.
+-- The first column of the cell or wide glyph that covers the given column.
 abbrev pub begin_of : List CellValue → ℕ → ℕ
 begin_of cells k = if is_right_half (at cells k) then k - 1 else k
 
--- Whether column `k` is covered by a glyph that both rows have at the same place.
+-- Whether a glyph that both rows have at the same place covers the given column.
 abbrev pub stands_alike : (xs ys : List CellValue) → ℕ → Bool
 stands_alike xs ys k = is_glyph (at xs (begin_of xs k)) && same_cell (at xs (begin_of xs k)) (at ys (begin_of xs k))
 
@@ -37,8 +37,8 @@ MayDraw self prev r c =
     → (begin_of (row_of_picture self r).cells c ≡ 0)
     ⊎ (begin_of (row_of_picture self r).cells c ≡ last_column (row_of_picture self r).cells))
 
--- The row in which the cursor is placed to make a wrap pending in row `r`: row `i` if the first argument is `Some i`,
--- otherwise row `r` itself.
+-- The row in which the cursor is placed to make a wrap pending in the given row: the row that the first argument
+-- contains, or the given row itself if the first argument is `None`.
 abbrev pub placing_row : Option ℕ → ℕ → ℕ
 placing_row None r = r
 placing_row (Some i) r = i

@@ -1,4 +1,4 @@
--- Moving rows of a terminal before a difference is drawn, and the picture displayed after that.
+-- Moving rows of a terminal before a difference is drawn, and the picture displayed after the move.
 use Rattle.std.specs.Prelude.{◌≡◌, ◌⊎◌, ℕ, ◌+◌, ◌-◌, ◌<◌, ◌≤◌, ◌==◌, ◌&&◌, nat_le, nat_lt}
 use Rattle.std.specs.Prelude.{List, ◌++◌, length, if◌then◌else◌}
 use Rattle.vt_cells.specs.Attrs.{default_attrs}
@@ -11,13 +11,13 @@ use Rattle.vt_redraw.specs.Redraw.{difference}
 use Rattle.vt_redraw.specs.Script.{attr_ops}
 use Rattle.vt_redraw.specs.declared.band.Band.{Band}
 
--- The band is valid for a picture of this many rows, and not all of its rows are pushed out when it moves.
+-- The band is valid for a picture of `height` rows, and at least one row of the band is kept when the band moves.
 pub record IsBand (height : ℕ) (band : Band) : Type 0 where
   pub nonempty : 0 < band.count
   pub rows : band.top + band.count < band.bottom
   pub inside : band.bottom ≤ height
 
--- The former index of row `r` of the band: `count` rows below or above it, or `past` if the row becomes blank.
+-- The index that row `r` of a band had before the band moved, or `past` if row `r` is blank after the move.
 abbrev pub source_within : Band → (past r : ℕ) → ℕ
 source_within band past r =
     if band.up
@@ -33,15 +33,16 @@ unfoldable pub rows_moved : (width : ℕ) → Band → List RowValue → List Ro
 rows_moved width band rows =
     unflagged width (length rows - 1) (moved_rows width (band_source band (length rows)) rows)
 
--- The row to which the last of the sequences that move a band moves the cursor.
+-- The row that contains the cursor after a band of a picture with `height` rows has been moved.
 abbrev pub last_moved : (height : ℕ) → Band → ℕ
 last_moved height band =
     if band.bottom == height then band.top
     else if band.up then band.bottom - band.count
     else band.top
 
--- The picture after a band has moved. The cursor is where the last sequence left it. The attributes are the default
--- ones, because a terminal may fill blank rows with the current background colour.
+-- The picture displayed after the sequences that move a band. The cursor is in the first column of the row that
+-- `last_moved` gives. The attributes are the defaults, because a terminal may fill blank rows with the current
+-- background color.
 abbrev pub picture_after_move : Band → Picture → Picture
 picture_after_move band picture = record picture {
   rows = rows_moved picture.width band picture.rows;
@@ -60,15 +61,15 @@ lines_deleted_text row count = bytes_of (MoveTo row 0) ++ counted count 0x4D
 abbrev pub lines_inserted_text : (row count : ℕ) → List ℕ
 lines_inserted_text row count = bytes_of (MoveTo row 0) ++ counted count 0x4C
 
--- The sequences that move a band up. Rows are deleted at its top, and as many are inserted at its bottom, so that
--- the rows below the band don't move. If the band ends with the last row, no rows are inserted.
+-- The sequences that move a band up. Rows are deleted at its top, and the same number of rows is inserted at its
+-- bottom, so that the rows below the band don't move. If the band ends with the last row, no rows are inserted.
 unfoldable pub up_text : (height : ℕ) → Band → List ℕ
 up_text height band =
     if band.bottom == height then lines_deleted_text band.top band.count
     else lines_deleted_text band.top band.count ++ lines_inserted_text (band.bottom - band.count) band.count
 
--- The sequences that move a band down. Rows are deleted at its bottom, and as many are inserted at its top, so that
--- the rows below the band don't move. If the band ends with the last row, no rows are deleted.
+-- The sequences that move a band down. Rows are deleted at its bottom, and the same number of rows is inserted at its
+-- top, so that the rows below the band don't move. If the band ends with the last row, no rows are deleted.
 unfoldable pub down_text : (height : ℕ) → Band → List ℕ
 down_text height band =
     if band.bottom == height then lines_inserted_text band.top band.count
@@ -82,11 +83,11 @@ band_text height band = if band.up then up_text height band else down_text heigh
 abbrev pub moving_text : Band → Picture → List ℕ
 moving_text band prev = bytes_of_all (attr_ops prev.attrs default_attrs) ++ band_text (length prev.rows) band
 
--- The sequences that move a band, followed by the difference from the picture displayed after that.
+-- The sequences that move a band, followed by the output that turns the picture displayed after the move into `self`.
 abbrev pub scrolling_text : Band → (self prev : Picture) → List ℕ
 scrolling_text band self prev = moving_text band prev ++ bytes_of_all (difference self (picture_after_move band prev))
 
--- The text is a difference that moves no rows, or one that moves a band first.
+-- The text is a difference from `prev` to `self`: either one that moves no rows, or one that first moves a band.
 abbrev pub IsScrolling : (self prev : Picture) → List ℕ → Type 0
 IsScrolling self prev text =
     (text ≡ bytes_of_all (difference self prev))

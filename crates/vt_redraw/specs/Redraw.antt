@@ -28,8 +28,8 @@ abbrev pub link_of : ℕ → Pen → RowValue → Bool → RowValue → RowValue
 link_of r pen above on x y =
     if above.wrapped then row_link r pen above.cells on y.wrapped x.cells y.cells else no_link pen y.wrapped
 
--- The output that turns the rows `ys`, which the terminal displays below a given row, into the rows `xs`; the flag says
--- whether the given row is wrapped on the terminal.
+-- The output that turns the rows `ys` into the rows `xs`. The terminal displays `ys` below a given row, and the flag
+-- says whether the given row is wrapped on the terminal.
 unfoldable pub rows_below : ℕ → Pen → RowValue → Bool → (xs ys : List RowValue) → Scripted
 rows_below r pen above on [] ys = no_ops pen on
 rows_below r pen above on (x ∷ xs) [] = no_ops pen on
@@ -47,7 +47,7 @@ rows_written pen (x ∷ xs) (y ∷ ys) =
 
 -- ---- the cursor
 
--- The nearest row at or above row `n` whose last column is not blank.
+-- The nearest row, at or above the given row, whose last column is not blank.
 abbrev pub nearest : ℕ → List RowValue → ℕ → Option ℕ
 nearest width rows zero = if ends_blank (row_or width rows 0).cells then None else Some 0
 nearest width rows (suc n) = if ends_blank (row_or width rows (suc n)).cells then nearest width rows n else Some (suc n)

@@ -18,27 +18,28 @@ pen_at row col attrs = record { row = row; col = col; attrs = attrs }
 unfoldable pub move_ops : Pen → ℕ → ℕ → List Op
 move_ops pen row col = cursor_move_ops pen.row pen.col row col
 
--- The operations that change the pen's attributes; none if they are equal.
+-- The operations that change the pen's attributes from the first set to the second; none if the two sets are equal.
 unfoldable pub attr_ops : Attrs → Attrs → List Op
 attr_ops was new = if same_attrs was new then [] else ChangeAttrs was new ∷ []
 
--- Whether a cell is a blank with these attributes.
+-- Whether a cell is a blank with the given attributes.
 abbrev pub is_blank_of : Attrs → CellValue → Bool
 is_blank_of attrs (blank b) = same_attrs attrs b
 is_blank_of attrs (glyph text wide b) = false
 is_blank_of attrs right_half = false
 
--- The number of blanks with these attributes at the beginning of the cells.
+-- The number of blanks with the given attributes at the beginning of the cells.
 abbrev pub blank_run : Attrs → List CellValue → ℕ
 blank_run attrs cells = prefix_len (is_blank_of attrs) cells
 
--- The operation that erases a run of `n` blanks. If no cells follow, it erases to the end of the row.
+-- The operation that erases a run of blanks of the given length. If no cells follow the run, the operation erases to
+-- the end of the row.
 abbrev pub erase_run : ℕ → List CellValue → Op
 erase_run n [] = EraseRest
 erase_run n (x ∷ xs) = EraseChars n
 
--- A list of operations, the terminal's cursor and attributes after them, and whether the terminal's row is then
--- wrapped.
+-- A list of operations, the terminal's cursor and attributes after these operations, and whether the terminal's current
+-- row is then wrapped.
 pub record Scripted : Type 0 where
   pub ops : List Op
   pub pen : Pen
@@ -50,7 +51,7 @@ no_ops pen flag = record { ops = []; pen = pen; flag = flag }
 abbrev pub ops_then : List Op → Scripted → Scripted
 ops_then ops written = record { ops = ops ++ written.ops; pen = written.pen; flag = written.flag }
 
--- The operations that perform `op` at a position with these attributes.
+-- The operations that perform the given operation at a position with the given attributes.
 abbrev pub placed_op : Pen → ℕ → ℕ → Attrs → Op → List Op
 placed_op pen row col attrs op = move_ops pen row col ++ (attr_ops pen.attrs attrs ++ op ∷ [])
 
@@ -60,19 +61,19 @@ abbrev pub is_nil : List CellValue → Bool
 is_nil [] = true
 is_nil (x ∷ xs) = false
 
--- Whether the only cell left is a continuation cell in the last column, whose wide character was overwritten, so that
--- it becomes blank.
+-- Whether the only remaining cell of the row is a continuation cell, which becomes blank because its wide character was
+-- overwritten.
 abbrev pub is_torn : List CellValue → Bool
 is_torn (right_half ∷ []) = true
 is_torn _ = false
 
--- Whether the terminal's row is still wrapped after a glyph. It is not if the glyph is wide and the only cell after
--- it is a continuation cell, which becomes blank.
+-- Whether the terminal's row is still wrapped after a glyph is printed: the row was wrapped before, and the glyph is
+-- not a wide one followed only by a continuation cell, which becomes blank.
 abbrev pub flag_behind : Bool → Bool → List CellValue → Bool
 flag_behind flag wide rest = flag && not (wide && is_torn rest)
 
--- Whether the terminal's row is still wrapped after a run of blanks. It is not if the run reaches the last column or
--- the only cell after it is a continuation cell.
+-- Whether the terminal's row is still wrapped after a run of blanks: the row was wrapped before, and the run neither
+-- reaches the last column nor is followed only by a continuation cell.
 abbrev pub flag_past : Bool → List CellValue → Bool
 flag_past flag rest = flag && not (is_nil rest || is_torn rest)
 
@@ -106,11 +107,11 @@ last_glyph cells = at cells (last_column cells)
 abbrev pub is_at : Pen → ℕ → ℕ → Bool
 is_at pen row col = (pen.row == row) && (pen.col == col)
 
--- The pen after the last glyph of row `r` is printed.
+-- The pen after the last glyph of the given row is printed.
 abbrev pub pen_behind : ℕ → List CellValue → Pen
 pen_behind r cells = pen_at r (length cells) (attrs_of (last_glyph cells))
 
--- The operations that print the last glyph of row `r` again, unless the pen is already after it.
+-- The operations that print the last glyph of the given row again, unless the pen is already after it.
 abbrev pub behind_last_glyph : ℕ → Pen → List CellValue → Scripted
 behind_last_glyph r pen cells =
     if is_at pen r (length cells) then no_ops pen true
@@ -122,8 +123,8 @@ behind_last_glyph r pen cells =
 
 -- ---- the link of a row to a wrapped row above it
 
--- A list of operations, the state of the terminal after them, and the number of cells at the beginning of the row
--- that they have drawn.
+-- A list of operations, the state of the terminal after these operations, and the number of cells at the beginning of
+-- the row that the operations have drawn.
 pub record Linked : Type 0 where
   pub ops : List Op
   pub pen : Pen
@@ -133,8 +134,8 @@ pub record Linked : Type 0 where
 abbrev pub no_link : Pen → Bool → Linked
 no_link pen flag = record { ops = []; pen = pen; flag = flag; settled = 0 }
 
--- The output for the first cell while a wrap is pending in the row above. A blank is printed as a space, which is
--- then erased.
+-- The output for the first cell of a row while a wrap is pending in the row above. A blank is printed as a space, which
+-- is then erased.
 abbrev pub first_written : ℕ → Pen → Bool → (xs ys : List CellValue) → Linked
 first_written r pen flag [] ys = no_link pen flag
 first_written r pen flag (x ∷ xs) [] = no_link pen flag
@@ -152,7 +153,7 @@ first_written r pen flag (glyph text wide a ∷ xs) (y ∷ ys) = record {
   settled = glyph_columns wide;
 }
 
--- Whether the row begins with a glyph that the terminal does not display there yet.
+-- Whether the row begins with a glyph that the terminal's row does not begin with yet.
 abbrev pub starts_other : List CellValue → List CellValue → Bool
 starts_other [] ys = false
 starts_other (x ∷ xs) [] = false
@@ -162,7 +163,7 @@ abbrev pub ops_then_link : List Op → Linked → Linked
 ops_then_link ops link =
     record { ops = ops ++ link.ops; pen = link.pen; flag = link.flag; settled = link.settled }
 
--- The link from the cells `above` of row `r`, which is wrapped, to the next row; `on` says whether row `r` of the
+-- The link from the wrapped row `r`, whose cells are `above`, to the next row; `on` says whether row `r` of the
 -- terminal is wrapped.
 unfoldable pub row_link : ℕ → Pen → (above : List CellValue) →
     (on : Bool) → (flag : Bool) → (xs ys : List CellValue) → Linked
@@ -173,8 +174,8 @@ row_link r pen above on flag xs ys =
 
 -- ---- the break before the row below
 
--- The break after a row, which clears the wrapped flag of the terminal's row: the last glyph is erased and printed
--- again.
+-- The break after a row: output that clears the wrapped flag of the terminal's row by erasing the row's last glyph and
+-- printing it again.
 abbrev pub break_ops : ℕ → Pen → List CellValue → Scripted
 break_ops r pen cells = record {
   ops =

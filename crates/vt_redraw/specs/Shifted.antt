@@ -1,5 +1,5 @@
 -- Inserting or deleting columns in rows of a terminal before a difference is drawn, and the picture displayed after
--- that.
+-- these shifts.
 use Rattle.std.specs.Prelude.{◌≡◌, ◌⊎◌, ℕ, ◌+◌, ◌<◌, ◌≤◌, List, [], ◌∷◌, ◌++◌, length, slice_set, if◌then◌else◌}
 use Rattle.std.specs.List.{AllByRecursion, flat_map}
 use Rattle.vt_cells.specs.Attrs.{default_attrs}
@@ -14,18 +14,18 @@ use Rattle.vt_redraw.specs.declared.band_guess.Move.{Move}
 use Rattle.vt_redraw.specs.declared.band_guess.Move.TheVariants.{Rows, Columns}
 use Rattle.vt_redraw.specs.declared.row_shift.RowShift.{RowShift}
 
--- The shift moves columns and lies within a picture of this size.
+-- The shift inserts or deletes at least one column and lies within a picture of the given size.
 pub record IsRowShift (height width : ℕ) (shift : RowShift) : Type 0 where
   pub nonempty : 0 < shift.count
   pub row : shift.row < height
   pub columns : shift.col + shift.count ≤ width
 
--- The move is valid for a picture of this size.
+-- The move is valid for a picture of the given size.
 abbrev pub IsMove : (height width : ℕ) → Move → Type 0
 IsMove height width (Rows band) = IsBand height band
 IsMove height width (Columns shift) = IsRowShift height width shift
 
--- A row after blanks are inserted in it or columns are deleted from it.
+-- A row after blanks are inserted in the row or columns are deleted from it.
 abbrev pub shifted_row : RowShift → RowValue → RowValue
 shifted_row shift row =
     if shift.insert then inserted_row shift.col shift.count row else deleted_row shift.col shift.count row
@@ -54,8 +54,8 @@ abbrev pub shifted_all : List RowShift → Picture → Picture
 shifted_all [] picture = picture
 shifted_all (shift ∷ shifts) picture = shifted_all shifts (shifted shift picture)
 
--- The picture with default attributes. They are set before columns are shifted, because a terminal may fill inserted
--- columns with the current background colour.
+-- The picture with default attributes, which are set before columns are shifted because a terminal may fill inserted
+-- columns with the current background color.
 abbrev pub in_default_attrs : Picture → Picture
 in_default_attrs picture = record picture { attrs = default_attrs }
 
@@ -70,20 +70,20 @@ shift_text shift =
 abbrev pub shifts_text : List RowShift → List ℕ
 shifts_text shifts = flat_map shift_text shifts
 
--- A change to the default attributes and the sequences of several shifts, followed by the difference from the picture
--- displayed after that.
+-- The output that changes to the default attributes, performs several shifts, and then turns the picture displayed
+-- after the shifts into `self`.
 abbrev pub shifting_text : List RowShift → (self prev : Picture) → List ℕ
 shifting_text shifts self prev =
     bytes_of_all (attr_ops prev.attrs default_attrs)
     ++ (shifts_text shifts ++ bytes_of_all (difference self (shifted_all shifts (in_default_attrs prev))))
 
--- The text is a difference that first makes one or more shifts.
+-- The text is a difference from `prev` to `self` that first makes one or more column shifts.
 pub record IsShifting (self prev : Picture) (text : List ℕ) : Type 0 where
   pub first : RowShift
   pub rest : List RowShift
   pub inside : AllByRecursion (IsRowShift (length prev.rows) prev.width) (first ∷ rest)
   pub bytes : text ≡ shifting_text (first ∷ rest) self prev
 
--- The text is a difference that may first move a band of rows or shift columns.
+-- The text is a difference from `prev` to `self` that may first move a band of rows or shift columns.
 abbrev pub IsMoving : (self prev : Picture) → List ℕ → Type 0
 IsMoving self prev text = IsScrolling self prev text ⊎ IsShifting self prev text

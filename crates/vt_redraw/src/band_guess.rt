@@ -32,11 +32,11 @@ const LEAST_TEXT: usize = 20;
 /// key of a row.
 const KEYED: u16 = 16;
 
-/// The minimum cost of a row, in bytes, whose columns are examined.
+/// The cost, in bytes, above which the columns of a row are examined.
 const LEAST_COST: i32 = 12;
 
-/// The maximum number of such rows that are examined before a row is found whose
-/// columns seem to have moved.
+/// The maximum number of rows that are examined in the search for a row whose columns seem to have
+/// moved.
 const MOST_TRIED: u32 = 6;
 
 /// One number for each examined row.
@@ -53,8 +53,8 @@ struct Shift {
     up: bool,
 }
 
-/// A range of rows that a shift moves to the right place, and the approximate
-/// number of bytes that the shift saves.
+/// A range of rows that a shift moves to where they belong, and the approximate number of bytes
+/// that the shift saves.
 #[derive(Clone, Copy)]
 struct Stretch {
     gain: i32,
@@ -62,20 +62,19 @@ struct Stretch {
     behind: u16,
 }
 
-/// A move that the output may make before the difference is drawn.
+/// A move that the output may make before it draws the remaining changes.
 #[derive(Clone, Copy, PartialEq, Eq, Debug)]
 pub enum Move {
     /// A band of rows moves up or down.
     Rows(Band),
 
-    /// Columns of some rows move right or left. This is the shift of the first
-    /// such row.
+    /// Columns of some rows move right or left. The value is the shift of the first of these rows.
     Columns(RowShift),
 }
 
-/// Returns the move that most likely happened between `prev` and `view`, or
-/// `None` if a move is not expected to save output. `text` is the difference
-/// without a move. Only the first 256 rows are examined.
+/// Returns the move that most likely happened between `prev` and `view`, or `None` if a move is not
+/// expected to save output. `text` is the diff that makes no move. Only the first 256 rows are
+/// examined.
 pub fn likely_move(view: &View<'_>, prev: &View<'_>, text: &str) -> Option<Move>
     requires { SamePictureSize view.now prev.now }
     ensures inside { IfSome result (IsMove (length prev.now.rows) prev.now.width) }
@@ -113,9 +112,8 @@ fn likely_band(view: &View<'_>, prev: &View<'_>, height: u16, here: &Numbers) ->
     }
 }
 
-/// Returns the shift of the first row whose columns seem to have moved between
-/// `prev` and `view`. Only the first [`MOST_TRIED`] rows that cost much are
-/// examined.
+/// Returns the shift of the first row whose columns seem to have moved between `prev` and `view`.
+/// Only the first [`MOST_TRIED`] rows that cost more than [`LEAST_COST`] bytes are examined.
 fn first_row_shift(
     view: &View<'_>,
     prev: &View<'_>,
@@ -139,8 +137,8 @@ fn first_row_shift(
     None
 }
 
-/// Returns, for each row of `view`, the approximate number of bytes that it
-/// takes to draw it over the same row of `prev`.
+/// Returns, for each row of `view`, the approximate number of bytes that it takes to draw it over
+/// the corresponding row of `prev`.
 fn costs(view: &View<'_>, prev: &View<'_>, height: u16) -> Numbers
     requires size { SamePictureSize view.now prev.now }
     requires inside { height ≤ length view.now.rows }
@@ -213,8 +211,7 @@ fn key(cells: &PictureRow<'_>) -> u32 {
     key
 }
 
-/// Returns the shift that would move the largest part of the changed text to
-/// the right place.
+/// Returns the shift that would move the largest part of the changed text to where it belongs.
 fn likely_shift(view: &View<'_>, prev: &View<'_>, height: u16, here: &Numbers) -> Option<Shift>
     requires size { SamePictureSize view.now prev.now }
     requires inside { height ≤ length view.now.rows }
@@ -457,7 +454,7 @@ impl Stretch {
             .saturating_sub(sequences(bottom < height, attrs))
     }
 
-    /// Returns the band that moves the rows of the range to the right place.
+    /// Returns the band that moves the rows of the range to where they belong.
     fn band(&self, shift: Shift) -> Band {
         let Shift { count, up } = shift;
         if up {

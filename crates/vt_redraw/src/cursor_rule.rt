@@ -50,9 +50,9 @@ pub fn write_feeds<S: Sink>(sink: &mut S, count: u16) -> Result<(), S::Error>
 }
 
 /// Writes the sequences that leave a wrap pending after a blank with attributes
-/// `attrs` in the last column. They print a space there and erase it again
-/// without canceling the wrap. The cursor must be on the last column. The
-/// terminal has the attributes `was` both before and after.
+/// `attrs` in the last column. The sequences print a space in the last column
+/// and erase it again without canceling the wrap. The cursor must be on the
+/// last column. The terminal has the attributes `was` both before and after.
 ///
 /// # Errors
 ///

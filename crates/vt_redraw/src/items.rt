@@ -119,10 +119,10 @@ fn write_end<S: Sink>(
 }
 
 /// Writes columns `start..stop` of a row of `view`, for a terminal that
-/// displays the same row of `prev`. If these columns are the whole row, the
-/// terminal's row is not wrapped afterward unless the row of `view` is wrapped.
-/// If only the row of `view` is wrapped, a wrap is pending on the terminal
-/// afterward.
+/// displays the corresponding row of `prev`. If these columns are the whole
+/// row, the terminal's row is not wrapped afterward unless the row of `view` is
+/// wrapped. If only the row of `view` is wrapped, a wrap is pending on the
+/// terminal afterward.
 ///
 /// The terminal's cursor must be in column `start` of the row, and the terminal
 /// must have default attributes.

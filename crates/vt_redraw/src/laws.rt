@@ -52,8 +52,8 @@ pub fn empty_only()
         SamePictureSize self prev → difference self prev ≡ [] → self ≡ prev }
 {}
 
-/// States that the redraw of a steady picture, drawn on any plain canvas of the
-/// same size, makes the canvas display the picture.
+/// States that drawing the redraw of a steady picture on any plain canvas of
+/// the same size makes the canvas display the picture.
 pub fn redraw_draws()
     ensures { (self : Picture) → (any : Canvas) → IsPicture self → IsSteady self →
         IsPicture (picture_of any) → IsPlainPage any.page → SamePictureSize self (picture_of any) →
@@ -134,8 +134,8 @@ pub fn whole_cuts_none()
         CutsNone 0 self.width (row_of_picture self r).cells }
 {}
 
-/// States that the diff for a range of columns in a row, drawn on a plain
-/// canvas that displays the old row, gives the row the new cells in that range.
+/// States that drawing the diff for a range of columns in a row on a plain
+/// canvas that displays the old row gives the row the new cells in that range.
 /// Apart from those cells, only the row's wrapped flag, the cursor and the
 /// attributes may change. The new picture must be steady, and the range must
 /// cut no wide character in two.
@@ -164,8 +164,8 @@ pub fn difference_item_empty()
         ↔ (row_of_picture self r ≡ row_of_picture prev r) }
 {}
 
-/// States that the redraw for a range of columns in a row, drawn on a plain
-/// canvas over a row of default blanks, gives the row the cells in that range.
+/// States that drawing the redraw for a range of columns in a row over a row of
+/// default blanks, on a plain canvas, gives the row the cells in that range.
 /// Apart from those cells, only the cursor and the attributes change. The
 /// picture must be steady, and the range must cut no wide character in two.
 pub fn redraw_item_draws()
@@ -177,9 +177,9 @@ pub fn redraw_item_draws()
         (item_of_redraw r start stop linked (row_of_picture self r)).pen any) }
 {}
 
-/// States that the redraw for a whole row, drawn while a wrap is pending after
-/// a glyph at the end of the row above, draws the row and makes the row above
-/// wrapped. The picture must be steady.
+/// States that the redraw for a whole row draws the row and makes the row above
+/// wrapped, if it is drawn while a wrap is pending after a glyph at the end of
+/// the row above. The picture must be steady.
 pub fn redraw_item_wraps()
     ensures { (self : Picture) → (r : ℕ) → (above : RowValue) → (any : Canvas) → IsPicture self → IsSteady self →
         AwaitsItem self r self.width above any → ends_blank above.cells ≡ false → r + 1 < length self.rows →

@@ -1,6 +1,5 @@
-//! A guess at the columns that have moved in a row between two pictures.
-//! Correctness does not depend on it: after any columns have moved, the
-//! difference draws the rest.
+//! A guess at the columns that have moved in a row between two pictures. Correctness does not
+//! depend on the guess: after any columns have moved, the diff draws all remaining changes.
 
 ghost use Rattle.std.specs.Prelude.{◌<◌, IfSome, length};
 ghost use Rattle.vt_redraw.specs.Picture.{SamePictureSize};
@@ -21,8 +20,8 @@ const CHANGE: i32 = 6;
 /// The approximate number of bytes in the escape sequences of a shift.
 const SEQUENCES: i32 = 10;
 
-/// The maximum number of counts that are examined for a shift in one direction.
-/// It bounds the time that a row of equal cells takes.
+/// The maximum number of counts that are examined for a shift in one direction. This limit bounds
+/// the time that a row of equal cells takes.
 const MOST_COUNTS: u32 = 8;
 
 /// The best shift so far, and the approximate number of bytes that it takes to
@@ -74,7 +73,7 @@ fn first_difference(cells: &PictureRow<'_>, over: &PictureRow<'_>) -> Option<u16
     None
 }
 
-/// Returns the shift at a position that saves the most bytes, or `None` if none
+/// Returns the shift of row `row` at column `col` that saves the most bytes, or `None` if no shift
 /// saves any.
 fn best_shift(
     cells: &PictureRow<'_>,
@@ -107,8 +106,8 @@ fn best_shift(
 }
 
 impl Best {
-    /// Considers shifts like `start` that bring the first columns that they move
-    /// to the right place, up to [`MOST_COUNTS`] of them.
+    /// Considers up to [`MOST_COUNTS`] shifts that have the column and direction of `start` but
+    /// other counts, namely those that put the first cells they move where they belong.
     fn consider_all(&mut self, cells: &PictureRow<'_>, over: &PictureRow<'_>, start: RowShift) {
         let near = usize::from(start.col);
         let (own, others) = if start.insert {
@@ -132,7 +131,7 @@ impl Best {
         }
     }
 
-    /// Takes the given shift if it is better.
+    /// Makes `shift` the best shift if it takes fewer bytes than the best shift so far.
     fn consider(&mut self, cells: &PictureRow<'_>, over: &PictureRow<'_>, shift: RowShift) {
         let bytes = drawing(cells, over, shift);
         if bytes < self.bytes {
@@ -176,8 +175,8 @@ fn drawing(cells: &PictureRow<'_>, over: &PictureRow<'_>, shift: RowShift) -> i3
 }
 
 impl Estimate {
-    /// Adds the output for one cell, which is drawn if it differs from what the
-    /// terminal displays.
+    /// Adds the output for one cell to the estimate. `differs` says whether the cell differs from
+    /// what the terminal displays; if not, it is not drawn.
     fn add(&mut self, cell: &Cell, differs: bool) {
         if !differs {
             self.drew = false;
@@ -197,8 +196,8 @@ impl Estimate {
         self.drew_blank = blank;
     }
 
-    /// Returns the number of bytes of a glyph's text, or the approximate number
-    /// that it takes to erase a run of blanks, counted at its first blank.
+    /// Returns the length of a glyph's text in bytes. For the first blank of a run, returns the
+    /// approximate number of bytes that it takes to erase the run, and for any later blank 0.
     fn text_len(&self, cell: &Cell, blank: bool) -> i32 {
         if !blank {
             return i32::try_from(cell.contents().len()).unwrap_or(0);

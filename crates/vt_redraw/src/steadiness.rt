@@ -29,7 +29,7 @@ const SELECTED_LEN: usize = 4;
 /// printed on a blank row.
 ///
 /// If the text of every cell in a row is shorter than four bytes, only the
-/// lengths are read.
+/// lengths of the texts are read.
 pub fn is_steady(view: &View<'_>) -> bool
     ensures { IsTrue result ↔ IsSteady view.now }
 {
@@ -42,8 +42,8 @@ pub fn is_steady(view: &View<'_>) -> bool
     true
 }
 
-/// Returns whether each glyph of row `row` of the picture, printed on a blank
-/// row, reproduces itself.
+/// Returns whether each glyph of row `row` of the picture reproduces itself
+/// when it is printed on a blank row.
 #[inline]
 fn is_steady_at(view: &View<'_>, row: u16) -> bool
     requires { row < length view.now.rows }

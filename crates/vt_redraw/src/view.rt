@@ -108,8 +108,8 @@ impl<'a> View<'a> {
         }
     }
 
-    /// Creates a view of the same size that has default blanks, default
-    /// attributes, and the cursor in the top left corner.
+    /// Creates a view of the same size as this one, with default blanks,
+    /// default attributes, and the cursor in the top left corner.
     pub fn blanked(&self) -> View<'a>
         ensures { result ≡ blank_like self.now }
     {

@@ -8,22 +8,22 @@ use vt100::Error;
 /// A call on a mirror.
 #[derive(Clone, Copy)]
 enum Call {
-    /// Calls `process`.
+    /// A call to [`Mirror::process`] with the given bytes.
     Process(&'static str),
 
-    /// Calls `set_size`.
+    /// A call to [`Mirror::set_size`] with a number of rows and of columns.
     SetSize(u16, u16),
 
-    /// Calls `join`.
+    /// A call to [`Mirror::join`].
     Join,
 
-    /// Calls `leave`.
+    /// A call to [`Mirror::leave`] with a viewer's number.
     Leave(u64),
 
-    /// Calls `update`.
+    /// A call to [`Mirror::update`] with a viewer's number.
     Update(u64),
 
-    /// Calls `update_scrolling`.
+    /// A call to [`Mirror::update_scrolling`] with a viewer's number.
     UpdateScrolling(u64),
 }
 
@@ -42,7 +42,7 @@ enum Answer {
     /// The update that was returned.
     Update(Update),
 
-    /// No viewer has the number that was passed.
+    /// No viewer has the number that was passed to the call.
     Nobody,
 
     /// The call failed.

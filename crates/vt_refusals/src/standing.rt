@@ -17,7 +17,8 @@ pub enum Standing {
     /// The parser is in the state before the call.
     Before,
 
-    /// The parser is in the state after the first `taken` of the `of` steps of the call's input.
+    /// The parser is in the state after the first `taken` steps of the call's input, which consists
+    /// of `of` steps.
     After { taken: usize, of: usize },
 
     /// The parser is in any other state.

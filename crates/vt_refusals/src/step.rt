@@ -150,20 +150,20 @@ fn captured(alloc: Global, screen: &Screen) -> Answer {
 /// A kind of diff between two screens.
 #[derive(Clone, Copy)]
 pub enum Change {
-    /// Calls `contents_diff`.
+    /// The output of `contents_diff`.
     Picture,
 
-    /// Calls `contents_diff_scrolling`.
+    /// The output of `contents_diff_scrolling`.
     Scrolling,
 
-    /// Calls `state_diff`.
+    /// The output of `state_diff`.
     State,
 
-    /// Calls `input_mode_diff`.
+    /// The output of `input_mode_diff`.
     Modes,
 
-    /// Takes each item of the iterator `rows_diff` over all columns, and calls `next` once more
-    /// after the last item.
+    /// The items of the iterator `rows_diff` over all columns, and the result of one more call to
+    /// `next` after the last item.
     Rows,
 }
 

@@ -10,7 +10,8 @@ pub struct Tally {
     pub reported: u64,
 }
 
-/// No callback changes the screen or allocates.
+/// Callbacks that count titles and rows, without changing the screen or
+/// allocating memory.
 impl Callbacks for Tally {
     ghost use Rattle.std.specs.Prelude.{◌≡◌};
 

@@ -4,20 +4,20 @@ use Rattle.std.specs.Prelude.{◌∷◌, ◌+◌, ◌<◌, IsUtf8, chars, get_or
 use Rattle.vt_rows.specs.Pieces.{Piece, piece_end}
 use Rattle.vt_rows.specs.Stretches.{columns_added, columns_in, ends_within}
 
--- The character that follows the text `row` is a line end, that is, an LF outside SGR sequences.
+-- The given character, which follows the given text of a row, is a line end, that is, an LF outside SGR sequences.
 abbrev pub ends_row : List ℕ → ℕ → Bool
 ends_row row c = not (ends_within row) && (c == 0x0A)
 
--- In a row of `width` columns, a character of `added` columns doesn't fit after `used` columns. A character always fits
--- if `used` or `added` is 0.
+-- In `is_beyond width used added`, a character of `added` columns doesn't fit after `used` columns in a row of `width`
+-- columns. A character always fits if `used` or `added` is 0.
 abbrev pub is_beyond : ℕ → ℕ → ℕ → Bool
 is_beyond width used added = nat_lt 0 used && (nat_lt 0 added && nat_lt width (used + added))
 
--- The character doesn't fit after the text `row` in a row of `width` columns.
+-- The character doesn't fit after the given text in a row of the given width.
 abbrev pub overflows : ℕ → List ℕ → ℕ → Bool
 overflows width row c = is_beyond width (columns_in row) (columns_added (ends_within row) c)
 
--- No character of the row is a line end, and every character fits after the characters before it.
+-- No character of the row is a line end, and every character fits in the given width after the characters before it.
 abbrev pub IsUncut : ℕ → List ℕ → Type 0
 IsUncut width row =
     (k : ℕ) → k < length row →
@@ -42,7 +42,8 @@ pub record IsBehindFull (width : ℕ) (row next : Piece) : Type 0 where
   pub begins : chars next.1 ≡ first ∷ rest
   pub overflows : overflows width (chars row.1) first ≡ true
 
--- The rows follow one another, starting at byte `at`, and the last one ends where the capture ends.
+-- The pieces are consecutive rows of the capture. The first one begins at the given byte, and the last one ends at the
+-- end of the capture.
 abbrev pub AreRowsFrom : ℕ → List ℕ → ℕ → List Piece → Type 0
 AreRowsFrom width capture at [] = ⊥
 AreRowsFrom width capture at (row ∷ []) = (row.0 ≡ at) × IsRowOf width capture row × (piece_end row ≡ length capture)
@@ -50,6 +51,6 @@ AreRowsFrom width capture at (row ∷ next ∷ rows) =
     (row.0 ≡ at) × IsRowOf width capture row × (IsBehindEnd capture row next ⊎ IsBehindFull width row next)
     × AreRowsFrom width capture next.0 (next ∷ rows)
 
--- The pieces are all rows of the capture, in order.
+-- The pieces are exactly the rows of the capture, in order.
 abbrev pub AreRowsOf : ℕ → List ℕ → List Piece → Type 0
 AreRowsOf width capture rows = AreRowsFrom width capture 0 rows

@@ -10,7 +10,7 @@ use Rattle.vt_cells.specs.Attrs.{Attrs}
 abbrev pub at : List CellValue → ℕ → CellValue
 at cells k = slice_index_or cells k default_blank
 
--- The cells of a row of `n` columns, given by a function from a column's index to the column's cell.
+-- The cells of a row with the given number of columns; the function maps a column's index to the column's cell.
 abbrev pub by_column : ℕ → (ℕ → CellValue) → List CellValue
 by_column n f = map f (range_with_len 0 n)
 
@@ -23,7 +23,7 @@ pub record IsPaired (cells : List CellValue) : Type 0 where
 abbrev pub ends_blank : List CellValue → Bool
 ends_blank cells = is_blank (at cells (length cells - 1))
 
--- A list of `n` blanks with the attributes `attrs`.
+-- A list of blanks with the given attributes and length.
 abbrev pub blanks : Attrs → ℕ → List CellValue
 blanks attrs n = replicate n (blank attrs)
 
@@ -44,19 +44,21 @@ cells_before_cut (x ∷ []) = cell_cut_from_right_half x ∷ []
 cells_before_cut (x ∷ y ∷ xs) = x ∷ cells_before_cut (y ∷ xs)
 
 -- The last cells of a row, after the cells to their left are cut off. If the first of the remaining cells is a
--- continuation cell, it becomes `orphan`.
+-- continuation cell, it becomes the given cell.
 abbrev pub cells_after_cut : CellValue → List CellValue → List CellValue
 cells_after_cut orphan [] = []
 cells_after_cut orphan (right_half ∷ xs) = orphan ∷ xs
 cells_after_cut orphan (blank attrs ∷ xs) = blank attrs ∷ xs
 cells_after_cut orphan (glyph text wide attrs ∷ xs) = glyph text wide attrs ∷ xs
 
--- The cells of a row after `n` of them, starting at column `c`, are replaced by the cells `new`. A wide glyph that
--- loses its continuation cell becomes a blank, and a continuation cell that loses its wide glyph becomes `orphan`.
+-- `put_cells c orphan new n cells` is the row `cells` after `n` cells, starting at column `c`, are replaced by the
+-- cells `new`. A wide glyph that loses its continuation cell becomes a blank, and a continuation cell that loses its
+-- wide glyph becomes `orphan`.
 unfoldable pub put_cells : ℕ → CellValue → List CellValue → ℕ → List CellValue → List CellValue
 put_cells c orphan new n cells = cells_before_cut (take c cells) ++ (new ++ cells_after_cut orphan (drop n (drop c cells)))
 
--- The cell at column `k` of the result of `put_cells c orphan new n cells`, in terms of the old cells.
+-- `column_of c n orphan new cells k` is the cell at column `k` of `put_cells c orphan new n cells`, in terms of the old
+-- cells.
 abbrev pub column_of : ℕ → ℕ → CellValue → List CellValue → List CellValue → ℕ → CellValue
 column_of c n orphan new cells k =
     if nat_lt k c then (if (k + 1 == c) && is_wide (at cells k) then blank (attrs_of (at cells k)) else at cells k)
@@ -64,40 +66,42 @@ column_of c n orphan new cells k =
     else if (k == c + n) && is_right_half (at cells k) then orphan
     else at cells k
 
--- The cells after a narrow glyph is written at column `c`. A continuation cell that loses its wide glyph becomes a
--- space with the attributes of the new glyph.
+-- The cells after a narrow glyph is written at the given column. A continuation cell that loses its wide glyph becomes
+-- a space with the attributes of the new glyph.
 abbrev pub put_narrow : ℕ → List ℕ → Attrs → List CellValue → List CellValue
 put_narrow c text attrs cells = put_cells c (glyph (0x20 ∷ []) false attrs) (glyph text false attrs ∷ []) 1 cells
 
--- The cells after a wide glyph is written at columns `c` and `c + 1`. A continuation cell that loses its own wide glyph
--- becomes a blank with the attributes of the new glyph.
+-- The cells after a wide glyph is written at the given column and the next one. A continuation cell that loses its own
+-- wide glyph becomes a blank with the attributes of the new glyph.
 abbrev pub put_wide : ℕ → List ℕ → Attrs → List CellValue → List CellValue
 put_wide c text attrs cells = put_cells c (blank attrs) (glyph text true attrs ∷ right_half ∷ []) 2 cells
 
--- The cells of a row after `n` columns, starting at column `c`, are erased. If only one cell of a wide glyph is erased,
--- the other cell becomes a blank: with the glyph's attributes if it was the first cell, and with default attributes if
--- it was the continuation cell.
+-- `cells_after_erase c n attrs cells` is the row `cells` after `n` columns, starting at column `c`, are erased. If only
+-- one cell of a wide glyph is erased, the other cell becomes a blank: a remaining first cell keeps the glyph's
+-- attributes, and a remaining continuation cell gets default attributes.
 abbrev pub cells_after_erase : ℕ → ℕ → Attrs → List CellValue → List CellValue
 cells_after_erase c n attrs cells = put_cells c default_blank (blanks attrs n) n cells
 
--- The cells after a combining character is added to the cell at column `k`. The width of that cell is unchanged.
+-- `marked_at k mark cells` is the row `cells` after the combining character `mark` is added to the cell at column `k`.
+-- The width of this cell is unchanged.
 abbrev pub marked_at : ℕ → ℕ → List CellValue → List CellValue
 marked_at k mark cells = slice_set cells k (cell_with_mark mark (at cells k))
 
--- The cells after the narrow glyph at column `k` becomes wide. If the new continuation cell overwrites the first cell
--- of another wide glyph, that glyph's continuation cell becomes a blank with the attributes `attrs`.
+-- The cells after the narrow glyph at the given column becomes wide. If the new continuation cell overwrites the first
+-- cell of another wide glyph, that glyph's continuation cell becomes a blank with the given attributes.
 abbrev pub widened_at : ℕ → Attrs → List CellValue → List CellValue
 widened_at k attrs cells = put_cells k (blank attrs) (cell_made_wide true (at cells k) ∷ right_half ∷ []) 2 cells
 
--- The cells after the wide glyph at column `k` becomes narrow. The glyph's continuation cell becomes a space with the
--- attributes `attrs`.
+-- The cells after the wide glyph at the given column becomes narrow. The glyph's continuation cell becomes a space with
+-- the given attributes.
 abbrev pub narrowed_at : ℕ → Attrs → List CellValue → List CellValue
 narrowed_at k attrs cells = put_cells k (glyph (0x20 ∷ []) false attrs) (cell_made_wide false (at cells k) ∷ []) 1 cells
 
 -- ---- Edits that move columns: column `k` was column `source k`, or is a default blank if that is past the end
 
--- The cell at column `k` of a row of `n` columns, after columns moved. A cell that is no longer next to the other cell
--- of its wide glyph becomes a blank with the cell's own attributes.
+-- The cell at column `k` of a row of `n` columns after its columns have moved; the given function maps each column to
+-- the column that its cell came from. A cell that is no longer next to the other cell of its wide glyph becomes a blank
+-- with the cell's own attributes.
 abbrev pub moved_at : ℕ → (ℕ → ℕ) → List CellValue → ℕ → CellValue
 moved_at n source cells k =
     if is_wide (at cells (source k)) && not (nat_lt (k + 1) n && (source (k + 1) == source k + 1))
@@ -105,8 +109,8 @@ moved_at n source cells k =
     else if is_right_half (at cells (source k)) && not (source k == source (k - 1) + 1) then default_blank
     else at cells (source k)
 
--- The cells of a row of `n` columns after columns moved: column `k` gets the cell that was in column `source k`. A cell
--- that is no longer next to the other cell of its wide glyph becomes a blank.
+-- The cells of a row of `n` columns after its columns have moved; the given function maps each column to the column
+-- that its cell came from. A cell that is no longer next to the other cell of its wide glyph becomes a blank.
 unfoldable pub cells_after_move : ℕ → (ℕ → ℕ) → List CellValue → List CellValue
 cells_after_move n source cells = by_column n (moved_at n source cells)
 
@@ -115,25 +119,25 @@ cells_after_move n source cells = by_column n (moved_at n source cells)
 abbrev pub insert_column : ℕ → List CellValue → ℕ
 insert_column c cells = if is_right_half (at cells c) then c + 1 else c
 
--- The index that column `k` had before `n` columns were inserted at column `c`; for an inserted column, the index
--- `past`, which is past the end of the row.
+-- `insert_source past c n k` is the index that column `k` had before `n` columns were inserted at column `c`. For an
+-- inserted column, the result is `past`, an index past the end of the row.
 abbrev pub insert_source : ℕ → ℕ → ℕ → ℕ → ℕ
 insert_source past c n k = if nat_lt k c then k else if nat_lt k (c + n) then past else k - n
 
--- The index that column `k` had before `n` columns were deleted at column `c`.
+-- `delete_source c n k` is the index that column `k` had before `n` columns were deleted at column `c`.
 abbrev pub delete_source : ℕ → ℕ → ℕ → ℕ
 delete_source c n k = if nat_lt k c then k else k + n
 
--- The cells of a row after `n` default blanks are inserted at column `c` (ICH). Cells that are pushed past the end are
--- lost.
+-- `cells_after_insert c n cells` is the row `cells` after `n` default blanks are inserted at column `c` (ICH). Cells
+-- that are pushed past the end are lost.
 unfoldable pub cells_after_insert : ℕ → ℕ → List CellValue → List CellValue
 cells_after_insert c n cells = cells_after_move (length cells) (insert_source (length cells) (insert_column c cells) n) cells
 
--- The cells of a row after `n` columns, starting at column `c`, are deleted (DCH). Default blanks fill the end of the
--- row.
+-- `cells_after_delete c n cells` is the row `cells` after `n` columns, starting at column `c`, are deleted (DCH).
+-- Default blanks fill the end of the row.
 unfoldable pub cells_after_delete : ℕ → ℕ → List CellValue → List CellValue
 cells_after_delete c n cells = cells_after_move (length cells) (delete_source c n) cells
 
--- The cells of a row, truncated or extended to `n` columns.
+-- The cells of a row, truncated or extended to the given number of columns.
 unfoldable pub cells_after_resize : ℕ → List CellValue → List CellValue
 cells_after_resize n cells = cells_after_move n (λ k. k) cells

@@ -12,18 +12,19 @@ use Rattle.vt_rows.specs.Cells.{at}
 use Rattle.vt_rows.specs.Pieces.{Piece}
 use Rattle.vt_rows.specs.Stretches.{begins_stretch, ends_stretch}
 
--- The cells, prepared for overwriting column `c`. If that column holds the continuation cell of a wide glyph, the first
--- cell of the glyph becomes a blank and keeps its attributes.
+-- The cells, prepared for overwriting the given column. If that column holds the continuation cell of a wide glyph, the
+-- first cell of the glyph becomes a blank and keeps its attributes.
 unfoldable pub left_blanked : ℕ → List CellValue → List CellValue
 left_blanked c cells =
     if is_right_half (at cells c) then slice_set cells (c - 1) (blank (attrs_of (at cells (c - 1)))) else cells
 
--- The cells, prepared for overwriting column `c`. If that column holds the first cell of a wide glyph, the glyph's
--- continuation cell becomes `cell`.
+-- The cells, prepared for overwriting the given column. If that column holds the first cell of a wide glyph, the
+-- glyph's continuation cell becomes the given cell.
 unfoldable pub right_replaced : ℕ → CellValue → List CellValue → List CellValue
 right_replaced c cell cells = if is_wide (at cells c) then slice_set cells (c + 1) cell else cells
 
--- If column `c` holds the first cell of a wide glyph, there is a further column for the glyph's continuation cell.
+-- If the given column holds the first cell of a wide glyph, there is a further column for the glyph's continuation
+-- cell.
 abbrev pub HasRoom : ℕ → List CellValue → Type 0
 HasRoom c cells = is_wide (at cells c) ≡ true → c + 1 < length cells
 
@@ -34,7 +35,8 @@ end_blanked cells =
     if is_wide (at cells (length cells - 1))
     then slice_set cells (length cells - 1) (blank (attrs_of (at cells (length cells - 1)))) else cells
 
--- The index that item `k` of a list had before the range `from..to` was rotated left by `n`.
+-- `rotation_source from to n k` is the index that item `k` of a list had before the range `from..to` was rotated left
+-- by `n`.
 abbrev pub rotation_source : ℕ → ℕ → ℕ → ℕ → ℕ
 rotation_source from to n k =
     if nat_le from k && nat_lt k to then (if nat_lt (k + n) to then k + n else k + n - (to - from)) else k
@@ -49,14 +51,14 @@ pub record Gathers (before buffer text after left : List ℕ) : Type 0 where
 abbrev pub cell_text : Attrs → CellValue → List ℕ
 cell_text attrs cell = change_text attrs (attrs_after attrs cell) ++ shown_text cell
 
--- The text that a cell adds to plain text after `n` columns whose spaces are not yet written: those spaces and the
+-- The plain text written for a cell that follows `n` columns whose spaces are not yet written: those spaces and the
 -- glyph's text if the cell is a glyph, and nothing otherwise.
 abbrev pub text_behind : ℕ → CellValue → List ℕ
 text_behind n (glyph text wide attrs) = replicate n 0x20 ++ text
 text_behind n _ = []
 
--- The number of columns whose spaces are not yet written after a cell, if there were `n` before it: one more for a
--- blank, the same number for a continuation cell, and none for a glyph.
+-- The number of columns whose spaces are not yet written after a cell, given their number `n` before the cell: `n + 1`
+-- if the cell is a blank, `n` if it is a continuation cell, and 0 if it is a glyph.
 abbrev pub gap_behind : ℕ → CellValue → ℕ
 gap_behind n (blank attrs) = n + 1
 gap_behind n (glyph text wide attrs) = 0
@@ -68,31 +70,31 @@ abbrev pub plain_behind : ℕ → List CellValue → List ℕ
 plain_behind n [] = []
 plain_behind n (cell ∷ cells) = text_behind n cell ++ plain_behind (gap_behind n cell) cells
 
--- The piece of a capture with the given text at byte `at`, or no piece if the text is empty.
+-- The piece of a capture with the given text at the given byte index, or no piece if the text is empty.
 abbrev pub piece_at : ℕ → List ℕ → List Piece
 piece_at at [] = []
 piece_at at (b ∷ text) = (at, b ∷ text) ∷ []
 
 abbrev mutual
-  -- The plain-text pieces formed by the unfinished piece `piece`, which begins at byte `at`, and the text that follows
-  -- this piece.
+  -- The plain-text pieces formed by an unfinished piece that begins at the given byte index, together with the
+  -- text after it.
   pub pieces_behind : ℕ → List ℕ → List ℕ → List Piece
   pieces_behind at piece [] = piece_at at piece
   pieces_behind at piece (b ∷ text) =
       if begins_stretch b then piece_at at piece ++ pieces_within (at + length piece + 1) text
       else pieces_behind at (piece ++ b ∷ []) text
 
-  -- The plain-text pieces of the rest of a capture that begins at byte `at`, inside an SGR sequence.
+  -- The plain-text pieces of the rest of a capture that begins at the given byte index, inside an SGR sequence.
   pub pieces_within : ℕ → List ℕ → List Piece
   pieces_within at [] = []
   pieces_within at (b ∷ text) = if ends_stretch b then pieces_behind (at + 1) [] text else pieces_within (at + 1) text
 
--- The plain-text pieces of the rest of a capture that begins at byte `at`, outside SGR sequences.
+-- The plain-text pieces of the rest of a capture that begins at the given byte index, outside SGR sequences.
 abbrev pub pieces_from : ℕ → List ℕ → List Piece
 pieces_from at text = pieces_behind at [] text
 
--- The rows formed by the unfinished row `row` and the characters that follow this row. A line end is dropped, and a
--- character that doesn't fit in the width begins the next row.
+-- The rows of the given width that are formed by an unfinished row and the characters that follow this row. A line end
+-- ends a row and is dropped, and a character that doesn't fit in the width begins the next row.
 abbrev pub rows_behind : ℕ → List ℕ → List ℕ → List (List ℕ)
 rows_behind width row [] = row ∷ []
 rows_behind width row (c ∷ text) = if ends_row row c then row ∷ rows_behind width [] text

@@ -11,11 +11,11 @@ Piece = ℕ × List ℕ
 abbrev pub piece_end : Piece → ℕ
 piece_end piece = piece.0 + length piece.1
 
--- Byte `k` of the capture is in the piece.
+-- The byte at the given index of the capture is in the piece.
 abbrev pub IsIn : ℕ → Piece → Type 0
 IsIn k piece = (piece.0 ≤ k) × (k < piece_end piece)
 
--- Byte `k` of the capture is in one of the pieces.
+-- The byte at the given index of the capture is in one of the pieces.
 abbrev pub IsInSome : ℕ → List Piece → Type 0
 IsInSome k [] = ⊥
 IsInSome k (piece ∷ pieces) = IsIn k piece ⊎ IsInSome k pieces
@@ -24,8 +24,8 @@ IsInSome k (piece ∷ pieces) = IsIn k piece ⊎ IsInSome k pieces
 abbrev pub IsPieceOf : List ℕ → Piece → Type 0
 IsPieceOf capture piece = (piece.1 ≢ []) × (take (length piece.1) (drop piece.0 capture) ≡ piece.1)
 
--- The pieces are nonempty slices of the capture, are in order, begin at or after byte `at`, and are separated by at
--- least one byte.
+-- The pieces are nonempty slices of the capture, are in order, begin at or after the given byte, and are separated by
+-- at least one byte.
 abbrev pub AreApart : List ℕ → ℕ → List Piece → Type 0
 AreApart capture at [] = ⊤
 AreApart capture at (piece ∷ pieces) =
@@ -41,7 +41,7 @@ pub record ArePiecesOf (capture : List ℕ) (pieces : List Piece) : Type 0 where
 abbrev pub texts_of : List Piece → List (List ℕ)
 texts_of pieces = map (λ p. p.1) pieces
 
--- The bytes of a string that are outside SGR sequences; `within` says whether the string begins inside an SGR sequence.
+-- The bytes of a string that are outside SGR sequences, given whether the string begins inside an SGR sequence.
 abbrev pub plain_from : Bool → List ℕ → List ℕ
 plain_from within [] = []
 plain_from true (b ∷ text) = plain_from (is_within_after true b) text

@@ -5,8 +5,8 @@ use Rattle.vt_cells.specs.Cell.{CellValue, default_blank, is_glyph}
 use Rattle.vt_rows.specs.Basic.{shown_text}
 use Rattle.vt_rows.specs.Cells.{cells_after_cut}
 
--- The cells of a row in the columns `start..stop`, as far as the row has these columns. If the first of these cells is
--- a continuation cell, it becomes a default blank.
+-- The cells of a row in the columns `start..stop`, up to the end of the row. If the first of these cells is a
+-- continuation cell, it becomes a default blank.
 abbrev pub columns_between : (start stop : ℕ) → List CellValue → List CellValue
 columns_between start stop cells = cells_after_cut default_blank (drop start (take stop cells))
 

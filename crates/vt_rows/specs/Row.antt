@@ -10,11 +10,12 @@ pub record RowValue : Type 0 where
   pub cells : List CellValue
   pub wrapped : Bool
 
--- A row of `width` blanks with the given attributes. The row is not wrapped.
+-- A row of blanks with the given attributes and width. The row is not wrapped.
 abbrev pub blank_row : Attrs → ℕ → RowValue
 blank_row attrs width = record { cells = blanks attrs width; wrapped = false }
 
--- The row after printing or erasing replaced its cells. The wrapped flag is cleared if the last column is now blank.
+-- The row after its cells are replaced by printing or erasing. The wrapped flag is cleared if the last column is now
+-- blank.
 abbrev pub with_cells : RowValue → List CellValue → RowValue
 with_cells row cells = record { cells = cells; wrapped = row.wrapped && not (ends_blank cells) }
 
@@ -26,15 +27,18 @@ pub record IsRow (width : ℕ) (row : RowValue) : Type 0 where
   pub flagged : row.wrapped ≡ true → ends_blank row.cells ≡ false
   pub sound : All IsCell row.cells
 
--- The row after `n` default blanks are inserted at column `c` (ICH); its wrapped flag is cleared.
+-- `inserted_row c n row` is the row after `n` default blanks are inserted at column `c` (ICH); its wrapped flag is
+-- cleared.
 abbrev pub inserted_row : ℕ → ℕ → RowValue → RowValue
 inserted_row c n row = record { cells = cells_after_insert c n row.cells; wrapped = false }
 
--- The row after `n` columns, starting at column `c`, are deleted (DCH); its wrapped flag is cleared.
+-- `deleted_row c n row` is the row after `n` columns, starting at column `c`, are deleted (DCH); its wrapped flag is
+-- cleared.
 abbrev pub deleted_row : ℕ → ℕ → RowValue → RowValue
 deleted_row c n row = record { cells = cells_after_delete c n row.cells; wrapped = false }
 
--- The row, truncated or extended to `n` columns. Its wrapped flag is cleared if its width changes.
+-- The row, truncated or extended to the given number of columns. The wrapped flag is cleared if the row's width
+-- changes.
 abbrev pub resized_row : ℕ → RowValue → RowValue
 resized_row n row = record { cells = cells_after_resize n row.cells; wrapped = row.wrapped && (length row.cells == n) }
 

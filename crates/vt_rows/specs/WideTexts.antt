@@ -23,12 +23,12 @@ abbrev pub wide_glyphs_of : Attrs → List ℕ → List CellValue
 wide_glyphs_of attrs [] = []
 wide_glyphs_of attrs (c ∷ text) = wide_glyph attrs c ∷ right_half ∷ wide_glyphs_of attrs text
 
--- The cells after the wide glyphs of `text` are written, starting at column `c`. A continuation cell that loses its own
--- wide glyph becomes a blank with the attributes of the new glyphs.
+-- The cells after the wide glyphs of a text are written, starting at the given column. A continuation cell that loses
+-- its own wide glyph becomes a blank with the attributes of the new glyphs.
 abbrev pub put_wide_text : ℕ → List ℕ → Attrs → List CellValue → List CellValue
 put_wide_text c text attrs cells = put_cells c (blank attrs) (wide_glyphs_of attrs text) (2 * length text) cells
 
--- The cells after `put_wide` is applied to each character of a text in turn.
+-- The cells after `put_wide` has written each character of a text in turn, starting at the given column.
 abbrev pub put_each_wide : ℕ → List ℕ → Attrs → List CellValue → List CellValue
 put_each_wide c [] attrs cells = cells
 put_each_wide c (x ∷ text) attrs cells = put_each_wide (c + 2) text attrs (put_wide c (encode_utf8 x) attrs cells)

@@ -29,7 +29,7 @@ const GLYPHS: usize = 8;
 /// Puts a narrow glyph at a column.
 ///
 /// If the column held the continuation cell of a wide glyph, the first cell of that glyph becomes a
-/// blank with its own attributes. If the column held the first cell of a wide glyph, the
+/// blank and keeps its attributes. If the column held the first cell of a wide glyph, the
 /// continuation cell of that glyph becomes a space with attributes `attrs`.
 #[inline(always)]
 pub fn put_narrow(cells: &mut [Cell], column: usize, c: char, attrs: Attrs)
@@ -51,8 +51,8 @@ pub fn put_narrow(cells: &mut [Cell], column: usize, c: char, attrs: Attrs)
 /// glyphs.
 ///
 /// The result is the same as that of calling [`put_narrow`] for each byte. If the first column held
-/// the continuation cell of a wide glyph, the first cell of that glyph becomes a blank with its own
-/// attributes. If the last column held the first cell of a wide glyph, the continuation cell of
+/// the continuation cell of a wide glyph, the first cell of that glyph becomes a blank and keeps
+/// its attributes. If the last column held the first cell of a wide glyph, the continuation cell of
 /// that glyph becomes a space with attributes `attrs`.
 #[inline]
 pub fn put_text(cells: &mut [Cell], column: usize, text: &[u8], attrs: Attrs)
@@ -105,8 +105,8 @@ fn write_each(cells: &mut [Cell], text: &[u8], attrs: Attrs)
 /// Puts the characters of `text` at consecutive columns as narrow glyphs.
 ///
 /// The result is the same as that of calling [`put_narrow`] for each character. If the first column
-/// held the continuation cell of a wide glyph, the first cell of that glyph becomes a blank with
-/// its own attributes. If the last column held the first cell of a wide glyph, the continuation
+/// held the continuation cell of a wide glyph, the first cell of that glyph becomes a blank and
+/// keeps its attributes. If the last column held the first cell of a wide glyph, the continuation
 /// cell of that glyph becomes a space with attributes `attrs`.
 #[inline]
 pub fn put_narrow_text(cells: &mut [Cell], column: usize, text: &[char], attrs: Attrs)
@@ -140,7 +140,7 @@ fn write_narrow(cells: &mut [Cell], text: &[char], attrs: Attrs)
 /// Puts a wide glyph at `column` and the next column.
 ///
 /// If the first column held the continuation cell of a wide glyph, the first cell of that glyph
-/// becomes a blank with its own attributes. If the second column held the first cell of a wide
+/// becomes a blank and keeps its attributes. If the second column held the first cell of a wide
 /// glyph, the continuation cell of that glyph becomes a blank with attributes `attrs`.
 #[inline(always)]
 pub fn put_wide(cells: &mut [Cell], column: usize, c: char, attrs: Attrs)
@@ -177,8 +177,8 @@ pub fn put_wide_cell(cells: &mut [Cell], column: usize, cell: Cell)
 /// Puts the characters of `text` at consecutive pairs of columns as wide glyphs.
 ///
 /// The result is the same as that of calling [`put_wide`] for each character. If the first column
-/// held the continuation cell of a wide glyph, the first cell of that glyph becomes a blank with
-/// its own attributes. If the last column held the first cell of a wide glyph, the continuation
+/// held the continuation cell of a wide glyph, the first cell of that glyph becomes a blank and
+/// keeps its attributes. If the last column held the first cell of a wide glyph, the continuation
 /// cell of that glyph becomes a blank with attributes `attrs`.
 #[inline]
 pub fn put_wide_text(cells: &mut [Cell], column: usize, text: &[char], attrs: Attrs)
@@ -213,8 +213,8 @@ fn write_wide(cells: &mut [Cell], text: &[char], attrs: Attrs)
 
 /// Removes the cell at a column and returns it, leaving a blank with attributes `attrs`.
 ///
-/// If the cell was one of the two cells of a wide glyph, the other cell becomes a blank with its
-/// own attributes.
+/// If the cell was one of the two cells of a wide glyph, the other cell becomes a blank and keeps
+/// its attributes.
 pub fn lift(cells: &mut [Cell], column: usize, attrs: Attrs) -> Cell
     requires paired { IsPaired cells.old }
     requires inside { column < length cells.old }
@@ -321,7 +321,7 @@ fn clear_each(cells: &mut [Cell], attrs: Attrs)
 
 /// Sets columns `start..end` to blanks with attributes `attrs`.
 ///
-/// If only one cell of a wide glyph is erased, the other cell becomes a blank with its own
+/// If only one cell of a wide glyph is erased, the other cell becomes a blank and keeps its
 /// attributes.
 pub fn erase(cells: &mut [Cell], start: usize, end: usize, attrs: Attrs)
     requires paired { IsPaired cells.old }
@@ -357,7 +357,7 @@ pub fn flag_left(cells: &[Cell], wrapped: bool) -> bool
 }
 
 /// Prepares a column to be overwritten: if it holds the continuation cell of a wide glyph, turns
-/// the first cell of that glyph into a blank with its own attributes.
+/// the first cell of that glyph into a blank, which keeps the cell's attributes.
 #[tactic(auto, unfolding(crate::specs::Internals::left_blanked))]
 #[inline]
 pub(crate) fn blank_left(cells: &mut [Cell], column: usize)

@@ -12,10 +12,10 @@ const SPACES: &str = "                ";
 /// Writes the plain text of columns `start..stop`, without attributes. Columns past the end of the
 /// row are ignored.
 ///
-/// The text ends with the last glyph that begins in these columns. Columns without a glyph before
-/// it are written as spaces. A wide glyph that begins in the last of these columns is written
-/// whole. The continuation cell of a wide glyph that begins before the first column is written as a
-/// space.
+/// The text ends with the last glyph that begins in these columns. Before that glyph, columns
+/// without a glyph are written as spaces. A wide glyph that begins in the last of these columns is
+/// written whole. The continuation cell of a wide glyph that begins before the first column is
+/// written as a space.
 ///
 /// # Errors
 ///

@@ -133,7 +133,7 @@ impl Row {
     /// be blank.
     ///
     /// If the last column holds the first cell of a wide glyph after the change, that cell becomes
-    /// a blank with its own attributes. The row is wrapped if `from` is wrapped and has the same
+    /// a blank and keeps its attributes. The row is wrapped if `from` is wrapped and has the same
     /// width.
     pub fn refit(&mut self, from: Row)
         requires blank { self.old ≡ blank_row default_attrs (length self.old.cells) }

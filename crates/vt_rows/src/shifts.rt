@@ -12,8 +12,8 @@ use vt_cells::{Attrs, Cell};
 /// are lost.
 ///
 /// If the column holds a continuation cell, the blanks are inserted after it. If the last column
-/// holds the first cell of a wide glyph after the insertion, that cell becomes a blank with its own
-/// attributes.
+/// holds the first cell of a wide glyph after the insertion, that cell becomes a blank and keeps
+/// its attributes.
 pub fn insert(cells: &mut [Cell], column: usize, count: usize)
     requires paired { IsPaired cells.old }
     requires inside { column ≤ length cells.old }
@@ -32,7 +32,7 @@ pub fn insert(cells: &mut [Cell], column: usize, count: usize)
 /// Deletes `count` columns starting at `column`, stopping at the end of the row (DCH). The cells
 /// after the deleted columns move left, and default blanks fill the end of the row.
 ///
-/// If only one cell of a wide glyph is deleted, the other cell becomes a blank with its own
+/// If only one cell of a wide glyph is deleted, the other cell becomes a blank and keeps its
 /// attributes.
 pub fn delete(cells: &mut [Cell], column: usize, count: usize)
     requires paired { IsPaired cells.old }
@@ -55,8 +55,8 @@ pub fn delete(cells: &mut [Cell], column: usize, count: usize)
 /// Moves the cells from `start` on to the right by `count` columns. Cells that are pushed past the
 /// end of the row are lost, and the cells of the gap are left for the caller to overwrite.
 ///
-/// A rotation by one column moves the other cells as one block of memory, but further rotations
-/// move each cell several times.
+/// The cells are rotated only if `count` is 1: a rotation by one column moves the other cells as
+/// one block of memory, but a rotation by more columns moves each cell several times.
 fn open_gap(cells: &mut [Cell], start: usize, count: usize)
     requires inside { start + count ≤ length cells.old }
     ensures len { length cells.new ≡ length cells.old }
@@ -72,10 +72,11 @@ fn open_gap(cells: &mut [Cell], start: usize, count: usize)
     cells.copy_within(start..len - count, start + count);
 }
 
-/// Moves the cells after `count` columns at `column` to the left by `count` columns. The last
-/// `count` cells of the row are left for the caller to overwrite.
+/// Moves the cells that follow the `count` columns at `column` to the left by `count` columns. The
+/// last `count` cells of the row are left for the caller to overwrite.
 ///
-/// As in [`open_gap`], only a rotation by one column is fast.
+/// As in [`open_gap`], the cells are rotated only if `count` is 1, because only a rotation by one
+/// column is fast.
 fn close_gap(cells: &mut [Cell], column: usize, count: usize)
     requires inside { column + count ≤ length cells.old }
     ensures len { length cells.new ≡ length cells.old }

@@ -48,7 +48,7 @@ fn four_default(cells: &[Cell]) -> bool
 /// as many cells as the narrower row has.
 ///
 /// If the last column holds the first cell of a wide glyph after the copy, that cell becomes a
-/// blank with its own attributes.
+/// blank and keeps its attributes.
 pub fn refit(cells: &mut [Cell], from: &[Cell])
     requires blank { cells.old ≡ blanks default_attrs (length cells.old) }
     requires paired { IsPaired from.now }
@@ -59,8 +59,8 @@ pub fn refit(cells: &mut [Cell], from: &[Cell])
     blank_end(cells);
 }
 
-/// If the last cell is the first cell of a wide glyph, turns it into a blank with its own
-/// attributes.
+/// If the last cell is the first cell of a wide glyph, turns it into a blank, which keeps the
+/// cell's attributes.
 #[tactic(auto, unfolding(crate::specs::Internals::end_blanked))]
 pub fn blank_end(cells: &mut [Cell])
     ensures { cells.new ≡ end_blanked cells.old }

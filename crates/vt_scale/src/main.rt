@@ -19,13 +19,14 @@ const GROUPS: u64 = 16;
 /// The schedule on which viewers are updated.
 #[derive(Clone, Copy)]
 enum Work {
-    /// All viewers are updated after every EVERY bytes.
+    /// All viewers are updated each time EVERY bytes have been processed.
     Step,
 
-    /// One of sixteen groups of viewers, in turn, is updated after every EVERY bytes.
+    /// The viewers form sixteen groups. Each time EVERY bytes have been processed, one group is
+    /// updated, in turn.
     Lag,
 
-    /// All viewers are updated EVERY times after the whole file.
+    /// After the whole file has been processed, all viewers are updated EVERY times.
     Idle,
 
     /// There are no viewers; the file is only parsed, EVERY bytes at a time.
@@ -143,7 +144,7 @@ fn measured(mut mirror: Mirror, task: Task, bytes: &[u8]) -> Result<Totals> {
     Ok(totals)
 }
 
-/// Updates the viewers that are due in turn `turn`, and adds their updates to `totals`.
+/// Updates the viewers that are due at turn number `turn`, and adds their updates to `totals`.
 fn update_viewers(mirror: &mut Mirror, task: Task, turn: u64, totals: &mut Totals) -> Result<()> {
     for viewer in 0..task.viewers {
         let is_due = match task.work {

@@ -2,7 +2,7 @@
 -- 3-6.
 use Rattle.std.specs.Prelude.{ℕ, ◌+◌, ◌*◌, ◌%◌, Bool, false, ◌&&◌, ◌==◌, nat_le, List, [], ◌∷◌, if◌then◌else◌}
 
--- The byte is in the inclusive range from `low` to `high`.
+-- In `is_within low high byte`, the byte is in the inclusive range from `low` to `high`.
 abbrev pub is_within : ℕ → ℕ → ℕ → Bool
 is_within low high byte = nat_le low byte && nat_le byte high
 
@@ -11,7 +11,7 @@ is_within low high byte = nat_le low byte && nat_le byte high
 abbrev pub continues : ℕ → Bool
 continues byte = is_within 0x80 0xBF byte
 
--- The byte can be the second byte of a character that begins with `first`.
+-- The second of the two bytes can follow the first one at the beginning of a character.
 abbrev pub is_second : ℕ → ℕ → Bool
 is_second first byte =
     if first == 0xE0 then is_within 0xA0 0xBF byte

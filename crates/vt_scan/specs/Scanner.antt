@@ -32,7 +32,7 @@ pub record ReadsSequence (held : ScannerValue) (text : List ℕ) : Type 0 where
   pub table : held.table ≡ table_of (parameter_text text)
   pub intermediates : held.intermediates ≡ intermediates_of text
 
--- The scanner holds the data that a state of the given kind with the collected bytes `text` requires.
+-- The scanner holds the data that a state with the given kind and the given collected bytes requires.
 abbrev pub Reads : ScannerValue → Kind → List ℕ → Type 0
 Reads held Ground text = held.unfinished ≡ text
 Reads held CsiIgnore text = Unit {0}
@@ -83,7 +83,7 @@ ReadsItself held b = (held.kind ≡ Ground) × (held.unfinished ≡ []) × (0x20
 abbrev pub ExecutesItself : ScannerValue → ℕ → Type 0
 ExecutesItself held b = (held.kind ≡ Ground) × (held.unfinished ≡ []) × (b < 0x20) × (b ≢ 0x1B)
 
--- Feeding the byte `b` performs the automaton's step from every state that the scanner can be in, and returns the
+-- Feeding the given byte performs the automaton's step from every state that the scanner can be in, and returns the
 -- events of that step.
 abbrev pub Feeds : ScannerValue → ℕ → ScannerValue → Events → Type 0
 Feeds old b new answer =
@@ -95,7 +95,7 @@ abbrev pub FeedsAll : ScannerValue → List ℕ → ScannerValue → List automa
 FeedsAll old bytes new events =
     (state : State) → StandsFor old state → StandsFor new (run state bytes).state × ((run state bytes).events ≡ events)
 
--- The given bytes issue no event, whatever state the scanner is in.
+-- Reading the given bytes produces no events, whatever state the scanner is in.
 abbrev pub HasNoEvent : ScannerValue → List ℕ → Type 0
 HasNoEvent held bytes = (state : State) → StandsFor held state → (run state bytes).events ≡ []
 
@@ -115,9 +115,9 @@ starts_skipped b = (b == 0x50) || ((b == 0x58) || ((b == 0x5E) || (b == 0x5F)))
 abbrev pub starts_string : ℕ → Bool
 starts_string b = (b == 0x5D) || starts_skipped b
 
--- The byte is part of the beginning of a sequence: ESC in the ground state with no incomplete character, any number
--- of ESC after it, and then an intermediate byte, a byte that introduces a string, or `[` followed by a private marker
--- and parameter bytes.
+-- The byte is part of the beginning of a sequence. In the ground state with no incomplete character, such a byte is
+-- ESC; after ESC, it is another ESC, `[`, an intermediate byte, or a byte that introduces a string; after `ESC [`, it
+-- is a private marker or a parameter byte; and after one of these, it is a parameter byte.
 abbrev pub is_introducer : Kind → List ℕ → ℕ → Bool
 is_introducer Ground unfinished b = (length unfinished == 0) && (b == 0x1B)
 is_introducer Escape unfinished b = (b == 0x1B) || ((b == 0x5B) || (starts_string b || is_intermediate b))
@@ -139,7 +139,7 @@ ends_sequence _ b = false
 abbrev pub EndsEscape : Kind → ℕ → Type 0
 EndsEscape kind b = transition_of kind (class_of b) ≡ End Ground EscDispatch
 
--- The byte ends an operating system command, which is then dispatched as the only event.
+-- The byte ends an operating system command; dispatching that command is the only event the byte causes.
 abbrev pub ends_command : Kind → ℕ → Bool
 ends_command OscString b = (b == 0x07) || (b == 0x1B)
 ends_command _ b = false

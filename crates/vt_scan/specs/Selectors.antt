@@ -5,7 +5,7 @@ use Rattle.std.specs.List.{AllByRecursion}
 use Rattle.vt_scan.specs.Automaton.{State, Character}
 use Rattle.vt_scan.specs.Run.{run}
 
--- `bytes` doesn't contain the sequence EF B8 8F.
+-- The bytes don't contain the sequence EF B8 8F.
 abbrev pub SpellsNoSelector : List ℕ → Type 0
 SpellsNoSelector bytes = (i : ℕ) → take 3 (drop i bytes) ≢ 0xEF ∷ 0xB8 ∷ 0x8F ∷ []
 

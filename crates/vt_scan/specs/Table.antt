@@ -34,7 +34,7 @@ class_of b =
     else High
 
 -- The transition for a kind of state and a class of bytes; the first matching equation applies. In the ground state,
--- bytes from 0x80 on are UTF-8 and don't use this table.
+-- bytes from 0x80 on are decoded as UTF-8 and are not looked up here.
 abbrev pub transition_of : Kind → Class → Transition
 transition_of OscString Bell = End Ground OscDispatch
 transition_of OscString Cancel = End Ground OscDispatchAndExecuted

@@ -12,7 +12,7 @@ IsParameterText [] = Unit {0}
 IsParameterText (b ∷ text) = (0x30 ≤ b) × (b ≤ 0x3B) × IsParameterText text
 
 -- The groups of numbers that the scanner reads from CUP's parameters for a 0-based row and column. For the home
--- position, CUP has no parameters, which are read as a single 0.
+-- position, CUP is sent without parameters, and the scanner reads a single 0.
 abbrev pub place_groups : ℕ → ℕ → List (List ℕ)
 place_groups zero zero = (0 ∷ []) ∷ []
 place_groups row col = ((row + 1) ∷ []) ∷ ((col + 1) ∷ []) ∷ []

@@ -28,8 +28,8 @@ use vt_cells::Error;
 /// A parser that reads terminal output byte by byte and returns events.
 ///
 /// It follows Paul Williams' parser for ANSI terminals, with UTF-8 as in Table 3-7 of the Unicode
-/// Standard. For a control sequence it returns the first 32 numbers, each limited to 65535. Of the
-/// bytes that are a private marker or intermediates, it returns the first two. For an operating
+/// Standard. For a control sequence it returns the first 32 numbers, each limited to 65535. Of a
+/// sequence's private marker and intermediate bytes, it returns the first two. For an operating
 /// system command it returns the first 16 parts. Memory is allocated only for the text of such a
 /// command.
 pub struct Scanner {
@@ -114,7 +114,7 @@ impl Scanner {
         let _kind = self.kind;
     }
 
-    /// Returns the numbers of the control sequence that the last event reported.
+    /// Returns the parameters of the control sequence that the last event reported.
     #[inline]
     pub fn parameters(&self) -> &Parameters
         ensures { result.now ≡ self.now.table }
@@ -291,8 +291,8 @@ impl Scanner {
     }
 }
 
-/// The largest capacity, in bytes, that a scanner keeps for the text of operating system commands
-/// between two commands.
+/// The largest buffer capacity, in bytes, that a scanner retains from one operating system
+/// command (OSC) to the next.
 const KEPT_CAPACITY: usize = 4096;
 
 /// Empties `text`. Also frees its memory if its capacity exceeds [`KEPT_CAPACITY`].

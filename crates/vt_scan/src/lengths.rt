@@ -41,7 +41,8 @@ pub fn part_len(bytes: &[u8]) -> usize
 
 /// Returns the number of leading bytes before the first CAN, SUB or ESC, which may end a string.
 ///
-/// EM (0x19), which is between them, also ends a quick search, which is then continued.
+/// EM (0x19), which lies between CAN and SUB, also stops the quick search; the search is then
+/// continued.
 #[inline]
 pub fn unended_len(bytes: &[u8]) -> usize
     ensures inside { result ≤ length bytes.now }
@@ -70,8 +71,8 @@ pub fn escapes_len(bytes: &[u8]) -> usize
     len
 }
 
-/// Returns the number of leading bytes before the first one from `low` to `low + width`, where
-/// bytes after 0xFF start again at 0.
+/// Returns the number of leading bytes before the first byte in the range from `low` to
+/// `low + width`, which continues at 0 after 0xFF.
 #[inline(always)]
 fn len_before(bytes: &[u8], low: u8, width: u8) -> usize
     ensures inside { result ≤ length bytes.now }
@@ -92,7 +93,8 @@ fn len_before(bytes: &[u8], low: u8, width: u8) -> usize
     len
 }
 
-/// Returns a mask in which a bit is set for each lane that [`is_in_range`].
+/// Returns a mask in which a bit is set for each lane whose byte is in the range from `low` to
+/// `low + width` (see [`is_in_range`]).
 #[inline(always)]
 fn lanes_in_range(lanes: u8x16, low: u8, width: u8) -> u64
     ensures { result ≡ mask_l (map (is_in_range low width) lanes) }
@@ -102,7 +104,8 @@ fn lanes_in_range(lanes: u8x16, low: u8, width: u8) -> u64
         .to_bitmask()
 }
 
-/// Returns whether `byte` is from `low` to `low + width`, where bytes after 0xFF start again at 0.
+/// Returns whether `byte` is in the range from `low` to `low + width`, which continues at 0 after
+/// 0xFF.
 #[inline(always)]
 fn is_in_range(byte: u8, low: u8, width: u8) -> bool
     ensures { result ≡ is_in_range low width byte }

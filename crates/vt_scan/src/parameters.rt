@@ -22,7 +22,7 @@ pub struct Parameters {
     ends: [usize; MAX_NUMBERS],
     closed: usize,
 
-    /// Whether there were more than 32 numbers.
+    /// Whether the sequence had more than 32 numbers.
     is_cut: bool,
 }
 
@@ -88,7 +88,7 @@ impl Parameters {
         self.numbers[last] = with_digit(self.numbers[last], byte - b'0');
     }
 
-    /// Begins a new number in the same group, if there is room.
+    /// Ends the last number and begins a new one in the same group, if there is room.
     fn end_number(&mut self)
         ensures { (text : List ℕ) → self.old ≡ table_of text → self.new ≡ table_of (text ++ 0x3A ∷ []) }
     {
@@ -100,7 +100,7 @@ impl Parameters {
         self.len += 1;
     }
 
-    /// Begins a new number in a new group, if there is room.
+    /// Ends the last group and begins a new one with a new number, if there is room.
     fn end_group(&mut self)
         ensures { (text : List ℕ) → self.old ≡ table_of text → self.new ≡ table_of (text ++ 0x3B ∷ []) }
     {
@@ -151,8 +151,8 @@ impl Parameters {
         self.push_digits(bytes)
     }
 
-    /// Begins a new number in a new group, if there is room, and parses its digits from the start
-    /// of `bytes`. Returns the number of digits parsed.
+    /// Ends the last group and begins a new one with a new number, if there is room, and parses the
+    /// digits of that number from the start of `bytes`. Returns how many digits it parsed.
     ///
     /// The group is stored only after its number is complete.
     #[inline(always)]

@@ -4,7 +4,7 @@ use Rattle.std.proofs.Common.{List, [], ◌∷◌, ◌++◌, length, refl, sym, 
 use Rattle.std.specs.List.{AllByRecursion}
 use Rattle.vt_cells.specs.Attrs.{default_attrs}
 use Rattle.vt_cells.specs.Op.{FitsAttrs, MoveTo, bytes_of, bytes_of_all, counted}
-use Rattle.vt_grid.specs.PageStep as page
+use Rattle.vt_grid.specs.declared.page_step.PageStep.TheVariants as page
 use Rattle.vt_redraw.specs.Redraw.{difference}
 use Rattle.vt_redraw.specs.Script.{attr_ops}
 use Rattle.vt_redraw.specs.Shifted.{IsMoving, IsRowShift, in_default_attrs, shift_text, shifted_all, shifting_text}

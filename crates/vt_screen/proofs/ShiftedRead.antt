@@ -7,7 +7,7 @@ use Rattle.vt_cells.specs.Attrs.{default_attrs}
 use Rattle.vt_cells.specs.Op.{FitsAttrs, MoveTo, bytes_of, bytes_of_all, counted}
 use Rattle.vt_grid.specs.Page.{Page, IsPage, IsPlainPage}
 use Rattle.vt_grid.specs.Moves.{moved_to, target_row}
-use Rattle.vt_grid.specs.PageStep.{DeleteChars, InsertChars}
+use Rattle.vt_grid.specs.declared.page_step.PageStep.TheVariants.{DeleteChars, InsertChars}
 use Rattle.vt_grid.specs.Shifts.{chars_deleted, chars_inserted}
 use Rattle.vt_redraw.specs.Picture.{IsPicture, Picture, SamePictureSize, picture_of}
 use Rattle.vt_redraw.specs.Redraw.{difference}

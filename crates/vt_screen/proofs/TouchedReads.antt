@@ -142,9 +142,9 @@ sgr_touches : (M : ℕ → ℕ → Type 0) (all : List (List ℕ))
     StepsTouch M (sgr_from all wanted groups) screen
 sgr_touches M all wanted [] screen = tt
 sgr_touches M all wanted (group ∷ rest) screen =
-    let read = group_read wanted group in
-    reading_touches M all terminal_after.reading (sgr_from all terminal_after.wanted rest)
-    (λ next. sgr_touches M all terminal_after.wanted rest next) screen
+    let group_reading = group_read wanted group in
+    reading_touches M all group_reading.reading (sgr_from all group_reading.wanted rest)
+    (λ next. sgr_touches M all group_reading.wanted rest next) screen
 
 -- SGR, CUP and CUF touch nothing.
 rendition_touches : (M : ℕ → ℕ → Type 0) (groups : List (List ℕ)) (screen : ScreenValue) →

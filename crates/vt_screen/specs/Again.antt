@@ -20,16 +20,16 @@ abbrev pub IsReport : CallValue → Type 0
 IsReport (OnScroll row alternate) = Unit {0}
 IsReport _ = ⊥
 
--- The inactive page, the choice of the active page, the input modes, the cursor style and the size are unchanged.
+-- The inactive page, the input modes, the cursor style and the size are unchanged, and the same page is active.
 pub record KeepsAside (reader after : ScreenValue) : Type 0 where
   pub other : after.other ≡ reader.other
   pub is_alternate : after.is_alternate ≡ reader.is_alternate
   pub modes : after.modes ≡ reader.modes
   pub size : SameSize after.page reader.page
 
--- The terminal, starting in ground state, reads the output and is then in ground state again and plain. No callback is
--- invoked except `on_scroll`, and the inactive page, the choice of the active page, the modes and the size are
--- unchanged.
+-- The terminal reads the output, starting in ground state, and afterward is plain and in ground state again. No
+-- callback is invoked except `on_scroll`. The inactive page, the modes and the size are unchanged, and the same page is
+-- active.
 pub record LeavesPlain (text : List ℕ) (reader : ScreenValue) : Type 0 where
   pub ground : (run start text).state ≡ start
   pub steps : AllByRecursion IsNoCallback (steps_in start reader text)

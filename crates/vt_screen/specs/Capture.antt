@@ -40,7 +40,7 @@ captured_text range screen = basic_texts (given_state range) (captured_rows rang
 abbrev pub RangeLeft : Type 0
 RangeLeft = (MutBor Written × ⊤) ⊎ (⊤ ⊎ ⊥)
 
--- The predicate `P` holds for the capture state that the caller passed, if any.
+-- The given predicate holds for the capture state that the caller passed, if any.
 abbrev pub IfGiven : RangeLeft → (Written → Type 0) → Type 0
 IfGiven (inl full) P = P full.0.now
 IfGiven (inr visible) P = ⊤

@@ -11,11 +11,11 @@ use Rattle.vt_screen.specs.declared.rows.Rows.{Rows}
 abbrev pub line_end : RowValue → List ℕ
 line_end row = if row.wrapped then [] else 0x0A ∷ []
 
--- The line end before a row without glyphs if the previous row is wrapped; empty otherwise.
+-- The line end written before a row that has no glyphs and follows a wrapped row; empty for any other row.
 abbrev pub gap_line : ℕ → Bool → RowValue → List ℕ
 gap_line width is_wrapped row = if is_wrapped && not (has_glyph 0 width row.cells) then 0x0A ∷ [] else []
 
--- The text of consecutive rows of `width` columns; the flag says whether the row before the first one is wrapped.
+-- The text of consecutive rows of the given width; the flag says whether the row before the first one is wrapped.
 abbrev pub lines_of : ℕ → Bool → List RowValue → List ℕ
 lines_of width is_wrapped [] = []
 lines_of width is_wrapped (row ∷ rows) =

@@ -35,7 +35,8 @@ use Rattle.vt_screen.specs.Steps.{Step, Print, LineFeed, ScrollUp, OnPage, SaveC
 use Rattle.vt_screen.specs.Steps.{EnterFresh, LeaveAlternate, LeaveRestoring, Reset, EraseScrollback, Render}
 use Rattle.vt_screen.specs.Steps.{HideCursor, SetMode, CallBack}
 
--- The parts of a screen that the steps of an event depend on: its size, and the last character, which REP repeats.
+-- The parts of a screen that the steps of an event depend on: its size, and the last printed character, which REP
+-- repeats.
 pub record Seen : Type 0 where
   pub rows : ℕ
   pub columns : ℕ
@@ -46,11 +47,12 @@ seen_of screen = record { rows = length screen.page.rows; columns = screen.page.
 
 -- ---- numbers
 
--- The first number of the group at index `i`; 0 if there is none.
+-- The first number of the group at the given index; 0 if there is no such number.
 abbrev pub number_at : ℕ → List (List ℕ) → ℕ
 number_at i groups = slice_index_or (slice_index_or groups i []) 0 0
 
--- The first number of the group at index `i`; `default` if it is 0 or missing.
+-- `number_or default i groups` is the first number of the group at index `i`, or `default` if that number is 0 or
+-- missing.
 abbrev pub number_or : ℕ → ℕ → List (List ℕ) → ℕ
 number_or default i groups = if number_at i groups == 0 then default else number_at i groups
 
@@ -77,7 +79,8 @@ control_steps b =
     else if (b == 0x0E) || (b == 0x0F) then []
     else CallBack (UnhandledControl b) ∷ []
 
--- The steps of an escape sequence: DECSC, DECRC, DECKPAM, DECKPNM, RI, RIS, or the visual bell of GNU Screen (ESC g).
+-- The steps of an escape sequence. DECSC, DECRC, DECKPAM, DECKPNM, RI, RIS and the visual bell of GNU Screen (ESC g)
+-- are performed; any other sequence is reported as unhandled.
 unfoldable pub escape_steps : List ℕ → ℕ → List Step
 escape_steps [] b =
     if b == 0x37 then SaveCursor ∷ []
@@ -96,7 +99,8 @@ reading_steps groups Silent = []
 reading_steps groups (Set setting) = Render setting ∷ []
 reading_steps groups Unhandled = CallBack (UnhandledCsi None None groups 0x6D) ∷ []
 
--- The steps of the remaining SGR groups. `wanted` says how the first of them is interpreted.
+-- The steps of the remaining groups of an SGR sequence. The `Wanted` value says how the first of these groups is
+-- interpreted.
 abbrev pub sgr_from : List (List ℕ) → Wanted → List (List ℕ) → List Step
 sgr_from groups wanted [] = []
 sgr_from groups wanted (group ∷ rest) =
@@ -123,7 +127,7 @@ row_erasing report n =
     else if n == 2 then OnPage EraseRow ∷ []
     else CallBack report ∷ []
 
--- The number of rows or columns of a requested size; the screen's own number if the group is missing.
+-- The number of rows or columns of a requested size; the screen's own number if the request has no such group.
 abbrev pub size_or : ℕ → ℕ → List (List ℕ) → ℕ
 size_or own i groups = if nat_lt i (length groups) then number_at i groups else own
 
@@ -137,8 +141,8 @@ abbrev pub repeated : ℕ → Option ℕ → List Step
 repeated n (Some c) = replicate n (Print c)
 repeated n None = []
 
--- The step of a control sequence whose only parameter is a count or a position of at least 1, and which only changes
--- the page.
+-- The step of a control sequence that only changes the page and whose only parameter is a count or a position of at
+-- least 1; `None` for any other sequence.
 unfoldable pub counted_step : ℕ → ℕ → Option PageStep
 counted_step b n =
     if b == 0x40 then Some (InsertChars n)
@@ -157,7 +161,8 @@ counted_step b n =
     else if b == 0x64 then Some (MoveToRow (n - 1))
     else None
 
--- The steps of other control sequences without a private marker or intermediate bytes. Rows and columns are 1-based.
+-- The steps of CUP, HVP, ED, EL, SGR, DECSTBM and xterm's window manipulation; any other control sequence is reported
+-- as unhandled. Rows and columns in the sequences are 1-based.
 unfoldable pub other_steps : List (List ℕ) → ℕ → Seen → List Step
 other_steps groups b seen =
     if (b == 0x48) || (b == 0x66) then OnPage (MoveTo (number_or 1 0 groups - 1) (number_or 1 1 groups - 1)) ∷ []
@@ -168,7 +173,8 @@ other_steps groups b seen =
     else if b == 0x74 then window_steps groups seen
     else CallBack (UnhandledCsi None None groups b) ∷ []
 
--- The steps of SU and REP, which may scroll rows off the page, and of the sequences of `other_steps`.
+-- The steps of SU and REP, which may scroll rows off the page; the steps of any other sequence are those of
+-- `other_steps`.
 unfoldable pub scrolling_steps : List (List ℕ) → ℕ → Seen → List Step
 scrolling_steps groups b seen =
     if b == 0x53 then ScrollUp (number_or 1 0 groups) ∷ []
@@ -183,7 +189,7 @@ one_or None others = others
 abbrev pub unmarked_steps : List (List ℕ) → ℕ → Seen → List Step
 unmarked_steps groups b seen = one_or (counted_step b (number_or 1 0 groups)) (scrolling_steps groups b seen)
 
--- The cursor style that a DECSCUSR parameter selects.
+-- The cursor style that a DECSCUSR parameter selects; `None` if the parameter is unknown.
 unfoldable pub style_of : ℕ → Option CursorStyle
 style_of n =
     if n == 0 then Some style.Default
@@ -269,7 +275,7 @@ is_base64 b =
     (nat_le 0x41 b && nat_le b 0x5A) || ((nat_le 0x61 b && nat_le b 0x7A) || ((nat_le 0x30 b && nat_le b 0x39)
     || ((b == 0x2B) || ((b == 0x2F) || (b == 0x3D)))))
 
--- The steps of a two-part operating system command. OSC 0, 1 and 2 set the icon name, the window title or both
+-- The steps of a two-part operating system command. OSC 1 sets the icon name, OSC 2 the window title, and OSC 0 both
 -- (xterm); any other command is reported as unhandled.
 unfoldable pub named_steps : List ℕ → List ℕ → List Step
 named_steps name text =

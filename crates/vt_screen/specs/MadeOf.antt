@@ -1,5 +1,5 @@
 -- The elements of output for terminals: characters that are not control characters, control sequences with decimal
--- numbers, and a few other listed sequences.
+-- numbers, and a few fixed sequences.
 use Rattle.std.specs.Prelude.{◌≡◌, ◌<◌, ◌≤◌, ◌⊎◌, ℕ, List, [], ◌∷◌, ◌++◌, codes, encode_utf8_all, map}
 use Rattle.std.specs.Char.{IsScalar}
 use Rattle.std.specs.List.{AllByRecursion, flat_map}

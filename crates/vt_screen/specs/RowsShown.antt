@@ -12,7 +12,7 @@ use Rattle.vt_redraw.specs.Picture.{Picture}
 use Rattle.vt_screen.specs.Screen.{ScreenValue}
 use Rattle.vt_screen.specs.Shown.{IsReader, Turns, display}
 
--- Row `r` of a screen's picture.
+-- The row at the given index of a screen's picture.
 abbrev pub shown_row : ScreenValue → ℕ → RowValue
 shown_row screen r = row_of_picture (display screen) r
 
@@ -51,7 +51,7 @@ changed_rows start width screen prev =
     texts_from (changed_text start (range_end start width screen.page.width) (display screen) (display prev)) 0
     (length screen.page.rows)
 
--- The output for row `r` in a list of outputs.
+-- The output for the row at the given index in a list of outputs.
 abbrev pub text_at : List (List ℕ) → ℕ → List ℕ
 text_at texts r = slice_index_or texts r []
 
@@ -89,7 +89,7 @@ pub record HasRange (start stop r : ℕ) (shows : RowValue) (reader after : Scre
   pub others : (k : ℕ) → k ≢ r → row_at after.page k ≡ row_at reader.page k
   pub height : length after.page.rows ≡ length reader.page.rows
 
--- Row `r` of the terminal is not wrapped after the terminal has read the output.
+-- The terminal's row at the given index is not wrapped after the terminal has read the output.
 abbrev pub IsOff : ℕ → (reader after : ScreenValue) → Type 0
 IsOff r reader after = (row_at after.page r).wrapped ≡ false
 
@@ -100,8 +100,8 @@ pub record HasLinked (r : ℕ) (shows : RowValue) (reader after : ScreenValue) :
   pub others : (k : ℕ) → k ≢ r → k ≢ r + 1 → row_at after.page k ≡ row_at reader.page k
   pub height : length after.page.rows ≡ length reader.page.rows
 
--- The output turns row `r` of a terminal from `stood` into that row of the screen, in the `width` columns starting
--- at `start`.
+-- In the `width` columns starting at `start`, the output turns row `r` of a terminal from `stood` into row `r` of the
+-- screen.
 abbrev pub DrawsRow : (start width : ℕ) → ScreenValue → (r : ℕ) → (stood : RowValue) → List ℕ → Type 0
 DrawsRow start width screen r stood text =
     Turns (IsRowReader (display screen) r start stood) text
@@ -113,17 +113,17 @@ DrawsRow start width screen r stood text =
 abbrev pub IsWholeRow : (start width columns : ℕ) → Type 0
 IsWholeRow start width columns = (start ≡ 0) × (columns ≤ width)
 
--- `P` holds for each row of a screen's picture in which the range of `width` columns starting at `start` splits no wide
--- character.
+-- The given predicate holds for each row of a screen's picture in which the range of `width` columns starting at
+-- `start` splits no wide character.
 abbrev pub EachUncut : (start width : ℕ) → ScreenValue → (ℕ → Type 0) → Type 0
 EachUncut start width screen P =
     (r : ℕ) → r < length (display screen).rows
     → CutsNone start (range_end start width screen.page.width) (shown_row screen r).cells → P r
 
--- `P` holds for each wrapped row of a screen's picture.
+-- The given predicate holds for each wrapped row of a screen's picture.
 abbrev pub EachLinked : ScreenValue → (ℕ → Type 0) → Type 0
 EachLinked screen P = (r : ℕ) → r + 1 < length (display screen).rows → (shown_row screen r).wrapped ≡ true → P r
 
--- `P` holds for each row of a screen's picture that isn't wrapped.
+-- The given predicate holds for each row of a screen's picture that isn't wrapped.
 abbrev pub EachOff : ScreenValue → (ℕ → Type 0) → Type 0
 EachOff screen P = (r : ℕ) → r < length screen.page.rows → (shown_row screen r).wrapped ≡ false → P r

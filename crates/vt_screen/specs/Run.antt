@@ -46,7 +46,7 @@ Takes does a (ScrollUp count) b = Scrolls does a (ScrollUp count) b
 Takes does a EraseScrollback b = Scrolls does a EraseScrollback b
 Takes does a step b = b ≡ state a.callbacks (display_after step a.screen)
 
--- The effect of an event: the steps of the event, which depend on the screen before the event, are taken in order.
+-- The effect of an event: its steps are taken in order. These steps depend on the screen before the event.
 abbrev pub Performs : {S : Type 0} → CallRelation S → State S → Event → State S → Type 0
 Performs does a event b = FoldsTo (Takes does) a (steps_of event (seen_of a.screen)) b
 

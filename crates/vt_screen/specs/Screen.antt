@@ -16,8 +16,8 @@ use Rattle.vt_grid.specs.Scrollback.{Scrollback, IsScrollback, no_scrollback, wi
 pub use Rattle.vt_screen.specs.declared.modes.Modes.{Modes}
 
 pub record ScreenValue : Type 0 where
-  -- The active page, and the inactive one, which is `None` until the alternate page is created. Scrollback belongs to
-  -- the main page.
+  -- The active page and the inactive page. The inactive page is `None` until the alternate page is created. Scrollback
+  -- belongs to the main page.
   pub page : Page
   pub other : Option Page
   pub is_alternate : Bool
@@ -26,7 +26,7 @@ pub record ScreenValue : Type 0 where
   pub saved_attrs : Attrs
   pub hidden : Bool
   pub modes : Modes
-  -- The last printed character that took columns, which REP repeats.
+  -- The last printed character that took columns; REP repeats this character.
   pub last : Option ℕ
 
 abbrev pub no_modes : Modes
@@ -66,7 +66,7 @@ abbrev pub with_canvas : Canvas → ScreenValue → ScreenValue
 with_canvas canvas screen =
     record screen { page = canvas.page; attrs = canvas.attrs; saved_attrs = canvas.saved_attrs; hidden = canvas.hidden }
 
--- The scrollback of the active page; the alternate page has none.
+-- The scrollback of the active page; the alternate page has no scrollback.
 abbrev pub above_page : ScreenValue → Scrollback
 above_page screen = if screen.is_alternate then no_scrollback 0 else screen.scrollback
 
@@ -78,8 +78,8 @@ visible_rows screen = visible (above_page screen) screen.page.rows
 abbrev pub visible_row : ScreenValue → ℕ → RowValue
 visible_row screen r = row_or screen.page.width (visible_rows screen) r
 
--- The screen after its scrollback offset is set to `n`, clamped to the number of scrollback rows. The screen is
--- unchanged while its alternate page is active, because that page has no scrollback.
+-- The screen after its scrollback offset is set to the given number, clamped to the number of scrollback rows. The
+-- screen is unchanged while its alternate page is active, because that page has no scrollback.
 abbrev pub scrolled_back : ℕ → ScreenValue → ScreenValue
 scrolled_back n screen =
     if screen.is_alternate then screen

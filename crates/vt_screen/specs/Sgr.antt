@@ -102,8 +102,8 @@ form_read layer (n ∷ []) =
     else record { reading = Unhandled; wanted = Stopped }
 form_read layer _ = record { reading = Unhandled; wanted = Stopped }
 
--- The interpretation of an SGR group as a color component, which is a single number up to 255. After any other group,
--- the rest of the sequence is ignored.
+-- The interpretation of an SGR group as a color component, which is a single number up to 255 and is passed to the
+-- given function. After any other group, the rest of the sequence is ignored.
 abbrev pub part_read : List ℕ → (ℕ → GroupRead) → GroupRead
 part_read (n ∷ []) next = if nat_lt n 256 then next n else silent_read Stopped
 part_read _ next = silent_read Stopped

@@ -41,8 +41,8 @@ pub record IsPlain (screen : ScreenValue) : Type 0 where
   pub page : IsPlainPage screen.page
   pub offset : (above_page screen).offset ≡ 0
 
--- The terminal `reader` after it was changed to display a picture. Its saved state and its last printed character may
--- have changed, too; all other parts are unchanged.
+-- The given terminal after it was changed to display a picture. Its saved state and its last printed character may have
+-- changed, too; all other parts are unchanged.
 abbrev pub reader_with_display : Picture → Saved → Option ℕ → ScreenValue → ScreenValue
 reader_with_display picture saved last reader =
     record (with_canvas (with_saved saved (with_picture picture (canvas_of reader))) reader) { last = last }
@@ -81,12 +81,13 @@ pub record IsReaderOfRows (picture : Picture) (reader : ScreenValue) : Type 0 wh
 abbrev pub ReadsTo : List ℕ → (reader after : ScreenValue) → Type 0
 ReadsTo text reader after = terminal_after (terminal start reader) text ≡ Some (terminal start after)
 
--- Every terminal with the property `Reader` reads all of the output without invoking callbacks, allocating, or
--- scrolling rows off the page.
+-- Every terminal with the given property reads all of the output without invoking callbacks, allocating, or scrolling
+-- rows off the page.
 abbrev pub IsReadBy : (ScreenValue → Type 0) → List ℕ → Type 0
 IsReadBy Reader text = (reader : ScreenValue) → Reader reader → (after : ScreenValue) × ReadsTo text reader after
 
--- `Made` holds for every terminal with the property `Reader` after it has read all of the output.
+-- After a terminal with the given property has read all of the output, the given relation holds between the terminal
+-- before and the terminal after.
 abbrev pub Makes : (ScreenValue → Type 0) → List ℕ → ((reader after : ScreenValue) → Type 0) → Type 0
 Makes Reader text Made = (reader after : ScreenValue) → Reader reader → ReadsTo text reader after → Made reader after
 
@@ -162,7 +163,7 @@ pub record Turns (Reader : ScreenValue → Type 0) (text : List ℕ)
   pub plain : Makes Reader text StaysPlain
   pub rest : Makes Reader text KeepsRest
 
--- The output that resets the attributes with SGR and then changes the default attributes to the given ones.
+-- The output that resets the attributes (SGR without parameters) and then sets the given ones.
 abbrev pub attributes_text : Attrs → List ℕ
 attributes_text attrs = bytes_of_all (ClearAttrs ∷ ChangeAttrs default_attrs attrs ∷ [])
 

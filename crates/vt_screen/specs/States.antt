@@ -15,8 +15,8 @@ pub record HasDefaultMouseAndStyle (modes : Modes) : Type 0 where
   pub mouse_encoding : modes.mouse_encoding ≡ no_modes.mouse_encoding
   pub cursor_style : modes.cursor_style ≡ no_modes.cursor_style
 
--- The output sets the given modes on every terminal in ground state whose modes satisfy `Had`, and changes nothing
--- else.
+-- The output sets the given modes on every terminal in ground state whose modes satisfy the given predicate, and
+-- changes nothing else.
 abbrev pub SetsModes : (Modes → Type 0) → Modes → List ℕ → Type 0
 SetsModes Had modes text =
     (reader : ScreenValue) → Had reader.modes → ReadsTo text reader (record reader { modes = modes })
@@ -32,13 +32,14 @@ state_text screen = shown_text screen ++ input_text screen.modes
 abbrev pub state_change : (was new : ScreenValue) → List ℕ
 state_change was new = display_change was new ++ input_change was.modes new.modes
 
--- The terminal is plain and has the screen's size, and its mouse mode, mouse encoding and cursor style have their
--- default values.
+-- The terminal `reader` is plain and has the screen's size, and its mouse mode, mouse encoding and cursor style have
+-- their default values.
 pub record IsStateReader (screen reader : ScreenValue) : Type 0 where
   pub is : IsReader (display screen) reader
   pub modes : HasDefaultMouseAndStyle reader.modes
 
--- The terminal is plain, displays the picture of the screen `prev`, and has the input modes of `prev`.
+-- The terminal `reader` is plain, has the size of `screen`, displays the picture of the screen `prev`, and has the
+-- input modes of `prev`.
 pub record IsStateReaderOf (screen prev reader : ScreenValue) : Type 0 where
   pub is : IsReaderOf (display screen) (display prev) reader
   pub modes : reader.modes ≡ prev.modes

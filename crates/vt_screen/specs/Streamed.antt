@@ -64,8 +64,8 @@ without_scrollback screen = record screen { scrollback = no_scrollback 0 }
 
 -- ---- captures
 
--- The text of the rows that were reported one by one, followed by a full capture of the screen that continues from
--- the same capture state.
+-- The text of the rows that the given calls reported one by one, followed by a full capture of the screen that
+-- continues from the capture state after these rows.
 abbrev pub streamed_text : List CallValue → ScreenValue → List ℕ
 streamed_text calls screen =
     let gone = rows_of_calls calls in

@@ -4,7 +4,7 @@ use Rattle.vt_cells.specs.Refusals.{OnlyOutOfMemory}
 use Rattle.vt_cells.specs.declared.error.Error.{Error}
 use Rattle.vt_redraw.specs.Refusals.{RefusedOnlyIfSome}
 
--- `P` holds for the string that a call returns, if any.
+-- The given predicate holds for the string that a call returns, if any.
 abbrev pub IfText : {A E : Type 0} → Result (String A) E → (List ℕ → Type 0) → Type 0
 IfText result P = IfOk result (λ text. P (string_bytes text))
 

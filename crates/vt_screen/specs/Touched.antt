@@ -22,35 +22,37 @@ use Rattle.vt_screen.specs.Controls.{seen_of, steps_of}
 use Rattle.vt_screen.specs.Steps.{Step, Print, LineFeed, ScrollUp, OnPage, EnterAlternate, EnterFresh}
 use Rattle.vt_screen.specs.Steps.{LeaveAlternate, LeaveRestoring, Reset}
 
--- `May` holds for every position of the page.
+-- The given predicate holds for every position of the page.
 abbrev pub TouchesAll : (ℕ → ℕ → Type 0) → Page → Type 0
 TouchesAll May page = (r c : ℕ) → r < length page.rows → c < page.width → May r c
 
--- `May` holds for every position in the rows `first..behind`.
+-- The given predicate holds for every position in the rows `first..behind`.
 abbrev pub TouchesRows : (ℕ → ℕ → Type 0) → (first behind : ℕ) → Page → Type 0
 TouchesRows May first behind page = (r c : ℕ) → first ≤ r → r < behind → c < page.width → May r c
 
--- `May` holds for every position that a line feed touches: every position of the page if the line feed scrolls, and
--- none otherwise.
+-- The given predicate holds for every position that a line feed touches: every position of the page if the line feed
+-- scrolls, and none otherwise.
 abbrev pub FeedTouches : (ℕ → ℕ → Type 0) → Page → Type 0
 FeedTouches May page = at_bottom page ≡ true → TouchesAll May page
 
--- `May` holds for every position that printing a character touches, including the line feed if the cursor wraps.
+-- The given predicate holds for every position that printing a character touches, including the line feed if the cursor
+-- wraps.
 abbrev pub PrintTouches : (ℕ → ℕ → Type 0) → ℕ → Attrs → Page → Type 0
 PrintTouches May c attrs page =
     CharTouches May (columns_of c) c attrs page × (wraps c page ≡ true → FeedTouches May page)
 
--- `May` holds for every position touched by erasing from the cursor to the end of the cursor's row; none is touched if
--- a wrap is pending.
+-- The given predicate holds for every position touched by erasing from the cursor to the end of the cursor's row; no
+-- position is touched if a wrap is pending.
 abbrev pub RestTouches : (ℕ → ℕ → Type 0) → Page → Type 0
 RestTouches May page = (page.column == page.width) ≡ false → Changes May page.column (page.width - page.column) page
 
--- `May` holds for every position touched by erasing from the beginning of the cursor's row through the cursor.
+-- The given predicate holds for every position touched by erasing from the beginning of the cursor's row through the
+-- cursor.
 abbrev pub StartTouches : (ℕ → ℕ → Type 0) → Page → Type 0
 StartTouches May page = Changes May 0 (min (page.column + 1) page.width) page
 
--- `May` holds for every position that a step of the page touches. A step that moves cells or rows touches all
--- positions; a step that only moves the cursor or changes a setting touches none.
+-- The given predicate holds for every position that a step of the page touches. A step that moves cells or rows touches
+-- all positions; a step that only moves the cursor or changes a setting touches none.
 abbrev pub PageStepTouches : (ℕ → ℕ → Type 0) → PageStep → Page → Type 0
 PageStepTouches May EraseBelow page =
     RestTouches May page × TouchesRows May (page.row + 1) (length page.rows) page
@@ -70,8 +72,8 @@ PageStepTouches May (ScrollDown n) page = TouchesAll May page
 PageStepTouches May ReverseIndex page = TouchesAll May page
 PageStepTouches May step page = Unit {0}
 
--- `May` holds for every position that a step touches. A step that scrolls up, switches pages or resets the screen
--- touches every position.
+-- The given predicate holds for every position that a step touches. A step that scrolls up, switches pages or resets
+-- the screen touches every position.
 abbrev pub StepTouches : (ℕ → ℕ → Type 0) → Step → ScreenValue → Type 0
 StepTouches May (Print c) screen = PrintTouches May c screen.attrs screen.page
 StepTouches May LineFeed screen = FeedTouches May screen.page
@@ -84,7 +86,8 @@ StepTouches May LeaveRestoring screen = TouchesAll May screen.page
 StepTouches May Reset screen = TouchesAll May screen.page
 StepTouches May step screen = Unit {0}
 
--- `May` holds for every position touched by a list of steps, each taken on the screen that the steps before it leave.
+-- The given predicate holds for every position touched by a list of steps, each taken on the screen that the previous
+-- steps leave.
 abbrev pub StepsTouch : (ℕ → ℕ → Type 0) → List Step → ScreenValue → Type 0
 StepsTouch May [] screen = Unit {0}
 StepsTouch May (step ∷ steps) screen =
@@ -98,16 +101,16 @@ EventsTouch May (event ∷ events) screen =
     × ((next : ScreenValue) → quiet_steps (steps_of event (seen_of screen)) screen ≡ Some next →
     EventsTouch May events next)
 
--- `May` holds for every position touched by reading the bytes, provided that reading invokes no callbacks and allocates
--- nothing.
+-- The given predicate holds for every position touched by reading the bytes, provided that reading invokes no callbacks
+-- and allocates nothing.
 abbrev pub ReadTouches : (ℕ → ℕ → Type 0) → Terminal → List ℕ → Type 0
 ReadTouches May t [] = Unit {0}
 ReadTouches May t (b ∷ bytes) =
     EventsTouch May (step_in t.scan.kind t.scan.collected b).events t.screen
     × ((u : Terminal) → read_byte t b ≡ Some u → ReadTouches May u bytes)
 
--- A terminal in ground state with the property `Reader` that reads the output touches only positions for which `May`
--- holds.
+-- A terminal in ground state that has the given property touches only positions that satisfy the given predicate when
+-- it reads the output.
 abbrev pub TouchesOnly : (ScreenValue → Type 0) → List ℕ → (ℕ → ℕ → Type 0) → Type 0
 TouchesOnly Reader text May = (reader : ScreenValue) → Reader reader → ReadTouches May (terminal start reader) text
 

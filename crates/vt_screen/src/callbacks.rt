@@ -115,12 +115,11 @@ pub trait Callbacks {
     fn on_scroll(&mut self, row: RowContents<'_>, alternate: bool)
         ensures { (screen : ScreenValue) → does (calls.OnScroll row.entry alternate) self.old screen self.new screen };
 
-    /// Returns whether [`Callbacks::on_scroll`] must be called. If it returns
-    /// `false`, a call would have no effect, so the terminal may skip the call,
-    /// and with it the work of preparing the row.
+    /// Returns whether [`Callbacks::on_scroll`] must be called. If the result is `false`, a call
+    /// would have no effect, so the terminal may skip the call, and with it the work of preparing
+    /// the row.
     ///
-    /// The terminal asks each time rows are dropped. By default, all rows are
-    /// wanted.
+    /// The terminal calls this method each time rows are dropped. By default, all rows are wanted.
     fn wants_rows(&self) -> bool
         ensures { result ≡ false → (row : RowValue) (alternate : Bool) (screen : ScreenValue) →
             does (calls.OnScroll row alternate) self.now screen self.now screen }

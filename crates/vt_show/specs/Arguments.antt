@@ -14,7 +14,7 @@ name_of Plain = codes "plain"
 name_of Formatted = codes "formatted"
 name_of Basic = codes "basic"
 
--- There are exactly three arguments, which specify `rows`, `cols` and `mode`.
+-- There are exactly three arguments, and they specify the given number of rows, number of columns and mode.
 abbrev pub AsksToShow : List (List ℕ) → ℕ → ℕ → Mode → Type 0
 AsksToShow (first ∷ second ∷ third ∷ []) rows cols mode =
     IsSize first rows × IsSize second cols × (third ≡ name_of mode)
@@ -24,7 +24,7 @@ AsksToShow _ rows cols mode = ⊥
 abbrev pub AskForNothing : List (List ℕ) → Type 0
 AskForNothing words = (rows cols : ℕ) (mode : Mode) → AsksToShow words rows cols mode → ⊥
 
--- The arguments are valid, and `Holds` holds for the size and mode that they specify.
+-- The arguments are valid, and the predicate `Holds` is true of the size and mode that they specify.
 pub record AskFor (words : List (List ℕ)) (Holds : ℕ → ℕ → Mode → Type 0) : Type 0 where
   pub rows : ℕ
   pub cols : ℕ

@@ -19,8 +19,8 @@ use Rattle.vt_show.specs.declared.faults.Fault.TheVariants.{Write}
 use Rattle.vt_show.specs.declared.mode.Mode.{Mode}
 use Rattle.vt_show.specs.declared.mode.Mode.TheVariants.{Plain, Formatted, Basic}
 
--- The screen is that of a new terminal with `rows` rows, `cols` columns and no scrollback, after the terminal has
--- parsed the input.
+-- The screen is that of a new terminal with the given numbers of rows and columns and no scrollback, after the terminal
+-- has parsed the input.
 abbrev pub ShowsAfter : ℕ → ℕ → List ℕ → ScreenValue → Type 0
 ShowsAfter rows cols input screen =
     FoldsTo (Performs does_nothing) (state tt (fresh_screen rows cols 0)) (scan.run start input).events (state tt screen)
@@ -46,8 +46,8 @@ pub record AppendsPart (old new : Option (List ℕ)) (text : List ℕ) : Type 0 
   pub parts : text ≡ taken ++ lost
   pub appends : Appends old new taken
 
--- The input was `left` before and is `rest` now, and `Holds` holds for the output produced by the bytes read in
--- between.
+-- The input was `left` before and is `rest` now, and the predicate `Holds` is true of the output produced by the bytes
+-- read in between.
 pub record ReadsForText (mode : Mode) (rows cols : ℕ) (left rest : Option (List ℕ))
     (Holds : List ℕ → Type 0) : Type 0 where
   pub input : List ℕ

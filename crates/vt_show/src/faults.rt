@@ -16,8 +16,8 @@ pub enum Fault {
     Write,
 }
 
-/// Returns the message for standard error (without a trailing newline) and the exit status for a fault.
-/// `None` stands for invalid command-line arguments.
+/// Returns the message for standard error (without a trailing newline) and the exit status for a
+/// fault. `None` stands for invalid command-line arguments.
 ///
 /// ```text
 /// assert_eq!(ending(Some(Fault::Read)), ("vtshow: read failed", 1));

@@ -42,7 +42,8 @@ const CONTROLS: [u8; 10] = [b'\r', b'\n', b'\r', b'\n', 8, 9, 7, 11, 14, 5];
 /// occur more than once, so that they are chosen more often.
 const ENDS: &[u8] = b"ABCDEFGHIJKLMPSTX@`abdefghlmnqrstuABCDHJKLMPSTX@";
 
-/// Bytes that follow an ESC. The byte of RIS occurs only once.
+/// Bytes that follow an ESC. The final byte of RIS (`c`), which resets the terminal, occurs only
+/// once, so that it is chosen rarely.
 const ESCAPES: &[u8] = b"7878=>MMMcgDEHZ(#\\";
 
 const RENDITIONS: [&str; 24] = [

@@ -78,7 +78,7 @@ impl Digest {
     }
 }
 
-/// No callback changes the screen.
+/// Callbacks that add each call to the hash and do not change the screen.
 impl Callbacks for Digest {
     ghost use Rattle.std.specs.Prelude.{◌≡◌};
 

@@ -44,7 +44,7 @@ pub enum Part {
     /// The display of a terminal that parsed a redraw.
     Redraw,
 
-    /// The redraw of a terminal that has the same display.
+    /// The redraw of a terminal that parsed a redraw.
     Text,
 
     /// A control character that output for other terminals must not contain.

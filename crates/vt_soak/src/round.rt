@@ -43,8 +43,8 @@ pub fn run(alloc: Global, dice: &mut Dice, tally: &mut Tally, steps: u64) -> Res
 }
 
 impl Round {
-    /// Creates two equal terminals, a third terminal, which may be on its alternate page, and a
-    /// fourth terminal.
+    /// Creates the four terminals of a round. The first two terminals are equal, and the third
+    /// terminal may be on its alternate page.
     fn new(alloc: Global, dice: &mut Dice) -> Result<Round> {
         let (rows, cols) = size(dice);
         let capacity = dice.pick(&CAPACITIES).unwrap_or(0);

@@ -13,8 +13,9 @@ use itoa::write_digits;
 use std::marker::Model;
 use std::str;
 
-/// The size of the array in bytes. It exceeds the length of the longest sequence, which has 14
-/// numbers of at most three digits, 13 separators, and the three bytes of `ESC [` and `m`.
+/// The size in bytes of the array that holds an SGR sequence. It exceeds the length of the longest
+/// sequence, which has 14 numbers of at most three digits, 13 separators, and the three bytes of
+/// `ESC [` and `m`.
 const ROOM: usize = 64;
 
 /// An SGR sequence that is built backward, from its last byte to its first, because the digits of a

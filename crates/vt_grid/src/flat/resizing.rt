@@ -32,7 +32,8 @@ impl Flat {
         Ok(())
     }
 
-    /// Appends rows of default blanks until there are `rows` rows. There must be memory for them.
+    /// Appends rows of default blanks until there are `rows` rows. Memory for these rows must have
+    /// been reserved.
     pub fn append_rows(&mut self, rows: u16)
         requires flat { IsFlat self.old }
         requires room { HasRoom rows self.old }
@@ -119,8 +120,8 @@ impl Flat {
     }
 }
 
-/// Appends table entries until there are `rows` entries, each with its own index as place. There
-/// must be memory for them.
+/// Appends entries to the table until it has `rows` entries. The place of each new entry is its own
+/// index. Memory for the new entries must already be reserved.
 fn push_lines(lines: &mut Vec<Line>, rows: u16)
     requires room { rows ≤ vec_capacity lines.old }
     requires more { length lines.old.items ≤ rows }
@@ -134,8 +135,8 @@ fn push_lines(lines: &mut Vec<Line>, rows: u16)
     }
 }
 
-/// Returns the first index from `from` on whose row is at one of the first `rows` places. There is
-/// one because one of the first `rows` rows is at a later place.
+/// Returns the index of the first row, starting at index `from`, that is at one of the first `rows`
+/// places. There is such a row because one of the first `rows` rows is at a later place.
 fn free_row(lines: &[Line], from: usize, rows: usize) -> usize
     requires after { rows ≤ from }
     requires later { (k : ℕ) → rows ≤ k → k < from → rows ≤ (line_at lines.now k).place }

@@ -87,8 +87,8 @@ impl Grid {
         self.pos.row = row.min(self.size.rows - 1);
     }
 
-    /// Moves the cursor down by `count` rows, as [`Grid::row_inc_clamp`] does, and to the first
-    /// column (CNL).
+    /// Moves the cursor to the first column, and down by `count` rows as [`Grid::row_inc_clamp`]
+    /// does (CNL).
     #[inline]
     pub fn next_line(&mut self, count: u16)
         ensures { self.new ≡ next_line count self.old }
@@ -97,8 +97,8 @@ impl Grid {
         self.cr();
     }
 
-    /// Moves the cursor up by `count` rows, as [`Grid::row_dec_clamp`] does, and to the first
-    /// column (CPL).
+    /// Moves the cursor to the first column, and up by `count` rows as [`Grid::row_dec_clamp`] does
+    /// (CPL).
     #[inline]
     pub fn previous_line(&mut self, count: u16)
         ensures { self.new ≡ previous_line count self.old }

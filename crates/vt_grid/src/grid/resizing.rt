@@ -46,8 +46,9 @@ impl Grid {
         Ok(())
     }
 
-    /// Resizes the page to `rows` rows, at most as many as it has. The width is unchanged, and the
-    /// rows that are kept stay in place. The rules are those of [`Grid::set_size`].
+    /// Shrinks the page to `rows` rows, which must not exceed its current number of rows. The width
+    /// is unchanged, and the rows that are kept stay in place. The rules are those of
+    /// [`Grid::set_size`].
     ///
     /// # Errors
     ///
@@ -80,14 +81,15 @@ impl Grid {
         Ok(())
     }
 
-    /// Resizes this page and `other`, if there is one, to `rows` rows, at least as many as each of
-    /// them has. The widths are unchanged, and the rows stay in place. The rules are those of
+    /// Extends this page and `other`, if there is one, to `rows` rows. Neither page may have more
+    /// rows than that. The widths are unchanged, and the rows stay in place. The rules are those of
     /// [`Grid::set_size`], with `above` as the scrollback of this page and `other_above` as that of
     /// the other page.
     ///
     /// # Errors
     ///
-    /// Returns [`Error::OutOfMemory`] if the rows cannot be allocated. On error, nothing is changed.
+    /// Returns [`Error::OutOfMemory`] if the rows cannot be allocated. On error, nothing is
+    /// changed.
     pub fn add_rows(
         &mut self,
         other: &mut Option<Grid>,
@@ -112,11 +114,12 @@ impl Grid {
         Ok(())
     }
 
-    /// Resizes this page alone, as [`Grid::add_rows`] does.
+    /// Extends this page alone, as [`Grid::add_rows`] does.
     ///
     /// # Errors
     ///
-    /// Returns [`Error::OutOfMemory`] if the rows cannot be allocated. On error, nothing is changed.
+    /// Returns [`Error::OutOfMemory`] if the rows cannot be allocated. On error, nothing is
+    /// changed.
     fn add_own_rows(&mut self, rows: u16, above: &mut Scrollback) -> Result<(), Error>
         requires { length self.old.rows ≤ rows }
         ensures { AddsRows rows self.old above.old self.new above.new result }
@@ -137,11 +140,12 @@ impl Grid {
         Ok(())
     }
 
-    /// Resizes this page and `other`, as [`Grid::add_rows`] does.
+    /// Extends this page and `other`, as [`Grid::add_rows`] does.
     ///
     /// # Errors
     ///
-    /// Returns [`Error::OutOfMemory`] if the rows cannot be allocated. On error, nothing is changed.
+    /// Returns [`Error::OutOfMemory`] if the rows cannot be allocated. On error, nothing is
+    /// changed.
     fn add_rows_to_both(
         &mut self,
         other: &mut Grid,

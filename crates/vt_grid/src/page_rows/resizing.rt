@@ -21,7 +21,8 @@ impl PageRows {
     ///
     /// # Errors
     ///
-    /// Returns [`Error::OutOfMemory`] if the rows cannot be allocated. On error, nothing is changed.
+    /// Returns [`Error::OutOfMemory`] if the rows cannot be allocated. On error, nothing is
+    /// changed.
     pub fn append_rows(&mut self, rows: u16) -> Result<(), Error>
         requires { length self.old.rows ≤ rows }
         ensures ok { OnOk result (self.new ≡ with_blank_rows rows self.old) }
@@ -54,9 +55,9 @@ impl PageRows {
         Ok(())
     }
 
-    /// Moves the newest `up` scrollback rows back to the top of the page. The rows of the page move
-    /// down by `up` rows, over blank rows at its bottom. The wrapped flag of the last row is
-    /// cleared.
+    /// Moves the newest `up` scrollback rows back to the top of the page. The last `up` rows of the
+    /// page must be default blanks; the rows above them move down by `up` rows. The wrapped flag of
+    /// the last row is cleared.
     pub fn bring_back(&mut self, up: u16, above: &mut Scrollback)
         requires nonempty { 0 < length self.old.rows }
         requires inside { up ≤ length self.old.rows }
@@ -118,8 +119,8 @@ impl PageRows {
         self.flat = fresh.flat;
     }
 
-    /// Copies the cells in `from` into the blank row `row`, as [`trimming::refit`] does. Sets the row's
-    /// wrapped flag to `wrapped` if the two widths are equal, otherwise to `false`.
+    /// Copies the cells in `from` into the blank row `row`, as [`trimming::refit`] does. Sets the
+    /// row's wrapped flag to `wrapped` if the two widths are equal, otherwise to `false`.
     #[tactic(auto, using(crate::proofs::Flats::columns_counted))]
     pub fn fit_row(&mut self, row: usize, from: &[Cell], wrapped: bool)
         requires inside { row < length self.old.rows }

@@ -79,7 +79,7 @@ fn write_cells<S: Sink>(sink: &mut S, cells: &[Cell], attrs: Attrs) -> Result<At
     Ok(last)
 }
 
-/// Appends the text of a cell. `attrs` are the attributes written last, which are updated. Appends
+/// Appends the text of a cell. `attrs` holds the attributes written last, and is updated. Appends
 /// nothing for a continuation cell.
 #[inline]
 #[tactic(auto, using(crate::proofs::BasicTexts::right_adds, crate::proofs::BasicTexts::right_keeps))]

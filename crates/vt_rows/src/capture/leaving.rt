@@ -9,8 +9,8 @@ pub trait Leaving {
 
     ghost leaves: { Self → RowValue → Self → Type 0 };
 
-    /// Returns whether rows must be passed. If it returns `false`, receiving a row has no effect,
-    /// so a caller may skip the call to [`Leaving::leave`] and the work for it.
+    /// Returns whether rows must be passed. If the result is `false`, receiving a row has no
+    /// effect, so a caller may skip the call to [`Leaving::leave`] and the work for it.
     fn wants(&self) -> bool
         ensures { result ≡ false → (row : RowValue) → leaves self.now row self.now }
     {

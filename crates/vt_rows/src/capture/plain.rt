@@ -12,7 +12,8 @@ use std::marker::Model;
 /// An iterator over the chunks of a capture that are outside SGR sequences, each with its byte
 /// index.
 ///
-/// It borrows the capture and allocates nothing. Created by [`basic_formatted_to_plain_indexed`].
+/// The iterator borrows the capture and allocates nothing. It is created by
+/// [`basic_formatted_to_plain_indexed`].
 #[derive(Drop)]
 pub struct BasicFormattedToPlainIndexed<'a> {
     /// The part of the capture that is not yet read.
@@ -108,7 +109,8 @@ fn behind_sgr(text: &str) -> &str
 
 /// An iterator over the chunks of a capture that are outside SGR sequences.
 ///
-/// It borrows the capture and allocates nothing. Created by [`basic_formatted_to_plain`].
+/// The iterator borrows the capture and allocates nothing. It is created by
+/// [`basic_formatted_to_plain`].
 #[derive(Drop)]
 pub struct BasicFormattedToPlain<'a> {
     indexed: BasicFormattedToPlainIndexed<'a>,

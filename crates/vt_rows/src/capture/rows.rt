@@ -14,7 +14,8 @@ use unicode_width::UnicodeWidthChar;
 
 /// An iterator over the rows of a capture.
 ///
-/// It borrows the capture and allocates nothing. Created by [`basic_formatted_rows`].
+/// The iterator borrows the capture and allocates nothing. It is created by
+/// [`basic_formatted_rows`].
 #[derive(Drop)]
 pub struct BasicFormattedRows<'a> {
     /// The part of the capture that is not yet read, or `None` after the last row.
@@ -82,8 +83,8 @@ impl<'a> Iterator for BasicFormattedRows<'a> {
 
 impl<'a> FusedIterator for BasicFormattedRows<'a> {}
 
-/// Splits off the first row of `text`. Returns that row and the text of the remaining rows, or
-/// `None` for the latter if no rows remain.
+/// Splits off the first row of `text`. Returns that row and the text of the remaining rows, which
+/// is `None` if no rows remain.
 fn split_row(text: &str, width: u16) -> (&str, Option<&str>)
     ensures { rows_of width text.now ≡ result.0.now ∷ option_map_or (λ rest. rows_of width rest.now) result.1 [] }
 {

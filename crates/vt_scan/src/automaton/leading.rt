@@ -124,7 +124,8 @@ impl Scanner {
         1 + more
     }
 
-    /// Parses the bytes after an ESC that introduce a sequence, and returns how many it parsed.
+    /// Parses the bytes that follow an ESC and introduce a sequence, and returns how many it
+    /// parsed.
     #[inline(always)]
     fn take_introducer_after_escape(&mut self, bytes: &[u8]) -> usize
         requires { self.old.kind ≡ Kind.Escape }
@@ -138,8 +139,8 @@ impl Scanner {
         escapes + more
     }
 
-    /// Parses the bytes after the last of several ESCs that introduce a sequence, and returns how
-    /// many it parsed.
+    /// Parses the bytes that follow the last of several ESCs and introduce a sequence, and returns
+    /// how many it parsed.
     #[inline(always)]
     fn lead_after_escapes(&mut self, bytes: &[u8]) -> usize
         requires kind { self.old.kind ≡ Kind.Escape }
@@ -239,7 +240,8 @@ impl Scanner {
         false
     }
 
-    /// Enters the ground state if `turn` dispatches an escape sequence, and returns whether it does.
+    /// Enters the ground state if `turn` dispatches an escape sequence, and returns whether it
+    /// does.
     #[inline(always)]
     fn dispatches(&mut self, turn: Transition) -> bool
         ensures answers { IsTrue result ↔ (turn ≡ Transition.End Kind.Ground Ending.EscDispatch) }

@@ -10,8 +10,8 @@ use crate::screen::Screen;
 use std::marker::Model;
 use vt_cells::Error;
 
-/// An iterator over the output that turns each row of one screen into the same
-/// row of another screen; see [`Screen::rows_diff`].
+/// An iterator over the output that turns each row of one screen into the
+/// corresponding row of another screen; see [`Screen::rows_diff`].
 ///
 /// An item is an error if its output cannot be allocated; iteration then
 /// continues with the next row. After the last row, `next` keeps returning

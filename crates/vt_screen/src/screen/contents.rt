@@ -22,10 +22,11 @@ use vt_rows::{RowContents, plain};
 impl Screen {
     /// Returns the text of the displayed rows, without attributes.
     ///
-    /// A row's text ends with its last glyph; blank columns before that are
-    /// spaces. Each row is followed by `\n`, unless it is wrapped and a glyph
-    /// begins on the next row. Trailing newlines are dropped. Rows of
-    /// scrollback that are wider than the screen are cut to its width.
+    /// A row's text ends with its last glyph; blank columns before that glyph
+    /// are written as spaces. Each row is followed by `\n`, unless it is
+    /// wrapped and a glyph begins on the next row. Trailing newlines are
+    /// dropped. Rows of scrollback that are wider than the screen are cut to
+    /// its width.
     ///
     /// # Errors
     ///

@@ -84,8 +84,7 @@ impl Screen {
         }
     }
 
-    /// Writes the escape sequences that set all input modes, as
-    /// [`Screen::input_mode_formatted`] returns them.
+    /// Writes the output of [`Screen::input_mode_formatted`].
     pub(super) fn write_input_mode_formatted<S: Sink>(&self, sink: &mut S) -> Result<(), S::Error>
         ensures { OnOk result (S.text sink.new ≡ S.text sink.old ++ input_text self.now.modes) }
     {
@@ -99,8 +98,7 @@ impl Screen {
         write_mouse_and_style(sink, Modes::new(), new)
     }
 
-    /// Writes the escape sequences for the input modes that differ, as
-    /// [`Screen::input_mode_diff`] returns them.
+    /// Writes the output of [`Screen::input_mode_diff`].
     pub(super) fn write_input_mode_diff<S: Sink>(
         &self,
         sink: &mut S,

@@ -1,5 +1,4 @@
-//! Differences that may move rows or columns first and are never longer than the
-//! plain difference.
+//! Diffs that may move rows or columns first and are never longer than the plain diff.
 //!
 //! The module `redraw` defines what a screen displays, when a terminal is
 //! plain, and when a screen is steady.
@@ -33,11 +32,10 @@ impl Screen {
     /// The output is never longer than that of [`Screen::contents_diff`]. Both
     /// screens must have the same size.
     ///
-    /// If rows have scrolled, even in only a part of the screen, the output may
-    /// move them with DL and IL. If text has moved within its row, the output
-    /// may move it with DCH and ICH. Either can make the output much shorter.
-    /// The moves are guessed, those of rows from the first 256 rows. The output
-    /// may touch any row.
+    /// If rows have scrolled, even in only a part of the screen, the output may move them with DL
+    /// and IL. If text has moved within its row, the output may move it with DCH and ICH. Either
+    /// can make the output much shorter. The moves are guesses; moved rows are looked for only
+    /// among the first 256 rows. The output may touch any row.
     ///
     /// A terminal is plain if it is in ground state, with the full scroll
     /// region, origin mode off and no scrollback displayed. A screen is steady
@@ -80,8 +78,7 @@ impl Screen {
         Ok(shorter)
     }
 
-    /// Returns the plain difference `text`, or shorter output that moves rows
-    /// or columns first.
+    /// Returns the plain diff `text`, or shorter output that moves rows or columns first.
     ///
     /// # Errors
     ///
@@ -146,9 +143,8 @@ impl Screen {
         write_contents_diff(sink, &self.view(), &prev.moved_view(band))
     }
 
-    /// Returns the shorter of the plain difference `text` and the output that
-    /// shifts columns first, beginning with the shift `first`. Returns `text`
-    /// if scrollback is displayed on `prev`.
+    /// Returns the shorter of the plain diff `text` and the output that shifts columns first,
+    /// beginning with the shift `first`. Returns `text` if scrollback is displayed on `prev`.
     ///
     /// # Errors
     ///

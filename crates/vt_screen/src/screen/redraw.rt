@@ -8,8 +8,8 @@
 //! whole page, origin mode is off and no scrollback is displayed.
 //!
 //! A picture is *steady* if each of its glyphs, printed on a blank row,
-//! reproduces itself. Every glyph without U+FE0F does, and so does U+2764
-//! U+FE0F in a row of two or more columns.
+//! reproduces itself. Every glyph without U+FE0F reproduces itself, and so does
+//! U+2764 U+FE0F in a row of two or more columns.
 
 ghost use Rattle.std.specs.Prelude.{◌≡◌, ◌↔◌, ◌++◌, [], IfOk, IsOk, IsTrue, OnOk};
 ghost use Rattle.vt_cells.specs.Op.{bytes_of_all};
@@ -99,8 +99,8 @@ impl Screen {
     /// wide or narrow.
     ///
     /// Only cells whose text contains U+FE0F are examined closely. If the text
-    /// of every cell in a row is shorter than four bytes, only the lengths are
-    /// read.
+    /// of every cell in a row is shorter than four bytes, only the lengths of
+    /// the texts are read.
     ///
     /// # Examples
     ///

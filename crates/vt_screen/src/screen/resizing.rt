@@ -148,8 +148,9 @@ fn resize_below<CB: Callbacks>(
     remove_rows(screen, size, callbacks)
 }
 
-/// Resizes both pages to at most as many rows as they have, without changing
-/// their width, while the main page is active.
+/// Shrinks both pages to the height of `size` while the main page is active.
+/// The width of `size` must be that of the pages, and the height at most that
+/// of the pages.
 ///
 /// # Errors
 ///
@@ -186,10 +187,10 @@ fn remove_rows<CB: Callbacks>(
     Ok(())
 }
 
-/// Resizes the alternate page, if there is one, to at most as many rows as it
-/// has, without changing its width, and reports the rows that scroll off its
-/// top. Allocates nothing, since rows of that page are never kept in
-/// scrollback.
+/// Shrinks the alternate page, if there is one, to the height of `size`, and
+/// reports the rows that scroll off its top. The width of `size` must be the
+/// page's width, and the height at most the page's height. Allocates nothing,
+/// since rows of that page are never kept in scrollback.
 fn remove_alternate_rows<CB: Callbacks>(
     page: &mut Option<Grid>,
     size: Size,
@@ -217,8 +218,9 @@ fn remove_alternate_rows<CB: Callbacks>(
     let _ = done;
 }
 
-/// Resizes both pages to at least as many rows as they have, without changing
-/// their width, while the main page is active. No row scrolls off.
+/// Extends both pages to the height of `size` while the main page is active.
+/// The width of `size` must be that of the pages, and the height at least that
+/// of the pages. No row scrolls off.
 ///
 /// # Errors
 ///

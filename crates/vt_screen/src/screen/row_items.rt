@@ -66,8 +66,8 @@ impl Screen {
         RowsFormatted::new(self, start, self.range_end(start, width))
     }
 
-    /// Returns an iterator over the escape sequences that turn each displayed
-    /// row of `prev`, from top to bottom, into the same row of this screen.
+    /// Returns an iterator over the escape sequences that turn each displayed row of `prev`, from
+    /// top to bottom, into the corresponding row of this screen.
     ///
     /// Each item covers the `width` columns that begin at column `start`, or all columns from
     /// `start` on if there are fewer. `start` must be less than the number of columns, and both
@@ -158,8 +158,8 @@ impl Screen {
         }
     }
 
-    /// Returns the output that turns a row of `prev` into the same row of this
-    /// screen in the columns `start..stop`.
+    /// Returns the output that turns a row of `prev` into the corresponding row of this screen in
+    /// the columns `start..stop`.
     ///
     /// # Errors
     ///

@@ -83,10 +83,10 @@ impl Screen {
     /// Scrolls the display back by `rows` rows, limited to the number of rows
     /// in scrollback. If `rows` is 0, only the page is displayed.
     ///
-    /// `rows` may exceed the height of the screen. In that case, the screen
-    /// displays as many rows as it has room for, starting that many rows above
-    /// the page. On the alternate page, which has no scrollback, nothing
-    /// happens.
+    /// The display may be scrolled back by more rows than the screen has. In
+    /// that case, the display begins that many rows above the page and contains
+    /// only rows of scrollback. On the alternate page, which has no scrollback,
+    /// nothing happens.
     ///
     /// Displayed rows of scrollback that are narrower than the screen are
     /// extended to its width and are then no longer wrapped. The rows stay that

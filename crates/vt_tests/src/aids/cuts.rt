@@ -8,9 +8,9 @@ use std::test::Fail;
 use vt_notes::Notes;
 use vt100::{Parser, Screen};
 
-/// Checks the screen after each byte of the steps. Fails if a terminal that parses the output of
-/// `state_formatted`, or that of `state_diff` from the screen before the byte, does not have the
-/// display and modes of the screen.
+/// Applies `steps` to a new parser, and checks the screen after each byte. Fails if a terminal that
+/// parses the output of `state_formatted`, or that of `state_diff` from the screen before the byte,
+/// does not have the display and modes of the screen.
 pub fn expect_read_back_at_each_byte(
     alloc: Global,
     size: (u16, u16),

@@ -2,7 +2,7 @@
 
 use vt100::{Color, Screen};
 
-/// A part of the state in which two screens of the same size may agree.
+/// A part of a screen's state, in which two screens of the same size can agree or differ.
 #[derive(Clone, Copy, PartialEq, Eq, Debug)]
 pub enum Part {
     /// The cells with their attributes.

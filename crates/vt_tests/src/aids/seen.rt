@@ -11,9 +11,9 @@ use vt100::{Cell, Color, CursorStyle, MouseProtocolEncoding, MouseProtocolMode, 
 /// observable state after the steps.
 pub type Example = ((u16, u16), usize, &'static [Step], &'static str);
 
-/// Checks examples with their bytes in two chunks and one by one. Fails if a state is not the
-/// expected one. Also fails if, after some prefix of the bytes, a terminal that parses the screen's
-/// output does not display the screen.
+/// Checks examples, with the bytes of their steps in two chunks and one by one. Fails if the state
+/// after an example's steps is not the expected one. Also fails if, after some prefix of the bytes,
+/// a terminal that parses the screen's output does not display the screen.
 pub fn expect_each(alloc: Global, examples: &[Example]) -> Result<(), Fail> {
     for (size, capacity, steps, wanted) in examples {
         expect_at_each_cut(alloc, *size, *capacity, steps, wanted)?;
@@ -21,9 +21,9 @@ pub fn expect_each(alloc: Global, examples: &[Example]) -> Result<(), Fail> {
     Ok(())
 }
 
-/// Checks steps with their bytes in two chunks and one by one. Fails if the state after the steps
-/// is not `wanted`. Also fails if, after some prefix of the bytes, a terminal that parses the
-/// screen's output does not display the screen.
+/// Applies `steps` to new parsers, with the bytes in two chunks and one by one. Fails if a parser's
+/// state afterward is not `wanted`. Also fails if, after some prefix of the bytes, a terminal that
+/// parses the screen's output does not display the screen.
 pub fn expect_at_each_cut(
     alloc: Global,
     size: (u16, u16),
@@ -38,7 +38,8 @@ pub fn expect_at_each_cut(
     expect_read_back_at_each_byte(alloc, size, capacity, steps)
 }
 
-/// Fails if the state after the steps, with their bytes split as `pieces` says, is not `wanted`.
+/// Applies `steps` to a new parser, with their bytes split as `pieces` says. Fails if the parser's
+/// state afterward is not `wanted`.
 fn expect_after(
     alloc: Global,
     size: (u16, u16),
@@ -51,7 +52,8 @@ fn expect_after(
     expect(alloc, &parser, steps, wanted)
 }
 
-/// Fails if the state of `parser`, which has taken the steps, is not `wanted`.
+/// Fails if the state of `parser` is not `wanted`. The failure message lists `steps`, the steps
+/// that led to that state.
 pub fn expect(
     alloc: Global,
     parser: &Parser<Notes>,

@@ -73,7 +73,8 @@ pub fn size_of((rows, cols): (u16, u16)) -> Result<(NonZeroU16, NonZeroU16), Fai
     Ok((rows, cols))
 }
 
-/// Creates a parser of the given size with a scrollback of `capacity` rows, and applies the steps.
+/// Creates a parser of the given size with a scrollback of `capacity` rows, and applies `steps` to
+/// it.
 pub fn taken(
     alloc: Global,
     size: (u16, u16),
@@ -88,7 +89,7 @@ pub fn taken(
     Ok(parser)
 }
 
-/// Returns the length in bytes of the longest input among the steps.
+/// Returns the length in bytes of the longest input that a step in `steps` parses.
 pub fn longest(steps: &[Step]) -> usize {
     let mut longest: usize = 0;
     for step in steps {

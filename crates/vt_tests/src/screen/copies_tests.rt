@@ -96,8 +96,8 @@ const CLONED: [((u16, u16), usize, &[Step]); 12] = [
 /// Input that a screen and its copy parse after the copy has been made.
 const MORE: &[u8] = b"x\x1b[2b\x1b[?47hyz\x1b8q\x1b[?47l\r\nu\r\nv\r\nw\x1b[Hs\x1b8\x1b[7mt";
 
-/// Fails if a copy of the screen after the steps is not equal to the screen or not independent of
-/// it.
+/// Applies `steps` to a new parser. Fails if a copy of its screen is not equal to the screen or not
+/// independent of it.
 fn expect_copied(
     alloc: Global,
     size: (u16, u16),

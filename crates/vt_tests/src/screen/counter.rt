@@ -45,7 +45,7 @@ impl Counter {
     }
 }
 
-/// No callback changes the screen.
+/// Callbacks that count the calls of each method and do not change the screen.
 impl Callbacks for Counter {
     ghost use Rattle.std.specs.Prelude.{◌≡◌};
 

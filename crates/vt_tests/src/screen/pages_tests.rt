@@ -83,8 +83,9 @@ fn changes_pages_at_every_cut(rt: HostRuntime) -> Result<(), Fail> {
     expect_each(rt.alloc(), &PAGES)
 }
 
-/// Consecutive steps, each with three counts after the step: the number of rows in scrollback, the
-/// number of rows by which the display is scrolled back, and the scrollback capacity.
+/// Consecutive steps, each with the three numbers expected once the step is taken: the number of
+/// rows in scrollback, the number of rows by which the display is scrolled back, and the scrollback
+/// capacity.
 const COUNTED: [(Step, (usize, usize, usize)); 5] = [
     (View(1), (1, 1, 10)),
     (Text("\x1b[?47h"), (0, 0, 0)),

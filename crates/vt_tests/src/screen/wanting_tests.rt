@@ -14,7 +14,7 @@ struct RowCounter {
     rows: u8,
 }
 
-/// No callback changes the screen.
+/// Callbacks that count rows and do not change the screen.
 impl Callbacks for RowCounter {
     ghost use Rattle.std.specs.Prelude.{◌≡◌};
 

@@ -1,5 +1,5 @@
-//! Differences that move rows or columns first: their escape sequences, and the display of a terminal that
-//! parses them.
+//! Diffs that move rows or columns first: their escape sequences, and the display of a terminal
+//! that parses them.
 
 use super::difference_tests::{Example, expect_at_each_cut};
 use crate::aids::readback::Change;
@@ -16,7 +16,7 @@ const FIFTH: &str = "\r\nsssssssss\x1b[4;10H";
 /// Input with a row of words.
 const SIX: &str = "one two three four five six";
 
-/// Input with the same row of words, but without the second one.
+/// Input with the words of [`SIX`] except the second one.
 const FIVE: &str = "one three four five six";
 
 #[rattlefmt::skip]

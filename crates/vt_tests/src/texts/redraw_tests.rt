@@ -120,8 +120,9 @@ fn expect_text(screen: &Screen, asked: Asked, wanted: &str) -> Result<(), Fail> 
     Ok(())
 }
 
-/// Fails if, for some kind of output of the screen after the steps, a terminal that parses the
-/// output does not agree with the screen in what the output sets.
+/// Applies the steps of an example to a new parser. Fails if, for some kind of output of its
+/// screen, a terminal that parses the output does not agree with the screen in what the output
+/// sets.
 pub(crate) fn expect_read_back(
     alloc: Global,
     (size, capacity, steps, _asked, _text): &Example,
@@ -184,7 +185,8 @@ const IN_REGION: [InRegion; 5] = [
     ("", ["0:a @0,1\n", "0:a @0,1\n", "1:z @2,1\nscroll 62 0\n"]),
 ];
 
-/// Fails if a state of a terminal with the region that the example sets is not the expected one.
+/// Feeds the inputs of an [`InRegion`] example to a terminal. Fails if one of the three states is
+/// not the expected one.
 fn expect_redrawn(
     alloc: Global,
     screen: &Screen,

@@ -129,8 +129,9 @@ const SETTINGS: [&[&str]; 3] = [
     ],
 ];
 
-/// Fails if, for any kind of diff, a terminal in the setting `was` is not in the setting `new`
-/// after it has parsed the diff.
+/// Generates the output of `state_diff` and of `input_mode_diff` from a terminal that has parsed
+/// `was` to a terminal that has parsed `new`. Fails if reading the output does not turn the state
+/// of the first terminal into that of the second.
 fn expect_followed(alloc: Global, was: &str, new: &str) -> Result<(), Fail> {
     let prev = read_keeping(alloc, (1, 2), 0, &[was.as_bytes()])?;
     let parser = read_keeping(alloc, (1, 2), 0, &[new.as_bytes()])?;

@@ -59,7 +59,8 @@ const EXAMPLES: [Example; 24] = [
     ((2, 4), 0, &[Text("\x1b[1;3H"), Text(NARROWED), Resize(2, 2)], true),
 ];
 
-/// Fails if `is_steady` does not return the expected value for the screen after the steps.
+/// Applies the steps of an example to a new parser. Fails if `is_steady` does not return the
+/// expected value for its screen.
 fn expect_steady(
     alloc: Global,
     (size, capacity, steps, wanted): &Example,
