@@ -63,7 +63,7 @@ impl Model for Events {
 
 impl Events {
     /// Creates an empty log with a size limit of `limit` bytes. Bit `k` of
-    /// `wanted` says whether calls of kind `k` are recorded.
+    /// `wanted` is set if calls of kind `k` are recorded.
     pub(crate) fn new(alloc: Global, wanted: u16, limit: usize) -> Events
         ensures { result ≡ nothing_logged wanted limit }
     {
@@ -128,7 +128,7 @@ impl Events {
         if self.is_whole { 1 } else { 0 }
     }
 
-    /// Clears the records, and the flag that says whether records have been
+    /// Clears the records, and the flag that is set once records have been
     /// lost. If the log has reached its limit, also frees the memory of its
     /// rows.
     pub(crate) fn clear(&mut self)

@@ -66,7 +66,7 @@ pub extern "C" fn vt100_copy_events(alloc: Global, handle: &mut Handle, out: &mu
 }
 
 /// Clears a parser's log: its records, the rows that they report, and the flag
-/// that says whether records have been lost.
+/// that is set once records have been lost.
 ///
 /// # Errors
 ///

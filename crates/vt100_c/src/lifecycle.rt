@@ -19,7 +19,7 @@ use std::num::NonZeroU16;
 use vt100::{Parser, Screen};
 
 /// Creates a parser with a fresh screen in the empty handle `out`. Bit `k` of
-/// `wanted` says whether events of kind `k` are recorded.
+/// `wanted` is set if events of kind `k` are recorded.
 ///
 /// # Errors
 ///

@@ -12,7 +12,7 @@ pub struct Tally {
 }
 
 impl Tally {
-    /// Counts a replayed case; `same` says whether nothing differed.
+    /// Counts a replayed case; `same` is true if nothing differed.
     pub fn count(&mut self, same: bool) {
         self.run = self.run.saturating_add(1);
         if !same {

@@ -33,7 +33,7 @@ blank_shape = record { len = 0; wide = false; right_half = false }
 abbrev pub shape_of_cell : CellValue → ShapeValue
 shape_of_cell cell = record { len = length (text_of cell); wide = is_wide cell; right_half = is_right_half cell }
 
--- The shape that a byte stands for: five bits hold the length of the cell's text, and one bit each says whether the
+-- The shape that a byte stands for: five bits hold the length of the cell's text, and two bits indicate whether the
 -- cell is a wide glyph and whether it is a continuation cell.
 abbrev pub shape_of : ℕ → ShapeValue
 shape_of bits = record { len = bits % 32; wide = bits / 32 % 2 == 1; right_half = bits / 64 == 1 }

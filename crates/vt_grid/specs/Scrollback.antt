@@ -116,7 +116,6 @@ ViewTakesMemory height width n above = 0 < narrow_rows width (take height (last_
 abbrev pub scrollback_after_clear : Scrollback → Scrollback
 scrollback_after_clear above = no_scrollback above.capacity
 
--- The displayed rows: the newest scrollback rows, as many as the scrollback offset says, followed by rows of the page,
--- up to the height of the page.
+-- The displayed rows: the newest `offset` scrollback rows, followed by rows of the page, up to the height of the page.
 abbrev pub visible : Scrollback → List RowValue → List RowValue
 visible above rows = take (length rows) (last_of above.offset above.rows ++ rows)

@@ -59,7 +59,7 @@ pub record JoinsMirror (old : ViewersValue) (answer : Result ℕ Error) (new : V
   pub only : IfErr answer (λ error. (error ≡ OutOfMemory) ⊎ ((error ≡ NoNumber) × (old.last ≡ Some greatest)))
   pub refused : IfErr answer (λ _. new ≡ old)
 
--- The effect of `leave`: the viewer with the given number is removed, and the result says whether there was such a
+-- The effect of `leave`: the viewer with the given number is removed, and the result indicates whether there was such a
 -- viewer.
 pub record Leaves (old : ViewersValue) (viewer : ℕ) (answer : Bool) (new : ViewersValue) : Type 0 where
   pub was : answer ≡ is_viewer old viewer

@@ -21,8 +21,7 @@ is_viewer viewers viewer = list_any (is_at (nat_cmp viewer)) viewers.numbers
 abbrev pub is_among : (numbers : List ℕ) → ℕ → Bool
 is_among numbers viewer = list_any (is_at (nat_cmp viewer)) numbers
 
--- The change to a set of viewer numbers: `is` says whether `viewer` is now in the set. All other numbers are
--- unaffected.
+-- The change to a set of viewer numbers: `is` is true if `viewer` is now in the set. All other numbers are unaffected.
 pub record PutsAmong (old : List ℕ) (viewer : ℕ) (is : Bool) (new : List ℕ) : Type 0 where
   pub here : is_among new viewer ≡ is
   pub others : (other : ℕ) → other ≢ viewer → is_among new other ≡ is_among old other
@@ -42,7 +41,7 @@ pub record AreViewers (viewers : ViewersValue) : Type 0 where
   pub notes : (viewer : ℕ) (screen : ScreenValue) →
       note_of viewers viewer ≡ Some screen → is_viewer viewers viewer ≡ true
 
--- The viewers after a change to the number `viewer`: `is` says whether a viewer has this number now, and `note` is the
+-- The viewers after a change to the number `viewer`: `is` is true if a viewer has this number now, and `note` is the
 -- screen recorded for that viewer. All other numbers are unaffected.
 pub record Puts (old : ViewersValue) (viewer : ℕ) (is : Bool)
     (note : Option ScreenValue) (new : ViewersValue) : Type 0 where

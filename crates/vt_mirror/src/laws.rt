@@ -69,8 +69,8 @@ pub fn heals<CB: Callbacks>()
 ///
 /// The premises are that the terminal has the size of the run and that the
 /// screen was steady at each update (see `Screen::contents_formatted`). The
-/// premise `IsUpdatedAfter`, which says that each of these screens is valid and
-/// that all have the same size, is guaranteed by a successful run.
+/// premise `IsUpdatedAfter`, which states that each of these screens is valid
+/// and that all have the same size, is guaranteed by a successful run.
 pub fn runs<CB: Callbacks>()
     ensures shows { (first : ScreenValue) (every : ℕ) (input : List ℕ) (p q : ParserValue CB) (calls : List Processing) →
         IsScreen p.screen → IsPlainParser p → SameSize first.page p.screen.page →

@@ -80,7 +80,7 @@ impl Note {
         }
     }
 
-    /// Creates a note of a row that scrolled off. `alternate` says whether the row was on the
+    /// Creates a note of a row that scrolled off. `alternate` is true if the row was on the
     /// alternate page.
     ///
     /// # Errors

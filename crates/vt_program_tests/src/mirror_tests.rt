@@ -18,7 +18,7 @@ enum Call {
     /// Adds a viewer, which must get the given number.
     Join(u64),
 
-    /// Removes the viewer with the given number; the flag says whether there is such a viewer.
+    /// Removes the viewer with the given number; the flag is true if there is such a viewer.
     Leave(u64, bool),
 
     /// Tests whether the viewer with the given number is up to date; the flag is the expected

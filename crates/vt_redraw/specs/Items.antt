@@ -74,7 +74,7 @@ linked_item r xs =
     let first = first_written r (pen_at r 0 default_attrs) false xs (blanks default_attrs (length xs)) in
     ops_then first.ops (cells_written r 0 first.pen first.flag first.settled xs (blanks default_attrs (length xs)))
 
--- The output that draws a range of a row over a blank row; `linked` says whether the row above is wrapped.
+-- The output that draws a range of a row over a blank row; `linked` is true if the row above is wrapped.
 abbrev pub item_of_redraw : (r start stop : ℕ) → (linked : Bool) → RowValue → Scripted
 item_of_redraw r start stop linked x =
     if is_whole start stop (length x.cells) && linked then linked_item r x.cells

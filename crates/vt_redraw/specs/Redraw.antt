@@ -29,7 +29,7 @@ link_of r pen above on x y =
     if above.wrapped then row_link r pen above.cells on y.wrapped x.cells y.cells else no_link pen y.wrapped
 
 -- The output that turns the rows `ys` into the rows `xs`. The terminal displays `ys` below a given row, and the flag
--- says whether the given row is wrapped on the terminal.
+-- indicates whether the given row is wrapped on the terminal.
 unfoldable pub rows_below : ℕ → Pen → RowValue → Bool → (xs ys : List RowValue) → Scripted
 rows_below r pen above on [] ys = no_ops pen on
 rows_below r pen above on (x ∷ xs) [] = no_ops pen on

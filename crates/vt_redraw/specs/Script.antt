@@ -163,8 +163,8 @@ abbrev pub ops_then_link : List Op → Linked → Linked
 ops_then_link ops link =
     record { ops = ops ++ link.ops; pen = link.pen; flag = link.flag; settled = link.settled }
 
--- The link from the wrapped row `r`, whose cells are `above`, to the next row; `on` says whether row `r` of the
--- terminal is wrapped.
+-- The link from the wrapped row `r`, whose cells are `above`, to the next row; `on` is true if row `r` of the terminal
+-- is wrapped.
 unfoldable pub row_link : ℕ → Pen → (above : List CellValue) →
     (on : Bool) → (flag : Bool) → (xs ys : List CellValue) → Linked
 row_link r pen above on flag xs ys =

@@ -3,8 +3,8 @@
 //!
 //! Throughout this crate, *the terminal* is the terminal that reads the output,
 //! and `over` is the row that it displays. A cell *needs output* if the
-//! terminal does not display it already. A `flag` says whether the terminal's
-//! row is wrapped.
+//! terminal does not display it already. A parameter `flag` is true if the
+//! terminal's row is wrapped.
 
 ghost use Rattle.std.specs.Prelude.{◌≡◌, ◌++◌, ◌+◌, ◌<◌, ◌≤◌};
 ghost use Rattle.std.specs.Prelude.{false, OnOk, drop, length};
@@ -145,8 +145,8 @@ pub fn write_run<S: Sink>(
 }
 
 /// Returns whether the terminal's row is still wrapped after printing a glyph
-/// that ends just before column `col`. `flag` says whether the row was wrapped,
-/// and `wide` whether the glyph is wide.
+/// that ends just before column `col`. `flag` is true if the row was wrapped,
+/// and `wide` if the glyph is wide.
 pub fn flag_behind(flag: bool, wide: bool, over: &PictureRow<'_>, col: u16) -> bool
     ensures { result ≡ flag_behind flag wide (drop col over.now.cells) }
 {
@@ -154,7 +154,7 @@ pub fn flag_behind(flag: bool, wide: bool, over: &PictureRow<'_>, col: u16) -> b
 }
 
 /// Returns whether the terminal's row is still wrapped after erasing a run of
-/// columns that ends just before column `col`. `flag` says whether the row was
+/// columns that ends just before column `col`. `flag` is true if the row was
 /// wrapped.
 #[tactic(auto, using(crate::proofs::Filling::nil_at))]
 pub fn flag_past(flag: bool, over: &PictureRow<'_>, col: u16) -> bool

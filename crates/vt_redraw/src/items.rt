@@ -55,7 +55,7 @@ fn write_begin<S: Sink>(
 }
 
 /// Writes the output that a range of columns of a row needs. `cells` must be
-/// cut to the end of the range. `flag` says whether the terminal's row is
+/// cut to the end of the range. `flag` is true if the terminal's row is
 /// wrapped, and is updated.
 fn write_range<S: Sink>(
     sink: &mut S,

@@ -175,7 +175,7 @@ fn needs_link(
 }
 
 /// Writes the link between row `row` and the next row, if the picture's row `row` is wrapped and a
-/// link is needed. The link makes the terminal wrap into the next row. `on` says whether the
+/// link is needed. The link makes the terminal wrap into the next row. `on` is true if the
 /// terminal's row `row` is already wrapped.
 ///
 /// # Errors

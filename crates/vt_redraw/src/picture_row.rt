@@ -67,8 +67,8 @@ impl<'a> PictureRow<'a> {
         cut
     }
 
-    /// Returns whether the row is wrapped after it has been cut. `wrapped` says
-    /// whether it was wrapped before. The last row of a picture (`is_last`) is
+    /// Returns whether the row is wrapped after it has been cut. `wrapped` is
+    /// true if it was wrapped before. The last row of a picture (`is_last`) is
     /// never wrapped.
     fn keeps_flag(&self, wrapped: bool, is_last: bool) -> bool
         requires { 0 < length self.now.cells }

@@ -175,8 +175,8 @@ fn drawing(cells: &PictureRow<'_>, over: &PictureRow<'_>, shift: RowShift) -> i3
 }
 
 impl Estimate {
-    /// Adds the output for one cell to the estimate. `differs` says whether the cell differs from
-    /// what the terminal displays; if not, it is not drawn.
+    /// Adds the output for one cell to the estimate. `differs` is true if the cell differs from
+    /// what the terminal displays; otherwise, the cell is not drawn.
     fn add(&mut self, cell: &Cell, differs: bool) {
         if !differs {
             self.drew = false;

@@ -211,8 +211,8 @@ fn prints_itself(cell: &Cell, cols: u16) -> bool
 }
 
 /// Returns whether a glyph is wide after the combining character `mark` has
-/// been added. `printed` is the glyph with `mark`, and `wide` says whether it
-/// was wide before.
+/// been added. `printed` is the glyph with `mark`, and `wide` is true if it was
+/// wide before.
 fn width_after(printed: &Cell, mark: char, wide: bool, cols: u16) -> bool
     ensures { result ≡ (if is_selector mark then is_wide_text (text_of printed.now) && nat_lt 1 cols else wide) }
 {

@@ -2,7 +2,7 @@
 //!
 //! A wide glyph takes two columns: its first cell holds the text, and the next column is its
 //! continuation cell. No edit leaves one of these two cells without the other. If an edit
-//! overwrites only one of them, the documentation of the function says what the other cell becomes.
+//! overwrites only one of them, the function's documentation describes what the other cell becomes.
 
 ghost use Rattle.std.specs.Prelude.{◌≡◌, ◌≢◌, ◌<◌, ◌≤◌, ◌+◌, ◌-◌, ◌*◌, ◌&&◌, ◌∷◌, [], All};
 ghost use Rattle.std.specs.Prelude.{Some, encode_utf8, false, true, length, not};

@@ -1,9 +1,9 @@
 //! `vt_scale WHAT CALL ROWS COLS CAPACITY VIEWERS EVERY FILE`: feeds FILE to a mirror with many
 //! viewers, so that its memory and its instructions can be measured (`bench/mirrors`).
 //!
-//! WHAT says when viewers are updated (see [`Work`]), and CALL is `update` or `update_scrolling`.
-//! Prints the number of updates, the number of full updates among them, and the total length of the
-//! diffs in bytes.
+//! WHAT determines when viewers are updated (see [`Work`]), and CALL is `update` or
+//! `update_scrolling`. Prints the number of updates, the number of full updates among them, and the
+//! total length of the diffs in bytes.
 #![tactic(auto)]
 
 use anyhow::{Context, Result, bail};

@@ -85,7 +85,7 @@ pub record Opens (bytes : List ℕ) : Type 0 where
   pub second : slice_index_or bytes 1 0 ≡ 0x5B
 
 -- The numbers of a list from the first index up to the second, divided into consecutive groups. The list of indices
--- says where each group ends, except for the last group, which ends at the second index.
+-- contains the end of each group except the last, which ends at the second index.
 abbrev pub groups_from : ℕ → List ℕ → ℕ → List ℕ → List (List ℕ)
 groups_from from [] len numbers = take (len - from) (drop from numbers) ∷ []
 groups_from from (to ∷ ends) len numbers = take (to - from) (drop from numbers) ∷ groups_from to ends len numbers

@@ -15,7 +15,7 @@ line_end row = if row.wrapped then [] else 0x0A ∷ []
 abbrev pub gap_line : ℕ → Bool → RowValue → List ℕ
 gap_line width is_wrapped row = if is_wrapped && not (has_glyph 0 width row.cells) then 0x0A ∷ [] else []
 
--- The text of consecutive rows of the given width; the flag says whether the row before the first one is wrapped.
+-- The text of consecutive rows of the given width; the flag indicates whether the row before the first one is wrapped.
 abbrev pub lines_of : ℕ → Bool → List RowValue → List ℕ
 lines_of width is_wrapped [] = []
 lines_of width is_wrapped (row ∷ rows) =

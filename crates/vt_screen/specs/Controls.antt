@@ -99,7 +99,7 @@ reading_steps groups Silent = []
 reading_steps groups (Set setting) = Render setting ∷ []
 reading_steps groups Unhandled = CallBack (UnhandledCsi None None groups 0x6D) ∷ []
 
--- The steps of the remaining groups of an SGR sequence. The `Wanted` value says how the first of these groups is
+-- The steps of the remaining groups of an SGR sequence. The `Wanted` value determines how the first of these groups is
 -- interpreted.
 abbrev pub sgr_from : List (List ℕ) → Wanted → List (List ℕ) → List Step
 sgr_from groups wanted [] = []

@@ -123,7 +123,7 @@ pub record KeepsRest (reader after : ScreenValue) : Type 0 where
   pub but_modes : KeepsRestButModes reader after
   pub modes : after.modes ≡ reader.modes
 
--- On every terminal with the property `Reader`, the output redraws the picture, if the picture is steady. `Kept` says
+-- On every terminal with the property `Reader`, the output redraws the picture, if the picture is steady. `Kept` states
 -- what else in the terminal stays unchanged.
 pub record Redraws (picture : Picture) (Reader : ScreenValue → Type 0)
     (Kept : (reader after : ScreenValue) → Type 0) (text : List ℕ) : Type 0 where

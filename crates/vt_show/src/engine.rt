@@ -132,7 +132,7 @@ pub fn write_text<W: Write>(writer: &mut W, text: &str) -> Result<(), Fault>
 }
 
 /// Writes all of `bytes`. This function is used instead of `Write::write_all`, whose contract does
-/// not say what a writer holds after an error.
+/// not state what a writer holds after an error.
 fn write_bytes<W: Write>(writer: &mut W, bytes: &[u8]) -> Result<(), Fault>
     ensures all { OnOk result (Appends (W.contents writer.old) (W.contents writer.new) bytes.now) }
     ensures part { OnErr result (AppendsPart (W.contents writer.old) (W.contents writer.new) bytes.now) }

@@ -164,8 +164,8 @@ impl Reach {
     }
 }
 
-/// Returns whether a text that ends with the character `c` ends inside an SGR sequence. `within`
-/// says whether the text before `c` ends inside an SGR sequence.
+/// Returns whether a text that ends with the character `c` ends inside an SGR sequence. `within` is
+/// true if the text before `c` ends inside one.
 fn is_within_after(within: bool, c: char) -> bool
     ensures { result ≡ is_within_after within c }
 {

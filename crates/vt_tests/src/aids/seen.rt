@@ -38,8 +38,8 @@ pub fn expect_at_each_cut(
     expect_read_back_at_each_byte(alloc, size, capacity, steps)
 }
 
-/// Applies `steps` to a new parser, with their bytes split as `pieces` says. Fails if the parser's
-/// state afterward is not `wanted`.
+/// Applies `steps` to a new parser, with their bytes split according to `pieces`. Fails if the
+/// parser's state afterward is not `wanted`.
 fn expect_after(
     alloc: Global,
     size: (u16, u16),

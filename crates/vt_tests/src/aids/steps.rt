@@ -98,7 +98,7 @@ pub fn longest(steps: &[Step]) -> usize {
     longest
 }
 
-/// Feeds bytes to a parser, split as `pieces` says.
+/// Feeds bytes to a parser, split according to `pieces`.
 pub fn feed<CB: Callbacks>(
     parser: &mut Parser<CB>,
     bytes: &[u8],

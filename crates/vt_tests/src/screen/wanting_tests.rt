@@ -1,4 +1,5 @@
-//! Callbacks that say whether they want the rows that scroll off.
+//! Tests of callbacks that request or decline reports of the rows that scroll
+//! off.
 
 use super::counter::Counter;
 use crate::aids::steps::size_of;
