@@ -19,9 +19,9 @@
  * DESCRIPTION
  *     A headless terminal emulator. It parses what a program writes to its terminal, maintains the
  *     screen that a person would see, and returns it as text, as a redraw for another terminal, or
- *     as the difference from an earlier screen. Rows and columns are 0-based. The library is
- *     formally verified: if the caller follows the rules below, no call aborts the program or
- *     accesses memory that it was not given.
+ *     as a diff from an earlier screen. Rows and columns are 0-based. The library is formally
+ *     verified: if the caller follows the rules below, no call aborts the program or accesses
+ *     memory that it was not given.
  *
  * HANDLES
  *     The caller refers to an object of the library by a handle, which is one machine word.
@@ -55,18 +55,18 @@
  *     call must not overlap, except that passing the same handle twice returns a status.
  *
  * REDRAWS
- *     The statements below about terminals that read redraws and differences are proved for plain
+ *     The statements below about terminals that read redraws and diffs are proved for plain
  *     terminals and steady screens. A terminal is plain if its scroll region is the whole page,
  *     origin mode is off, no scrollback is displayed and no sequence is unfinished, as in every new
- *     terminal. A screen is steady if every visible glyph reproduces itself when it is printed;
- *     only glyphs with U+FE0F may not.
+ *     terminal. A screen is steady if every visible glyph reproduces itself when it is printed
+ *     again; only glyphs with U+FE0F may fail to do so.
  *
- *     Two statements hold for every screen, steady or not. A text for a terminal consists of
+ *     Two statements hold for every screen, steady or not. First, a text for a terminal consists of
  *     printable characters, control sequences with decimal numbers (cursor movement, erasing,
  *     colors, scrolling) and a few fixed sequences. It never contains an OSC, DCS, APC, PM or SOS
- *     string, a reset, a bell, a C1 control, or a query that a terminal replies to. And a plain
- *     terminal that has read a redraw or a difference of the contents is plain again, so that the
- *     next full redraw of a steady screen displays that screen.
+ *     string, a reset, a bell, a C1 control, or a query that a terminal replies to. Second, a plain
+ *     terminal that has read a redraw or a diff is plain again, so that the next full redraw of a
+ *     steady screen displays that screen.
  *
  * THE ALTERNATE SCREEN
  *     The alternate screen has no scrollback. While it is active, no scrollback is displayed or
@@ -77,14 +77,15 @@
  *     increased by changes that break compiled programs and is part of the name of the shared
  *     object, libvt100.so.MAJOR. MINOR is increased by additions. vt100_version returns the version
  *     of the library that a program runs with. VT100_CRATE_VERSION is the version of the Rust crate
- *     vt100 whose behavior the library has.
+ *     vt100 whose behavior the library reproduces.
  *
  * RUNNING A PROGRAM
  *     The library runs on Linux with glibc, on processors of level x86-64-v2 (SSE4.2 and POPCNT,
- *     available since about 2009); on older processors, programs end with SIGILL. A program linked
- *     to libvt100.a needs no other files of this library. A program linked to libvt100.so needs
- *     libvt100.so.MAJOR where the dynamic linker finds it: in a system directory, in a directory in
- *     LD_LIBRARY_PATH, or in one that was specified when linking (-Wl,-rpath,DIRECTORY).
+ *     available since about 2009). On older processors, programs are killed by SIGILL. A program
+ *     linked to libvt100.a needs no other files of this library. A program linked to libvt100.so
+ *     needs libvt100.so.MAJOR where the dynamic linker finds it: in a system directory, in a
+ *     directory in LD_LIBRARY_PATH, or in one that was specified when linking
+ *     (-Wl,-rpath,DIRECTORY).
  *
  * RETURN VALUE
  *     Most functions return a status. If it is not VT100_OK, no results are stored and nothing has
@@ -254,9 +255,9 @@ vt100_status vt100_save(vt100_handle *handle, vt100_handle *out);
 
 /*
  * Stores in `out` a saved screen that displays the same content as a parser or a saved screen and
- * has the same size. The copy has neither the scrollback nor the inactive page, so that it takes
- * less memory than one made by vt100_save. It can serve as `prev` of differences. While scrollback
- * is displayed, the copy is complete, as from vt100_save.
+ * has the same size. The copy has neither the scrollback nor the inactive page, so it takes less
+ * memory than one made by vt100_save. It can be the `prev` of a later diff. While scrollback is
+ * displayed, the copy is complete, like one made by vt100_save.
  * VT100_NO_OBJECT, VT100_WRONG_KIND. VT100_IN_USE: `out` is not empty, or is the same handle.
  * VT100_OUT_OF_MEMORY.
  */
@@ -290,10 +291,10 @@ vt100_status vt100_process(vt100_handle *handle, const uint8_t *bytes, size_t le
 /*
  * Parses bytes up to and including the first byte that logs or loses an event, and stores the
  * number of bytes read in `*used`. Call this function until all bytes are read. Rows that are
- * logged without text don't stop parsing until the rows that this call has logged take 64 KiB or
+ * logged without text do not stop parsing until the rows that this call has logged take 64 KiB or
  * the log reaches its limit. If the status is not VT100_OK, `*used` is the number of bytes before
  * the one whose allocation failed. Only for a parser.
- * Statuses: as for vt100_process, but VT100_OK if there are no bytes.
+ * Statuses: as for vt100_process, but always VT100_OK if `len` is 0.
  */
 vt100_status vt100_process_until(vt100_handle *handle, const uint8_t *bytes, size_t len,
                                  size_t *used);
@@ -365,8 +366,8 @@ vt100_status vt100_row_wrapped(vt100_handle *handle, uint16_t row, uint8_t *out)
 
 /*
  * Stores 1 if the screen is steady, otherwise 0. On a steady screen, every displayed glyph
- * reproduces itself when it is printed on a blank row, so that redraws and differences show the
- * screen exactly. Only U+FE0F makes a screen unsteady.
+ * reproduces itself when it is printed on a blank row, so that redraws and diffs display the screen
+ * exactly. Only U+FE0F can make a screen unsteady.
  * VT100_NO_OBJECT, VT100_WRONG_KIND.
  */
 vt100_status vt100_is_steady(vt100_handle *handle, uint8_t *out);
@@ -427,14 +428,14 @@ vt100_status vt100_attributes_formatted(vt100_handle *handle, size_t *len);
 vt100_status vt100_input_mode_formatted(vt100_handle *handle, size_t *len);
 
 /*
- * Generates the difference from the screen `prev`: the escape sequences that turn the display of
- * `prev` on a plain terminal into the display of this screen.
+ * Generates a diff from the screen `prev`: the escape sequences that turn the display of `prev` on
+ * a plain terminal into the display of this screen.
  * VT100_BAD_ARGUMENT: both are the same handle. VT100_OTHER_SIZE.
  */
 vt100_status vt100_contents_diff(vt100_handle *handle, vt100_handle *prev, size_t *len);
 
 /*
- * A difference that may move rows or columns first and is never longer than that of
+ * Generates a diff that may begin by moving rows or columns, and is never longer than that of
  * vt100_contents_diff.
  * Statuses: as for vt100_contents_diff.
  */
@@ -474,16 +475,15 @@ vt100_status vt100_rows_formatted(vt100_handle *handle, uint16_t start, uint16_t
 
 /*
  * Works like vt100_rows_formatted, but generates the output that turns each row of `prev` into the
- * same row of this screen.
+ * corresponding row of this screen.
  * VT100_BAD_ARGUMENT: also if both are the same handle. VT100_OTHER_SIZE.
  */
 vt100_status vt100_rows_diff(vt100_handle *handle, vt100_handle *prev, uint16_t start,
                              uint16_t width, size_t *ends, size_t room, size_t *len);
 
 /*
- * Copies the handle's text, or as much of it as there is room for, and returns the number of bytes
- * copied, which is 0 for an empty handle. Works for every kind of object. The text stays in the
- * handle.
+ * Copies the handle's text, or as much of it as fits, and returns the number of bytes copied, which
+ * is 0 for an empty handle. Works for every kind of object. The text stays in the handle.
  */
 size_t vt100_copy(vt100_handle *handle, uint8_t *out, size_t room);
 
@@ -531,10 +531,10 @@ vt100_status vt100_next_row(const uint8_t *text, size_t len, uint16_t width, siz
 
 /* ---- EVENTS: for a parser
  *
- * Events are requests of a program other than drawing, sequences that the screen doesn't support,
- * and rows that scroll off. A parser logs the events of the requested kinds as records, in order,
- * until the log is cleared. A record is the kind of the event (1 byte), two numbers (4 bytes each),
- * the length of its text (8 bytes) and the text. All numbers are little-endian.
+ * Events are requests of a program other than drawing, sequences that the screen does not support,
+ * and rows that scroll off. A parser logs the events of the requested kinds as records, in order. A
+ * record consists of the kind of the event (1 byte), two numbers (4 bytes each), the length of the
+ * event's text (8 bytes) and the text. All numbers are little-endian.
  *
  *      0  audible_bell
  *      1  visual_bell
@@ -556,7 +556,7 @@ vt100_status vt100_next_row(const uint8_t *text, size_t len, uint16_t width, siz
  * Therefore, the log has a limit, which is 1 MiB unless it is changed by vt100_set_event_limit. The
  * limit applies to the records plus 40 bytes for each cell of a row that scrolled off. Once it is
  * reached, events are lost until vt100_clear_events is called. A caller that clears the log after
- * each vt100_process_until loses only those events of a single byte that exceed the limit.
+ * each vt100_process_until loses events only if those of a single byte exceed the limit.
  */
 
 /* A bit of `wanted`: rows are logged without their text. */
@@ -571,8 +571,8 @@ enum { VT100_ROWS_WITHOUT_TEXT = 1 << 13 };
 vt100_status vt100_events(vt100_handle *handle, size_t *len, uint8_t *is_whole);
 
 /*
- * Copies the logged records, or as much of them as there is room for. Returns the number of bytes
- * copied, which is 0 if the handle holds no parser.
+ * Copies the logged records, or as much of them as fits, and returns the number of bytes copied,
+ * which is 0 if the handle holds no parser.
  */
 size_t vt100_copy_events(vt100_handle *handle, uint8_t *out, size_t room);
 
@@ -589,8 +589,8 @@ vt100_status vt100_set_event_limit(vt100_handle *handle, size_t bytes);
 /* ---- viewers of a mirror
  *
  * A viewer is a terminal outside the library. A viewer's first update is a redraw, and each later
- * one is the difference since its previous update; after a resize, the next update is a redraw
- * again. A viewer displays the mirror's screen as it was at the viewer's last update.
+ * one is a diff from its previous update; after a resize, the next update is a redraw again. A
+ * viewer displays the mirror's screen as it was at the viewer's last update.
  */
 
 /*
@@ -605,8 +605,8 @@ vt100_status vt100_join(vt100_handle *mirror, uint64_t *viewer);
 vt100_status vt100_leave(vt100_handle *mirror, uint64_t viewer);
 
 /*
- * Generates the update that the viewer must read. For a redraw, *rows and *cols are the size that
- * the viewer's terminal must have first; for a difference, both are 0.
+ * Generates the update that the viewer must read. For a redraw, stores in *rows and *cols the size
+ * to which the viewer's terminal must be set first; for a diff, stores 0 in both.
  * VT100_NO_OBJECT, VT100_WRONG_KIND, VT100_OUT_OF_MEMORY. VT100_BAD_ARGUMENT: there is no such
  * viewer.
  */
@@ -614,29 +614,29 @@ vt100_status vt100_update(vt100_handle *mirror, uint64_t viewer, uint16_t *rows,
                           size_t *len);
 
 /*
- * As vt100_update, but differences may move rows or columns first and are never longer. If the
- * screen of the viewer's last update was not steady, the update is a redraw, so that a viewer that
- * displayed that screen incorrectly is corrected.
+ * Works like vt100_update, but a diff may begin by moving rows or columns, and is never longer. If
+ * the screen of the viewer's last update was not steady, the update is a redraw, which corrects a
+ * viewer that displayed that screen incorrectly.
  */
 vt100_status vt100_update_scrolling(vt100_handle *mirror, uint64_t viewer, uint16_t *rows,
                                     uint16_t *cols, size_t *len);
 
 /*
- * Stores 1 if the viewer is known to be up to date, otherwise 0. The next update of a viewer that
- * is up to date is an empty difference, or, with vt100_update_scrolling and an unsteady screen, a
- * redraw. The value is 0 if the viewer has had no update since it joined or since the last resize,
- * if vt100_process was called since its last update (even if nothing displayed has changed), and if
+ * Stores 1 if the viewer is known to be up to date, otherwise 0. The next update of an up-to-date
+ * viewer is an empty diff, or, with vt100_update_scrolling and an unsteady screen, a redraw. The
+ * value is 0 if the viewer has had no update since it joined or since the last resize, if
+ * vt100_process was called since its last update (even if nothing displayed has changed), and if
  * there is no such viewer. This function neither allocates nor reads cells.
  * VT100_NO_OBJECT, VT100_WRONG_KIND.
  */
 vt100_status vt100_mirror_is_current(vt100_handle *mirror, uint64_t viewer, uint8_t *out);
 
-/* ---- the version and the texts of statuses: never null, and valid forever */
+/* ---- the version and the texts of statuses: the pointers are never null, and always valid */
 
 /*
- * Returns the version of the interface that the running library has, which is VT100_VERSION_MAJOR
- * and VT100_VERSION_MINOR of its header, such as "1.1". A program linked to the shared object may
- * run with a later MINOR than it was compiled with.
+ * Returns the interface version of the library that the program runs with, such as "1.1":
+ * VT100_VERSION_MAJOR and VT100_VERSION_MINOR of that library's header. A program linked to the
+ * shared object may run with a later MINOR than it was compiled with.
  */
 const char *vt100_version(void);
 

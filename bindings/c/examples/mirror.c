@@ -1,6 +1,6 @@
 /*
  * mirror ROWS COLS EVERY: reads what a program writes to its terminal, and writes the escape
- * sequences that keep a second terminal equal to it: a redraw, then a difference after every EVERY
+ * sequences that keep a second terminal equal to it: a redraw, then a diff after every EVERY
  * bytes and one at the end. The exit status is 0 on success, 1 on failure, and 2 if the arguments
  * are invalid.
  */

@@ -1,5 +1,5 @@
 //! A headless terminal emulator. It processes what a program writes to its terminal, maintains the
-//! screen that a person would see, and returns it as text, as a redraw or as a difference.
+//! screen that a person would see, and returns it as text, as a redraw or as a diff.
 //!
 //! The items are those of the crate `vt100` 0.18.1, with the addition of [`mirror`],
 //! [`Parser::pending_len`], [`Screen::contents_diff_scrolling`], [`Screen::is_steady`] and

@@ -415,7 +415,7 @@ impl Handle {
         self.copied(len)
     }
 
-    /// Returns the difference from the screen `prev`, or `None` if the sizes differ.
+    /// Returns the diff from the screen `prev`, or `None` if the sizes differ.
     pub fn difference(&mut self, prev: &mut Self, difference: Difference) -> Option<String> {
         let mut len = 0;
         match unsafe { (difference.0)(self, prev, &mut len) } {

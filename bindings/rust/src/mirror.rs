@@ -16,7 +16,7 @@ pub enum Update {
         /// The redraw.
         text: String,
     },
-    /// The difference since the viewer's last update.
+    /// The diff since the viewer's last update.
     Diff(String),
 }
 
@@ -32,8 +32,8 @@ impl Update {
 
 /// A terminal that remembers, for each of its viewers, the screen of the last update.
 ///
-/// A viewer's first update redraws the screen, and so does its first update after a resize; every
-/// other update is a difference. A viewer may join late and fall behind.
+/// A viewer's first update, and its first update after a resize, redraws the screen; every other
+/// update is a diff. A viewer may join late and fall behind.
 ///
 /// ```
 /// use std::num::NonZeroU16;
@@ -96,7 +96,7 @@ impl Mirror {
     }
 
     /// Returns the next update of a viewer, or `None` if there is no viewer with this number. A
-    /// difference may move rows or columns first, and is never longer than that of
+    /// diff may move rows or columns first, and is never longer than that of
     /// [`update`](Self::update). A viewer may alternate between both kinds of updates.
     ///
     /// If the screen of the viewer's last update had a glyph that does not reproduce itself when it
@@ -106,9 +106,9 @@ impl Mirror {
         self.next(Updates::SCROLLING, viewer)
     }
 
-    /// Returns whether a viewer is known to be up to date. Its next update is then an empty
-    /// difference, or a full update if the screen is not steady and it is requested with
-    /// [`update_scrolling`](Self::update_scrolling).
+    /// Returns whether a viewer is known to be up to date. If it is, its next update is an empty
+    /// diff, except that [`update_scrolling`](Self::update_scrolling) returns a full update if the
+    /// screen is not steady.
     ///
     /// Returns `false` if the viewer has had no update since it joined or since the last resize, if
     /// [`process`](Self::process) was called since its last update (even if nothing displayed has

@@ -1,4 +1,4 @@
-//! The text of a screen, and its redraws and differences as strings.
+//! The text of a screen, and its redraws and diffs as strings.
 
 use crate::capture::BasicFormattedCaptureRange;
 use crate::library::{Difference, Handle, RowTexts, Text};
@@ -107,7 +107,7 @@ impl Screen {
             .unwrap_or_else(|| self.contents_formatted())
     }
 
-    /// Returns a difference from `prev` that may move rows or columns first and is never longer than
+    /// Returns a diff from `prev` that may move rows or columns first and is never longer than
     /// [`contents_diff`](Self::contents_diff). Not in the crate `vt100`.
     #[must_use]
     pub fn contents_diff_scrolling(&self, prev: &Self) -> String {

@@ -43,7 +43,7 @@ pub fn perform<CB: Callbacks>(
 }
 
 /// Sets (if `on` is true) or resets the private mode that a parameter group
-/// names, or reports the group if it isn't a single number.
+/// names, or reports the group if it is not a single number.
 ///
 /// # Errors
 ///

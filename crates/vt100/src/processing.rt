@@ -89,9 +89,8 @@ pub fn process_some<CB: Callbacks>(
     process_rest(scanner, screen, callbacks, bytes)
 }
 
-/// Parses and applies the sequence at the start of `bytes`, or the part of it
-/// that is present. Returns the number of bytes read, which is 0 if `bytes`
-/// doesn't start with a sequence.
+/// Parses and applies the sequence at the start of `bytes`, or the part of it that is present.
+/// Returns the number of bytes read, which is 0 if `bytes` does not start with a sequence.
 ///
 /// # Errors
 ///

@@ -42,8 +42,8 @@ pub record UpdateNumbers : Type 0 where
 abbrev pub numbers : (rows cols len : ℕ) → UpdateNumbers
 numbers rows cols len = record { rows = rows; cols = cols; len = len }
 
--- The numbers stored after a request for an update: for a difference, the size is 0 by 0; without an update, the
--- numbers are unchanged.
+-- The numbers stored after a request for an update: for a diff, the size is 0 by 0; without an update, the numbers are
+-- unchanged.
 abbrev pub numbers_after : Result (Option Update) Error → UpdateNumbers → UpdateNumbers
 numbers_after (Ok (Some (Full rows cols text))) before = numbers rows cols (string_len text)
 numbers_after (Ok (Some (Diff text))) before = numbers 0 0 (string_len text)

@@ -40,8 +40,7 @@ due_for _ screen = any_screen screen
 
 -- ---- two screens
 
--- The text is a difference that may move rows or columns first and is never longer than the difference that moves
--- nothing.
+-- The text is a diff that may move rows or columns first and is never longer than the diff that moves nothing.
 pub record IsScrollingDiff (screen prev : ScreenValue) (text : List ℕ) : Type 0 where
   pub draws : IsMoving (display screen) (display prev) text
   pub shorter : length text ≤ length (bytes_of_all (difference (display screen) (display prev)))
@@ -52,7 +51,7 @@ IsDifference between.Scrolling screen prev text = IsScrollingDiff screen prev te
 IsDifference between.State screen prev text = text ≡ state_change prev screen
 IsDifference between.InputMode screen prev text = text ≡ input_change prev.modes screen.modes
 
--- The status of a call that generates the difference between two screens.
+-- The status of a call that generates the diff between two screens.
 abbrev pub due_for_both : Difference → ScreenValue → ScreenValue → ℕ
 due_for_both between.InputMode screen prev = any_screens screen prev
 due_for_both _ screen prev = of_one_size screen prev
@@ -65,7 +64,7 @@ HasText (text.Between start_row start_col end_row end_col) screen =
     0 < length (between_of start_row start_col end_row end_col screen)
 HasText _ screen = Unit {0}
 
--- The output isn't empty, and the screens display different content.
+-- The output is not empty, and the screens display different content.
 abbrev pub HasChange : (text : List ℕ) → ScreenValue → ScreenValue → Type 0
 HasChange text screen prev = (0 < length text) × ¬ (display screen ≡ display prev)
 
@@ -84,8 +83,8 @@ pub record MakesText (name : Text) (old : Option Object) (status : ℕ) (new : O
   pub nonempty : status ≡ out_of_memory → HoldsScreen old (HasText name)
   pub made : status ≡ ok → HoldsScreen old (λ screen. text_at new ≡ text_of name screen)
 
--- The difference that `name` selects is generated; it leads from the screen of the handle `prev` to the screen of the
--- handle `old`. The screen of `old` is unchanged.
+-- The diff that `name` selects is generated; it leads from the screen of the handle `prev` to the screen of the handle
+-- `old`. The screen of `old` is unchanged.
 pub record MakesDifference (name : Difference) (old prev : Option Object) (status : ℕ) (new : Option Object) :
     Type 0 where
   pub source : source_at new ≡ source_at old

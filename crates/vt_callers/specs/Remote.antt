@@ -35,13 +35,13 @@ pub record IsWhole (screen : ScreenValue) : Type 0 where
   pub sound : IsScreen screen
   pub colored : IsColored screen
 
--- The terminal received the difference from `prev` to `screen`.
+-- The terminal received the diff from `prev` to `screen`.
 pub record SendsNext {S : Type 0} (screen prev : ScreenValue) (old new : ParserValue S) : Type 0 where
   pub whole : IsWhole screen
   pub takes : HasTaken (bytes_of_all (difference (display screen) (display prev))) old new
 
--- The terminal received the redraw of `first`, followed by the differences that lead from `first` to each screen of
--- `nexts` in turn. The last of these screens is `prev`.
+-- The terminal received the redraw of `first`, followed by the diffs that lead from `first` through the screens of
+-- `nexts`. The last of these screens is `prev`.
 pub record HasFollowed {S : Type 0} (first : ScreenValue) (nexts : List ScreenValue) (prev : ScreenValue)
     (old new : ParserValue S) : Type 0 where
   pub whole : AllByRecursion IsWhole (first ∷ nexts)

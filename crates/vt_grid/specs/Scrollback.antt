@@ -76,7 +76,7 @@ abbrev pub scrollback_after_push : (height width : ℕ) → List RowValue → Sc
 scrollback_after_push height width [] above = above
 scrollback_after_push height width (row ∷ gone) above = grown_in_view height width (kept_after (row ∷ gone) above)
 
--- The rows that are reported because scrollback doesn't keep them when the given rows scroll off, oldest first.
+-- The rows that are reported because scrollback does not keep them when the given rows scroll off, oldest first.
 abbrev pub rows_reported : List RowValue → Scrollback → List RowValue
 rows_reported [] above = []
 rows_reported (row ∷ gone) above = before_last above.capacity (rows_with_scrolled_off (row ∷ gone) above)
@@ -91,7 +91,7 @@ pub record RecyclesOldest (gone : List RowValue) (above : Scrollback) : Type 0 w
       ≤ length (slice_index_or above.rows 0 d).cells
 
 -- Moving the given rows into scrollback may allocate: there is at least one row, the capacity is not 0, and the memory
--- of the oldest scrollback row can't be reused.
+-- of the oldest scrollback row cannot be reused.
 abbrev pub TakesMemory : List RowValue → Scrollback → Type 0
 TakesMemory gone above = (0 < length gone) × ((0 < above.capacity) × (RecyclesOldest gone above → ⊥))
 

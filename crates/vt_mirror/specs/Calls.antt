@@ -79,8 +79,8 @@ pub record IsFull (self : ScreenValue) (rows cols : ℕ) (text : List ℕ) : Typ
   pub controls : IsMadeOf drawing_finals drawing_controls text
   pub again : KeepsPlain text
 
--- The text is a difference between two screens of the same size. If both screens display the same content, the text is
--- empty; conversely, if the text is empty and the screen `self` is steady, both display the same content.
+-- The text is a diff between two screens of the same size. If both screens display the same content, the text is empty;
+-- conversely, if the text is empty and the screen `self` is steady, both display the same content.
 pub record IsDiff (self prev : ScreenValue) (text : List ℕ) : Type 0 where
   pub size : SameSize self.page prev.page
   pub redraws : Redraws (display self) (IsReaderOf (display self) (display prev)) KeepsRest text
@@ -88,21 +88,21 @@ pub record IsDiff (self prev : ScreenValue) (text : List ℕ) : Type 0 where
   pub empty : IsSameIfEmpty prev self text
   pub again : KeepsPlain text
 
--- The kind of a difference: one that moves nothing, or one that may first move rows or columns.
+-- The kind of a diff: one that moves nothing, or one that may first move rows or columns.
 pub data Kind : Type 0 where
   Drawn : Kind
   Scrolling : Kind
 
--- The text is a difference that moves no rows. If the screen `self` is steady, the difference touches only positions
--- near rows that differ, as `IsLocal` defines.
+-- The text is a diff that moves no rows. If the screen `self` is steady, the diff touches only positions near rows that
+-- differ, as `IsLocal` defines.
 pub record IsDrawn (self prev : ScreenValue) (text : List ℕ) : Type 0 where
   pub diff : IsDiff self prev text
   pub is : text ≡ bytes_of_all (difference (display self) (display prev))
   pub controls : IsMadeOf drawing_finals drawing_controls text
   pub touches : TouchesNear prev self text
 
--- The text is a difference that may move rows or columns first. The difference starts from a steady screen and is never
--- longer than the difference that moves nothing.
+-- The text is a diff that may move rows or columns first. The diff starts from a steady screen and is never longer than
+-- the diff that moves nothing.
 pub record Scrolls (self prev : ScreenValue) (text : List ℕ) : Type 0 where
   pub diff : IsDiff self prev text
   pub from_steady : IsSteady (display prev)
@@ -124,8 +124,8 @@ abbrev pub IsFullAfter : Kind → (self prev : ScreenValue) → (rows cols : ℕ
 IsFullAfter Drawn self prev rows cols text = ⊥
 IsFullAfter Scrolling self prev rows cols text = (IsSteady (display prev) → ⊥) × IsFull self rows cols text
 
--- The update is a full redraw if no screen is recorded for the viewer. Otherwise, the update is a difference of the
--- given kind from the recorded screen, or a full redraw as `IsFullAfter` describes.
+-- The update is a full redraw if no screen is recorded for the viewer. Otherwise, the update is a diff of the given
+-- kind from the recorded screen, or a full redraw as `IsFullAfter` describes.
 abbrev pub IsUpdate : Kind → (self : ScreenValue) → Option ScreenValue → Update → Type 0
 IsUpdate kind self (Some prev) (Diff text) = IsOfKind kind self prev (string_bytes text)
 IsUpdate kind self (Some prev) (Full rows cols text) = IsFullAfter kind self prev rows cols (string_bytes text)

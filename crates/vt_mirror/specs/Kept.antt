@@ -14,7 +14,7 @@ use Rattle.vt_mirror.specs.declared.texts.KeptDiff.{KeptDiff}
 
 -- ---- the model of the kept values
 
--- A screen, and the text of the difference from that screen to the current one.
+-- A screen, and the text of the diff from that screen to the current one.
 abbrev pub DiffFrom : Type 0
 DiffFrom = ScreenValue × List ℕ
 
@@ -22,7 +22,7 @@ pub record KeptValue : Type 0 where
   pub viewers : ViewersValue
   -- A copy of the current screen, if there is one.
   pub current : Option ScreenValue
-  -- The differences stored for `Mirror::update` and `Mirror::update_scrolling`.
+  -- The diffs stored for `Mirror::update` and `Mirror::update_scrolling`.
   pub diff : Option DiffFrom
   pub scrolling : Option DiffFrom
   -- The text of the current screen's redraw, if stored.
@@ -66,8 +66,8 @@ is_of_current (Some current) (Some note) = have_one_version note current
 abbrev pub current_in : (numbers : List ℕ) → List (ℕ × Note) → (current : Option Note) → List ℕ
 current_in numbers notes current = filter (λ viewer. is_of_current current (noted_at notes viewer)) numbers
 
--- All copies that are kept: the copies recorded for viewers, the copy of the current screen, and the copies that the
--- stored differences start from.
+-- All copies that are kept: the copies recorded for viewers, the copy of the current screen, and the copies from which
+-- the stored diffs start.
 pub record Copies : Type 0 where
   pub notes : List (ℕ × Note)
   pub current : Option Note

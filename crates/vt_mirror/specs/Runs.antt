@@ -98,8 +98,8 @@ pub record AppendsThenPart (earlier next : List ℕ) (written grown : Option (Li
 
 -- Writing an update other than the first failed. The previous update was due after the bytes `input`. The failed update
 -- was due after the next bytes, `last`, which are a full interval, or fewer at the end of the input. All earlier
--- updates were written, and so was a prefix of the failed update, which is the difference between the screens at these
--- two points. The input was `left` before and is `rest` now; the output was `written` before and is `grown` now.
+-- updates were written, and so was a prefix of the failed update, which is the diff between the screens at these two
+-- points. The input was `left` before and is `rest` now; the output was `written` before and is `grown` now.
 pub record FailsLater (first : ScreenValue) (every : ℕ) (left rest written grown : Option (List ℕ)) : Type 0 where
   pub input : List ℕ
   pub count : ℕ

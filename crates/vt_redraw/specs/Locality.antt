@@ -1,4 +1,4 @@
--- Where a difference may draw: near the rows that differ, and not on glyphs that are equal in both pictures.
+-- Where a diff may draw: near the rows that differ, and not on glyphs that are equal in both pictures.
 use Rattle.std.specs.Prelude.{◌≡◌, ◌≢◌, ◌⊎◌, ℕ, ◌-◌, ◌<◌, ◌≤◌, ◌&&◌, Bool, true}
 use Rattle.std.specs.Prelude.{List, Option, Some, None, if◌then◌else◌}
 use Rattle.vt_cells.specs.Cell.{CellValue, is_glyph, is_right_half, same_cell}
@@ -51,6 +51,6 @@ MayPlace self r c =
     × ((r ≡ placing_row (nearest self.width self.rows self.row) self.row)
     × (last_column (row_of_picture self r).cells ≤ c))
 
--- A difference that turns the picture `prev` into `self` may touch the position.
+-- A diff that turns the picture `prev` into `self` may touch the position.
 abbrev pub IsLocal : (self prev : Picture) → ℕ → ℕ → Type 0
 IsLocal self prev r c = MayDraw self prev r c ⊎ MayPlace self r c

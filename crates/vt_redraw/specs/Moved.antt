@@ -1,4 +1,4 @@
--- Moving rows of a terminal before a difference is drawn, and the picture displayed after the move.
+-- Moving rows of a terminal before a diff is drawn, and the picture displayed after the move.
 use Rattle.std.specs.Prelude.{◌≡◌, ◌⊎◌, ℕ, ◌+◌, ◌-◌, ◌<◌, ◌≤◌, ◌==◌, ◌&&◌, nat_le, nat_lt}
 use Rattle.std.specs.Prelude.{List, ◌++◌, length, if◌then◌else◌}
 use Rattle.vt_cells.specs.Attrs.{default_attrs}
@@ -87,7 +87,7 @@ moving_text band prev = bytes_of_all (attr_ops prev.attrs default_attrs) ++ band
 abbrev pub scrolling_text : Band → (self prev : Picture) → List ℕ
 scrolling_text band self prev = moving_text band prev ++ bytes_of_all (difference self (picture_after_move band prev))
 
--- The text is a difference from `prev` to `self`: either one that moves no rows, or one that first moves a band.
+-- The text is a diff from `prev` to `self`: either one that moves no rows, or one that first moves a band.
 abbrev pub IsScrolling : (self prev : Picture) → List ℕ → Type 0
 IsScrolling self prev text =
     (text ≡ bytes_of_all (difference self prev))

@@ -1,4 +1,4 @@
--- The difference between two pictures, and the redraw of one picture, as lists of operations.
+-- The diff between two pictures, and the redraw of one picture, as lists of operations.
 use Rattle.std.specs.Prelude.{ℕ, suc, zero, ◌+◌, ◌-◌, nat_lt, Bool, false, List, [], ◌∷◌}
 use Rattle.std.specs.Prelude.{◌++◌, length, replicate, Option, Some, None, if◌then◌else◌}
 use Rattle.vt_cells.specs.Attrs.{default_attrs, same_bool, Attrs}

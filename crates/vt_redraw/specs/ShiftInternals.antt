@@ -15,7 +15,7 @@ pub record Shifts (shift : RowShift) (start text : List ℕ) (before after : Pag
   pub bytes : text ≡ start ++ shifts_text (shift ∷ rest)
   pub page : after ≡ shifted_pages (shift ∷ rest) before
 
--- `text` is `start` followed by a difference from `prev` to `self` that first makes one or more column shifts.
+-- `text` is `start` followed by a diff from `prev` to `self` that first makes one or more column shifts.
 pub record AppendsShifting (start text : List ℕ) (self prev : Picture) : Type 0 where
   pub added : List ℕ
   pub bytes : text ≡ start ++ added

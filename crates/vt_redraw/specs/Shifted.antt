@@ -1,5 +1,5 @@
--- Inserting or deleting columns in rows of a terminal before a difference is drawn, and the picture displayed after
--- these shifts.
+-- Inserting or deleting columns in rows of a terminal before a diff is drawn, and the picture displayed after these
+-- shifts.
 use Rattle.std.specs.Prelude.{◌≡◌, ◌⊎◌, ℕ, ◌+◌, ◌<◌, ◌≤◌, List, [], ◌∷◌, ◌++◌, length, slice_set, if◌then◌else◌}
 use Rattle.std.specs.List.{AllByRecursion, flat_map}
 use Rattle.vt_cells.specs.Attrs.{default_attrs}
@@ -77,13 +77,13 @@ shifting_text shifts self prev =
     bytes_of_all (attr_ops prev.attrs default_attrs)
     ++ (shifts_text shifts ++ bytes_of_all (difference self (shifted_all shifts (in_default_attrs prev))))
 
--- The text is a difference from `prev` to `self` that first makes one or more column shifts.
+-- The text is a diff from `prev` to `self` that first makes one or more column shifts.
 pub record IsShifting (self prev : Picture) (text : List ℕ) : Type 0 where
   pub first : RowShift
   pub rest : List RowShift
   pub inside : AllByRecursion (IsRowShift (length prev.rows) prev.width) (first ∷ rest)
   pub bytes : text ≡ shifting_text (first ∷ rest) self prev
 
--- The text is a difference from `prev` to `self` that may first move a band of rows or shift columns.
+-- The text is a diff from `prev` to `self` that may first move a band of rows or shift columns.
 abbrev pub IsMoving : (self prev : Picture) → List ℕ → Type 0
 IsMoving self prev text = IsScrolling self prev text ⊎ IsShifting self prev text

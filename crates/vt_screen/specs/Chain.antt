@@ -1,4 +1,4 @@
--- A redraw, followed by differences that each start from the screen before.
+-- A redraw followed by diffs, each of which starts from the previous screen.
 use Rattle.std.specs.Prelude.{ℕ, List, [], ◌∷◌, ◌++◌}
 use Rattle.vt_redraw.specs.Picture.{SamePictureSize}
 use Rattle.vt_redraw.specs.Steady.{IsSteady}
@@ -12,7 +12,7 @@ pub record CanShowOn (reader self : ScreenValue) : Type 0 where
   pub steady : IsSteady (display self)
   pub size : SamePictureSize (display self) (display reader)
 
--- The concatenated differences that lead from the first screen to each screen of the list in turn.
+-- The concatenated diffs that lead from the first screen to each screen of the list in turn.
 abbrev pub texts_behind : ScreenValue → List ScreenValue → List ℕ
 texts_behind prev [] = []
 texts_behind prev (x ∷ xs) = display_change prev x ++ texts_behind x xs

@@ -27,8 +27,7 @@ SetsModes Had modes text =
 abbrev pub state_text : ScreenValue → List ℕ
 state_text screen = shown_text screen ++ input_text screen.modes
 
--- The output for the difference between the displays of two screens, followed by the output that changes the input
--- modes that differ.
+-- The diff between the displays of two screens, followed by the output that changes the input modes that differ.
 abbrev pub state_change : (was new : ScreenValue) → List ℕ
 state_change was new = display_change was new ++ input_change was.modes new.modes
 

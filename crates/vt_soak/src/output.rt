@@ -3,7 +3,7 @@
 use std::str::Chars;
 
 /// The final bytes of the control sequences in output for terminals: CUP, CUF, ECH, EL, ED, SGR,
-/// and ICH, DCH, IL and DL in differences that move rows or columns.
+/// and ICH, DCH, IL and DL in diffs that move rows or columns.
 const FINALS: &str = "HCXKJm@PLM";
 
 /// Returns whether the only control characters in a text are CR, LF, backspaces, and those of the

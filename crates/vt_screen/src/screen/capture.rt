@@ -20,11 +20,11 @@ impl Screen {
     /// Returns the displayed rows as text with SGR as the only escape sequences. The only controls
     /// in the text are newlines and the ESC that begins each SGR sequence.
     ///
-    /// Rows are separated by `\n`, except after a wrapped row. Trailing default
-    /// blanks of a row are dropped (see
-    /// [`RowContents::write_formatted_basic`](vt_rows::RowContents::write_formatted_basic)).
-    /// Rows of scrollback may be wider than the screen. The text assumes
-    /// default attributes at its beginning and doesn't restore them at its end.
+    /// Rows are separated by `\n`, except after a wrapped row. Trailing default blanks of a row
+    /// are dropped (see
+    /// [`RowContents::write_formatted_basic`](vt_rows::RowContents::write_formatted_basic)). Rows
+    /// of scrollback may be wider than the screen. The text assumes default attributes at its
+    /// beginning and does not restore them at its end.
     ///
     /// # Errors
     ///

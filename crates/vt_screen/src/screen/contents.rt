@@ -97,7 +97,7 @@ impl Screen {
     /// `start`, without a trailing newline.
     ///
     /// `start` is zero-based. Any values of `start` and `width` are allowed:
-    /// columns that a row doesn't have contribute no text. Rows of scrollback
+    /// columns that a row does not have contribute no text. Rows of scrollback
     /// that are wider than the screen are read in full. A wide character is
     /// included if its first column is in the range.
     ///

@@ -80,7 +80,7 @@ impl Screen {
     /// The output of a row has the effect described for [`Screen::rows_formatted`], but on a
     /// terminal that displays the row of `prev` (clause `draws`). The range must not cut a wide
     /// character of either row in two. The output of a whole row is empty if and only if both
-    /// screens display the same row (clause `empty`). A row that isn't wrapped on this screen is
+    /// screens display the same row (clause `empty`). A row that is not wrapped on this screen is
     /// not wrapped on the terminal after the output of the whole row has been read (clause `off`).
     /// A row that is wrapped on this screen becomes wrapped on the terminal when the output of the
     /// next row is read or something is printed in the next row.

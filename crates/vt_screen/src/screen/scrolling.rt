@@ -18,7 +18,7 @@ use vt_cells::Error;
 /// cursor is at the bottom of the scroll region, the region scrolls up instead.
 ///
 /// A row that scrolls off the top of the page moves into scrollback. Each row
-/// that isn't kept there is reported to the callbacks.
+/// that is not kept there is reported to the callbacks.
 ///
 /// # Errors
 ///
