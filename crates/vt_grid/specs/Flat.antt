@@ -1,4 +1,4 @@
--- The rows of a page as one list of cells, divided into places for one row each, and a table that holds the place and
+-- The rows of a page as one list of cells, divided into places that hold one row each, and a table with the place and
 -- the wrapped flag of each row.
 use Rattle.std.specs.Prelude.{◌≡◌, ℕ, ◌+◌, ◌*◌, ◌<◌, ◌≤◌, false, List, length, map, slice_index_or}
 use Rattle.std.specs.Prelude.{vec_capacity}

@@ -88,7 +88,7 @@ blank_page height width = record {
   width = width;
 }
 
--- ---- Moves of rows: row `r` was row `source r`, or is blank if that is past the end
+-- ---- Moves of rows: row `r` is the former row `source r`, or blank if that index is past the end
 
 -- A list of the given number of rows; the function maps a row's index to the row.
 abbrev pub by_row : ℕ → (ℕ → RowValue) → List RowValue

@@ -153,7 +153,7 @@ first_written r pen flag (glyph text wide a ∷ xs) (y ∷ ys) = record {
   settled = glyph_columns wide;
 }
 
--- Whether the row begins with a glyph that the terminal's row does not begin with yet.
+-- Whether the row begins with a glyph that is not yet at the beginning of the terminal's row.
 abbrev pub starts_other : List CellValue → List CellValue → Bool
 starts_other [] ys = false
 starts_other (x ∷ xs) [] = false

@@ -97,7 +97,7 @@ widened_at k attrs cells = put_cells k (blank attrs) (cell_made_wide true (at ce
 abbrev pub narrowed_at : ℕ → Attrs → List CellValue → List CellValue
 narrowed_at k attrs cells = put_cells k (glyph (0x20 ∷ []) false attrs) (cell_made_wide false (at cells k) ∷ []) 1 cells
 
--- ---- Edits that move columns: column `k` was column `source k`, or is a default blank if that is past the end
+-- ---- Edits that move columns: column `k` is the former column `source k`, or a default blank if that is past the end
 
 -- The cell at column `k` of a row of `n` columns after its columns have moved; the given function maps each column to
 -- the column that its cell came from. A cell that is no longer next to the other cell of its wide glyph becomes a blank

@@ -21,7 +21,7 @@ numbers_of group = map number_of (slice_split (λ byte. byte == 0x3A) group)
 unfoldable pub groups_of : List ℕ → List (List ℕ)
 groups_of text = map numbers_of (slice_split (λ byte. byte == 0x3B) text)
 
--- How many numbers a list of groups contains.
+-- The total count of numbers in a list of groups.
 abbrev pub total : List (List ℕ) → ℕ
 total [] = 0
 total (group ∷ groups) = length group + total groups
