@@ -300,7 +300,7 @@ vt100_status vt100_process_until(vt100_handle *handle, const uint8_t *bytes, siz
                                  size_t *used);
 
 /*
- * Stores the number of bytes that a parser holds of an unfinished operating system command (OSC,
+ * Stores the number of bytes that a parser keeps for an unfinished operating system command (OSC,
  * which also sets titles): the bytes read after ESC ], not counting control characters. Stores 0 if
  * no command is unfinished. Only memory limits the length of a command. To end one at a limit of
  * your own, pass CAN (byte 24) to vt100_process, which dispatches the part that was read. Only for

@@ -11,8 +11,8 @@ from ._object import BytesLike, Object, as_bytes
 
 
 class Update(NamedTuple):
-    """The escape sequences for a viewer's terminal, and the size that the terminal must have first.
-    The size is None if the update only draws what has changed."""
+    """The escape sequences for a viewer's terminal, and the size to which the terminal must be set
+    first. The size is None if the update draws only what has changed."""
 
     text: str
     size: Optional[Size] = None
@@ -21,9 +21,9 @@ class Update(NamedTuple):
 class Mirror(Object):
     """A terminal that is watched by viewers elsewhere.
 
-    A viewer's first update draws the whole screen, and so does its first update after a resize;
-    every other update draws what has changed since the previous one. A viewer may join at any time
-    and request updates as rarely as it likes.
+    A viewer's first update, and its first update after a resize, draws the whole screen; every
+    other update draws what has changed since the previous one. A viewer may join at any time and
+    request updates as rarely as it likes.
     """
 
     def __init__(
@@ -59,19 +59,18 @@ class Mirror(Object):
         return self._update(library.vt100_update, viewer)
 
     def update_scrolling(self, viewer: SupportsIndex) -> Update:
-        """Returns the next update of a viewer. It may move rows or columns first and is never longer
-        than that of `update`.
+        """Returns the next update of a viewer. A diff may begin by moving rows or columns, and is
+        never longer than that of `update`.
 
         If the screen of the viewer's last update had a glyph that does not reproduce itself when it
-        is printed (only glyphs with U+FE0F may not), the update is a full redraw, which corrects
-        the viewer's display.
+        is printed (which is possible only for glyphs with U+FE0F), the update is a full redraw,
+        which corrects the viewer's display.
         """
         return self._update(library.vt100_update_scrolling, viewer)
 
     def is_current(self, viewer: SupportsIndex) -> bool:
-        """Returns whether a viewer is known to be up to date. Its next update then draws nothing,
-        or redraws the screen if the screen is not steady and the update is one of
-        `update_scrolling`.
+        """Returns whether a viewer is known to be up to date. If it is, its next update draws
+        nothing, except that `update_scrolling` redraws the screen if it is not steady.
 
         Returns False if the viewer has had no update since it joined or since the last resize, if
         `process` was called since its last update (even if nothing displayed has changed), and if

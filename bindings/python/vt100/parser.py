@@ -77,16 +77,16 @@ class Parser(Screen):
 
     @property
     def pending_len(self) -> int:
-        """The number of bytes that are held of an unfinished operating system command: those read
-        after `ESC ]`, not counting control characters. Only memory limits the length of a command;
+        """The number of bytes stored for an unfinished operating system command: those read after
+        `ESC ]`, not counting control characters. Only memory limits the length of a command;
         processing CAN (`b"\\x18"`) ends it."""
         length = ctypes.c_size_t()
         self._call(library.vt100_pending_len, ctypes.byref(length))
         return length.value
 
     def set_size(self, rows: SupportsIndex, cols: SupportsIndex) -> None:
-        """Resizes the screen, and invokes `on_scroll` for rows that scroll off and are not kept.
-        When a callback calls this method, it invokes no callbacks."""
+        """Resizes the screen, and invokes `on_scroll` for rows that scroll off and are not kept. If
+        a callback calls this method, no further callbacks are invoked."""
         size = size_in_range(rows, cols)
         with self._lock:
             if self._is_reporting:

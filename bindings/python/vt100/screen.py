@@ -223,7 +223,7 @@ class Screen(HasState):
         self, prev: Screen, start: _Index = 0, width: Optional[_Index] = None
     ) -> List[str]:
         """Returns the escape sequences that turn each row of `prev`, a screen of the same size,
-        into that row of this screen. The cursor and the attributes must be as for
+        into the corresponding row of this screen. The cursor and the attributes must be as for
         `rows_formatted`."""
         with self._and(prev) as other:
             return self._row_texts(library.vt100_rows_diff, start, width, other._at)
@@ -240,15 +240,15 @@ class Screen(HasState):
         starts = [0, *ends[:-1]]
         return [text[begin:end].decode() for begin, end in zip(starts, ends)]
 
-    # Redraws and differences
+    # Redraws and diffs
 
     def contents_formatted(self) -> str:
         """Returns the escape sequences that make a terminal of this size display this screen."""
         return self._text(library.vt100_contents_formatted)
 
     def contents_formatted_reset(self) -> str:
-        """Returns the escape sequences that make a terminal of this size display this screen, with
-        any scroll region and origin mode."""
+        """Returns the escape sequences that make a terminal of this size display this screen,
+        whatever the terminal's scroll region and origin mode."""
         return self._text(library.vt100_contents_formatted_reset)
 
     def contents_formatted_basic(self) -> str:
@@ -281,7 +281,7 @@ class Screen(HasState):
         return self._diff(library.vt100_contents_diff, prev)
 
     def contents_diff_scrolling(self, prev: Screen) -> str:
-        """Returns a difference that may move rows or columns first and is never longer than
+        """Returns a diff that may begin by moving rows or columns and is never longer than that of
         `contents_diff`."""
         return self._diff(library.vt100_contents_diff_scrolling, prev)
 

@@ -83,7 +83,8 @@ impl<'a> RowContents<'a> {
     ///
     /// # Errors
     ///
-    /// Returns an error if the writer fails. The state is then that after the row.
+    /// Returns an error if the writer fails. The state is then as if the whole row had been
+    /// written.
     pub fn write_formatted_basic(
         &self,
         writer: &mut impl fmt::Write,

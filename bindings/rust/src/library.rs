@@ -269,9 +269,9 @@ fn check(status: u8) {
 
 // The calls below are safe for the reasons given at the top of this module.
 impl Handle {
-    /// Creates a parser with a blank screen and an event log without a limit. The log is cleared
-    /// whenever the parser stops at an event, and a single byte scrolls off no more rows than the
-    /// screen has, or 65535 cells.
+    /// Creates a parser with a blank screen and an event log without a limit. The log needs none,
+    /// because it is cleared whenever the parser stops at an event, and a single byte scrolls off
+    /// at most as many rows as the screen has, or rows of at most 65535 cells in total.
     pub fn parser(rows: u16, cols: u16, capacity: usize, wanted: u16) -> Self {
         let mut out = Self::default();
         check(unsafe { vt100_parser_new(rows, cols, capacity, wanted, &mut out) });
@@ -335,7 +335,7 @@ impl Handle {
         used
     }
 
-    /// Returns the number of bytes that a parser holds of an unfinished operating system command.
+    /// Returns the number of bytes that a parser stores for an unfinished operating system command.
     pub fn pending_len(&mut self) -> usize {
         let mut len = 0;
         check(unsafe { vt100_pending_len(self, &mut len) });
@@ -436,8 +436,8 @@ impl Handle {
         cut(&self.copied(len), &ends)
     }
 
-    /// Returns the escape sequences that turn each row of the screen `prev` into the same row of
-    /// this screen, or `None` if the sizes differ.
+    /// Returns the escape sequences that turn each row of the screen `prev` into the corresponding
+    /// row of this screen, or `None` if the sizes differ.
     pub fn rows_diff(
         &mut self,
         prev: &mut Self,
@@ -512,9 +512,9 @@ impl Handle {
         current == 1
     }
 
-    /// Returns the update that a viewer must read next, and the rows and columns that the viewer's
-    /// terminal must have before that, both 0 if the terminal keeps its size. Returns `None` if
-    /// there is no such viewer.
+    /// Returns the update that a viewer must read next, and the numbers of rows and columns to
+    /// which the viewer's terminal must be resized first, or zeros if it keeps its size. Returns
+    /// `None` if there is no such viewer.
     pub fn update(&mut self, updates: Updates, viewer: u64) -> Option<((u16, u16), String)> {
         let (mut rows, mut cols, mut len) = (0, 0, 0);
         match unsafe { (updates.0)(self, viewer, &mut rows, &mut cols, &mut len) } {

@@ -100,8 +100,8 @@ impl Mirror {
     /// [`update`](Self::update). A viewer may alternate between both kinds of updates.
     ///
     /// If the screen of the viewer's last update had a glyph that does not reproduce itself when it
-    /// is printed (only glyphs with U+FE0F may not), the update is a full one, which corrects the
-    /// viewer's display.
+    /// is printed (which is possible only for glyphs with U+FE0F), the update is a full redraw,
+    /// which corrects the viewer's display.
     pub fn update_scrolling(&mut self, viewer: u64) -> Option<Update> {
         self.next(Updates::SCROLLING, viewer)
     }

@@ -93,9 +93,9 @@ impl<CB: Callbacks> Parser<CB> {
         }
     }
 
-    /// Returns the number of bytes that the parser holds of an unfinished operating system command:
-    /// those read after `\x1b]`, not counting control characters. Returns 0 if no command is
-    /// unfinished. Not in the crate `vt100`.
+    /// Returns the number of bytes that the parser stores for an unfinished operating system
+    /// command: those read after `\x1b]`, not counting control characters. Returns 0 if no command
+    /// is unfinished. Not in the crate `vt100`.
     ///
     /// Only memory limits the length of a command. To end one at a limit of your own, process CAN:
     /// the part that was read is dispatched, and then

@@ -115,10 +115,10 @@ impl Screen {
             .unwrap_or_else(|| self.contents_formatted())
     }
 
-    /// Returns the escape sequences that turn each row of `prev` into that row of `self`, in
-    /// `width` columns from column `start` on. The cursor must be where the row begins; the final
-    /// position of the cursor is unspecified. If the sizes differ, the sequences redraw each row
-    /// that both screens have.
+    /// Returns the escape sequences that turn each row of `prev` into the corresponding row of
+    /// `self`, in `width` columns from column `start` on. The cursor must be where the row begins;
+    /// the final position of the cursor is unspecified. If the sizes differ, the sequences redraw
+    /// each row that both screens have.
     pub fn rows_diff<'a>(
         &'a self,
         prev: &'a Self,

@@ -211,7 +211,7 @@ impl<CB: Callbacks> Parser<CB> {
         }
     }
 
-    /// Returns the number of bytes that the parser holds of an unfinished
+    /// Returns the number of bytes that the parser stores for an unfinished
     /// operating system command: the bytes read after `\x1b]`, not counting
     /// control functions. Returns 0 if no such command is in progress.
     ///

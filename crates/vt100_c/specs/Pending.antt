@@ -1,4 +1,4 @@
--- The number of bytes that a parser holds of an unfinished operating system command.
+-- The number of bytes that a parser stores for an unfinished operating system command.
 use Rattle.std.specs.Prelude.{◌≡◌, ℕ, Option, Some, None, length}
 use Rattle.vt_scan.specs.Automaton.{State}
 use Rattle.vt_scan.specs.Scanner.{StandsFor, unfinished_command}

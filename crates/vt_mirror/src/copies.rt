@@ -58,7 +58,7 @@ impl DisplayCopy {
         })
     }
 
-    /// Returns a screen with the same display as the screen that this note was made from.
+    /// Returns a screen that displays what the copied screen displayed.
     fn screen(&self) -> &Screen
         ensures { ShowsAlike self.now result.now }
     {
@@ -118,7 +118,7 @@ impl SharedCopy {
         }
     }
 
-    /// Returns a screen with the same display as the screen that this note was made from.
+    /// Returns a screen that displays what the copied screen displayed.
     pub(crate) fn screen(&self) -> &Screen
         ensures { ShowsAlike self.now result.now }
     {

@@ -145,7 +145,8 @@ pub fn write_first<S: Sink>(
     Ok(link)
 }
 
-/// Returns whether the row `cells` begins with a glyph that the row `over` does not begin with.
+/// Returns whether the row `cells` begins with a glyph that is not at the beginning of the row
+/// `over`.
 fn starts_other(cells: &PictureRow<'_>, over: &PictureRow<'_>) -> bool
     requires nonempty { 0 < length cells.now.cells }
     requires over { 0 < length over.now.cells }

@@ -63,7 +63,7 @@ pub fn sequences()
 {}
 
 /// States that decimal numbers up to 65535 are parsed as written. An empty parameter is 0, and
-/// numbers joined by `;` are each in a group of their own.
+/// each of the numbers joined by `;` forms its own group.
 pub fn numbers()
     ensures empty { (table_of []).groups ≡ (0 ∷ []) ∷ [] }
     ensures one { (n : ℕ) → n ≤ 65535 → (table_of (decimal n)).groups ≡ (n ∷ []) ∷ [] }
