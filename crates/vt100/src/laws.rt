@@ -145,8 +145,8 @@ pub fn quiet_pieces<CB: Callbacks>()
 /// The bytes may be split into any chunks. The screens must be steady and have
 /// the terminal's size.
 ///
-/// Each call to `process` returns `Ok`. Callbacks, scrollback, the other page
-/// and the modes are unchanged.
+/// Each call to `process` returns `Ok`. Callbacks, scrollback, the inactive
+/// page and the modes are unchanged.
 pub fn chain<CB: Callbacks>()
     ensures shows { (self : ScreenValue) → (nexts : List ScreenValue) → (p q : ParserValue CB) →
         (calls : List Processing) → IsScreen p.screen → IsPlainParser p → CanShowOn p.screen self →
@@ -166,7 +166,7 @@ pub fn chain<CB: Callbacks>()
 ///   `again`).
 ///
 /// The output may be split into any chunks. Whatever the callbacks are, only
-/// `on_scroll` is invoked, for rows that scroll off the top. The other page,
+/// `on_scroll` is invoked, for rows that scroll off the top. The inactive page,
 /// the input modes, the cursor style and the size are unchanged. Therefore the
 /// next redraw of a steady screen displays that screen, whatever was drawn
 /// before.

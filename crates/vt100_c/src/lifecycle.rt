@@ -81,7 +81,7 @@ pub extern "C" fn vt100_save(alloc: Global, handle: &mut Handle, out: &mut Handl
 
 /// Stores in the empty handle `out` a copy of what the screen of a parser, or a
 /// saved screen, displays. The copy is a saved screen of the same size, without
-/// scrollback and without the other page ([`Screen::shown_copy`]).
+/// scrollback and without the inactive page ([`Screen::shown_copy`]).
 ///
 /// # Errors
 ///

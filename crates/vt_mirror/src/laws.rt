@@ -65,7 +65,7 @@ pub fn heals<CB: Callbacks>()
 /// States that a plain terminal that reads the output of [`run`](crate::run),
 /// split into any chunks, is plain afterward and displays the final screen of
 /// the run. Each call to `process` returns `Ok`. Callbacks, scrollback, the
-/// other page and the modes are unchanged.
+/// inactive page and the modes are unchanged.
 ///
 /// The premises are that the terminal has the size of the run and that the
 /// screen was steady at each update (see `Screen::contents_formatted`). The

@@ -40,7 +40,7 @@ use vt_redraw::{
 
 impl Screen {
     /// Returns a copy of what the screen displays: a screen of the same size
-    /// with a copy of the active page, but without scrollback or the other
+    /// with a copy of the active page, but without scrollback or the inactive
     /// page. It can serve as `prev` in [`Screen::contents_diff`] and takes less
     /// memory than a clone.
     ///
@@ -126,17 +126,17 @@ impl Screen {
     ///
     /// If this screen is steady, a plain terminal of its size that has read the
     /// output is plain and displays this screen (clause `redraws`). Reading the
-    /// output invokes no callbacks and allocates nothing. Scrollback, the other
-    /// page and the modes are unchanged; only the saved cursor, saved origin
-    /// mode, saved attributes and last character may change. Screens with the
-    /// same display return the same output, and steady screens of the same size
-    /// with different displays return different output (clause `same`).
+    /// output invokes no callbacks and allocates nothing. Scrollback, the
+    /// inactive page and the modes are unchanged; only the saved cursor, saved
+    /// origin mode, saved attributes and last character may change. Screens
+    /// with the same display have the same output, and steady screens of the
+    /// same size with different displays have different output (clause `same`).
     ///
     /// Even if the screen is not steady, the output contains only controls that
     /// draw (clause `controls`). A plain terminal that has read the output is
     /// plain again (clause `again`): no callback except `on_scroll` was
-    /// invoked, and the other page, the input modes, the cursor style and the
-    /// size are unchanged.
+    /// invoked, and the inactive page, the input modes, the cursor style and
+    /// the size are unchanged.
     ///
     /// # Errors
     ///
@@ -179,16 +179,16 @@ impl Screen {
     /// glyph reproduces itself when printed), such a terminal is plain and
     /// displays this screen after reading the output (clause `redraws`).
     /// Reading the output invokes no callbacks and allocates nothing.
-    /// Scrollback, the other page and the modes are unchanged; besides the
+    /// Scrollback, the inactive page and the modes are unchanged; besides the
     /// scroll region and origin mode, only the saved cursor, saved origin mode,
     /// saved attributes and last character may change. Screens with the same
-    /// display return the same output, and steady screens of the same size with
-    /// different displays return different output (clause `same`).
+    /// display have the same output, and steady screens of the same size with
+    /// different displays have different output (clause `same`).
     ///
     /// Such a terminal is plain after reading the output even if this screen is
     /// not steady (clause `again`): no callback except `on_scroll` was invoked,
-    /// and the other page, the input modes, the cursor style and the size are
-    /// unchanged.
+    /// and the inactive page, the input modes, the cursor style and the size
+    /// are unchanged.
     ///
     /// # Errors
     ///

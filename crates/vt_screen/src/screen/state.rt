@@ -31,7 +31,7 @@ impl Screen {
     /// If this screen is steady (each glyph reproduces itself when printed),
     /// such a terminal is plain after reading the output, displays this screen
     /// and has its modes (clause `gives`). Reading the output invokes no
-    /// callbacks and allocates nothing. Scrollback and the other page are
+    /// callbacks and allocates nothing. Scrollback and the inactive page are
     /// unchanged; only the saved cursor, saved origin mode, saved attributes
     /// and last character may change.
     ///
