@@ -153,7 +153,8 @@ def _arguments() -> Dict[str, List[Any]]:
 
 
 def _default() -> str:
-    """Returns the path of the shared object next to this module, or its name if it is not there."""
+    """Returns the path of the shared object next to this module, or only the object's name if there
+    is none."""
     beside = os.path.join(os.path.dirname(os.path.abspath(__file__)), SONAME)
     return beside if os.path.exists(beside) else SONAME
 

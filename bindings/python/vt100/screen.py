@@ -201,8 +201,8 @@ class Screen(HasState):
 
     def find(self, text: Union[str, Pattern[str]]) -> List[Position]:
         """Returns the positions in `contents` at which `text`, or a match of a compiled pattern,
-        begins. Matches do not overlap. Text that continues on the next row of a wrapped row is
-        found, too."""
+        begins. Matches do not overlap. Text that continues from a wrapped row onto the next row
+        is found, too."""
         with self._lock:
             cells = self.buffer
             wrapped = [self.row_wrapped(row) for row in range(len(cells))]

@@ -31,7 +31,7 @@ use texts::show_texts;
 use vt100::{Parser, Screen};
 use work::Work;
 
-/// The number of bytes that a parser is given at a time.
+/// The number of bytes that are passed to a parser at a time.
 const PIECE: usize = 4096;
 
 /// The measurement that the command-line arguments specify.

@@ -12,7 +12,7 @@ pub enum Part {
     /// The wrapped flag of a row.
     Flags,
 
-    /// The cursor position, or whether the cursor is hidden.
+    /// The position or visibility of the cursor.
     Cursor,
 
     /// The current attributes.

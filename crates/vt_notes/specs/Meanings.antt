@@ -8,7 +8,7 @@ use Rattle.vt_rows.specs.Row.{RowValue}
 use Rattle.vt_screen.specs.Calls as value
 use Rattle.vt_screen.specs.Calls.{CallValue}
 
--- The row that a stored row stands for.
+-- The value of a stored row.
 abbrev pub row_of : KeptRow → RowValue
 row_of row = record { cells = row.cells.items; wrapped = row.wrapped }
 

@@ -42,8 +42,8 @@ fn put(cells: &mut [Cell], column: usize, c: char, attrs: Attrs)
     }
 }
 
-/// Creates the cells of a row of `columns` columns, with characters at the columns that `puts`
-/// gives.
+/// Creates the cells of a row of `columns` columns, with characters at the columns listed in
+/// `puts`.
 fn cells_of(
     alloc: Global,
     columns: usize,

@@ -3,7 +3,7 @@
 use vt100::capture::RowContents;
 use vt100::{Call, Callbacks, Screen};
 
-/// The number of titles that were set, and of rows that were reported.
+/// The numbers of titles that were set and of rows that were reported.
 #[derive(Clone, Copy, Default)]
 pub struct Tally {
     pub titles: u64,

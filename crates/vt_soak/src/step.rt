@@ -85,8 +85,8 @@ fn resize(dice: &mut Dice, one: &mut Terminal, other: &mut Terminal) -> Result<(
     Ok(())
 }
 
-/// Returns a random size: mostly small, sometimes larger, and seldom large in one direction and 1
-/// or 2 in the other.
+/// Returns a random size: usually small, sometimes larger, and rarely large in one dimension and
+/// 1 or 2 in the other.
 pub fn size(dice: &mut Dice) -> (NonZeroU16, NonZeroU16) {
     match dice.below(64) {
         0 => (number(dice, 2), number(dice, 300)),
