@@ -23,7 +23,7 @@ pub enum BasicFormattedCaptureRange<'a> {
 /// The default is the state of an empty capture.
 #[derive(Default)]
 pub struct BasicFormattedCaptureState {
-    /// A capture of the library, or an empty handle before the first row.
+    /// The library's capture, or an empty handle before the first row.
     capture: Mutex<Handle>,
 }
 

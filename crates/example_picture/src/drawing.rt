@@ -131,8 +131,8 @@ fn write_text(out: &mut String, stretch: &[Spot<'_>], row: u16) -> Result<(), Al
     writeln!(out, "</text>")
 }
 
-/// Writes the attributes that differ from unstyled text. A glyph outside ASCII is stretched to its
-/// columns.
+/// Writes the attributes in which the spot differs from unstyled text. A glyph outside ASCII is
+/// stretched to its columns.
 fn write_style(out: &mut String, spot: &Spot<'_>) -> Result<(), AllocError> {
     let paint = spot.paint;
     if !spot.text.is_ascii() {

@@ -106,8 +106,8 @@ fn best_shift(
 }
 
 impl Best {
-    /// Considers up to [`MOST_COUNTS`] shifts that have the column and direction of `start` but
-    /// other counts, namely those that put the first cells they move where they belong.
+    /// Considers up to [`MOST_COUNTS`] shifts that differ from `start` only in their counts,
+    /// namely those that put the first cells that they move where they belong.
     fn consider_all(&mut self, cells: &PictureRow<'_>, over: &PictureRow<'_>, start: RowShift) {
         let near = usize::from(start.col);
         let (own, others) = if start.insert {

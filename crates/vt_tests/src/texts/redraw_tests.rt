@@ -120,8 +120,8 @@ fn expect_text(screen: &Screen, asked: Asked, wanted: &str) -> Result<(), Fail> 
     Ok(())
 }
 
-/// Applies the steps of an example to a new parser. Fails if, for some kind of output of its
-/// screen, a terminal that parses the output does not agree with the screen in what the output
+/// Applies the steps of an example to a new parser. Fails if a terminal that parses some kind of
+/// output of the parser's screen does not then agree with the screen in the parts that the output
 /// sets.
 pub(crate) fn expect_read_back(
     alloc: Global,
