@@ -211,8 +211,8 @@ impl Screen {
     /// Returns whether the screen is steady: every displayed glyph reproduces itself when it is
     /// printed on a blank row.
     ///
-    /// A terminal that reads a redraw or a diff of a steady screen displays exactly this screen. A
-    /// screen without U+FE0F is steady. Not in the crate `vt100`.
+    /// A terminal that reads the redraw of a steady screen, or a diff to it, displays exactly that
+    /// screen. A screen without U+FE0F is steady. Not in the crate `vt100`.
     #[must_use]
     pub fn is_steady(&self) -> bool {
         self.lock().is_steady()

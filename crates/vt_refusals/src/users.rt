@@ -69,7 +69,7 @@ fn word(answer: Result<(), Error>) -> &'static str {
     }
 }
 
-/// Captures rows as they scroll off and then, twice, the page, and prints the results.
+/// Captures rows as they scroll off, then captures the page twice, and prints the results.
 pub fn run_recorder<R: AllocGlobal + Print>(rt: &R) -> io::Result<()> {
     println!(rt; "-- a capture that is written as rows leave")?;
     let (rows, cols) = step::size((1, 8));
