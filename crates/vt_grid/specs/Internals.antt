@@ -68,7 +68,7 @@ wide_printed c attrs page =
 abbrev pub mark_out : ℕ → Attrs → Page → List RowValue
 mark_out mark attrs page = if carries mark page then fed_out (left_by (Some zero) attrs page) else []
 
--- Row `k` of a page that was blank before the newest `up` scrollback rows were moved into its first rows.
+-- Row `k` of a formerly blank page after the newest `up` scrollback rows were moved into its first rows.
 abbrev pub given_back : (up : ℕ) → (above : List RowValue) →
     (blank : RowValue) → (k : ℕ) → (d : RowValue) → RowValue
 given_back up above blank k d =
@@ -76,7 +76,7 @@ given_back up above blank k d =
     then resized_row (length blank.cells) (slice_index_or above (length above + k - up) d)
     else blank
 
--- Row `k` of a page that was blank before the rows of another page, from row `down` on, were moved into it, starting at
+-- Row `k` of a formerly blank page after the rows of another page, from row `down` on, were moved into it, starting at
 -- row `up`.
 abbrev pub taken_over : (down up : ℕ) → (rows : List RowValue) →
     (blank : RowValue) → (k : ℕ) → (d : RowValue) → RowValue
@@ -85,7 +85,7 @@ taken_over down up rows blank k d =
     then resized_row (length blank.cells) (slice_index_or rows (down + (k - up)) d)
     else blank
 
--- Row `k` of a page that was blank before a resize moved rows into it: a scrollback row, a row of the old page, or a
+-- Row `k` of a formerly blank page after a resize moved rows into it: a scrollback row, a row of the old page, or a
 -- blank row.
 abbrev pub row_after_refill : (down up : ℕ) → (above rows : List RowValue) →
     (blank : RowValue) → (k : ℕ) → (d : RowValue) → RowValue
