@@ -85,8 +85,8 @@ class Parser(Screen):
         return length.value
 
     def set_size(self, rows: SupportsIndex, cols: SupportsIndex) -> None:
-        """Resizes the screen, and invokes `on_scroll` for rows that scroll off and are not kept. If
-        a callback calls this method, no further callbacks are invoked."""
+        """Resizes the screen, and invokes `on_scroll` for rows that scroll off and are not kept. A
+        call from within a callback invokes no callbacks."""
         size = size_in_range(rows, cols)
         with self._lock:
             if self._is_reporting:
