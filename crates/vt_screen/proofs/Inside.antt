@@ -11,10 +11,10 @@ use Rattle.vt_cells.specs.Glyph.{columns_of, is_selector, is_wide_text}
 use Rattle.vt_rows.specs.Cells.{at, ends_blank, cells_after_erase, widened_at}
 use Rattle.vt_rows.specs.Row.{blank_row}
 use Rattle.vt_grid.specs.Page.{Page, IsPage, SameSize, cursor_row, scrolled_up}
-use Rattle.vt_grid.specs.Moves.{carriage_return, moved_left, moved_right, moved_to, target_row}
+use Rattle.vt_grid.specs.Moves.{moved_to, target_row}
 use Rattle.vt_grid.specs.Moves.{at_bottom, line_feed, cursor_saved, cursor_restored}
 use Rattle.vt_grid.specs.Regions.{in_region, last_row, moved_up, moved_down, next_line, previous_line}
-use Rattle.vt_grid.specs.Regions.{moved_to_column, moved_to_row, page_after_tab, region_set, origin_set}
+use Rattle.vt_grid.specs.Regions.{moved_to_row, region_set, origin_set}
 use Rattle.vt_grid.specs.Shifts.{rows_down, scrolled_down, reverse_index, lines_inserted}
 use Rattle.vt_grid.specs.Shifts.{lines_deleted, chars_inserted, chars_deleted}
 use Rattle.vt_grid.specs.Erasing.{erased_columns, erased_chars, erased_rest, erased_below, erased_start}
@@ -22,9 +22,8 @@ use Rattle.vt_grid.specs.Erasing.{erased_row, blanked_above, erased_above, erase
 use Rattle.vt_grid.specs.Printing.{carries, lifted_page, with_cursor_cells, left_row, goes_down, flagged_left}
 use Rattle.vt_grid.specs.Printing.{wrapped_page, lacks_room, room_made, glyph_put, mark_column, takes_mark, mark_put}
 use Rattle.vt_grid.specs.Printing.{page_after_wrap, made_wide, made_narrow, width_followed, mark_printed, page_after_print, printed_by}
-use Rattle.vt_screen.proofs.Sizes.{same_cursor_cells, same_mark_put, same_through, same_carriage_return}
-use Rattle.vt_screen.proofs.Sizes.{same_moved_left, same_moved_right, same_moved_to, same_moved_up, same_moved_down}
-use Rattle.vt_screen.proofs.Sizes.{same_moved_to_column, same_moved_to_row, same_tabbed, same_scrolled_up}
+use Rattle.vt_screen.proofs.Sizes.{same_cursor_cells, same_mark_put, same_through}
+use Rattle.vt_screen.proofs.Sizes.{same_scrolled_up}
 use Rattle.vt_screen.proofs.Sizes.{same_scrolled_down, same_lines_inserted, same_lines_deleted, same_chars_inserted}
 use Rattle.vt_screen.proofs.Sizes.{same_chars_deleted, same_erased_chars, same_erased_rest, same_erased_below}
 use Rattle.vt_screen.proofs.Sizes.{same_erased_start, same_erased_row, same_erased_page, same_printed}
@@ -76,21 +75,6 @@ inside_if false x y i j = j
 
 -- ---- cursor movement
 
-pub inside_carriage_return : (page : Page) → IsInside page → IsInside (carriage_return page)
-inside_carriage_return page i =
-    inside_rows (carriage_return page) page (same_carriage_return page)
-    (record { row = refl; saved_row = refl; bottom = refl }) i
-
-pub inside_moved_left : (n : ℕ) (page : Page) → IsInside page → IsInside (moved_left n page)
-inside_moved_left n page i =
-    inside_rows (moved_left n page) page (same_moved_left n page)
-    (record { row = refl; saved_row = refl; bottom = refl }) i
-
-pub inside_moved_right : (n : ℕ) (page : Page) → IsInside page → IsInside (moved_right n page)
-inside_moved_right n page i =
-    inside_rows (moved_right n page) page (same_moved_right n page)
-    (record { row = refl; saved_row = refl; bottom = refl }) i
-
 target_inside : (r : ℕ) (page : Page) → IsInside page → target_row r page < length page.rows
 target_inside r page i = by_origin page.origin where
   by_origin : (b : Bool) →
@@ -99,13 +83,12 @@ target_inside r page i = by_origin page.origin where
   by_origin false = omega (arith, i.row)
 
 pub inside_moved_to : (r c : ℕ) (page : Page) → IsInside page → IsInside (moved_to r c page)
-inside_moved_to r c page i =
-    inside_at (moved_to r c page) page (same_moved_to r c page) refl refl (target_inside r page i) i
+inside_moved_to r c page i = record { row = target_inside r page i; saved_row = i.saved_row; bottom = i.bottom }
 
 pub inside_moved_up : (n : ℕ) (page : Page) → IsInside page → IsInside (moved_up n page)
 unfolding moved_up
 inside_moved_up n page i =
-    inside_at (moved_up n page) page (same_moved_up n page) refl refl (by_region (in_region page) refl) i where
+    record { row = by_region (in_region page) refl; saved_row = i.saved_row; bottom = i.bottom } where
       by_region : (b : Bool) → in_region page ≡ b → max (page.row - n) (if b then page.top else 0) < length page.rows
       by_region true e = grind (arith, nat_tests, i.row, i.bottom)
       by_region false e = omega (arith, i.row)
@@ -113,29 +96,21 @@ inside_moved_up n page i =
 pub inside_moved_down : (n : ℕ) (page : Page) → IsInside page → IsInside (moved_down n page)
 unfolding moved_down
 inside_moved_down n page i =
-    inside_at (moved_down n page) page (same_moved_down n page) refl refl (by_region (in_region page)) i where
+    record { row = by_region (in_region page); saved_row = i.saved_row; bottom = i.bottom } where
       by_region : (b : Bool) → min (page.row + n) (if b then page.bottom else last_row page) < length page.rows
       by_region true = omega (arith, i.bottom)
       by_region false = omega (arith, i.row)
 
 pub inside_next_line : (n : ℕ) (page : Page) → IsInside page → IsInside (next_line n page)
-inside_next_line n page i = inside_carriage_return (moved_down n page) (inside_moved_down n page i)
+inside_next_line n page i =
+    let d = inside_moved_down n page i in record { row = d.row; saved_row = d.saved_row; bottom = d.bottom }
 
 pub inside_previous_line : (n : ℕ) (page : Page) → IsInside page → IsInside (previous_line n page)
-inside_previous_line n page i = inside_carriage_return (moved_up n page) (inside_moved_up n page i)
-
-pub inside_moved_to_column : (c : ℕ) (page : Page) → IsInside page → IsInside (moved_to_column c page)
-inside_moved_to_column c page i =
-    inside_rows (moved_to_column c page) page (same_moved_to_column c page)
-    (record { row = refl; saved_row = refl; bottom = refl }) i
+inside_previous_line n page i =
+    let u = inside_moved_up n page i in record { row = u.row; saved_row = u.saved_row; bottom = u.bottom }
 
 pub inside_moved_to_row : (r : ℕ) (page : Page) → IsInside page → IsInside (moved_to_row r page)
-inside_moved_to_row r page i =
-    inside_at (moved_to_row r page) page (same_moved_to_row r page) refl refl (omega (arith, i.row)) i
-
-pub inside_tabbed : (page : Page) → IsInside page → IsInside (page_after_tab page)
-inside_tabbed page i =
-    inside_rows (page_after_tab page) page (same_tabbed page) (record { row = refl; saved_row = refl; bottom = refl }) i
+inside_moved_to_row r page i = record { row = omega (arith, i.row); saved_row = i.saved_row; bottom = i.bottom }
 
 pub inside_region_set : (top bottom : ℕ) (page : Page) → IsInside page → IsInside (region_set top bottom page)
 unfolding region_set

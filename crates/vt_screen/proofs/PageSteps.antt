@@ -21,18 +21,17 @@ use Rattle.vt_grid.proofs.Regions.{page_origin_set}
 use Rattle.vt_grid.proofs.Shifting.{page_scrolled_down, page_reverse_index, page_lines_inserted, page_lines_deleted}
 use Rattle.vt_grid.proofs.Shifting.{page_chars_inserted, page_chars_deleted}
 use Rattle.vt_grid.proofs.Blanking.{page_erased_start, page_erased_row, page_erased_above, page_erased_page}
-use Rattle.vt_screen.proofs.Inside.{IsInside, same_erased_above, inside_carriage_return, inside_reverse_index}
-use Rattle.vt_screen.proofs.Inside.{inside_moved_up, inside_moved_down, inside_moved_right, inside_moved_left}
-use Rattle.vt_screen.proofs.Inside.{inside_next_line, inside_previous_line, inside_tabbed, inside_moved_to}
-use Rattle.vt_screen.proofs.Inside.{inside_moved_to_column, inside_moved_to_row, inside_region_set, inside_origin_set}
+use Rattle.vt_screen.proofs.Inside.{IsInside, same_erased_above, inside_reverse_index}
+use Rattle.vt_screen.proofs.Inside.{inside_moved_up, inside_moved_down}
+use Rattle.vt_screen.proofs.Inside.{inside_next_line, inside_previous_line, inside_moved_to}
+use Rattle.vt_screen.proofs.Inside.{inside_moved_to_row, inside_region_set, inside_origin_set}
 use Rattle.vt_screen.proofs.Inside.{inside_erased_below, inside_erased_above, inside_erased_page, inside_erased_rest}
 use Rattle.vt_screen.proofs.Inside.{inside_erased_start, inside_erased_row, inside_erased_chars, inside_chars_inserted}
 use Rattle.vt_screen.proofs.Inside.{inside_chars_deleted, inside_lines_inserted, inside_lines_deleted}
 use Rattle.vt_screen.proofs.Inside.{inside_scrolled_down}
-use Rattle.vt_screen.proofs.Sizes.{same_carriage_return, same_reverse_index, same_moved_up, same_moved_down}
-use Rattle.vt_screen.proofs.Sizes.{same_moved_right, same_moved_left, same_next_line, same_previous_line, same_tabbed}
-use Rattle.vt_screen.proofs.Sizes.{same_moved_to, same_moved_to_column, same_moved_to_row, same_region_set}
-use Rattle.vt_screen.proofs.Sizes.{same_origin_set, same_erased_below, same_erased_page, same_erased_rest}
+use Rattle.vt_screen.proofs.Sizes.{same_reverse_index}
+use Rattle.vt_screen.proofs.Sizes.{same_region_set}
+use Rattle.vt_screen.proofs.Sizes.{same_erased_below, same_erased_page, same_erased_rest}
 use Rattle.vt_screen.proofs.Sizes.{same_erased_start, same_erased_row, same_erased_chars, same_chars_inserted}
 use Rattle.vt_screen.proofs.Sizes.{same_chars_deleted, same_lines_inserted, same_lines_deleted, same_scrolled_down}
 use Rattle.vt_screen.proofs.Stable.{EachRow, IsStable, stable_erased_below, stable_erased_chars, stable_erased_rest}
@@ -43,20 +42,9 @@ use Rattle.vt_screen.proofs.StableMoves.{stable_reverse_index, stable_scrolled_d
 
 pub same_page_after : (attrs : Attrs) (step : PageStep) (page : Page) → IsInside page
     → SameSize (page_after attrs step page) page
-same_page_after attrs CarriageReturn page i = same_carriage_return page
+unfolding moved_up moved_down
 same_page_after attrs ReverseIndex page i = same_reverse_index page
-same_page_after attrs (MoveUp count) page i = same_moved_up count page
-same_page_after attrs (MoveDown count) page i = same_moved_down count page
-same_page_after attrs (MoveRight count) page i = same_moved_right count page
-same_page_after attrs (MoveLeft count) page i = same_moved_left count page
-same_page_after attrs (NextLine count) page i = same_next_line count page
-same_page_after attrs (PreviousLine count) page i = same_previous_line count page
-same_page_after attrs Tab page i = same_tabbed page
-same_page_after attrs (MoveTo row col) page i = same_moved_to row col page
-same_page_after attrs (MoveToColumn col) page i = same_moved_to_column col page
-same_page_after attrs (MoveToRow row) page i = same_moved_to_row row page
 same_page_after attrs (SetRegion top bottom) page i = same_region_set top bottom page
-same_page_after attrs (UseOrigin on) page i = same_origin_set on page
 same_page_after attrs EraseBelow page i = same_erased_below attrs page
 same_page_after attrs EraseAbove page i = same_erased_above attrs page i
 same_page_after attrs ErasePage page i = same_erased_page attrs page
@@ -69,20 +57,16 @@ same_page_after attrs (DeleteChars count) page i = same_chars_deleted count page
 same_page_after attrs (InsertLines count) page i = same_lines_inserted count page
 same_page_after attrs (DeleteLines count) page i = same_lines_deleted count page
 same_page_after attrs (ScrollDown count) page i = same_scrolled_down count page
+same_page_after attrs step page i = record { width = refl; height = refl }
 
 pub inside_page_after : (attrs : Attrs) (step : PageStep) (page : Page) → IsInside page
     → IsInside (page_after attrs step page)
-inside_page_after attrs CarriageReturn page i = inside_carriage_return page i
 inside_page_after attrs ReverseIndex page i = inside_reverse_index page i
 inside_page_after attrs (MoveUp count) page i = inside_moved_up count page i
 inside_page_after attrs (MoveDown count) page i = inside_moved_down count page i
-inside_page_after attrs (MoveRight count) page i = inside_moved_right count page i
-inside_page_after attrs (MoveLeft count) page i = inside_moved_left count page i
 inside_page_after attrs (NextLine count) page i = inside_next_line count page i
 inside_page_after attrs (PreviousLine count) page i = inside_previous_line count page i
-inside_page_after attrs Tab page i = inside_tabbed page i
 inside_page_after attrs (MoveTo row col) page i = inside_moved_to row col page i
-inside_page_after attrs (MoveToColumn col) page i = inside_moved_to_column col page i
 inside_page_after attrs (MoveToRow row) page i = inside_moved_to_row row page i
 inside_page_after attrs (SetRegion top bottom) page i = inside_region_set top bottom page i
 inside_page_after attrs (UseOrigin on) page i = inside_origin_set on page i
@@ -98,6 +82,7 @@ inside_page_after attrs (DeleteChars count) page i = inside_chars_deleted count 
 inside_page_after attrs (InsertLines count) page i = inside_lines_inserted count page i
 inside_page_after attrs (DeleteLines count) page i = inside_lines_deleted count page i
 inside_page_after attrs (ScrollDown count) page i = inside_scrolled_down count page i
+inside_page_after attrs step page i = record { row = i.row; saved_row = i.saved_row; bottom = i.bottom }
 
 pub page_page_after : (attrs : Attrs) (step : PageStep) (page : Page) → IsPage page
     → IsPage (page_after attrs step page)
@@ -132,20 +117,8 @@ pub stable_page_after : {P : CellValue → Type 0} {F : Attrs → Type 0} {Q : �
     → (attrs : Attrs) (step : PageStep) (page : Page) → F attrs → EachRow P page.rows
     → EachRow P (page_after attrs step page).rows
 unfolding moved_up moved_down
-stable_page_after rule attrs CarriageReturn page h all = all
 stable_page_after rule attrs ReverseIndex page h all = stable_reverse_index rule page all
-stable_page_after rule attrs (MoveUp count) page h all = all
-stable_page_after rule attrs (MoveDown count) page h all = all
-stable_page_after rule attrs (MoveRight count) page h all = all
-stable_page_after rule attrs (MoveLeft count) page h all = all
-stable_page_after rule attrs (NextLine count) page h all = all
-stable_page_after rule attrs (PreviousLine count) page h all = all
-stable_page_after rule attrs Tab page h all = all
-stable_page_after rule attrs (MoveTo row col) page h all = all
-stable_page_after rule attrs (MoveToColumn col) page h all = all
-stable_page_after rule attrs (MoveToRow row) page h all = all
 stable_page_after rule attrs (SetRegion top bottom) page h all = stable_region_set rule top bottom page all
-stable_page_after rule attrs (UseOrigin on) page h all = all
 stable_page_after rule attrs EraseBelow page h all = stable_erased_below rule attrs page h all
 stable_page_after rule attrs EraseAbove page h all = stable_erased_above rule attrs page h all
 stable_page_after rule attrs ErasePage page h all = stable_erased_page rule attrs page h all
@@ -158,3 +131,4 @@ stable_page_after rule attrs (DeleteChars count) page h all = stable_chars_delet
 stable_page_after rule attrs (InsertLines count) page h all = stable_lines_inserted rule count page all
 stable_page_after rule attrs (DeleteLines count) page h all = stable_lines_deleted rule count page all
 stable_page_after rule attrs (ScrollDown count) page h all = stable_scrolled_down rule count page all
+stable_page_after rule attrs step page h all = all

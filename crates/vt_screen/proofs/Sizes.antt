@@ -10,10 +10,9 @@ use Rattle.vt_cells.specs.Glyph.{columns_of, is_selector, is_wide_text}
 use Rattle.vt_rows.specs.Cells.{at, ends_blank, cells_after_erase, put_narrow, put_wide, marked_at, widened_at, narrowed_at}
 use Rattle.vt_rows.specs.Row.{RowValue, blank_row, with_cells, inserted_row, deleted_row}
 use Rattle.vt_grid.specs.Page.{Page, cursor_row, with_row, up_source, rows_up, scrolled_up}
-use Rattle.vt_grid.specs.Moves.{carriage_return, moved_left, moved_right, moved_to}
 use Rattle.vt_grid.specs.Moves.{line_feed, cursor_saved, cursor_restored}
-use Rattle.vt_grid.specs.Regions.{in_region, last_row, moved_up, moved_down, next_line, previous_line}
-use Rattle.vt_grid.specs.Regions.{moved_to_column, moved_to_row, page_after_tab, region_set, origin_set}
+use Rattle.vt_grid.specs.Regions.{in_region, last_row}
+use Rattle.vt_grid.specs.Regions.{region_set}
 use Rattle.vt_grid.specs.Shifts.{rows_down, scrolled_down, reverse_index, lines_inserted}
 use Rattle.vt_grid.specs.Shifts.{lines_deleted, chars_inserted, chars_deleted}
 use Rattle.vt_grid.specs.Erasing.{erased_columns, erased_chars, erased_rest, blanked_below, erased_below}
@@ -49,43 +48,6 @@ same_cursor_cells cells page = same_with_row page.row (with_cells (cursor_row pa
 
 -- ---- cursor movement
 
-pub same_carriage_return : (page : Page) → SameSize (carriage_return page) page
-same_carriage_return page = record { width = refl; height = refl }
-
-pub same_moved_left : (n : ℕ) (page : Page) → SameSize (moved_left n page) page
-same_moved_left n page = record { width = refl; height = refl }
-
-pub same_moved_right : (n : ℕ) (page : Page) → SameSize (moved_right n page) page
-same_moved_right n page = record { width = refl; height = refl }
-
-pub same_moved_to : (r c : ℕ) (page : Page) → SameSize (moved_to r c page) page
-same_moved_to r c page = record { width = refl; height = refl }
-
-pub same_moved_up : (n : ℕ) (page : Page) → SameSize (moved_up n page) page
-unfolding moved_up
-same_moved_up n page = record { width = refl; height = refl }
-
-pub same_moved_down : (n : ℕ) (page : Page) → SameSize (moved_down n page) page
-unfolding moved_down
-same_moved_down n page = record { width = refl; height = refl }
-
-pub same_next_line : (n : ℕ) (page : Page) → SameSize (next_line n page) page
-unfolding moved_down
-same_next_line n page = record { width = refl; height = refl }
-
-pub same_previous_line : (n : ℕ) (page : Page) → SameSize (previous_line n page) page
-unfolding moved_up
-same_previous_line n page = record { width = refl; height = refl }
-
-pub same_moved_to_column : (c : ℕ) (page : Page) → SameSize (moved_to_column c page) page
-same_moved_to_column c page = record { width = refl; height = refl }
-
-pub same_moved_to_row : (r : ℕ) (page : Page) → SameSize (moved_to_row r page) page
-same_moved_to_row r page = record { width = refl; height = refl }
-
-pub same_tabbed : (page : Page) → SameSize (page_after_tab page) page
-same_tabbed page = record { width = refl; height = refl }
-
 pub same_region_set : (top bottom : ℕ) (page : Page) → SameSize (region_set top bottom page) page
 unfolding region_set
 same_region_set top bottom page =
@@ -93,9 +55,6 @@ same_region_set top bottom page =
     same_if (nat_lt top low) (record page { top = top; bottom = low; row = top; column = 0 })
     (record page { top = 0; bottom = last_row page; row = 0; column = 0 }) page
     (record { width = refl; height = refl }) (record { width = refl; height = refl })
-
-pub same_origin_set : (on : Bool) (page : Page) → SameSize (origin_set on page) page
-same_origin_set on page = record { width = refl; height = refl }
 
 pub same_cursor_saved : (page : Page) → SameSize (cursor_saved page) page
 same_cursor_saved page = record { width = refl; height = refl }
