@@ -1,6 +1,6 @@
 -- The properties that every step of a page preserves: its size, its cursors on it, its invariant, and the properties of
 -- each cell.
-use Rattle.std.proofs.Common.{ℕ}
+use Rattle.std.proofs.Common.{ℕ, refl}
 use Rattle.vt_cells.specs.Attrs.{Attrs}
 use Rattle.vt_cells.specs.Cell.{CellValue}
 use Rattle.vt_grid.specs.Page.{Page, IsPage, SameSize}
