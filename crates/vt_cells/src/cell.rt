@@ -103,9 +103,8 @@ impl Cell {
         self.has_text_of(other)
     }
 
-    /// Returns whether the two cells agree in everything except the bytes of their text, that is,
-    /// in the length and width of the text, in whether the cell is a continuation cell, and in the
-    /// attributes.
+    /// Returns whether the two cells agree in everything except the bytes of their text: the length
+    /// and width of the text, whether the cell is a continuation cell, and the attributes.
     #[inline]
     fn has_head_of(&self, other: &Cell) -> bool
         ensures value { result ≡ same_head (head_of_cell self.now) (head_of_cell other.now) }

@@ -5,7 +5,8 @@ ghost use Rattle.vt_cells.specs.Cell.{CellValue};
 
 use crate::cell::Cell;
 
-/// Returns a lower bound on the number of leading cells that the two rows have in common.
+/// Returns the length of a common prefix of two rows, in cells. The longest common prefix may be
+/// longer.
 ///
 /// Cells are compared in groups of four. The comparison stops at the first group in which the two
 /// rows differ or a cell has more than seven bytes of text.
@@ -23,8 +24,8 @@ pub fn same_run(own: &[Cell], others: &[Cell]) -> usize
     count
 }
 
-/// Returns `true` only if the two groups of four cells are equal and no cell has more than seven
-/// bytes of text.
+/// Returns whether two groups of four cells are equal and no cell has more than seven bytes of
+/// text.
 ///
 /// The differences are combined into one word so that the compiler can vectorize the comparison.
 #[inline(always)]

@@ -5,8 +5,8 @@ ghost use Rattle.vt_cells.specs.Glyph.{columns_of};
 
 use unicode_width::UnicodeWidthChar;
 
-/// Returns the number of columns that a character takes, 0 to 2, or `None` for a control character
-/// (UAX #11).
+/// Returns the number of columns that a character takes, from 0 to 2, or `None` for a control
+/// character (UAX #11).
 ///
 /// A character for which `unicode_width` returns more than two columns takes two. If
 /// `unicode_width` returns `None` for a character from U+0100 up, the character takes one column.
@@ -27,12 +27,12 @@ pub fn columns(c: char) -> Option<u8>
     }
 }
 
-/// Returns `true` only if `code` is in one of the common blocks whose characters all take two
-/// columns, so that the width table need not be searched.
+/// Returns whether `code` is in one of a few common blocks in which every character takes two
+/// columns. For such a character, the width table need not be searched.
 ///
-/// The blocks are U+3250 to U+A48C (enclosed characters, ideographs and Yi syllables; tested first
-/// because it is the most frequent), and the main ranges of CJK punctuation, Hiragana, Katakana and
-/// Hangul. Wide characters also exist outside these blocks.
+/// The blocks are U+3250 to U+A48C (enclosed characters, ideographs and Yi syllables), and the main
+/// ranges of CJK punctuation, Hiragana, Katakana and Hangul. The first block is tested first
+/// because its characters are the most frequent. Wide characters also exist outside these blocks.
 #[inline]
 #[tactic(auto, using(crate::proofs::Ideographs::blocks_wide))]
 fn is_ideograph(code: u32) -> bool

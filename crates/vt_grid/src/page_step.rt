@@ -1,4 +1,4 @@
-//! The steps of a page that scroll no row off its top.
+//! Changes to a page that do not scroll rows off the top.
 
 ghost use Rattle.std.specs.Prelude.{◌≡◌};
 ghost use Rattle.vt_grid.specs.PageStep.{page_after};
@@ -6,7 +6,7 @@ ghost use Rattle.vt_grid.specs.PageStep.{page_after};
 use crate::grid::Grid;
 use vt_cells::Attrs;
 
-/// A change of a page that scrolls no row off its top. Rows and columns are zero-based.
+/// A change to a page that does not scroll rows off the top. Rows and columns are counted from 0.
 #[derive(Clone, Copy, PartialEq, Eq, Debug)]
 pub enum PageStep {
     /// Moves the cursor to the first column (CR).
@@ -91,24 +91,24 @@ pub enum PageStep {
     /// Erases the cursor's row (EL 2).
     EraseRow,
 
-    /// Erases a number of columns from the cursor on, stopping at the end of the row (ECH). If a
-    /// wrap is pending, nothing is erased.
+    /// Erases a number of columns, starting at the cursor and stopping at the end of the row (ECH).
+    /// If a wrap is pending, nothing is erased.
     EraseChars(u16),
 
     /// Inserts a number of default blanks at the cursor (ICH). Cells that move past the last column
     /// are lost.
     InsertChars(u16),
 
-    /// Deletes a number of columns at the cursor and fills the end of the row with default blanks
-    /// (DCH).
+    /// Deletes a number of columns, starting at the cursor, and fills the end of the row with
+    /// default blanks (DCH).
     DeleteChars(u16),
 
-    /// Inserts a number of default blank rows at the cursor's row (IL). Rows that move past the
-    /// bottom of the scroll region are lost. If the cursor is outside the region, nothing happens.
+    /// Inserts a number of default blank rows at the cursor's row (IL). Rows pushed past the bottom
+    /// of the scroll region are lost. If the cursor is outside the region, nothing happens.
     InsertLines(u16),
 
-    /// Deletes a number of rows at the cursor's row and fills the bottom of the scroll region with
-    /// default blank rows (DL). If the cursor is outside the region, nothing happens.
+    /// Deletes a number of rows, starting at the cursor's row, and fills the bottom of the scroll
+    /// region with default blank rows (DL). If the cursor is outside the region, nothing happens.
     DeleteLines(u16),
 
     /// Scrolls the scroll region down by a number of rows and fills its top with default blank rows

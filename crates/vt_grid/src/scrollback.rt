@@ -190,11 +190,12 @@ impl Scrollback {
         Ok(())
     }
 
-    /// Moves the newest `up` rows back into the first `up` rows of a page, in order. Those rows of
-    /// the page must be blank. If fewer than `up` rows are kept, the topmost rows of the page stay
-    /// blank.
+    /// Moves the newest `up` rows of scrollback into the first `up` rows of a page, in order. Those
+    /// rows of the page must be blank. If scrollback keeps fewer than `up` rows, the topmost rows
+    /// of the page stay blank.
     ///
-    /// All `up` rows count as having come back, even rows that were not kept. The offset must be 0.
+    /// [`Scrollback::theoretical_len`] decreases by `up`, even if fewer rows were kept. The offset
+    /// must be 0.
     pub fn give_back(&mut self, page: &mut PageRows, up: usize)
         requires hidden { self.old.offset ≡ 0 }
         requires inside { up ≤ length page.old.rows }
@@ -258,8 +259,8 @@ impl Scrollback {
         Ok(())
     }
 
-    /// Returns an upper bound on how many displayed rows will be narrower than the screen once
-    /// `count` rows have been appended.
+    /// Returns an upper bound on the number of displayed rows that will be narrower than the screen
+    /// after `count` rows have been appended.
     fn allocations(&self, count: usize, size: Size) -> usize
         requires { count < 2 ^ 63 }
         ensures { (gone : List RowValue) → length gone ≡ count →
@@ -416,7 +417,8 @@ fn give_rows(kept: &mut VecDeque<Row>, page: &mut PageRows, up: usize)
     }
 }
 
-/// Returns the new offset after `count` rows have been appended. `len` is the number of rows kept.
+/// Returns the offset after `count` rows have been appended. `offset` is the offset before, and
+/// `len` is the number of rows kept.
 fn followed(offset: usize, count: usize, len: usize) -> usize
     ensures { result ≡ (if offset == 0 then 0 else min (offset + count) len) }
 {
@@ -427,8 +429,8 @@ fn followed(offset: usize, count: usize, len: usize) -> usize
     }
 }
 
-/// Returns how many rows of `rows` are narrower than the screen, considering only those that a
-/// screen of the given size displays if row `first` is at its top.
+/// Returns the number of displayed scrollback rows that are narrower than the screen. The displayed
+/// rows are those that a screen of the given size displays if row `first` of `rows` is at its top.
 fn narrow_rows(rows: &VecDeque<Row>, first: usize, size: Size) -> usize
     requires { first < 2 ^ 64 - 2 ^ 16 }
     ensures value { result ≡ narrow_rows size.cols (window_from first size.rows rows.now.items) }
@@ -467,7 +469,8 @@ fn grow_in_view(rows: &mut VecDeque<Row>, offset: usize, size: Size, mut spare: 
     }
 }
 
-/// Extends a row that has fewer than `columns` columns by moving its cells into a spare row.
+/// Replaces a row that has fewer than `columns` columns with a spare row into which its cells are
+/// moved. A wider row is unchanged.
 fn grow_row(row: &mut Row, columns: usize, spare: &mut Vec<Row>)
     requires sound { IsRow (length row.old.cells) row.old }
     requires spare { AreSpare columns (row.old ∷ []) spare.old.items }

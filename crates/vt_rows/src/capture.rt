@@ -58,8 +58,7 @@ impl<'a> RowContents<'a> {
         self.cells
     }
 
-    /// Returns whether the row is wrapped, that is, whether its text continues on the row that was
-    /// below it.
+    /// Returns whether the row is wrapped, that is, whether its text continues on the next row.
     #[inline]
     pub fn wrapped(&self) -> bool
         ensures { result ≡ self.now.wrapped }

@@ -347,8 +347,9 @@ pub fn ends_blank(cells: &[Cell]) -> bool
     }
 }
 
-/// Returns the wrapped flag of a row whose cells are `cells` after printing or erasing: `wrapped`,
-/// or `false` if the last cell is a blank.
+/// Returns whether a row is wrapped after printing or erasing. `cells` are its cells after the
+/// change, and `wrapped` is true if it was wrapped before. A row whose last cell is a blank is not
+/// wrapped.
 #[inline]
 pub fn flag_left(cells: &[Cell], wrapped: bool) -> bool
     ensures { result ≡ (wrapped && not (ends_blank cells.now)) }

@@ -17,7 +17,7 @@ pub fn rows_are_one()
         AreRowsOf width capture rows → AreRowsOf width capture others → rows ≡ others }
 {}
 
-/// States that a text ends inside an SGR sequence if and only if it contains an ESC with no `m`
+/// States that a string ends inside an SGR sequence if and only if it contains an ESC with no `m`
 /// after it.
 pub fn stretch_is_open()
     ensures { (text : List ℕ) → (ends_within text ≡ true) ↔ IsInStretch text (length text) }

@@ -129,11 +129,11 @@ impl Row {
         Ok(())
     }
 
-    /// Takes over the cells of `from`, truncated or extended to the width of this row, which must
-    /// be blank.
+    /// Moves the cells of `from` into this row, which must be blank. Cells past the end of this row
+    /// are lost, and columns past the end of `from` stay blank.
     ///
-    /// If the last column holds the first cell of a wide glyph after the change, that cell becomes
-    /// a blank and keeps its attributes. The row is wrapped if `from` is wrapped and has the same
+    /// If the last column holds the first cell of a wide glyph after the move, that cell becomes a
+    /// blank and keeps its attributes. The row is wrapped if `from` is wrapped and has the same
     /// width.
     pub fn refit(&mut self, from: Row)
         requires blank { self.old ≡ blank_row default_attrs (length self.old.cells) }
@@ -145,8 +145,9 @@ impl Row {
     }
 }
 
-/// Returns the wrapped flag of a resized row: `wrapped` if its width is the same as before
-/// (`same`), otherwise `false`.
+/// Returns whether a row is wrapped after it is resized. `wrapped` is true if it was wrapped
+/// before, and `same` is true if its width has not changed. A row whose width has changed is not
+/// wrapped.
 pub fn flag_kept(wrapped: bool, same: bool) -> bool
     ensures { result ≡ (wrapped && same) }
 {

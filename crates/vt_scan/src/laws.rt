@@ -46,7 +46,7 @@ pub fn characters()
 {}
 
 /// States that input without the bytes EF B8 8F, the encoding of U+FE0F, never yields that
-/// character when parsed from the ground state (Unicode 3.9).
+/// character when parsed from the ground state (Unicode Standard, section 3.9).
 pub fn selectors()
     ensures { (bytes : List ℕ) → SpellsNoSelector bytes → ReadsNoSelector start bytes }
 {}

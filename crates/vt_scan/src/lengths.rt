@@ -39,7 +39,8 @@ pub fn part_len(bytes: &[u8]) -> usize
     len_before(bytes, b';', 0)
 }
 
-/// Returns the number of leading bytes before the first CAN, SUB or ESC, which may end a string.
+/// Returns the number of leading bytes before the first CAN, SUB or ESC, the bytes that can end an
+/// ignored control string.
 ///
 /// EM (0x19), which lies between CAN and SUB, also stops the quick search; the search is then
 /// continued.

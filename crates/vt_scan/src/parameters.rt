@@ -1,4 +1,5 @@
-//! The parameters of a control sequence.
+//! The parameters of a control sequence. A *group* is a parameter with its subparameters: the
+//! numbers that `:` separates. Groups are separated by `;`.
 
 ghost use Rattle.std.specs.Prelude.{◌≡◌, ℕ, ◌+◌, ◌*◌, ◌<◌, ◌≤◌, List, [], ◌∷◌, ◌++◌};
 ghost use Rattle.std.specs.Prelude.{IfSome, None, false, if◌then◌else◌, length, map, min, nat_lt};
@@ -11,8 +12,8 @@ ghost use Rattle.vt_scan.specs.Texts.{IsParameterText};
 use crate::groups::{Groups, MAX_NUMBERS};
 use std::marker::Model;
 
-/// The parameters of a control sequence: its first 32 numbers, each limited to 65535, in groups
-/// (ECMA-48, section 5.4.2).
+/// The parameters of a control sequence: its first 32 numbers, each limited to 65535, arranged in
+/// groups (ECMA-48, section 5.4.2).
 #[derive(Drop)]
 pub struct Parameters {
     numbers: [u16; MAX_NUMBERS],
@@ -271,7 +272,8 @@ fn group_start(ends: &[usize; MAX_NUMBERS], i: usize) -> usize
     if i == 0 { 0 } else { ends[i - 1] }
 }
 
-/// Returns the index at which group `i` ends; the last group ends at `len`.
+/// Returns the index at which group `i` ends. The first `closed` groups end at the indices in
+/// `ends`, and the group after them at `len`.
 #[inline(always)]
 fn group_end(ends: &[usize; MAX_NUMBERS], closed: usize, len: usize, i: usize) -> usize
     requires { closed ≤ 32 }

@@ -13,25 +13,25 @@ pub enum Kind {
     /// The state after ESC.
     Escape,
 
-    /// The state in an escape sequence, after an intermediate.
+    /// The state inside an escape sequence, after an intermediate.
     EscapeIntermediate,
 
     /// The state after CSI.
     CsiEntry,
 
-    /// The state in a control sequence, after a private marker or a parameter byte.
+    /// The state inside a control sequence, after a private marker or a parameter byte.
     CsiParam,
 
-    /// The state in a control sequence, after an intermediate.
+    /// The state inside a control sequence, after an intermediate.
     CsiIntermediate,
 
-    /// The state in a malformed control sequence, which ends without an event.
+    /// The state inside a malformed control sequence, which ends without an event.
     CsiIgnore,
 
-    /// The state in an operating system command.
+    /// The state inside an operating system command (OSC).
     OscString,
 
-    /// The state in a string that is ignored: DCS, SOS, PM or APC.
+    /// The state inside an ignored control string (DCS, SOS, PM or APC).
     Skip,
 }
 
@@ -68,7 +68,7 @@ pub enum Class {
     /// `]`, which introduces an operating system command if it follows ESC.
     OscStart,
 
-    /// `P`, `X`, `^` and `_`, which introduce strings that are ignored (DCS, SOS, PM and APC) if
+    /// `P`, `X`, `^` and `_`, which introduce ignored control strings (DCS, SOS, PM and APC) if
     /// they follow ESC.
     SkipStart,
 

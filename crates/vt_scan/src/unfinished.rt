@@ -73,7 +73,7 @@ impl Unfinished {
         }
     }
 
-    /// Stores `byte` if it is the first byte of a character of more than one byte, and returns
+    /// Stores `byte` if it can be the first byte of a multibyte UTF-8 character, and returns
     /// whether it was stored.
     pub fn begin(&mut self, byte: u8) -> bool
         requires { self.old ≡ [] }
@@ -99,8 +99,8 @@ impl Unfinished {
     }
 }
 
-/// Returns the first character of `bytes` and its length in bytes. Returns `None` unless the
-/// character has more than one byte and all its bytes are present.
+/// Returns the first character of `bytes` and its length in bytes. Returns `None` unless `bytes`
+/// begins with a complete multibyte UTF-8 character.
 pub fn first_character(bytes: &[u8]) -> Option<(char, usize)>
     ensures inside { IfSome result (λ found. (1 < found.1) × (found.1 ≤ length bytes.now)) }
     ensures is { IfSome result (λ found. is_character (take found.1 bytes.now) ≡ true) }
@@ -165,8 +165,8 @@ fn wide_character(a: u8, b: u8, c: u8) -> Option<char>
     }
 }
 
-/// Adds `byte` to the bytes of an incomplete character. Returns the bytes that are left, and the
-/// result.
+/// Adds `byte` to the bytes of an incomplete character. Returns the bytes of the character that is
+/// still incomplete, if any, and the result.
 fn extend_bytes(bytes: Bytes, byte: u8) -> (Bytes, Extended)
     requires begun { is_beginning (bytes_in bytes) ≡ true }
     ensures extends { Extends (bytes_in bytes) byte result.1 (bytes_in result.0) }
@@ -180,7 +180,7 @@ fn extend_bytes(bytes: Bytes, byte: u8) -> (Bytes, Extended)
     }
 }
 
-/// Adds `byte` to an incomplete character of one byte.
+/// Adds `byte` to an incomplete character of which one byte has been read.
 fn extend_one(first: u8, byte: u8) -> (Bytes, Extended)
     requires { is_beginning (first ∷ []) ≡ true }
     ensures extends { Extends (first ∷ []) byte result.1 (bytes_in result.0) }
@@ -195,7 +195,7 @@ fn extend_one(first: u8, byte: u8) -> (Bytes, Extended)
     (Bytes::Two(first, byte), Extended::Further)
 }
 
-/// Adds `byte` to an incomplete character of two bytes.
+/// Adds `byte` to an incomplete character of which two bytes have been read.
 fn extend_two(first: u8, second: u8, byte: u8) -> (Bytes, Extended)
     requires { is_beginning (first ∷ second ∷ []) ≡ true }
     ensures extends { Extends (first ∷ second ∷ []) byte result.1 (bytes_in result.0) }
@@ -213,7 +213,7 @@ fn extend_two(first: u8, second: u8, byte: u8) -> (Bytes, Extended)
     (Bytes::Three(first, second, byte), Extended::Further)
 }
 
-/// Adds `byte` to an incomplete character of three bytes.
+/// Adds `byte` to an incomplete character of which three bytes have been read.
 fn extend_three(first: u8, second: u8, third: u8, byte: u8) -> (Bytes, Extended)
     requires { is_beginning (first ∷ second ∷ third ∷ []) ≡ true }
     ensures extends { Extends (first ∷ second ∷ third ∷ []) byte result.1 (bytes_in result.0) }
@@ -228,7 +228,7 @@ fn extend_three(first: u8, second: u8, third: u8, byte: u8) -> (Bytes, Extended)
     )
 }
 
-/// Returns whether `byte` can follow `first` as the second byte of a character.
+/// Returns whether `byte` can be the second byte of a UTF-8 character whose first byte is `first`.
 pub(crate) fn may_be_second(first: u8, byte: u8) -> bool
     ensures { result ≡ is_second first byte }
 {
@@ -241,7 +241,7 @@ pub(crate) fn may_be_second(first: u8, byte: u8) -> bool
     }
 }
 
-/// Returns whether `byte` can be the third or fourth byte of a character.
+/// Returns whether `byte` can be the third or fourth byte of a UTF-8 character.
 pub(crate) fn may_continue(byte: u8) -> bool
     ensures { result ≡ continues byte }
 {

@@ -81,8 +81,8 @@ pub fn space(attrs: Attrs) -> Cell
     ascii(b' ', attrs)
 }
 
-/// Encodes `c` in UTF-8 after the first `len` bytes of `contents` and returns the new length
-/// (Unicode, Table 3-6).
+/// Appends the UTF-8 encoding of `c` to the text in `contents`, which is `len` bytes long, and
+/// returns the new length of the text (Unicode Standard, section 3.9, Table 3-6).
 #[inline]
 pub(super) fn push_char(contents: &mut [u8; TEXT_ROOM], len: u8, c: char) -> u8
     requires { len < MARK_LIMIT }
@@ -110,7 +110,8 @@ pub(super) fn push_char(contents: &mut [u8; TEXT_ROOM], len: u8, c: char) -> u8
     }
 }
 
-/// Writes `byte` after the first `len` bytes of `contents` and returns the new length.
+/// Appends `byte` to the text in `contents`, which is `len` bytes long, and returns the new length
+/// of the text.
 #[inline]
 fn push_byte(contents: &mut [u8; TEXT_ROOM], len: u8, byte: u8) -> u8
     requires { len < TEXT_ROOM }

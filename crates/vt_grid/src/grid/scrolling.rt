@@ -113,8 +113,8 @@ impl Grid {
             && !self.page_rows.ends_blank(self.pos.row)
     }
 
-    /// Sets the wrapped flag of `left`, the row from which the cursor wrapped, to `is_wrapped`, and
-    /// moves the cursor to the first column.
+    /// Sets the wrapped flag of row `left`, from which the cursor wrapped, to `is_wrapped`, and
+    /// moves the cursor to the first column. `left` is `None` if that row has scrolled off.
     fn leave(&mut self, left: Option<u16>, is_wrapped: bool)
         requires page { IsPage (flagged_left left is_wrapped self.old) }
         requires inside { IfSome left (λ row. row < length self.old.rows) }

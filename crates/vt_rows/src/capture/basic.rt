@@ -108,8 +108,8 @@ fn add_cell<S: Sink>(
     buffer.add(sink, shown_text(cell))
 }
 
-/// Returns whether the cell is written without changing the attributes: it is a default blank, a
-/// continuation cell, or a cell with attributes `attrs`.
+/// Returns whether a cell is written without an SGR sequence: it is a default blank, a continuation
+/// cell, or a cell with `attrs`, the attributes written last.
 #[inline]
 #[tactic(auto, using(crate::proofs::BasicTexts::attrs_kept))]
 fn keeps_attrs(cell: &Cell, attrs: &Attrs) -> bool

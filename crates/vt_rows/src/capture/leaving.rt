@@ -9,8 +9,9 @@ pub trait Leaving {
 
     ghost leaves: { Self → RowValue → Self → Type 0 };
 
-    /// Returns whether rows must be passed. If the result is `false`, receiving a row has no
-    /// effect, so a caller may skip the call to [`Leaving::leave`] and the work for it.
+    /// Returns whether the receiver uses the rows that it is passed. If the result is `false`, a
+    /// call to [`Leaving::leave`] has no effect, so the caller may skip it and the work of
+    /// preparing the row.
     fn wants(&self) -> bool
         ensures { result ≡ false → (row : RowValue) → leaves self.now row self.now }
     {

@@ -95,7 +95,8 @@ fn split_at_sgr(text: &str) -> (&str, &str)
     }
 }
 
-/// Returns the part of `text` after the SGR sequence inside which `text` begins.
+/// Returns the part of `text` after the first `m`, or an empty string if there is none. `text`
+/// begins inside an SGR sequence, and that `m` ends the sequence.
 fn behind_sgr(text: &str) -> &str
     ensures pieces { (at : ℕ) →
         pieces_within at text.now ≡ pieces_from (at + (length text.now - length result.now)) result.now }

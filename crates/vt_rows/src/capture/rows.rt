@@ -110,7 +110,7 @@ struct Reach {
 }
 
 impl Reach {
-    /// Returns the extent of an empty text.
+    /// Returns the extent of an empty string: no columns, and outside any SGR sequence.
     fn new() -> Reach
         ensures columns { result.columns ≡ 0 }
         ensures within { result.is_within ≡ false }
@@ -121,14 +121,16 @@ impl Reach {
         }
     }
 
-    /// Returns whether the character `c` ends the row.
+    /// Returns whether the character `c`, which follows the text read so far, ends the row: it is a
+    /// `\n` outside SGR sequences.
     fn is_row_end(self, c: char) -> bool
         ensures { result ≡ (not self.is_within && (c == 0x0A)) }
     {
         !self.is_within && c == '\n'
     }
 
-    /// Returns whether adding the character `c` would make the row wider than `width`.
+    /// Returns whether the character `c`, which follows the text read so far, would make the row
+    /// wider than `width` columns. The first character of nonzero width always fits.
     fn is_overflow(self, c: char, width: u16) -> bool
         requires { self.columns ≤ width + 2 }
         ensures { result ≡ is_beyond width self.columns (columns_added self.is_within c) }
@@ -137,7 +139,7 @@ impl Reach {
         self.columns > 0 && added > 0 && self.columns + added > u32::from(width)
     }
 
-    /// Returns the extent of the text with the character `c` added.
+    /// Returns the extent of the text after the character `c` is appended to it.
     fn with(self, c: char) -> Reach
         requires { self.columns + 2 < 2 ^ 32 }
         ensures columns { result.columns ≡ self.columns + columns_added self.is_within c }
@@ -149,7 +151,7 @@ impl Reach {
         }
     }
 
-    /// Returns the number of columns that the character `c` adds to the text.
+    /// Returns the number of columns by which appending the character `c` widens the text.
     fn columns_added(self, c: char) -> u32
         ensures value { result ≡ columns_added self.is_within c }
         ensures most { result ≤ 2 }
@@ -164,8 +166,8 @@ impl Reach {
     }
 }
 
-/// Returns whether a text that ends with the character `c` ends inside an SGR sequence. `within` is
-/// true if the text before `c` ends inside one.
+/// Returns whether a string is inside an SGR sequence at its end, after its last character `c`.
+/// `within` is true if the string is inside one before `c`.
 fn is_within_after(within: bool, c: char) -> bool
     ensures { result ≡ is_within_after within c }
 {

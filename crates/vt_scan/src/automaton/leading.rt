@@ -1,4 +1,4 @@
-//! The beginnings and the last bytes of sequences.
+//! Parsing of the bytes that introduce a sequence and of the byte that ends it.
 
 ghost use Rattle.std.specs.Prelude.{◌≡◌, ◌≢◌, ◌≤◌, ◌<◌, ◌==◌, ◌&&◌, ◌||◌, ◌↔◌, ◌⊎◌};
 ghost use Rattle.std.specs.Prelude.{[], IsTrue, None, Some, false, length, slice_index_or, take};
@@ -18,9 +18,9 @@ use crate::table::{Ending, Kind, Transition, transition_at};
 impl Scanner {
     /// Parses the leading bytes that introduce a sequence, and returns how many it parsed. Such
     /// bytes are ESC in the ground state, any number of ESC after it, and then an intermediate, a
-    /// byte that introduces a string, or `[` with a private marker and parameter bytes. Parsing
-    /// them causes no event and allocates nothing. If all bytes are parsed, the next call continues
-    /// where this one stopped.
+    /// byte that introduces a control string, or `[` with a private marker and parameter bytes.
+    /// Parsing them causes no event and allocates nothing. If all bytes are parsed, the next call
+    /// continues where this one stopped.
     #[inline]
     pub fn take_introducer(&mut self, bytes: &[u8]) -> usize
         ensures inside { result ≤ length bytes.now }
@@ -38,7 +38,7 @@ impl Scanner {
     }
 
     /// Parses `byte` if it is the final byte of a control sequence without intermediates. Returns
-    /// whether it was parsed. If so, that sequence is the only event.
+    /// whether it was parsed. If so, the completed sequence is the only event produced.
     #[inline(always)]
     pub fn take_final_byte(&mut self, byte: u8) -> bool
         ensures answers { result ≡ ends_sequence self.old.kind byte }
@@ -53,7 +53,7 @@ impl Scanner {
     }
 
     /// Parses `byte` if it is the final byte of an escape sequence. Returns whether it was parsed.
-    /// If so, that sequence is the only event.
+    /// If so, the completed sequence is the only event produced.
     #[inline]
     pub fn take_escape_byte(&mut self, byte: u8) -> bool
         ensures answers { IsTrue result ↔ EndsEscape self.old.kind byte }
@@ -71,8 +71,8 @@ impl Scanner {
         }
     }
 
-    /// Parses `byte` if it is BEL or ESC and ends an operating system command. Returns whether it
-    /// was parsed. If so, that command is the only event.
+    /// Parses `byte` if it is a BEL or ESC that ends an operating system command. Returns whether
+    /// it was parsed. If so, the completed command is the only event produced.
     #[inline]
     pub fn command_byte(&mut self, byte: u8) -> bool
         ensures answers { result ≡ ends_command self.old.kind byte }
@@ -219,8 +219,8 @@ impl Scanner {
         ends
     }
 
-    /// Parses `byte` within an operating system command if it is BEL or ESC, and returns whether it
-    /// was parsed.
+    /// Parses `byte` if it is BEL or ESC, which end an operating system command, and returns
+    /// whether it was parsed. The scanner must be inside such a command.
     #[inline(always)]
     fn takes_command_end(&mut self, byte: u8) -> bool
         requires { self.old.kind ≡ Kind.OscString }
@@ -323,7 +323,8 @@ impl Scanner {
         takes
     }
 
-    /// Parses `byte` if it introduces a string after ESC, and returns whether it was parsed.
+    /// Parses `byte` if it introduces a control string after ESC, and returns whether it was
+    /// parsed.
     #[inline]
     fn takes_string_start(&mut self, byte: u8) -> bool
         requires { self.old.kind ≡ Kind.Escape }
@@ -395,7 +396,7 @@ fn is_marker_byte(byte: u8) -> bool
     byte >= 0x3C && byte <= 0x3F
 }
 
-/// Returns whether `byte` introduces a string that is ignored (DCS, SOS, PM or APC) after ESC.
+/// Returns whether `byte` introduces an ignored control string (DCS, SOS, PM or APC) after ESC.
 #[inline(always)]
 fn is_skip_start(byte: u8) -> bool
     ensures { result ≡ starts_skipped byte }

@@ -61,9 +61,9 @@ impl Scanner {
         is_control_byte(byte) && self.is_fresh()
     }
 
-    /// Returns the number of leading bytes that do not end a string whose text is not kept (DCS,
-    /// SOS, PM or APC), or 0 outside such a string. Feeding these bytes leaves the scanner
-    /// unchanged, so the caller can skip them.
+    /// Returns the number of leading bytes that belong to an ignored control string (DCS, SOS, PM
+    /// or APC) and do not end it, or 0 outside such a string. Feeding these bytes leaves the
+    /// scanner unchanged, so the caller can skip them.
     #[inline]
     pub fn skipped_len(&self, bytes: &[u8]) -> usize
         ensures inside { result ≤ length bytes.now }
@@ -103,10 +103,11 @@ impl Scanner {
         }
     }
 
-    /// Returns the first character of `bytes` and its length in bytes. Returns `None` unless the
-    /// character is complete and has more than one byte (Unicode 3.9, Table 3-7). Also returns
-    /// `None` if a sequence or a character is already incomplete. Feeding the bytes of the
-    /// character causes one event and leaves the scanner unchanged, so the caller can skip them.
+    /// Returns the first character of `bytes` and its length in bytes. Returns `None` unless
+    /// `bytes` begins with a complete multibyte UTF-8 character (Unicode Standard, section 3.9,
+    /// Table 3-7). Also returns `None` if the scanner is in the middle of a sequence or a
+    /// character. Feeding the bytes of the character causes one event and leaves the scanner
+    /// unchanged, so the caller can skip them.
     #[inline(always)]
     pub fn whole_character(&self, bytes: &[u8]) -> Option<(char, usize)>
         ensures inside { IfSome result (λ found. (1 < found.1) × (found.1 ≤ length bytes.now)) }
@@ -134,8 +135,9 @@ impl Scanner {
         }
     }
 
-    /// Collects the leading bytes of the text of an operating system command, and returns how many
-    /// it collected. If the bytes cannot be stored, changes nothing and returns `OutOfMemory`.
+    /// Collects the leading bytes that belong to the text of an operating system command, and
+    /// returns how many it collected. The scanner must be inside such a command. If the bytes
+    /// cannot be stored, changes nothing and returns `OutOfMemory`.
     fn collect_text(&mut self, bytes: &[u8]) -> Result<usize, Error>
         requires { self.old.kind ≡ Kind.OscString }
         ensures inside { IfOk result (λ count. count ≤ length bytes.now) }
