@@ -294,7 +294,7 @@ fn window<CB: Callbacks>(screen: &mut Screen, callbacks: &mut CB, sequence: Sequ
     callbacks.resize(screen, (rows, cols));
 }
 
-/// Returns the first number of group `i`, or `own` (the screen's current size)
+/// Returns the first number of group `i`, or `own`, the screen's current number of rows or columns,
 /// if there is no such group.
 fn number_or_own(own: u16, parameters: &Parameters, i: usize) -> u16
     ensures { result ≡ size_or own i parameters.now.groups }

@@ -25,8 +25,9 @@ pub fn perform<CB: Callbacks>(screen: &mut Screen, callbacks: &mut CB, parts: &[
     callbacks.unhandled_osc(screen, parts);
 }
 
-/// Performs a two-part operating system command: OSC 0, 1 or 2, which set the
-/// icon name, the title or both. Any other command is reported as unhandled.
+/// Performs a two-part operating system command: OSC 0, 1 or 2, which set the icon name, the title
+/// or both. Any other command is reported as unhandled. `name` is the first part, the number of the
+/// command.
 #[tactic(auto, using(crate::proofs::Stepping::steps_called), unfolding(vt_screen::specs::Controls::named_steps))]
 fn title<CB: Callbacks>(
     screen: &mut Screen,
@@ -54,9 +55,9 @@ fn title<CB: Callbacks>(
     callbacks.unhandled_osc(screen, parts);
 }
 
-/// Performs a three-part operating system command: OSC 52, which requests or
-/// sets the contents of a clipboard. Any other command is reported as
-/// unhandled.
+/// Performs a three-part operating system command: OSC 52, which requests or sets the contents of a
+/// clipboard. Any other command is reported as unhandled. `name` is the first part, the number of
+/// the command.
 #[tactic(auto, using(crate::proofs::Stepping::steps_called), unfolding(vt_screen::specs::Controls::clipboard_steps))]
 fn clipboard<CB: Callbacks>(
     screen: &mut Screen,

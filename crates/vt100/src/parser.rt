@@ -183,10 +183,10 @@ impl<CB: Callbacks> Parser<CB> {
     /// Parses one unit of `bytes`, in which only the last byte can invoke
     /// callbacks, and returns its length in bytes.
     ///
-    /// A unit is a run of text that fits on the cursor's row, one character, a
-    /// control function, a complete or partial sequence, or bytes of a string.
-    /// The C library uses this function so that it can stop at the byte that
-    /// invoked a callback.
+    /// A unit is a run of text that fits on the cursor's row, one character, a control function, a
+    /// complete or partial sequence, or bytes of a control string (such as an operating system
+    /// command). The C library uses this function so that it can stop at the byte that invoked a
+    /// callback.
     ///
     /// # Errors
     ///
@@ -215,9 +215,8 @@ impl<CB: Callbacks> Parser<CB> {
     /// operating system command: the bytes read after `\x1b]`, not counting
     /// control functions. Returns 0 if no such command is in progress.
     ///
-    /// No other unfinished input takes memory: strings such as DCS are
-    /// discarded as they are read, and only a fixed amount of any other
-    /// sequence is kept.
+    /// No other unfinished input takes memory: other control strings, such as DCS, are discarded as
+    /// they are read, and only a fixed amount of any other sequence is kept.
     ///
     /// The length of a command is limited only by memory. To enforce a limit,
     /// pass CAN (`\x18`) to the parser: it dispatches the part of the command

@@ -122,8 +122,8 @@ pub fn print<CB: Callbacks>(
     Ok(())
 }
 
-/// Prints or reports a character, as [`print`] does, on code paths that few
-/// characters take.
+/// Prints or reports a character, as [`print`] does. The callers are code paths that few characters
+/// take.
 ///
 /// It is never inlined, because inlining it would slow down the loop over the
 /// input bytes.

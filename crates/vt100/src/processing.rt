@@ -47,10 +47,10 @@ pub fn process<CB: Callbacks>(
     Ok(())
 }
 
-/// Parses and applies the first unit of `bytes`, and returns its length in
-/// bytes. A unit is a run of narrow characters or of wide characters that fits
-/// on the cursor's row, a single-byte control function, a complete or partial
-/// sequence, bytes of a string, or otherwise one character or byte.
+/// Parses and applies the first unit of `bytes`, and returns its length in bytes. A unit is a run
+/// of narrow characters or of wide characters that fits on the cursor's row, a single-byte control
+/// function, a complete or partial sequence, bytes of a control string, or otherwise one character
+/// or byte.
 ///
 /// # Errors
 ///
@@ -117,9 +117,9 @@ fn process_sequence<CB: Callbacks>(
     }
 }
 
-/// Parses the first byte if it ends a control sequence, an escape sequence or an operating system
-/// command, and performs the completed sequence or command. Returns the number of bytes read, 0 or
-/// 1.
+/// Parses the first byte of `bytes` if it ends a control sequence, an escape sequence or an
+/// operating system command, and performs the completed sequence or command. Returns the number of
+/// bytes read, 0 or 1.
 ///
 /// # Errors
 ///
@@ -155,9 +155,8 @@ fn end_sequence<CB: Callbacks>(
     Ok(0)
 }
 
-/// Parses and applies the complete multi-byte character at the start of
-/// `bytes`, and returns its length in bytes. If there is none, does the same as
-/// [`process_rest`].
+/// Parses and applies the complete multibyte character at the start of `bytes`, and returns its
+/// length in bytes. If there is none, does the same as [`process_rest`].
 ///
 /// # Errors
 ///
@@ -185,8 +184,9 @@ fn process_one<CB: Callbacks>(
     process_rest(scanner, screen, callbacks, bytes)
 }
 
-/// Parses and applies the bytes of a string at the start of `bytes`, or one
-/// byte if there are none, and returns the number of bytes read.
+/// Parses and applies the leading bytes of `bytes` that belong to a control string (OSC, DCS, SOS,
+/// PM or APC) whose introducer has already been parsed. If there are no such bytes, parses and
+/// applies one byte. Returns the number of bytes read.
 ///
 /// # Errors
 ///
@@ -262,9 +262,9 @@ fn print_some<CB: Callbacks>(
     Ok(count)
 }
 
-/// Parses and applies the first unit of `bytes`, whose first byte is at least
-/// 0x80, and returns its length in bytes. The unit is a run of wide or narrow
-/// characters, or otherwise the unit that [`process_one`] reads.
+/// Parses and applies a run of wide characters or of narrow characters at the start of `bytes`. If
+/// there is none, does the same as [`process_one`]. The first byte must be at least 0x80. Returns
+/// the number of bytes read.
 ///
 /// # Errors
 ///
@@ -290,9 +290,9 @@ fn process_high<CB: Callbacks>(
     process_one(scanner, screen, callbacks, bytes)
 }
 
-/// Prints a run of three-byte wide characters, or of narrow characters below
-/// U+3000, from the start of `bytes`, stopping at the end of the cursor's row.
-/// Returns the number of bytes read, which is 0 if nothing was printed.
+/// Prints a run of three-byte wide characters, or a run of narrow characters below U+3000, from the
+/// start of `bytes`, stopping at the end of the cursor's row. Returns the number of bytes read,
+/// which is 0 if nothing was printed.
 #[inline(always)]
 fn print_run<CB: Callbacks>(
     scanner: &Scanner,
@@ -316,8 +316,8 @@ fn print_run<CB: Callbacks>(
     Ok(0)
 }
 
-/// Prints a run of wide characters for [`print_run`], which has examined only
-/// the first byte. Returns the number of bytes read.
+/// Prints a run of three-byte wide characters from the start of `bytes`, for [`print_run`], which
+/// has examined only the first byte. Returns the number of bytes read.
 ///
 /// It is never inlined, so that its buffer takes up stack space only when there
 /// are wide characters.
@@ -335,8 +335,8 @@ fn print_wide_run<CB: Callbacks>(
     print_wide_some(scanner, screen, callbacks, bytes, &mut text)
 }
 
-/// Prints a run of wide characters, at most as many as fit in the buffer `text`
-/// and on the cursor's row. Returns the number of bytes read.
+/// Prints a run of three-byte wide characters from the start of `bytes`, at most as many as fit in
+/// the buffer `text` and on the cursor's row. Returns the number of bytes read.
 #[inline(always)]
 fn print_wide_some<CB: Callbacks>(
     scanner: &Scanner,
@@ -357,8 +357,8 @@ fn print_wide_some<CB: Callbacks>(
     Ok(3 * count)
 }
 
-/// Prints a run of narrow characters for [`print_run`], which has examined only
-/// the first byte. Returns the number of bytes read.
+/// Prints a run of narrow characters below U+3000 from the start of `bytes`, for [`print_run`],
+/// which has examined only the first byte. Returns the number of bytes read.
 ///
 /// It is never inlined, so that its buffer takes up stack space only when there
 /// are such characters.
@@ -376,8 +376,8 @@ fn print_narrow_run<CB: Callbacks>(
     print_narrow_some(scanner, screen, callbacks, bytes, &mut text)
 }
 
-/// Prints a run of narrow characters, at most as many as fit in the buffer `text`
-/// and on the cursor's row. Returns the number of bytes read.
+/// Prints a run of narrow characters below U+3000 from the start of `bytes`, at most as many as fit
+/// in the buffer `text` and on the cursor's row. Returns the number of bytes read.
 #[inline(always)]
 fn print_narrow_some<CB: Callbacks>(
     scanner: &Scanner,
@@ -393,8 +393,8 @@ fn print_narrow_some<CB: Callbacks>(
     print_narrow_fitting(scanner, screen, callbacks, bytes, &mut text[..most])
 }
 
-/// Prints a run of at most `text.len()` narrow characters, using `text` as a
-/// buffer. The cursor's row must have room for that many. Returns the number of
+/// Prints a run of at most `text.len()` narrow characters below U+3000 from the start of `bytes`,
+/// using `text` as a buffer. The cursor's row must have room for that many. Returns the number of
 /// bytes read.
 #[inline(always)]
 fn print_narrow_fitting<CB: Callbacks>(

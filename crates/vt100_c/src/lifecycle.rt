@@ -177,7 +177,8 @@ pub(crate) fn size_of(rows: u16, cols: u16) -> Option<(NonZeroU16, NonZeroU16)>
     Some((some_rows, some_cols))
 }
 
-/// Puts an object with the value `source` and empty text into an empty handle.
+/// Puts an object with the value `source` and empty text into the empty handle `out`. Returns
+/// `OUT_OF_MEMORY` if the object cannot be allocated.
 pub(crate) fn hold(alloc: Global, source: Source, out: &mut Handle) -> u8
     requires { out.old.held ≡ None }
     ensures { Fills (λ held. held ≡ source) result out.new.held }

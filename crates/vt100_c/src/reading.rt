@@ -21,10 +21,9 @@ const BATCH: usize = 65_536;
 ///
 /// # Errors
 ///
-/// Returns `NO_OBJECT` if the handle is empty, `WRONG_KIND` if it holds neither
-/// a parser nor a mirror, or `OUT_OF_MEMORY` if an allocation fails. Once an
-/// allocation has failed, all later calls return `FAILED`. The steps before the
-/// failing step remain applied.
+/// Returns `NO_OBJECT` if the handle is empty, `WRONG_KIND` if it holds neither a parser nor a
+/// mirror, or `OUT_OF_MEMORY` if an allocation fails. Once an allocation has failed, all later
+/// calls return `FAILED`. The steps before the failing step remain in effect.
 #[unsafe(no_mangle)]
 pub extern "C" fn vt100_process(alloc: Global, handle: &mut Handle, bytes: &[u8]) -> u8
     ensures { OnSource (Reads bytes.now) handle.old.held result handle.new.held }

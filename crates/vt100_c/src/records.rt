@@ -24,7 +24,7 @@ use vt100::capture::RowContents;
 /// The number of bytes in a record before its text.
 pub(crate) const HEAD_LEN: usize = 17;
 
-/// The kind of a call that reports a row.
+/// The kind number of a call to `on_scroll`, which reports a dropped row.
 pub(crate) const ON_SCROLL: u8 = 12;
 
 /// Returns whether bit `kind` of `wanted` is set.
@@ -49,7 +49,7 @@ pub(crate) fn cells_size(row: &RowContents<'_>) -> usize
     trimmed(row).cells().len().saturating_mul(40)
 }
 
-/// Returns the kind of a call.
+/// Returns the kind number of a call, as stored in its record.
 pub(crate) fn kind_of(call: Call<'_>) -> u8
     ensures kind { result ≡ kind_of (call_of call.entry) }
     ensures few { result < 16 }
@@ -280,7 +280,7 @@ fn parts(alloc: Global, texts: &[&[u8]]) -> Result<Vec<u8>, AllocError>
     Ok(joined)
 }
 
-/// Returns the bytes of a character followed by groups of numbers.
+/// Returns the code of a character, followed by groups of numbers, each preceded by its length.
 ///
 /// # Errors
 ///

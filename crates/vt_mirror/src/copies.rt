@@ -14,8 +14,9 @@ use std::sync::Arc;
 use vt100::{Error, Screen};
 
 /// A copy of what a screen displays, without scrollback or the inactive page.
-/// In contracts, its value is the whole screen that was copied, although code
-/// cannot read that screen.
+///
+/// In contracts, the value of a copy is the complete screen from which it was made. Code can read
+/// only what that screen displays.
 #[derive(Drop)]
 pub(crate) struct DisplayCopy {
     of: Snapshot<Screen>,

@@ -1,4 +1,4 @@
-//! A cache for the text of a diff that several viewers need.
+//! A cache for the text of a diff that several viewers may request.
 
 ghost use Rattle.std.specs.Prelude.{◌≡◌, ◌⊎◌, IfSome, None, Some, string_bytes};
 ghost use Rattle.vt_mirror.specs.Kept.{AreOfOneVersion};
@@ -14,8 +14,8 @@ pub(crate) struct KeptDiff {
     text: String,
 }
 
-/// A cache that holds the last computed diff to the current screen, for all
-/// viewers that need the same diff.
+/// A cache that holds the last computed diff to the current screen, for all viewers whose next
+/// update is that diff.
 #[derive(Drop)]
 pub(crate) struct DiffCache {
     last: Option<KeptDiff>,

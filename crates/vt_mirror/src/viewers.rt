@@ -14,8 +14,8 @@ use std::collections::{BTreeMap, BTreeSet};
 use std::marker::Model;
 use vt100::{Error, Screen};
 
-/// The viewers of a mirror, the screen at each viewer's last update, and the
-/// text of updates that several viewers need.
+/// The viewers of a mirror, a copy of the screen at each viewer's last update, and the cached text
+/// of updates that several viewers may request.
 #[derive(Drop)]
 pub(crate) struct Viewers {
     /// The last viewer number that was assigned, if any.
@@ -308,9 +308,8 @@ impl Viewers {
     }
 }
 
-/// If the last version number has been assigned, restarts the numbering and
-/// removes the version of every recorded copy, so that the next copy can have a
-/// version.
+/// Restarts the version numbers if `u64::MAX` has been assigned, so that the next copy can have a
+/// version. The recorded copies, `notes`, then lose their versions.
 fn leave_a_version(version: &mut u64, notes: &mut BTreeMap<u64, Note>)
     ensures { HaveNext version.old notes.old.entries version.new notes.new.entries }
 {

@@ -18,7 +18,8 @@ pub struct KeptRow {
     /// Whether the row is wrapped, which means that its text continued on the next row.
     pub wrapped: bool,
 
-    /// The basic text of the row, as if it were the first row of a capture.
+    /// The text of the row with SGR sequences and no other escape sequences, as if the row were the
+    /// first one of a capture.
     pub text: String,
 }
 

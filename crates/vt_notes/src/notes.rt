@@ -54,7 +54,8 @@ impl Notes {
         }
     }
 
-    /// Returns the calls noted so far, in order. The note of a row contains the row's basic text.
+    /// Returns the calls noted so far, in order. The note of a row contains the row's text with SGR
+    /// sequences and no other escape sequences.
     pub fn calls(&self) -> &[Note]
         ensures calls { map value_of result.now ≡ self.now.calls }
         ensures texts { All HasText result.now }
@@ -72,9 +73,9 @@ impl Notes {
     /// Returns the calls noted so far as lines of text, one for each call.
     ///
     /// Each line looks like a call in Rust, with numbers in decimal and bytes in double quotes with
-    /// Rust's escapes. A row that scrolled off is written as `scroll`, followed by its basic text
-    /// in hexadecimal (a dot if the text is empty) and by 1 if the row was on the alternate page,
-    /// otherwise 0.
+    /// Rust's escapes. A row that scrolled off is written as `scroll`, followed by its text with
+    /// SGR sequences in hexadecimal (a dot if the text is empty) and by 1 if the row was on the
+    /// alternate page, otherwise 0.
     ///
     /// # Errors
     ///

@@ -10,8 +10,8 @@ use std::marker::Model;
 use vt100::capture::{BasicFormattedCaptureRange, BasicFormattedCaptureState, RowContents};
 use vt100::{Call, Callbacks, Error, Screen};
 
-/// A capture of the rows that scrolled off the main page and were not kept in scrollback, as basic
-/// text.
+/// A capture (text with SGR sequences and no other escape sequences) of the rows that scrolled off
+/// the main page and were not kept in scrollback.
 ///
 /// If memory for a row cannot be allocated, the recorder remembers that its capture is incomplete.
 pub struct Recorder {

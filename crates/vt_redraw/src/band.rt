@@ -45,7 +45,8 @@ impl Band {
         }
     }
 
-    /// Returns the row that moves to `row`, or `None` if `row` becomes blank.
+    /// Returns the index, before the move, of the row that is at index `row` after the move.
+    /// Returns `None` if `row` becomes blank.
     pub(crate) fn source(&self, row: u16) -> Option<u16>
         ensures { (past : ℕ) → unwrap_or result past ≡ band_source self.now past row }
     {

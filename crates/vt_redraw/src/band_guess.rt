@@ -1,6 +1,9 @@
-//! A guess at the rows that have moved between two pictures. Correctness does
-//! not depend on the guess: after any band has moved, the diff draws all
-//! remaining changes.
+//! A guess at the rows that have moved between two pictures. Correctness does not depend on the
+//! guess: after any band has moved, the diff draws all remaining changes.
+//!
+//! Throughout this module, `prev` is the picture that the terminal displays, and `view` is the
+//! picture that it is to display. `here` holds the cost of each examined row: the approximate
+//! number of bytes that it takes to draw the row if no rows are moved.
 
 ghost use Rattle.std.specs.Prelude.{◌≡◌, ◌+◌, ◌<◌, ◌≤◌, IfSome, IsSome, length};
 ghost use Rattle.vt_redraw.specs.Moved.{IsBand};
@@ -32,18 +35,17 @@ const LEAST_TEXT: usize = 20;
 /// key of a row.
 const KEYED: u16 = 16;
 
-/// The cost, in bytes, above which the columns of a row are examined.
+/// The cost of a row, in bytes, above which the row is examined for columns that have moved.
 const LEAST_COST: i32 = 12;
 
 /// The maximum number of rows that are examined in the search for a row whose columns seem to have
 /// moved.
 const MOST_TRIED: u32 = 6;
 
-/// One number for each examined row.
+/// A number for each examined row.
 type Numbers = [i32; 256];
 
-/// One key for each examined row. Rows are compared only if their keys are
-/// equal.
+/// A key for each examined row. Rows are compared only if their keys are equal.
 type Keys = [u32; 256];
 
 /// The direction of a move, and its distance in rows.
@@ -53,8 +55,8 @@ struct Shift {
     up: bool,
 }
 
-/// A range of rows that a shift moves to where they belong, and the approximate number of bytes
-/// that the shift saves.
+/// A range of rows of `view`, each of which a shift fills with a row of `prev`, and the approximate
+/// number of bytes that moving these rows saves.
 #[derive(Clone, Copy)]
 struct Stretch {
     gain: i32,
@@ -72,9 +74,9 @@ pub enum Move {
     Columns(RowShift),
 }
 
-/// Returns the move that most likely happened between `prev` and `view`, or `None` if a move is not
-/// expected to save output. `text` is the diff that makes no move. Only the first 256 rows are
-/// examined.
+/// Returns the move of rows or columns that most likely happened between `prev` and `view`, or
+/// `None` if no move is expected to shorten the output. `text` is the plain diff, which moves
+/// nothing. Only the first 256 rows are examined.
 pub fn likely_move(view: &View<'_>, prev: &View<'_>, text: &str) -> Option<Move>
     requires { SamePictureSize view.now prev.now }
     ensures inside { IfSome result (IsMove (length prev.now.rows) prev.now.width) }
@@ -211,7 +213,8 @@ fn key(cells: &PictureRow<'_>) -> u32 {
     key
 }
 
-/// Returns the shift that would move the largest part of the changed text to where it belongs.
+/// Returns the shift that moves the most rows of `prev` to where an equal row of `view` is, with
+/// each row weighted by its cost. Returns `None` if no shift moves such a row.
 fn likely_shift(view: &View<'_>, prev: &View<'_>, height: u16, here: &Numbers) -> Option<Shift>
     requires size { SamePictureSize view.now prev.now }
     requires inside { height ≤ length view.now.rows }
@@ -228,8 +231,10 @@ fn likely_shift(view: &View<'_>, prev: &View<'_>, height: u16, here: &Numbers) -
     heaviest(&votes)
 }
 
-/// Adds a vote of the given weight for each shift that would move a row of
-/// `prev` that matches `cells` to `row`. Adds no vote if `cells` has no text.
+/// Adds `weight` to the votes for each shift that moves a row of `prev` that equals `cells` to row
+/// `row`. Adds no votes if `cells` has no text. `keys` are the keys of the rows of `prev`.
+///
+/// Element `256 + n` of `votes` holds the votes for moving rows up by `n` rows.
 fn vote(
     votes: &mut [i32; 512],
     cells: &PictureRow<'_>,
@@ -256,9 +261,9 @@ fn vote(
     }
 }
 
-/// Returns the column from which a row is compared with other rows: the first
-/// column after the margin if there is text from there on, otherwise 0. Returns
-/// `None` if the row has no text.
+/// Returns the first column of the part of a row that is compared with other rows: the column after
+/// the margin if the row has text there or to the right, otherwise 0. Returns `None` if the row has
+/// no text.
 fn compared_from(cells: &PictureRow<'_>) -> Option<u16> {
     let cols = cells.cols();
     let margin = MARGIN.min(cols);
@@ -271,7 +276,7 @@ fn compared_from(cells: &PictureRow<'_>) -> Option<u16> {
     }
 }
 
-/// Returns whether there is text in columns `start..stop`.
+/// Returns whether columns `start..stop` of a row contain text.
 fn has_text(cells: &PictureRow<'_>, start: u16, stop: u16) -> bool
     requires { stop ≤ length cells.now.cells }
 {
@@ -296,8 +301,8 @@ fn are_alike(cells: &PictureRow<'_>, over: &PictureRow<'_>, start: u16) -> bool 
     true
 }
 
-/// Returns the shift with the most votes. In a tie, returns the shift that
-/// moves rows furthest down.
+/// Returns the shift with the most votes, or `None` if there are no votes. In a tie, returns the
+/// shift that moves rows furthest down.
 fn heaviest(votes: &[i32; 512]) -> Option<Shift> {
     let mut best = 0;
     let mut shift = None;
@@ -314,8 +319,8 @@ fn heaviest(votes: &[i32; 512]) -> Option<Shift> {
     shift
 }
 
-/// Returns, for each row, how many bytes the rows above it would save in total
-/// if they were drawn over blank rows instead of the terminal's present rows.
+/// Returns an array whose element `k` is the number of bytes saved if the first `k` rows of `view`
+/// are drawn over blank rows instead of the rows that the terminal displays.
 fn savings(view: &View<'_>, height: u16, here: &Numbers) -> [i32; 257]
     requires inside { height ≤ length view.now.rows }
     requires few { height ≤ 256 }
@@ -333,8 +338,8 @@ fn savings(view: &View<'_>, height: u16, here: &Numbers) -> [i32; 257]
     savings
 }
 
-/// Returns how many bytes rows `first..behind` would save if they were drawn
-/// over blank rows instead of the terminal's present rows.
+/// Returns the number of bytes saved if rows `first..behind` are drawn over blank rows instead of
+/// the rows that the terminal displays. `savings` is the result of [`savings`].
 fn between(savings: &[i32; 257], first: u16, behind: u16) -> i32
     requires first { first ≤ 256 }
     requires behind { behind ≤ 256 }
@@ -342,9 +347,8 @@ fn between(savings: &[i32; 257], first: u16, behind: u16) -> i32
     savings[usize::from(behind)].saturating_sub(savings[usize::from(first)])
 }
 
-/// Returns the range of rows for which the shift saves the most bytes, or
-/// `None` if the shift saves no bytes. In a tie, returns the range that ends
-/// last.
+/// Returns the range of rows in which `shift` saves the most bytes, or `None` if it saves no bytes
+/// in any range. In a tie, returns the range that ends last.
 fn best_stretch(
     view: &View<'_>,
     prev: &View<'_>,
@@ -381,7 +385,8 @@ fn best_stretch(
 }
 
 impl Shift {
-    /// Returns the row that the shift would move to `row`, if there is one.
+    /// Returns the index of the row that the shift moves to row `row`, or `None` if there is no
+    /// such row.
     fn source(&self, row: u16, height: u16) -> Option<u16>
         requires { row < height }
         ensures { IfSome result (λ from. from < height) }
@@ -393,8 +398,10 @@ impl Shift {
         if from < height { Some(from) } else { None }
     }
 
-    /// Returns the number of bytes saved because rows above a range that begins
-    /// with `row` become blank.
+    /// Returns the number of bytes saved in rows `from..row`, which become blank if the shift moves
+    /// a range of rows down and the first of these rows moves from `from` to `row`. Returns 0 if
+    /// the shift moves rows up, because no row above the range then becomes blank. `savings` is the
+    /// result of [`savings`].
     fn opening(&self, savings: &[i32; 257], from: u16, row: u16) -> i32
         requires from { from ≤ 256 }
         requires row { row ≤ 256 }
@@ -408,8 +415,10 @@ impl Shift {
 }
 
 impl Stretch {
-    /// Returns the range extended by `row`, or a new range that begins with
-    /// `row` if the new range saves more bytes.
+    /// Returns this range extended by row `row`, or a new range that consists of row `row` if the
+    /// new range saves more bytes. `gain` is the number of bytes saved in row `row`, and `opening`
+    /// is the number of bytes saved in the rows above a range that begins there (see
+    /// [`Shift::opening`]).
     fn and_row(&self, row: u16, opening: i32, gain: i32) -> Stretch
         requires { row < 65535 }
         ensures { result.behind ≡ row + 1 }
@@ -429,9 +438,10 @@ impl Stretch {
         }
     }
 
-    /// Returns the number of bytes that moving the range saves if the range is
-    /// not extended. Rows below the range that become blank count as savings,
-    /// and the escape sequences of the move as costs.
+    /// Returns the number of bytes saved in total if the shift moves exactly this range, whose last
+    /// row moves from row `from`. Includes the bytes saved in the rows below the range that become
+    /// blank, and subtracts the length of the move's escape sequences. `height` is the height of
+    /// the picture, and `attrs` are the terminal's attributes.
     fn closed(
         &self,
         shift: Shift,
@@ -454,7 +464,7 @@ impl Stretch {
             .saturating_sub(sequences(bottom < height, attrs))
     }
 
-    /// Returns the band that moves the rows of the range to where they belong.
+    /// Returns the band of the move that fills this range with the rows that `shift` moves there.
     fn band(&self, shift: Shift) -> Band {
         let Shift { count, up } = shift;
         if up {
@@ -475,10 +485,10 @@ impl Stretch {
     }
 }
 
-/// Returns the approximate number of bytes in the escape sequences of a move.
-/// Rows must be deleted or inserted at both ends of the band if `both` is true,
-/// and at only one end otherwise. The attributes must also be reset unless
-/// `attrs` are the defaults.
+/// Returns the approximate number of bytes in the escape sequences of a move. If `both` is true,
+/// the sequences delete rows at one end of the band and insert rows at the other end; otherwise,
+/// they do only one of the two. They also reset the terminal's attributes, `attrs`, unless these
+/// are the defaults.
 fn sequences(both: bool, attrs: Attrs) -> i32 {
     let ends = if both { 15 } else { 6 };
     let change = if attrs == Attrs::new() { 0 } else { 3 };

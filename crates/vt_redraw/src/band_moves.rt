@@ -10,7 +10,8 @@ use crate::view::View;
 use vt_cells::term::{BufWrite, DeleteLines, InsertLines, MoveTo};
 use vt_cells::{Attrs, Pos, Sink};
 
-/// Writes the sequences that delete `count` rows at `row` (DL).
+/// Writes the sequences that move the cursor to row `row` and delete `count` rows there (CUP, then
+/// DL).
 fn write_deleted<S: Sink>(sink: &mut S, row: u16, count: u16) -> Result<(), S::Error>
     ensures { OnOk result (S.text sink.new ≡ S.text sink.old ++ lines_deleted_text row count) }
 {
@@ -21,7 +22,8 @@ fn write_deleted<S: Sink>(sink: &mut S, row: u16, count: u16) -> Result<(), S::E
     DeleteLines { count }.write_buf(sink)
 }
 
-/// Writes the sequences that insert `count` blank rows at `row` (IL).
+/// Writes the sequences that move the cursor to row `row` and insert `count` blank rows there (CUP,
+/// then IL).
 fn write_inserted<S: Sink>(sink: &mut S, row: u16, count: u16) -> Result<(), S::Error>
     ensures { OnOk result (S.text sink.new ≡ S.text sink.old ++ lines_inserted_text row count) }
 {
@@ -82,8 +84,8 @@ fn write_band<S: Sink>(sink: &mut S, height: u16, band: Band) -> Result<(), S::E
     }
 }
 
-/// Writes the sequences that move a band of the terminal's rows. Afterward, the
-/// terminal has default attributes.
+/// Writes the sequences that move a band of the terminal's rows. `prev` is the picture that the
+/// terminal displays. Afterward, the terminal has default attributes.
 ///
 /// # Errors
 ///

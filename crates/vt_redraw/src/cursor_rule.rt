@@ -1,5 +1,7 @@
-//! Output that moves the terminal's cursor to a position or leaves a wrap
-//! pending.
+//! Output that moves the terminal's cursor to a position or leaves a wrap pending.
+//!
+//! Throughout this module, the *terminal* is the terminal that reads the output, and `pen` holds
+//! its cursor position and attributes. The terminal already displays the rows of the picture.
 
 ghost use Rattle.std.specs.Prelude.{◌≡◌, ◌++◌, ◌+◌, ◌-◌, ◌<◌, ◌≤◌, None};
 ghost use Rattle.std.specs.Prelude.{OnOk, IfSome, Some, length, replicate};
@@ -18,8 +20,8 @@ use crate::view::View;
 use vt_cells::term::{Backspace, BufWrite, EraseChar, LineFeed, MoveTo, RestoreCursor, SaveCursor};
 use vt_cells::{Attrs, Pos, Sink, cell};
 
-/// Returns the nearest row at or above `row` whose last column is not blank, or
-/// `None` if there is none.
+/// Returns the nearest row of the picture, at or above `row`, whose last column is not blank.
+/// Returns `None` if there is no such row.
 pub fn nearest(view: &View<'_>, row: u16) -> Option<u16>
     requires { row < length view.now.rows }
     ensures value { result ≡ nearest view.now.width view.now.rows row }
@@ -49,10 +51,10 @@ pub fn write_feeds<S: Sink>(sink: &mut S, count: u16) -> Result<(), S::Error>
     Ok(())
 }
 
-/// Writes the sequences that leave a wrap pending after a blank with attributes
-/// `attrs` in the last column. The sequences print a space in the last column
-/// and erase it again without canceling the wrap. The cursor must be on the
-/// last column. The terminal has the attributes `was` both before and after.
+/// Writes the sequences that leave a wrap pending in a row whose last column is a blank with
+/// attributes `attrs`. The sequences print a space in the last column, which leaves a wrap pending,
+/// and erase the space without canceling the wrap. The cursor must be on the last column. The
+/// terminal has the attributes `was` both before and afterward.
 ///
 /// # Errors
 ///
@@ -69,9 +71,9 @@ pub fn write_passed<S: Sink>(sink: &mut S, was: Attrs, attrs: Attrs) -> Result<(
     write_change(sink, attrs, was)
 }
 
-/// Writes the sequences that leave a wrap pending at the end of row `row`, by
-/// printing the last glyph of row `found` and moving down from there with line
-/// feeds.
+/// Writes the sequences that leave a wrap pending at the end of row `row`: they print the last
+/// glyph of row `found` again and move down to row `row` with line feeds. `found` is the row that
+/// [`nearest`] returns.
 #[tactic(auto, unfolding(crate::specs::Redraw::under_last))]
 fn write_under_last<S: Sink>(
     sink: &mut S,
@@ -145,9 +147,9 @@ pub fn write_cursor<S: Sink>(sink: &mut S, pen: Pen, view: &View<'_>) -> Result<
     write_pending(sink, pen, view, row)
 }
 
-/// Writes the sequences that leave a wrap pending at the end of row `row`, by
-/// printing the last glyph of row `found`. The terminal must have default
-/// attributes; its cursor may be anywhere.
+/// Writes the sequences that leave a wrap pending at the end of row `row`: they print the last
+/// glyph of row `found` again and move down to row `row` with line feeds. `found` is the row that
+/// [`nearest`] returns. The terminal must have default attributes; its cursor may be anywhere.
 fn write_under_last_alone<S: Sink>(
     sink: &mut S,
     view: &View<'_>,

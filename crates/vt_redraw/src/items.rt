@@ -1,5 +1,9 @@
-//! Output for a range of columns in one row of a picture, for a terminal with
-//! default attributes whose cursor is at the start of the range.
+//! Output for a range of columns in one row of a picture, for a terminal with default attributes
+//! whose cursor is at the start of the range.
+//!
+//! Throughout this module, the *terminal* is the terminal that reads the output, `pen` holds its
+//! cursor position and attributes, `cells` is the row of the picture, and `over` is the row that
+//! the terminal displays. `flag` is true if the terminal's row is wrapped.
 
 ghost use Rattle.std.specs.Prelude.{◌≡◌, ◌++◌, ◌+◌, ◌<◌, ◌≤◌, ◌&&◌, false};
 ghost use Rattle.std.specs.Prelude.{IfOk, OnOk, length};
@@ -20,10 +24,10 @@ use crate::picture_row::PictureRow;
 use crate::view::View;
 use vt_cells::{Attrs, Pos, Sink};
 
-/// Blanks the first column of a range if it holds a continuation cell, along
-/// with any default blanks that follow it. Writes nothing if the terminal's
-/// column also holds a continuation cell. Returns the column at which the
-/// remaining cells begin.
+/// Erases the first column of a range if the picture's column holds a continuation cell (whose wide
+/// character begins before the range), along with any default blanks that follow it. Writes nothing
+/// if the terminal's column also holds a continuation cell. Returns the first column that has not
+/// been handled. `pos` is the row and the first column of the range.
 fn write_begin<S: Sink>(
     sink: &mut S,
     pen: &mut Pen,
@@ -54,9 +58,9 @@ fn write_begin<S: Sink>(
     Ok(col + count)
 }
 
-/// Writes the output that a range of columns of a row needs. `cells` must be
-/// cut to the end of the range. `flag` is true if the terminal's row is
-/// wrapped, and is updated.
+/// Writes the sequences that turn a range of columns of the terminal's row `over` into those of the
+/// picture's row `cells`. The range extends from the position `pos` to the end of `cells`, which
+/// the caller has cut there. `flag` is true if the terminal's row is wrapped, and is updated.
 fn write_range<S: Sink>(
     sink: &mut S,
     pen: &mut Pen,
@@ -75,9 +79,8 @@ fn write_range<S: Sink>(
     write_cells(sink, pen, flag, Pos { row, col }, cells, over)
 }
 
-/// Prints the last glyph of a row again if the row is wrapped and the
-/// terminal's row is not. In that case, a wrap is pending on the terminal
-/// afterward.
+/// Prints the last glyph of a row again if the picture's row is wrapped and the terminal's row is
+/// not. In that case, a wrap is pending on the terminal afterward.
 fn write_mark<S: Sink>(
     sink: &mut S,
     pen: &mut Pen,
@@ -99,10 +102,10 @@ fn write_mark<S: Sink>(
     write_last(sink, pen, row, cells)
 }
 
-/// Writes the output that a whole row needs after its cells. If only the
-/// terminal's row is wrapped, this output is a break, after which the row is no
-/// longer wrapped. If only the picture's row is wrapped, the last glyph is
-/// printed again, which leaves a wrap pending.
+/// Corrects the wrapped flag of the terminal's row after all cells of the row have been written. If
+/// only the terminal's row is wrapped, writes a break, after which it is no longer wrapped (see
+/// [`write_break`]). If only the picture's row is wrapped, prints the last glyph again, which
+/// leaves a wrap pending.
 fn write_end<S: Sink>(
     sink: &mut S,
     pen: &mut Pen,
@@ -118,11 +121,10 @@ fn write_end<S: Sink>(
     write_mark(sink, pen, row, on, cells)
 }
 
-/// Writes columns `start..stop` of a row of `view`, for a terminal that
-/// displays the corresponding row of `prev`. If these columns are the whole
-/// row, the terminal's row is not wrapped afterward unless the row of `view` is
-/// wrapped. If only the row of `view` is wrapped, a wrap is pending on the
-/// terminal afterward.
+/// Writes the sequences that draw columns `start..stop` of a row of `view` on a terminal that
+/// displays the same row of `prev`. If these columns are the whole row, the terminal's row is not
+/// wrapped afterward unless the row of `view` is. If the row of `view` is wrapped and the
+/// terminal's row is not, a wrap is pending on the terminal afterward.
 ///
 /// The terminal's cursor must be in column `start` of the row, and the terminal
 /// must have default attributes.
@@ -169,9 +171,8 @@ fn is_whole(start: u16, stop: u16, cells: &PictureRow<'_>) -> bool
     start == 0 && stop == cells.cols()
 }
 
-/// Writes a whole row that follows a wrapped row. The first cell is printed
-/// even if it is blank, so that a wrap that is pending in the row above takes
-/// effect.
+/// Writes a whole row that follows a wrapped row, over a blank row of the terminal. The first cell
+/// is printed even if it is blank, so that a wrap that is pending in the row above takes effect.
 fn write_linked<S: Sink>(sink: &mut S, row: u16, cells: &PictureRow<'_>) -> Result<(), S::Error>
     requires nonempty { 0 < length cells.now.cells }
     requires paired { IsPaired cells.now.cells }
@@ -192,7 +193,8 @@ fn write_linked<S: Sink>(sink: &mut S, row: u16, cells: &PictureRow<'_>) -> Resu
     write_cells(sink, &mut pen, &mut flag, pos, cells, &over)
 }
 
-/// Writes a range of columns of a row over a blank row.
+/// Writes a range of columns of the picture's row `cells` over a blank row of the terminal. The
+/// range extends from the position `pos` to column `stop`.
 fn write_over_blanks<S: Sink>(
     sink: &mut S,
     pos: Pos,
@@ -215,7 +217,7 @@ fn write_over_blanks<S: Sink>(
     write_range(sink, &mut pen, &mut flag, pos, &cells.up_to(stop), &over)
 }
 
-/// Returns whether the row above `row` is wrapped.
+/// Returns whether the picture's row directly above row `row` is wrapped.
 fn is_linked(view: &View<'_>, row: u16) -> bool
     requires { row < length view.now.rows }
     ensures { result ≡ is_linked view.now.width view.now.rows row }
@@ -232,8 +234,8 @@ fn needs_link(view: &View<'_>, row: u16, start: u16, stop: u16, cells: &PictureR
     is_whole(start, stop, cells) && is_linked(view, row)
 }
 
-/// Writes columns `start..stop` of a row of `view`, for a terminal whose row is
-/// blank.
+/// Writes the sequences that draw columns `start..stop` of a row of `view` on a blank row of the
+/// terminal.
 ///
 /// The terminal's cursor must be in column `start` of the row, and the terminal
 /// must have default attributes. If these columns are the whole row and the row

@@ -1,5 +1,10 @@
-//! Theorems about redraws and diffs. The functions do nothing when called;
-//! their clauses state what is proved.
+//! Theorems about redraws and diffs. The functions do nothing when called; their clauses state what
+//! is proved.
+//!
+//! A *canvas* is the part of a terminal on which redraws and diffs are drawn: the active page with
+//! its cursor, the current and saved attributes, and whether the cursor is hidden. It is *plain* if
+//! its scroll region is the whole page and origin mode is off. A picture is *steady* if each of its
+//! glyphs reproduces itself when it is printed on a blank row.
 
 ghost use Rattle.std.specs.Prelude.{◌≡◌, ◌+◌, ◌<◌, ◌≤◌, ◌↔◌, ◌++◌, ℕ, [], Bool, List, Some, false, length, true};
 ghost use Rattle.std.specs.List.{AllByRecursion};
@@ -128,7 +133,7 @@ pub fn heart_steady()
     ensures { (width : ℕ) → (attrs : Attrs) → 1 < width → IsSteadyCell width (glyph heart_text true attrs) }
 {}
 
-/// States that a range that covers a whole row cuts no wide character in two.
+/// States that a range of columns that covers a whole row cuts no wide character in two.
 pub fn whole_cuts_none()
     ensures { (self : Picture) → (r : ℕ) → IsPicture self → r < length self.rows →
         CutsNone 0 self.width (row_of_picture self r).cells }

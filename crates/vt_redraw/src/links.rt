@@ -1,4 +1,5 @@
-//! Links between rows, and breaks between them.
+//! Links between rows, and breaks between them. The *terminal* is the terminal that reads the
+//! output, and `pen` holds its cursor position and attributes.
 //!
 //! A *link* makes the terminal wrap from one row into the next, so that the upper row becomes
 //! wrapped. A *break* prints the end of a wrapped row again, so that the row is no longer wrapped.
@@ -18,19 +19,19 @@ use crate::picture_row::PictureRow;
 use vt_cells::term::{Backspace, BufWrite, EraseChar};
 use vt_cells::{Cell, Pos, Sink, cell};
 
-/// The state after a link: whether the terminal's lower row is itself wrapped, and how many of its
-/// leading cells need no more output.
+/// The state of the terminal's lower row after a link: whether that row is itself wrapped, and how
+/// many of its leading cells the link has already written.
 #[derive(Clone, Copy, Debug)]
 pub struct Link {
     /// Whether the terminal's lower row is wrapped.
     pub flag: bool,
 
-    /// The number of leading cells of the terminal's lower row that need no more output.
+    /// The number of leading cells of the terminal's lower row that the link has already written.
     pub settled: u16,
 }
 
-/// Prints the last glyph of a row again, unless the pen is already after that glyph. Afterward, a
-/// wrap is pending on the terminal.
+/// Prints the last glyph of a row again, unless the cursor is already just after that glyph.
+/// Afterward, a wrap is pending on the terminal.
 ///
 /// # Errors
 ///
@@ -56,8 +57,8 @@ pub fn write_last<S: Sink>(
     Ok(())
 }
 
-/// Writes a blank in the first column of a row while a wrap is pending in the row above, by
-/// printing a space and erasing it again.
+/// Writes the blank `cell` in the first column of a row while a wrap is pending in the row above.
+/// Prints a space, which makes the terminal wrap into the row, and erases it again.
 fn write_first_blank<S: Sink>(
     sink: &mut S,
     pen: &mut Pen,
@@ -91,8 +92,8 @@ fn is_wrapped(flag: bool, over: &PictureRow<'_>) -> bool
     flag && !(over.cols() <= 1)
 }
 
-/// Writes a glyph in the first columns of a row while a wrap is pending in the
-/// row above.
+/// Prints the glyph `cell` at the beginning of a row while a wrap is pending in the row above,
+/// which makes the terminal wrap into the row.
 fn write_first_glyph<S: Sink>(
     sink: &mut S,
     pen: &mut Pen,
@@ -117,7 +118,9 @@ fn write_first_glyph<S: Sink>(
     })
 }
 
-/// Writes the first cell of a row while a wrap is pending in the row above.
+/// Writes the first cell of a row while a wrap is pending in the row above, which makes the
+/// terminal wrap into the row. `cells` is the row of the picture, and `over` is the row that the
+/// terminal displays.
 ///
 /// # Errors
 ///
@@ -145,8 +148,8 @@ pub fn write_first<S: Sink>(
     Ok(link)
 }
 
-/// Returns whether the row `cells` begins with a glyph that is not at the beginning of the row
-/// `over`.
+/// Returns whether the row `cells` begins with a glyph and the row `over` does not begin with the
+/// same glyph.
 fn starts_other(cells: &PictureRow<'_>, over: &PictureRow<'_>) -> bool
     requires nonempty { 0 < length cells.now.cells }
     requires over { 0 < length over.now.cells }
@@ -156,9 +159,10 @@ fn starts_other(cells: &PictureRow<'_>, over: &PictureRow<'_>) -> bool
     cell.has_contents() && !(cell == over.cell(0))
 }
 
-/// Returns whether a link is needed between a wrapped row and the row below it. A link is needed if
-/// the terminal's upper row is not wrapped (`on` is false). It is also needed if a wrap is pending
-/// at the end of that row and the terminal's lower row begins with a different glyph.
+/// Returns whether a link is needed between the picture's row `above`, which is wrapped, and the
+/// row `cells` below it. A link is needed if the terminal's upper row is not wrapped (`on` is
+/// false). It is also needed if a wrap is pending at the end of that row and `cells` begins with a
+/// glyph that the terminal's lower row, `over`, does not begin with.
 fn needs_link(
     pen: &Pen,
     row: u16,
@@ -176,8 +180,9 @@ fn needs_link(
 }
 
 /// Writes the link between row `row` and the next row, if the picture's row `row` is wrapped and a
-/// link is needed. The link makes the terminal wrap into the next row. `on` is true if the
-/// terminal's row `row` is already wrapped.
+/// link is needed. The link makes the terminal wrap into the next row. `above` and `cells` are the
+/// picture's upper and lower row, and `over` is the terminal's lower row. `on` is true if the
+/// terminal's upper row is already wrapped.
 ///
 /// # Errors
 ///
@@ -209,8 +214,9 @@ pub fn write_link<S: Sink>(
     Ok(link)
 }
 
-/// Writes the break after a row if the terminal's row is wrapped but must not be. The break erases
-/// the last glyph and prints it again. Returns whether the terminal's row is wrapped afterward.
+/// Writes the break after a row if the terminal's row is wrapped (`flag` is true) and the picture's
+/// row `cells` is not. The break erases the last glyph of the row and prints it again. Returns
+/// whether the terminal's row is wrapped afterward.
 ///
 /// # Errors
 ///

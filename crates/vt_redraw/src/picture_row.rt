@@ -153,8 +153,8 @@ impl<'a> PictureRow<'a> {
         }
     }
 
-    /// Returns a lower bound on the number of consecutive cells, starting at
-    /// column `col`, in which this row and `other` agree. Only stored cells are
+    /// Returns how many consecutive columns, starting at `col`, were found to hold equal cells in
+    /// this row and `other`. The following columns may also be equal, because only stored cells are
     /// compared, four at a time.
     pub fn same_run(&self, other: &PictureRow<'_>, col: u16) -> usize
         ensures inside { 0 < result → col + result ≤ length self.now.cells }

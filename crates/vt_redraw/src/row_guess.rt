@@ -1,5 +1,8 @@
 //! A guess at the columns that have moved in a row between two pictures. Correctness does not
 //! depend on the guess: after any columns have moved, the diff draws all remaining changes.
+//!
+//! Throughout this module, `over` is the row that the terminal displays, and `cells` is the row
+//! that it is to display.
 
 ghost use Rattle.std.specs.Prelude.{◌<◌, IfSome, length};
 ghost use Rattle.vt_redraw.specs.Picture.{SamePictureSize};
@@ -32,8 +35,8 @@ struct Best {
     bytes: i32,
 }
 
-/// The approximate length of the output that draws a row, and what the output
-/// has drawn last.
+/// The approximate length of the output that draws the first cells of a row, along with the facts
+/// about the last cell on which the output for the next cell depends.
 #[derive(Drop)]
 struct Estimate {
     bytes: i32,
@@ -73,8 +76,8 @@ fn first_difference(cells: &PictureRow<'_>, over: &PictureRow<'_>) -> Option<u16
     None
 }
 
-/// Returns the shift of row `row` at column `col` that saves the most bytes, or `None` if no shift
-/// saves any.
+/// Returns the shift of the columns of row `row`, starting at column `col`, that saves the most
+/// bytes, or `None` if no such shift saves any.
 fn best_shift(
     cells: &PictureRow<'_>,
     over: &PictureRow<'_>,
@@ -106,8 +109,9 @@ fn best_shift(
 }
 
 impl Best {
-    /// Considers up to [`MOST_COUNTS`] shifts that differ from `start` only in their counts,
-    /// namely those that put the first cells that they move where they belong.
+    /// Considers shifts that have the row, the column and the direction of `start`, with up to
+    /// [`MOST_COUNTS`] different counts. A count is considered only if the first four cells that
+    /// the shift moves then equal the cells of `cells` in the same columns.
     fn consider_all(&mut self, cells: &PictureRow<'_>, over: &PictureRow<'_>, start: RowShift) {
         let near = usize::from(start.col);
         let (own, others) = if start.insert {
@@ -131,7 +135,8 @@ impl Best {
         }
     }
 
-    /// Makes `shift` the best shift if it takes fewer bytes than the best shift so far.
+    /// Makes `shift` the best shift if drawing the row after it takes fewer bytes than after the
+    /// best shift so far.
     fn consider(&mut self, cells: &PictureRow<'_>, over: &PictureRow<'_>, shift: RowShift) {
         let bytes = drawing(cells, over, shift);
         if bytes < self.bytes {
@@ -141,7 +146,7 @@ impl Best {
     }
 }
 
-/// Returns whether the first four cells of the two rows are equal.
+/// Returns whether both slices have at least four cells and their first four cells are equal.
 fn begin_alike(own: &[Cell], others: &[Cell]) -> bool {
     own.len() >= 4
         && others.len() >= 4
@@ -151,9 +156,9 @@ fn begin_alike(own: &[Cell], others: &[Cell]) -> bool {
         && own[3] == others[3]
 }
 
-/// Returns the approximate number of bytes that it takes to draw the row
-/// `cells` over the row `over` after a shift, from the first column of the
-/// shift on.
+/// Returns the approximate number of bytes that it takes to draw the row `cells` over the row
+/// `over` after `shift` has been applied to `over`. Only the columns from the first column of the
+/// shift on are counted.
 fn drawing(cells: &PictureRow<'_>, over: &PictureRow<'_>, shift: RowShift) -> i32 {
     let cols = cells.cols().min(over.cols());
     let blank = cell::default_blank();
@@ -175,8 +180,8 @@ fn drawing(cells: &PictureRow<'_>, over: &PictureRow<'_>, shift: RowShift) -> i3
 }
 
 impl Estimate {
-    /// Adds the output for one cell to the estimate. `differs` is true if the cell differs from
-    /// what the terminal displays; otherwise, the cell is not drawn.
+    /// Adds the estimated output size for one cell. `differs` is true if the cell differs from what
+    /// the terminal displays; otherwise, the cell is not drawn.
     fn add(&mut self, cell: &Cell, differs: bool) {
         if !differs {
             self.drew = false;
@@ -196,8 +201,10 @@ impl Estimate {
         self.drew_blank = blank;
     }
 
-    /// Returns the length of a glyph's text in bytes. For the first blank of a run, returns the
-    /// approximate number of bytes that it takes to erase the run, and for any later blank 0.
+    /// Returns the approximate number of bytes that it takes to draw a cell whose attributes are
+    /// already set. For a glyph, this is the length of its text. For the first blank of a run, it
+    /// is the number of bytes that it takes to erase the run, and for each later blank it is 0.
+    /// `blank` is true if the cell is a blank.
     fn text_len(&self, cell: &Cell, blank: bool) -> i32 {
         if !blank {
             return i32::try_from(cell.contents().len()).unwrap_or(0);

@@ -37,8 +37,8 @@ impl RowShift {
             && u32::from(self.col) + u32::from(self.count) <= u32::from(cols)
     }
 
-    /// Shifts the columns on a page, and leaves the cursor at the first of
-    /// them.
+    /// Shifts the columns of a row of `grid`, and leaves the cursor at the column where blanks are
+    /// inserted or columns are deleted.
     pub fn apply(&self, grid: &mut Grid)
         requires { IsRowShift (length grid.old.rows) grid.old.width self.now }
         ensures { grid.new ≡ shifted_page self.now grid.old }
@@ -76,8 +76,8 @@ impl RowShift {
         }
     }
 
-    /// Returns the column that moves to `col` in a row of `cols` columns, or
-    /// `None` if that column becomes blank.
+    /// Returns the column that holds, before the shift, the cell that is in column `col` after it,
+    /// in a row of `cols` columns. Returns `None` if column `col` becomes blank.
     pub(crate) fn source(&self, col: u16, cols: u16) -> Option<u16>
         ensures { IfSome result (λ from. col < cols → from < cols) }
     {

@@ -12,7 +12,7 @@ use crate::view::View;
 use vt_cells::Sink;
 use vt_grid::Grid;
 
-/// Writes a shift, and shifts the columns on a page.
+/// Writes the sequences of a shift, and applies the shift to `grid`.
 fn write_shift<S: Sink>(sink: &mut S, grid: &mut Grid, shift: RowShift) -> Result<(), S::Error>
     requires { IsRowShift (length grid.old.rows) grid.old.width shift }
     ensures text { OnOk result (S.text sink.new ≡ S.text sink.old ++ shift_text shift) }
@@ -23,8 +23,8 @@ fn write_shift<S: Sink>(sink: &mut S, grid: &mut Grid, shift: RowShift) -> Resul
     Ok(())
 }
 
-/// Writes the shift `first` and the most likely shift of each row below it,
-/// and shifts the columns on `grid`, a page that displays `prev`.
+/// Writes the sequences of the shift `first` and of the most likely shift of each row below it, and
+/// applies these shifts to `grid`, a page that displays `prev`.
 ///
 /// # Errors
 ///

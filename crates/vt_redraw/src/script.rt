@@ -1,4 +1,8 @@
 //! The script that turns the display of one picture into that of another.
+//!
+//! Throughout this module, the *terminal* is the terminal that reads the output, and `pen` holds
+//! its cursor position and attributes. `cells` is a row of the picture, and `over` is the row that
+//! the terminal displays in its place. The module `links` defines links and breaks.
 
 ghost use Rattle.std.specs.Prelude.{◌≡◌, IfOk, OnOk};
 ghost use Rattle.vt_cells.specs.Op.{bytes_of_all};
@@ -15,9 +19,9 @@ use crate::picture_row::PictureRow;
 use crate::view::View;
 use vt_cells::{Pos, Sink};
 
-/// Writes the output for the cells of a row, except for the leading cells that
-/// `link` has settled, and then the break. Returns whether the terminal's row
-/// is wrapped afterward.
+/// Writes the sequences that turn the terminal's row `over` into the picture's row `cells`, except
+/// for the leading cells that `link` has already written, and then the break after the row, if one
+/// is needed. Returns whether the terminal's row is wrapped afterward.
 #[tactic(auto, using(crate::proofs::CellSteps::range_of))]
 fn write_row<S: Sink>(
     sink: &mut S,
@@ -44,8 +48,8 @@ fn write_row<S: Sink>(
     Ok(on)
 }
 
-/// Writes the output for the first row. Returns whether the terminal's row is
-/// wrapped afterward.
+/// Writes the sequences that turn the terminal's first row, `over`, into the picture's first row,
+/// `cells`. Returns whether the terminal's row is wrapped afterward.
 fn write_top<S: Sink>(
     sink: &mut S,
     pen: &mut Pen,
@@ -68,7 +72,8 @@ fn write_top<S: Sink>(
     Ok(on)
 }
 
-/// Writes the output for all rows, from the top.
+/// Writes the sequences that turn the rows of `prev`, which the terminal displays, into the rows of
+/// `view`, from top to bottom.
 fn write_rows<S: Sink>(
     sink: &mut S,
     pen: &mut Pen,

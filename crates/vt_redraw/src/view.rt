@@ -192,8 +192,8 @@ impl<'a> View<'a> {
     }
 }
 
-/// Returns a displayed row, cut or extended to `cols` columns, or a blank row
-/// if there is no such row. If `is_last` is true, the result is not wrapped.
+/// Returns the displayed row at index `row`, cut or extended to `cols` columns, or a blank row if
+/// there is no such row. If `is_last` is true, the result is not wrapped.
 fn row_seen<'a>(
     above: &'a Scrollback,
     rows: &'a PageRows,
@@ -218,7 +218,7 @@ fn ends(rows: &PageRows, row: u16) -> bool
     usize::from(row) + 1 == rows.len()
 }
 
-/// Returns a row of a picture after a band has moved. The row is borrowed from
+/// Returns row `row` of a picture after a band of its rows has moved. The row is borrowed from
 /// where it was before the move.
 fn row_moved<'a>(
     above: &'a Scrollback,

@@ -116,8 +116,7 @@ pub trait Callbacks {
         ensures { (screen : ScreenValue) → does (calls.OnScroll row.entry alternate) self.old screen self.new screen };
 
     /// Returns whether [`Callbacks::on_scroll`] must be called. If the result is `false`, a call
-    /// would have no effect, so the terminal may skip the call, and with it the work of preparing
-    /// the row.
+    /// would have no effect, so the terminal may skip it and the work of preparing the row.
     ///
     /// The terminal calls this method each time rows are dropped. By default, all rows are wanted.
     fn wants_rows(&self) -> bool
@@ -190,9 +189,9 @@ pub trait Callbacks {
         self.otherwise(screen, Call::PasteFromClipboard(kind));
     }
 
-    /// Called for a character that is not printed: U+FFFD, which stands for
-    /// malformed UTF-8 (Unicode Standard, Table 3-7), or one of U+0080 to
-    /// U+009F, the C1 controls (ECMA-48).
+    /// Called for a character that is not printed: U+FFFD, which stands for malformed UTF-8
+    /// (Unicode Standard, section 3.9, Table 3-7), or one of U+0080 to U+009F, the C1 controls
+    /// (ECMA-48).
     fn unhandled_char(&mut self, screen: &mut Screen, code: char)
         ensures { does (calls.UnhandledChar code) self.old screen.old self.new screen.new }
     {

@@ -1,5 +1,5 @@
-//! Select Graphic Rendition (SGR): what the groups of numbers in an SGR
-//! sequence set.
+//! Select Graphic Rendition (SGR): the attributes that an SGR sequence sets. A *group* is a
+//! parameter of the sequence with its subparameters: the numbers that `:` separates.
 
 ghost use Rattle.std.specs.Prelude.{◌≡◌, ℕ, MatchOption};
 ghost use Rattle.vt_screen.specs.Sgr.{attrs_after_setting, color_setting, silent_read, set, unhandled_read, number_read, three_read, five_read};
@@ -15,22 +15,22 @@ pub enum Setting {
     /// Resets all attributes to their defaults.
     Reset,
 
-    /// The foreground color.
+    /// Sets the foreground color.
     Foreground(Color),
 
-    /// The background color.
+    /// Sets the background color.
     Background(Color),
 
-    /// The intensity: normal, bold or dim.
+    /// Sets the intensity to normal, bold or dim.
     Strength(Intensity),
 
-    /// Italic, on or off.
+    /// Turns italics on or off.
     Italic(bool),
 
-    /// Underline, on or off.
+    /// Turns underlining on or off.
     Underline(bool),
 
-    /// Inverse, on or off.
+    /// Turns inverse video on or off.
     Inverse(bool),
 }
 
@@ -117,7 +117,8 @@ impl Setting {
 }
 
 impl Layer {
-    /// Returns the setting that changes the color of the layer to `color`.
+    /// Returns the setting that changes the foreground or background color, as the layer specifies,
+    /// to `color`.
     fn colored(self, color: Color) -> Setting
         ensures { result ≡ color_setting self color }
     {
@@ -129,8 +130,8 @@ impl Layer {
 }
 
 impl GroupRead {
-    /// Returns a result that changes nothing, after which the next group is
-    /// interpreted according to `wanted`.
+    /// Returns the result for a group that has no effect by itself. The next group is interpreted
+    /// as `wanted` specifies.
     fn silent(wanted: Wanted) -> Self
         ensures { result ≡ silent_read wanted }
     {
@@ -140,7 +141,7 @@ impl GroupRead {
         }
     }
 
-    /// Returns a result that applies `setting`, after which the next group is
+    /// Returns the result for a group that makes the change `setting`. The next group is
     /// interpreted as a setting.
     fn set(setting: Setting) -> Self
         ensures { result ≡ set setting }
@@ -151,8 +152,7 @@ impl GroupRead {
         }
     }
 
-    /// Returns the result for an unknown group, after which the next group is
-    /// interpreted as a setting.
+    /// Returns the result for an unknown group. The next group is interpreted as a setting.
     fn unknown() -> Self
         ensures { result ≡ unhandled_read }
     {
@@ -255,8 +255,9 @@ fn read_five(layer: Layer, form: u16, red: u16, green: u16, blue: u16) -> GroupR
     rgb_colored(layer, red, green, blue)
 }
 
-/// Returns the result that sets a palette color. If `index` is above 255,
-/// nothing is set and the rest of the sequence is ignored.
+/// Returns the result for a group that completes a palette color. The color of the layer is set to
+/// palette color `index`. If `index` is above 255, nothing is set and the rest of the sequence is
+/// ignored.
 #[tactic(auto, using(std::proofs::lemmas::Bool::Decides::nat_tests), unfolding(crate::specs::Sgr::index_read))]
 fn index_colored(layer: Layer, index: u16) -> GroupRead
     ensures { result ≡ index_read layer index }
@@ -267,8 +268,8 @@ fn index_colored(layer: Layer, index: u16) -> GroupRead
     GroupRead::set(layer.colored(Color::Idx(index as u8)))
 }
 
-/// Returns the result that sets an RGB color. If a component is above 255,
-/// nothing is set and the rest of the sequence is ignored.
+/// Returns the result for a group that completes an RGB color. The color of the layer is set to
+/// that color. If a component is above 255, nothing is set and the rest of the sequence is ignored.
 #[tactic(auto, using(std::proofs::lemmas::Bool::Decides::nat_tests), unfolding(crate::specs::Sgr::rgb_read))]
 fn rgb_colored(layer: Layer, red: u16, green: u16, blue: u16) -> GroupRead
     ensures { result ≡ rgb_read layer red green blue }
@@ -279,7 +280,7 @@ fn rgb_colored(layer: Layer, red: u16, green: u16, blue: u16) -> GroupRead
     GroupRead::set(layer.colored(Color::Rgb(red as u8, green as u8, blue as u8)))
 }
 
-/// Interprets a group as the format of an extended color.
+/// Interprets a group as the format of an extended color: 2 (RGB) or 5 (palette).
 #[tactic(auto, using(std::proofs::lemmas::Bool::Decides::nat_tests), unfolding(crate::specs::Sgr::form_read))]
 fn read_form(layer: Layer, group: &[u16]) -> GroupRead
     ensures { result ≡ form_read layer group.now }

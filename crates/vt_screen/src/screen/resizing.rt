@@ -187,10 +187,10 @@ fn remove_rows<CB: Callbacks>(
     Ok(())
 }
 
-/// Shrinks the alternate page, if there is one, to the height of `size`, and
-/// reports the rows that scroll off its top. The width of `size` must be the
-/// page's width, and the height at most the page's height. Allocates nothing,
-/// since rows of that page are never kept in scrollback.
+/// Shrinks the alternate page, if there is one, to the height of `size`, and reports the rows that
+/// scroll off its top. The width of `size` must be the page's width, and the height at most the
+/// page's height. `nothing` is an empty scrollback with a capacity of 0. Allocates nothing, since
+/// rows of that page are never kept in scrollback.
 fn remove_alternate_rows<CB: Callbacks>(
     page: &mut Option<Grid>,
     size: Size,
@@ -301,9 +301,9 @@ fn fresh_page(page: &Option<Grid>, alloc: Global, size: Size) -> Result<Option<G
     }
 }
 
-/// Resizes the alternate page into the blank page `fresh`, if there is one, and
-/// reports the rows that scroll off its top. Allocates nothing, since rows of
-/// that page are never kept in scrollback.
+/// Resizes the alternate page, if there is one, by moving its rows into the blank page `fresh`, and
+/// reports the rows that scroll off its top. `nothing` is an empty scrollback with a capacity of 0.
+/// Allocates nothing, since rows of that page are never kept in scrollback.
 fn resize_alternate<CB: Callbacks>(
     page: &mut Option<Grid>,
     fresh: Option<Grid>,
