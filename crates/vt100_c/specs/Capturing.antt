@@ -41,7 +41,8 @@ due_at_capture of due None capture = no_object
 due_at_capture of due (Some object) None = no_object
 due_at_capture of due (Some object) (Some capture) = due_behind due (of object.source) (state_in capture.source)
 
--- The status of a call on a handle and a capture, after the capture was moved out of its own handle.
+-- The status of a call on a handle and a capture that was taken out of its own handle. If the first handle is then
+-- empty, the caller passed the same handle twice, and the status is `bad_argument`.
 abbrev pub due_beside_capture : {A : Type 0} → (Source → Option A) → (A → ℕ) → Option Object → Object → ℕ
 due_beside_capture of due None capture = bad_argument
 due_beside_capture of due (Some object) capture = due_behind due (of object.source) (state_in capture.source)

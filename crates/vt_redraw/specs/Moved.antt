@@ -28,7 +28,8 @@ abbrev pub band_source : Band → (past r : ℕ) → ℕ
 band_source band past r =
     if nat_le band.top r && nat_lt r band.bottom then source_within band past r else r
 
--- The rows after a band has moved: vacated rows become default blanks, and the last row is marked as not wrapped.
+-- The rows after a band of them has moved. Rows that the band leaves empty become default blanks, and the last row is
+-- not wrapped.
 unfoldable pub rows_moved : (width : ℕ) → Band → List RowValue → List RowValue
 rows_moved width band rows =
     unflagged width (length rows - 1) (moved_rows width (band_source band (length rows)) rows)

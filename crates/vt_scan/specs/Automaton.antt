@@ -85,8 +85,8 @@ fresh_step b =
     else record { state = start; events = Character 0xFFFD ∷ [] }
 
 -- The automaton's step for a byte in the ground state after the given bytes of an incomplete character. If the byte
--- cannot continue the character, the incomplete character becomes a single U+FFFD, and the byte is then read on its own
--- (Unicode 3.9: the longest prefix of a well-formed sequence is replaced by one U+FFFD).
+-- cannot continue the character, the incomplete character becomes a single U+FFFD, and the byte is then read on its
+-- own (Unicode Standard, section 3.9: the longest prefix of a well-formed sequence is replaced by one U+FFFD).
 unfoldable pub character_step : List ℕ → ℕ → Step
 character_step text b =
     if is_character (text ++ b ∷ [])

@@ -60,7 +60,8 @@ event_of held (given.Escape b) = automaton.EscDispatch held.intermediates b
 event_of held (given.Csi b) = automaton.CsiDispatch held.table.groups held.intermediates b
 event_of held given.Osc = automaton.OscDispatch (parts_of held.text)
 
--- The automaton's events that the events of the scanner stand for, in the same order.
+-- The events of the automaton that correspond to the scanner's events, in the same order. `held` is what the scanner
+-- stores.
 abbrev pub events_in : ScannerValue → Events → List automaton.Event
 events_in held events = map (event_of held) (option_to_list events.first ++ option_to_list events.second)
 
@@ -107,17 +108,18 @@ is_intermediate b = nat_le 0x20 b && nat_le b 0x2F
 abbrev pub is_marker : ℕ → Bool
 is_marker b = nat_le 0x3C b && nat_le b 0x3F
 
--- After ESC, the byte introduces a string that is ignored: DCS, SOS, PM or APC.
+-- After ESC, the byte introduces an ignored control string: DCS, SOS, PM or APC.
 abbrev pub starts_skipped : ℕ → Bool
 starts_skipped b = (b == 0x50) || ((b == 0x58) || ((b == 0x5E) || (b == 0x5F)))
 
--- After ESC, the byte introduces an operating system command or a string that is ignored.
+-- After ESC, the byte introduces a control string: an operating system command, or DCS, SOS, PM or APC, which are
+-- ignored.
 abbrev pub starts_string : ℕ → Bool
 starts_string b = (b == 0x5D) || starts_skipped b
 
 -- The byte is part of the beginning of a sequence. In the ground state with no incomplete character, such a byte is
--- ESC; after ESC, it is another ESC, `[`, an intermediate byte, or a byte that introduces a string; after `ESC [`, it
--- is a private marker or a parameter byte; and after one of these, it is a parameter byte.
+-- ESC; after ESC, it is another ESC, `[`, an intermediate byte, or a byte that introduces a control string; after
+-- `ESC [`, it is a private marker or a parameter byte; and after one of these, it is a parameter byte.
 abbrev pub is_introducer : Kind → List ℕ → ℕ → Bool
 is_introducer Ground unfinished b = (length unfinished == 0) && (b == 0x1B)
 is_introducer Escape unfinished b = (b == 0x1B) || ((b == 0x5B) || (starts_string b || is_intermediate b))

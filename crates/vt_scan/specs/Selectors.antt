@@ -1,5 +1,5 @@
--- Bytes that don't contain U+FE0F, which is EF B8 8F in UTF-8 (Unicode 3.9, Table 3-6), and bytes that are not parsed
--- as U+FE0F.
+-- Bytes that don't contain U+FE0F, which is EF B8 8F in UTF-8 (Unicode Standard, section 3.9, Table 3-6), and bytes
+-- that are not parsed as U+FE0F.
 use Rattle.std.specs.Prelude.{◌≢◌, ℕ, List, [], ◌∷◌, take, drop}
 use Rattle.std.specs.List.{AllByRecursion}
 use Rattle.vt_scan.specs.Automaton.{State, Character}
