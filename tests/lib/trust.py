@@ -41,7 +41,7 @@ class Page:
         parts = rest.split("; ")
         wanted = quoted(parts[0])
         passed = [it for part in parts if part.startswith("not needed: ") for it in quoted(part)]
-        without = [it for part in parts if part.startswith("without ") for it in quoted(part)]
+        without = [it for part in parts if part.startswith("definitions not needed: ") for it in quoted(part)]
         self.walk.without.update(without)
         found = [it for it in self.walk.sources.functions(file) if it.path().endswith("::" + name)]
         if len(found) != 1:
