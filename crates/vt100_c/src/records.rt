@@ -35,7 +35,8 @@ pub(crate) fn is_wanted(wanted: u16, kind: u8) -> bool
     (wanted >> kind) % 2 == 1
 }
 
-/// Returns whether rows are recorded without their text.
+/// Returns whether rows are recorded without their text, that is, whether bit 13 of `wanted` is
+/// set.
 pub(crate) fn is_bare(wanted: u16) -> bool
     ensures { result ≡ is_wanted wanted without_text }
 {

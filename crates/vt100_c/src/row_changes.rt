@@ -55,9 +55,9 @@ pub extern "C" fn vt100_rows_diff(
     status
 }
 
-/// Returns the output that turns the rows of the screen in `prev` into the rows
-/// of `source`, which was taken out of its own handle. `range` is the first
-/// column and the number of columns.
+/// Returns the output that turns the rows of the screen in `prev` into the rows of `source`, which
+/// was taken out of its own handle. `range` is the first column and the number of columns. Stores
+/// in `ends` the index at which the output for each row ends.
 ///
 /// Returns `BAD_ARGUMENT` if `prev` is empty: the object with the value
 /// `source` was taken out of it, so the caller passed the same handle twice.
@@ -83,9 +83,9 @@ fn beside(
     made
 }
 
-/// Returns the output that turns the rows of `prev` into the rows of `source`,
-/// in the columns of `range` (the first column and the number of columns).
-/// Returns `WRONG_KIND` if either source has no screen.
+/// Returns the output that turns the rows of `prev` into the rows of `source`, in the columns of
+/// `range` (the first column and the number of columns). Stores in `ends` the index at which the
+/// output for each row ends. Returns `WRONG_KIND` if either source has no screen.
 fn changed_in(
     alloc: Global,
     source: &Source,
@@ -107,11 +107,10 @@ fn changed_in(
     }
 }
 
-/// Returns the output that turns the rows of `prev` into the rows of `screen`,
-/// in the columns of `range` (the first column and the number of columns).
-/// Returns `OTHER_SIZE` if the two screens differ in size, and `BAD_ARGUMENT`
-/// if `ends` is too short or the range does not begin at a column of the
-/// screen.
+/// Returns the output that turns the rows of `prev` into the rows of `screen`, in the columns of
+/// `range` (the first column and the number of columns). Stores in `ends` the index at which the
+/// output for each row ends. Returns `OTHER_SIZE` if the two screens differ in size, and
+/// `BAD_ARGUMENT` if `ends` is too short or the range does not begin at a column of the screen.
 fn changed_of(
     alloc: Global,
     screen: &Screen,

@@ -89,8 +89,9 @@ pub extern "C" fn vt100_rows_formatted(
     status
 }
 
-/// Returns the concatenated plain text of the displayed rows of a source.
-/// Returns `WRONG_KIND` if the source has no screen.
+/// Returns the concatenated plain text of the displayed rows of a source, in `width` columns
+/// starting at `start`. Stores in `ends` the index at which the text of each row ends. Returns
+/// `WRONG_KIND` if the source has no screen.
 fn plain_in(
     alloc: Global,
     source: &Source,
@@ -109,8 +110,9 @@ fn plain_in(
     }
 }
 
-/// Returns the concatenated plain text of the displayed rows of a screen.
-/// Returns `BAD_ARGUMENT` if `ends` is too short.
+/// Returns the concatenated plain text of the displayed rows of a screen, in `width` columns
+/// starting at `start`. Stores in `ends` the index at which the text of each row ends. Returns
+/// `BAD_ARGUMENT` if `ends` is too short.
 fn plain_of(
     alloc: Global,
     screen: &Screen,
@@ -131,7 +133,8 @@ fn plain_of(
     Ok(text)
 }
 
-/// Returns the output that draws the rows of a source on blank rows. Returns
+/// Returns the output that draws the displayed rows of a source on blank rows, in `width` columns
+/// starting at `start`. Stores in `ends` the index at which the output for each row ends. Returns
 /// `WRONG_KIND` if the source has no screen.
 fn formatted_in(
     alloc: Global,
@@ -151,9 +154,9 @@ fn formatted_in(
     }
 }
 
-/// Returns the output that draws the rows of a screen on blank rows. Returns
-/// `BAD_ARGUMENT` if `ends` is too short or the range does not begin at a
-/// column of the screen.
+/// Returns the output that draws the displayed rows of a screen on blank rows, in `width` columns
+/// starting at `start`. Stores in `ends` the index at which the output for each row ends. Returns
+/// `BAD_ARGUMENT` if `ends` is too short or `start` is not a column of the screen.
 fn formatted_of(
     alloc: Global,
     screen: &Screen,

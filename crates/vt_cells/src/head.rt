@@ -42,7 +42,8 @@ impl Head {
         }
     }
 
-    /// Creates the head of a cell with `len` bytes of text. If `len` is 0, the cell is a blank.
+    /// Creates the head of a glyph with `len` bytes of text, which is wide if `wide` is true, or of
+    /// a blank if `len` is 0.
     #[inline]
     pub fn text(len: u8, wide: bool, attrs: Attrs) -> Self
         requires { len < 32 }
@@ -88,8 +89,8 @@ impl Head {
         self.word / 8 % 4 != 0
     }
 
-    /// Returns a bit mask that is 0 only if the two heads are equal and their text length is at
-    /// most seven bytes.
+    /// Returns a bit mask that is 0 if and only if the two heads are equal and their text length is
+    /// at most seven bytes.
     ///
     /// The mask contains the bits in which the two words differ, and the upper two bits of the text
     /// length of `self`, which are 0 for lengths below eight.

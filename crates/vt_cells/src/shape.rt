@@ -34,7 +34,8 @@ impl Model for Shape {
 }
 
 impl Shape {
-    /// Creates the shape of a cell with `len` bytes of text. If `len` is 0, the cell is a blank.
+    /// Creates the shape of a glyph with `len` bytes of text, which is wide if `wide` is true, or
+    /// of a blank if `len` is 0.
     #[inline]
     #[tactic(auto, using(crate::proofs::Shapes::text_back))]
     pub fn text(len: u8, wide: bool) -> Self

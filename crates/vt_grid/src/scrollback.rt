@@ -56,7 +56,7 @@ impl Model for Scrollback {
 }
 
 impl Scrollback {
-    /// Creates an empty scrollback. Allocates nothing.
+    /// Creates an empty scrollback that keeps at most `capacity` rows. Allocates nothing.
     pub fn new(alloc: Global, capacity: usize) -> Scrollback
         ensures { result ≡ no_scrollback capacity }
     {
@@ -104,7 +104,7 @@ impl Scrollback {
     }
 
     /// Returns the number of rows that have scrolled off since scrollback was last cleared and have
-    /// not come back to the page, whether they were kept or not.
+    /// not returned to the page, whether they were kept or not.
     #[inline]
     pub fn theoretical_len(&self) -> usize
         ensures value { result ≡ self.now.theoretical }
@@ -374,7 +374,8 @@ fn push_rows<L: Leaving>(gone: Vec<Row>, kept: &mut VecDeque<Row>, capacity: usi
     }
 }
 
-/// Appends a row to the kept rows. If they are at capacity, the oldest row is removed and reported.
+/// Appends a row to `kept`, the rows in scrollback. If there are already `capacity` rows, the
+/// oldest row is removed and reported.
 fn push_row<L: Leaving>(row: Row, kept: &mut VecDeque<Row>, capacity: usize, leaving: &mut L)
     requires nonempty { 0 < capacity }
     requires inside { length kept.old.items ≤ capacity }

@@ -2,8 +2,9 @@
 //! guess: after any band has moved, the diff draws all remaining changes.
 //!
 //! Throughout this module, `prev` is the picture that the terminal displays, and `view` is the
-//! picture that it is to display. `here` holds the cost of each examined row: the approximate
-//! number of bytes that it takes to draw the row if no rows are moved.
+//! picture that it is to display. Only the first `height` rows are examined. `here` holds the cost
+//! of each of them: the approximate number of bytes that it takes to draw the row if no rows are
+//! moved.
 
 ghost use Rattle.std.specs.Prelude.{◌≡◌, ◌+◌, ◌<◌, ◌≤◌, IfSome, IsSome, length};
 ghost use Rattle.vt_redraw.specs.Moved.{IsBand};
@@ -385,8 +386,8 @@ fn best_stretch(
 }
 
 impl Shift {
-    /// Returns the index of the row that the shift moves to row `row`, or `None` if there is no
-    /// such row.
+    /// Returns the index of the row, among the first `height` rows, that the shift moves to row
+    /// `row`, or `None` if there is no such row.
     fn source(&self, row: u16, height: u16) -> Option<u16>
         requires { row < height }
         ensures { IfSome result (λ from. from < height) }

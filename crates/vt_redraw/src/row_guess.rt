@@ -110,8 +110,8 @@ fn best_shift(
 
 impl Best {
     /// Considers shifts that have the row, the column and the direction of `start`, with up to
-    /// [`MOST_COUNTS`] different counts. A count is considered only if the first four cells that
-    /// the shift moves then equal the cells of `cells` in the same columns.
+    /// [`MOST_COUNTS`] different counts. Skips each count for which the first four cells that the
+    /// shift moves do not end up in columns where `cells` has equal cells.
     fn consider_all(&mut self, cells: &PictureRow<'_>, over: &PictureRow<'_>, start: RowShift) {
         let near = usize::from(start.col);
         let (own, others) = if start.insert {

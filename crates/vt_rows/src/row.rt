@@ -61,7 +61,8 @@ impl Row {
         })
     }
 
-    /// Creates a row that is a copy of `cells` without the default blanks at their end.
+    /// Creates a row that is a copy of `cells` without the default blanks at their end. The row is
+    /// wrapped if `wrapped` is true.
     ///
     /// # Errors
     ///
@@ -100,7 +101,7 @@ impl Row {
     }
 
     /// Passes the row to `leaving` and then reuses its memory: the row becomes a copy of `cells`
-    /// without the default blanks at their end.
+    /// without the default blanks at their end, and is wrapped if `wrapped` is true.
     ///
     /// # Errors
     ///

@@ -149,8 +149,8 @@ pub fn wide_characters(bytes: &[u8], text: &mut [char]) -> usize
     done
 }
 
-/// Decodes a three-byte character. Returns `None` unless the character is U+3000 or above and takes
-/// two columns.
+/// Decodes the three-byte UTF-8 character with the bytes `a`, `b` and `c`. Returns `None` unless
+/// the character is U+3000 or above and takes two columns.
 #[inline(always)]
 fn wide_character(a: u8, b: u8, c: u8) -> Option<char>
     ensures { IfSome result (IsWideThree (a ∷ b ∷ c ∷ [])) }
@@ -248,7 +248,7 @@ pub(crate) fn may_continue(byte: u8) -> bool
     byte >= 0x80 && byte <= 0xBF
 }
 
-/// Decodes a two-byte character.
+/// Decodes the two-byte UTF-8 character with the bytes `a` and `b`.
 pub(crate) fn join_two(a: u8, b: u8) -> char
     requires { is_character (a ∷ b ∷ []) ≡ true }
     ensures { result ≡ character_of (a ∷ b ∷ []) }
@@ -257,7 +257,7 @@ pub(crate) fn join_two(a: u8, b: u8) -> char
     char::from_u32(code).unwrap()
 }
 
-/// Decodes a three-byte character.
+/// Decodes the three-byte UTF-8 character with the bytes `a`, `b` and `c`.
 pub(crate) fn join_three(a: u8, b: u8, c: u8) -> char
     requires { is_character (a ∷ b ∷ c ∷ []) ≡ true }
     ensures { result ≡ character_of (a ∷ b ∷ c ∷ []) }
@@ -266,7 +266,7 @@ pub(crate) fn join_three(a: u8, b: u8, c: u8) -> char
     char::from_u32(code).unwrap()
 }
 
-/// Decodes a four-byte character.
+/// Decodes the four-byte UTF-8 character with the bytes `a`, `b`, `c` and `d`.
 fn join_four(a: u8, b: u8, c: u8, d: u8) -> char
     requires { is_character (a ∷ b ∷ c ∷ d ∷ []) ≡ true }
     ensures { result ≡ character_of (a ∷ b ∷ c ∷ d ∷ []) }

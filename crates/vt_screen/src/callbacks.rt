@@ -105,10 +105,9 @@ pub trait Callbacks {
     /// is true if the row comes from the alternate page, which has no
     /// scrollback.
     ///
-    /// A row that comes directly from the page is passed without its trailing
-    /// default blanks. If a resize brings back a row that was not kept, the row
-    /// comes back blank. It is then treated like any other row and is reported
-    /// again when it scrolls off again.
+    /// A row that comes directly from the page is passed without its trailing default blanks. If a
+    /// resize brings back a row that was not kept, the row is blank. It is then treated like any
+    /// other row, and is reported again when it scrolls off again.
     ///
     /// RIS, [`Screen::clear_scrollback`] and [`Screen::set_size`] invoke no
     /// callbacks.

@@ -235,7 +235,8 @@ fn read_number(number: u16) -> GroupRead
     }
 }
 
-/// Interprets a three-number group as an extended color with a palette index.
+/// Interprets a group of three numbers as an extended color with a palette index. The group is
+/// unknown unless the format `form`, its second number, is 5.
 fn read_three(layer: Layer, form: u16, index: u16) -> GroupRead
     ensures { result ≡ three_read layer form index }
 {
@@ -245,7 +246,8 @@ fn read_three(layer: Layer, form: u16, index: u16) -> GroupRead
     index_colored(layer, index)
 }
 
-/// Interprets a five-number group as an extended color with RGB components.
+/// Interprets a group of five numbers as an extended color with RGB components. The group is
+/// unknown unless the format `form`, its second number, is 2.
 fn read_five(layer: Layer, form: u16, red: u16, green: u16, blue: u16) -> GroupRead
     ensures { result ≡ five_read layer form red green blue }
 {
@@ -328,7 +330,7 @@ fn read_red(layer: Layer, group: &[u16]) -> GroupRead
     }
 }
 
-/// Interprets a group as the green component of a color.
+/// Interprets a group as the green component of a color whose red component is `red`.
 fn read_green(layer: Layer, red: u8, group: &[u16]) -> GroupRead
     ensures { result ≡ part_read group.now (λ g. silent_read (Wanted.Blue layer red g)) }
 {
@@ -338,7 +340,8 @@ fn read_green(layer: Layer, red: u8, group: &[u16]) -> GroupRead
     }
 }
 
-/// Interprets a group as the blue component of a color.
+/// Interprets a group as the blue component of a color whose red and green components are `red` and
+/// `green`.
 fn read_blue(layer: Layer, red: u8, green: u8, group: &[u16]) -> GroupRead
     ensures { result ≡ part_read group.now (λ b. set (color_setting layer (Color.Rgb red green b))) }
 {

@@ -77,7 +77,8 @@ pub fn run_words<R: Read, W: Write>(
     }
 }
 
-/// Reads all input into the parser. Returns [`Fault::Memory`] only if the parser has failed.
+/// Reads all input into the parser. Returns [`Fault::Memory`] if the parser runs out of memory, and
+/// [`Fault::Read`] if a read fails.
 fn read_all<R: Read>(parser: &mut Parser, reader: &mut R) -> Result<(), Fault>
     ensures end { OnOk result (IsAtEnd (R.remaining reader.new)) }
     ensures ran { OnOk result (HasReadBytes (R.remaining reader.old) (R.remaining reader.new) parser.old parser.new) }

@@ -140,7 +140,7 @@ impl Grid {
         }
     }
 
-    /// Sets or resets origin mode, and moves the cursor to its home position (DECOM).
+    /// Turns origin mode on or off, and moves the cursor to its home position (DECOM).
     #[tactic(auto, using(crate::proofs::Regions::page_origin))]
     pub fn set_origin_mode(&mut self, on: bool)
         ensures { self.new ≡ origin_set on self.old }

@@ -306,8 +306,8 @@ impl Grid {
         self.page_rows.lift(self.pos.row, col, attrs)
     }
 
-    /// Puts a removed cell back at a column of the cursor's row, and restores the row's wrapped
-    /// flag.
+    /// Puts a removed cell back at a column of the cursor's row, and sets the row's wrapped flag to
+    /// `is_wrapped`.
     fn put_back(&mut self, col: u16, cell: Cell, is_wrapped: bool)
         requires inside { col < length (cursor_row self.old).cells }
         requires page { IsPage (with_row self.old.row

@@ -1,4 +1,5 @@
-//! Resizing a page as xterm does: rows scroll off the top, and come back at the top.
+//! Resizing a page as xterm does: rows scroll off the top of a page that shrinks, and return to the
+//! top of a page that grows.
 
 ghost use Rattle.std.specs.Prelude.{◌≡◌, ◌^◌, ◌-◌, ◌<◌, ◌≤◌, IfSome, None, OnErr, OnOk, length, min, option_map};
 ghost use Rattle.vt_grid.specs.Page.{blank_page};
@@ -21,8 +22,9 @@ impl Grid {
     /// are reported.
     ///
     /// If the new page has more rows, rows that have scrolled off since scrollback was last cleared
-    /// come back at the top, as many as fit. They are the newest scrollback rows; rows that were
-    /// not kept are replaced by blank rows. Blank rows at the bottom fill the rest of the page.
+    /// return to the top of the page, as many as fit. They are the newest scrollback rows; rows
+    /// that were not kept are replaced by blank rows. Blank rows at the bottom fill the rest of the
+    /// page.
     ///
     /// Each row is truncated or extended to the new width. The cursor and the saved cursor move
     /// with their rows, limited to the new page. Afterward the scroll region is the whole page, no
@@ -231,8 +233,8 @@ fn at_most(rows: u16, count: usize) -> u16
     usize::from(rows).min(count) as u16
 }
 
-/// Returns the position of a cursor after `down` rows have scrolled off the top and `up` rows have
-/// come back at the top. The cursor moves with its row, limited to the new size.
+/// Returns the position of a cursor that was at `pos` before `down` rows scrolled off the top of
+/// the page and `up` rows returned there. The cursor moves with its row, limited to the new size.
 fn resized(pos: Pos, down: u16, up: u16, size: Size) -> Pos
     ensures row { result.row ≡ row_resized size.rows down up pos.row }
     ensures col { result.col ≡ min pos.col (size.cols - 1) }

@@ -83,8 +83,8 @@ impl<'a> Iterator for BasicFormattedRows<'a> {
 
 impl<'a> FusedIterator for BasicFormattedRows<'a> {}
 
-/// Splits off the first row of `text`. Returns that row and the text of the remaining rows, which
-/// is `None` if no rows remain.
+/// Splits off the first row of `text` on a terminal of `width` columns. Returns that row and the
+/// text of the remaining rows, which is `None` if no rows remain.
 fn split_row(text: &str, width: u16) -> (&str, Option<&str>)
     ensures { rows_of width text.now ≡ result.0.now ∷ option_map_or (λ rest. rows_of width rest.now) result.1 [] }
 {

@@ -26,9 +26,8 @@ impl Screen {
     ///
     /// - Fewer rows: rows below the cursor are removed first. If that is not
     ///   enough, rows scroll off the top into scrollback.
-    /// - More rows: rows that scrolled off come back at the top, as blank rows
-    ///   if scrollback did not keep them. Blank rows at the bottom fill the
-    ///   rest of the page.
+    /// - More rows: rows that scrolled off return to the top, as blank rows if scrollback did not
+    ///   keep them. Blank rows at the bottom fill the rest of the page.
     /// - Columns: each row of the page is cut or extended; text is not
     ///   rewrapped.
     ///

@@ -112,10 +112,9 @@ impl Screen {
         Ok(())
     }
 
-    /// Erases scrollback and displays only the page. No callbacks are invoked
-    /// for the erased rows, and none of them comes back when the screen gets
-    /// more rows. On the alternate page, which has no scrollback, nothing
-    /// happens.
+    /// Erases scrollback and displays only the page. No callbacks are invoked for the erased rows,
+    /// and none of them returns when the screen gets more rows. On the alternate page, which has no
+    /// scrollback, nothing happens.
     pub fn clear_scrollback(&mut self)
         ensures { self.new ≡ screen_after step.EraseScrollback self.old }
     {
