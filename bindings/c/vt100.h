@@ -489,10 +489,10 @@ size_t vt100_copy(vt100_handle *handle, uint8_t *out, size_t room);
 
 /* ---- captures
  *
- * A capture is the concatenated basic text of rows: first the rows that scroll off a screen, in
- * order, and finally the rows that are still on it. A capture object stores the state between two
- * rows: the attributes of the last text, and whether a newline is due. The text is stored in the
- * handle of the capture.
+ * A capture is the concatenated text of rows, with SGR sequences and no other escape sequences:
+ * first the rows that scroll off a screen, in order, and finally the rows that are still on it. A
+ * capture object stores the state between two rows: the attributes of the last text, and whether a
+ * newline is due. The text is stored in the handle of the capture.
  */
 
 /*
@@ -541,14 +541,14 @@ vt100_status vt100_next_row(const uint8_t *text, size_t len, uint16_t width, siz
  *      2  resize: rows, cols
  *      3  set_window_icon_name: text
  *      4  set_window_title: text
- *      5  copy_to_clipboard: text is the kind and the data, each after its length in 8 bytes
+ *      5  copy_to_clipboard: text is the kind and the data, each preceded by its length in 8 bytes
  *      6  paste_from_clipboard: text
  *      7  unhandled_char: its code point
  *      8  unhandled_control: the byte
  *      9  unhandled_escape: two intermediates, 256 for none; text is the final byte
  *     10  unhandled_csi: two intermediates, 256 for none; text is the final character in 4 bytes,
  *         then each group of numbers: its count in 8 bytes, and 2 bytes for each number
- *     11  unhandled_osc: text is the parts, each after its length in 8 bytes
+ *     11  unhandled_osc: text is the parts, each preceded by its length in 8 bytes
  *     12  on_scroll: 1 for the alternate screen, 1 if the row is wrapped; text is its plain text,
  *         or nothing with VT100_ROWS_WITHOUT_TEXT
  *
