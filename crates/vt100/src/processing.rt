@@ -15,7 +15,8 @@ use vt_scan::{Event, Events, Scanner};
 use vt_screen::screen::printing;
 use vt_screen::{Callbacks, Screen};
 
-/// The maximum number of non-ASCII characters printed in one edit.
+/// The maximum number of characters in a run of wide or narrow characters, which is printed in a
+/// single edit of the row.
 const RUN: usize = 64;
 
 /// Parses `bytes`, applies the resulting events to the screen, and invokes

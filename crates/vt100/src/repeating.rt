@@ -10,7 +10,7 @@ use vt_cells::Error;
 use vt_screen::screen::printing;
 use vt_screen::{Callbacks, Screen};
 
-/// The maximum number of characters printed in one edit.
+/// The maximum number of characters printed in a single edit of the row.
 const TEXT_ROOM: usize = 64;
 
 /// Performs REP: prints the last printed character `count` more times, or does
@@ -98,7 +98,7 @@ fn repeat_some<CB: Callbacks>(
     Ok(count)
 }
 
-/// Prints a printable ASCII character `count` times in one edit. All `count`
+/// Prints a printable ASCII character `count` times in a single edit of the row. All `count`
 /// characters must fit on the cursor's row.
 #[inline]
 fn repeat_in_row(screen: &mut Screen, byte: u8, count: u16)

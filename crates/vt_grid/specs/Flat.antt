@@ -35,7 +35,7 @@ pub record IsTable (width : ℕ) (cells : List CellValue) (lines : List Line) : 
   pub distinct : (r s : ℕ) → r < length lines → s < length lines →
       (line_at lines r).place ≡ (line_at lines s).place → r ≡ s
 
--- The rows that a page's storage stands for.
+-- The rows that a page's storage represents.
 abbrev pub rows_of : Flat → List RowValue
 rows_of flat = rows_in flat.width flat.cells.items flat.lines.items
 

@@ -1,4 +1,5 @@
--- Text that is printed character by character, and text that fits on the cursor's row and is printed in one edit.
+-- Text that is printed character by character, and text that fits on the cursor's row and is printed in a single
+-- edit.
 use Rattle.std.specs.Prelude.{ℕ, ◌+◌, List, [], ◌∷◌, length}
 use Rattle.vt_cells.specs.Attrs.{Attrs}
 use Rattle.vt_rows.specs.Texts.{put_text}

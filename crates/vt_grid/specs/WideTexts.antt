@@ -1,4 +1,4 @@
--- Text of wide characters that fits on the cursor's row and is printed in one edit.
+-- Text of wide characters that fits on the cursor's row and is printed in a single edit.
 use Rattle.std.specs.Prelude.{ℕ, ◌+◌, ◌*◌, List, length}
 use Rattle.vt_cells.specs.Attrs.{Attrs}
 use Rattle.vt_rows.specs.WideTexts.{put_wide_text}

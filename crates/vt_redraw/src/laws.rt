@@ -26,10 +26,9 @@ ghost use Rattle.vt_redraw.specs.Redraw.{cursor_state, difference, differences, 
 ghost use Rattle.vt_redraw.specs.Steady.{HasNoSelector, IsOfSize, IsSteady, IsSteadyCell, heart_text};
 ghost use Rattle.vt_redraw.specs.Touching.{Touches};
 
-/// States that drawing the diff from one picture to another on a plain canvas
-/// that displays the first picture makes the canvas display the second picture,
-/// if the second picture is steady. Apart from what is displayed, only the
-/// saved cursor, origin mode and attributes may change.
+/// States that a plain canvas that displays the first of two pictures displays the second after the
+/// diff between them is drawn on it. The second picture must be steady. Apart from what is
+/// displayed, only the saved cursor, origin mode and attributes may change.
 pub fn difference_draws()
     ensures { (self prev : Picture) → (any : Canvas) → IsPicture self → IsSteady self →
         IsPicture prev → SamePictureSize self prev → IsPlainPage any.page → picture_of any ≡ prev →
@@ -139,11 +138,10 @@ pub fn whole_cuts_none()
         CutsNone 0 self.width (row_of_picture self r).cells }
 {}
 
-/// States that drawing the diff for a range of columns in a row on a plain
-/// canvas that displays the old row gives the row the new cells in that range.
-/// Apart from those cells, only the row's wrapped flag, the cursor and the
-/// attributes may change. The new picture must be steady, and the range must
-/// cut no wide character in two.
+/// States that drawing the diff for a range of columns in a row gives the canvas row the new cells
+/// in that range, provided that the canvas is plain and displays the old row. Apart from those
+/// cells, only the row's wrapped flag, the cursor and the attributes may change. The new picture
+/// must be steady, and the range must cut no wide character in two.
 pub fn difference_item_draws()
     ensures { (self : Picture) → (r start stop : ℕ) → (y : RowValue) → (any : Canvas) → IsPicture self → IsSteady self →
         AwaitsItem self r start y any → start ≤ stop → stop ≤ self.width →
@@ -169,10 +167,10 @@ pub fn difference_item_empty()
         ↔ (row_of_picture self r ≡ row_of_picture prev r) }
 {}
 
-/// States that drawing the redraw for a range of columns in a row over a row of
-/// default blanks, on a plain canvas, gives the row the cells in that range.
-/// Apart from those cells, only the cursor and the attributes change. The
-/// picture must be steady, and the range must cut no wide character in two.
+/// States that drawing the redraw for a range of columns in a row gives the canvas row the
+/// picture's cells in that range, provided that the canvas is plain and the row consists of default
+/// blanks. Apart from those cells, only the cursor and the attributes change. The picture must be
+/// steady, and the range must cut no wide character in two.
 pub fn redraw_item_draws()
     ensures { (self : Picture) → (r start stop : ℕ) → (linked : Bool) → (any : Canvas) → IsPicture self →
         IsSteady self → AwaitsItem self r start (blank_row default_attrs self.width) any → start ≤ stop →

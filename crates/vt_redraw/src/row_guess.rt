@@ -35,8 +35,9 @@ struct Best {
     bytes: i32,
 }
 
-/// The approximate length of the output that draws the first cells of a row, along with the facts
-/// about the last cell on which the output for the next cell depends.
+/// An estimate of the length of the output that draws the leading cells of a row. It also records
+/// whether and how the last cell was drawn and which attributes are set, because the output for the
+/// next cell depends on them.
 #[derive(Drop)]
 struct Estimate {
     bytes: i32,

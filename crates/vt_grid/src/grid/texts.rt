@@ -1,4 +1,5 @@
-//! Printing runs of characters that fit on the cursor's row, with one edit of the row for each run.
+//! Printing runs of characters that fit on the cursor's row, with a single edit of the row for each
+//! run.
 
 ghost use Rattle.std.specs.Prelude.{◌≡◌, ◌+◌, ◌*◌, ◌<◌, ◌≤◌, length};
 ghost use Rattle.vt_rows.specs.Texts.{IsNarrowText, IsPrintableAscii};
@@ -11,8 +12,8 @@ use super::Grid;
 use vt_cells::Attrs;
 
 impl Grid {
-    /// Prints `text` in one edit of the cursor's row. The text must be printable ASCII and must fit
-    /// on that row, so no row scrolls off the page.
+    /// Prints `text` in a single edit of the cursor's row. The text must be printable ASCII and
+    /// must fit on that row, so no row scrolls off the page.
     ///
     /// The result is the same as that of calling [`Grid::print_columns`] for each
     /// character.
@@ -41,8 +42,8 @@ impl Grid {
         self.pos.col += text.len() as u16;
     }
 
-    /// Prints `text` in one edit of the cursor's row. The text must consist of narrow characters
-    /// and must fit on that row, so no row scrolls off the page.
+    /// Prints `text` in a single edit of the cursor's row. The text must consist of narrow
+    /// characters and must fit on that row, so no row scrolls off the page.
     ///
     /// The result is the same as that of calling [`Grid::print_columns`] for each
     /// character.
@@ -71,8 +72,8 @@ impl Grid {
         self.pos.col += text.len() as u16;
     }
 
-    /// Prints `text` in one edit of the cursor's row. The text must consist of wide characters and
-    /// must fit on that row, so no row scrolls off the page.
+    /// Prints `text` in a single edit of the cursor's row. The text must consist of wide characters
+    /// and must fit on that row, so no row scrolls off the page.
     ///
     /// The result is the same as that of calling [`Grid::print_columns`] for each
     /// character.

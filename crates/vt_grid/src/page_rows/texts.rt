@@ -1,4 +1,4 @@
-//! Putting runs of characters into a row of a page, with one edit of the row for each run.
+//! Putting runs of characters into a row of a page, with a single edit of the row for each run.
 
 ghost use Rattle.std.specs.Prelude.{◌≡◌, ◌+◌, ◌*◌, ◌<◌, ◌≤◌, length};
 ghost use Rattle.vt_rows.specs.Cells.{IsPaired};
