@@ -1,4 +1,4 @@
--- Resizing a page: which rows scroll off, which come back, and where the cursors end up (xterm).
+-- Resizing a page: which rows scroll off, which return from scrollback, and where the cursors end up (xterm).
 use Rattle.std.specs.Prelude.{ℕ, ◌+◌, ◌-◌, nat_lt, List, ◌++◌, length, take, map, min, if◌then◌else◌}
 use Rattle.vt_cells.specs.Attrs.{default_attrs}
 use Rattle.vt_rows.specs.Row.{RowValue, blank_row, resized_row}
@@ -11,8 +11,8 @@ use Rattle.vt_grid.specs.Shifts.{unflagged}
 abbrev pub leaving_count : ℕ → Page → ℕ
 leaving_count height page = (length page.rows - height) - (length page.rows - (page.row + 1))
 
--- The number of rows that come back when a page is resized to the given height: as many as there is room for, up to the
--- number of rows that scrolled off and haven't come back.
+-- The number of rows that return to a page when it is resized to the given height: as many as there is room for, up
+-- to the number of rows that scrolled off and haven't returned.
 abbrev pub returning_count : ℕ → Scrollback → Page → ℕ
 returning_count height above page = min (height - length page.rows) above.theoretical
 
@@ -29,7 +29,7 @@ window width height down up above rows =
 abbrev pub rows_resized : ℕ → List RowValue → List RowValue
 rows_resized width rows = unflagged width (length rows - 1) (map (resized_row width) rows)
 
--- The new index of a row after `down` rows scrolled off above it and `up` rows came back, limited to the last row.
+-- The new index of a row after `down` rows scrolled off above it and `up` rows returned, limited to the last row.
 abbrev pub row_resized : (height down up : ℕ) → ℕ → ℕ
 row_resized height down up row = min (row - down + up) (height - 1)
 

@@ -138,13 +138,13 @@ glyph_ops pen pos x = placed_op pen pos.row pos.col (attrs_of x) (Print (text_of
 abbrev pub run_ops : Pen → Pos → Attrs → (count : ℕ) → RowValue → List Op
 run_ops pen pos attrs count y = placed_op pen pos.row pos.col attrs (erase_run count (drop (pos.col + count) y.cells))
 
--- Whether the cell of the row `x` in the given column needs no output, because the displayed row `y` has an equal cell
+-- Whether the cell of the row `x` in the given column is skipped, because the displayed row `y` has an equal cell
 -- there or because the cell is the continuation cell of a wide character.
 abbrev pub stands : ℕ → (x y : RowValue) → Bool
 stands c x y = is_right_half (at x.cells c) || same_cell (at x.cells c) (at y.cells c)
 
--- The cell at column `c` of the row `x` needs output, and the cells of `x` can be drawn over the cells of `y`. The row
--- `y` has fewer than 65536 cells.
+-- The cell at column `c` of the row `x` must be written, and the cells of `x` can be drawn over the cells of `y`. The
+-- row `y` has fewer than 65536 cells.
 pub record IsOther (c : ℕ) (x y : RowValue) : Type 0 where
   pub inside : c < length x.cells
   pub range : IsRange x.cells y.cells
@@ -179,7 +179,8 @@ range_over pos pen flag x y =
     cells_written pos.row pos.col pen flag 0 (with_whole_start (drop pos.col x.cells))
     (with_whole_start_over (drop pos.col x.cells) (drop pos.col y.cells))
 
--- No cell in columns `c..next` needs output, so the output from column `c` on equals the output from column `next` on.
+-- All cells in columns `c..next` are skipped, so the output from column `c` on equals the output from column `next`
+-- on.
 pub record Passes (c next : ℕ) (xs ys : List CellValue) : Type 0 where
   pub same : (r : ℕ) (pen : Pen) (flag : Bool) → cells_from r c pen flag xs ys ≡ cells_from r next pen flag xs ys
 

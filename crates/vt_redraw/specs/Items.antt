@@ -26,7 +26,7 @@ with_whole_start (blank a ∷ xs) = blank a ∷ xs
 with_whole_start (glyph text wide a ∷ xs) = glyph text wide a ∷ xs
 
 -- The displayed cells `ys`, adapted to `with_whole_start xs`. If both lists begin with a continuation cell, the first
--- cell of `ys` becomes a default blank, so that it needs no output. If only `xs` begins with a continuation cell, the
+-- cell of `ys` becomes a default blank, so that it is skipped. If only `xs` begins with a continuation cell, the
 -- first cell of `ys` becomes a continuation cell, so that the blank is drawn.
 abbrev pub with_whole_start_over : (xs ys : List CellValue) → List CellValue
 with_whole_start_over (right_half ∷ xs) (right_half ∷ ys) = default_blank ∷ ys

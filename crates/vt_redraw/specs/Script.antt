@@ -79,8 +79,8 @@ flag_past flag rest = flag && not (is_nil rest || is_torn rest)
 
 -- ---- the cells of a row, from left to right
 
--- The output that replaces the displayed cells `ys` with `xs`, starting at column `c` of row `r`. The first
--- `settled` cells need no output.
+-- The output that replaces the displayed cells `ys` with `xs`, starting at column `c` of row `r`. The first `settled`
+-- cells are already written.
 unfoldable pub cells_written : (r c : ℕ) → Pen → (flag : Bool) → (settled : ℕ) → (xs ys : List CellValue) → Scripted
 cells_written r c pen flag settled [] ys = no_ops pen flag
 cells_written r c pen flag settled (x ∷ xs) [] = no_ops pen flag
