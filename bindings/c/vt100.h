@@ -442,6 +442,24 @@ vt100_status vt100_contents_diff(vt100_handle *handle, vt100_handle *prev, size_
 vt100_status vt100_contents_diff_scrolling(vt100_handle *handle, vt100_handle *prev, size_t *len);
 
 /*
+ * Options of a difference, to be combined with `|`. VT100_DIFF_SCROLL: it may move rows or columns
+ * first. VT100_DIFF_REPEAT: runs of a printable ASCII character may be written with REP (ECMA-48,
+ * 8.3.103), within a row. Use it only if the terminal that reads the difference performs REP; some
+ * terminals ignore it.
+ */
+#define VT100_DIFF_SCROLL 1
+#define VT100_DIFF_REPEAT 2
+
+/*
+ * The difference of vt100_contents_diff with options. Without VT100_DIFF_REPEAT, it is that of
+ * vt100_contents_diff or vt100_contents_diff_scrolling. It is never longer than that of
+ * vt100_contents_diff.
+ * Statuses: as for vt100_contents_diff.
+ */
+vt100_status vt100_contents_diff_with(vt100_handle *handle, vt100_handle *prev, uint8_t options,
+                                      size_t *len);
+
+/*
  * Generates the output of vt100_contents_diff, followed by that of vt100_input_mode_diff.
  * VT100_BAD_ARGUMENT, VT100_OTHER_SIZE.
  */
@@ -620,6 +638,13 @@ vt100_status vt100_update(vt100_handle *mirror, uint64_t viewer, uint16_t *rows,
  */
 vt100_status vt100_update_scrolling(vt100_handle *mirror, uint64_t viewer, uint16_t *rows,
                                     uint16_t *cols, size_t *len);
+
+/*
+ * As vt100_update, but the diff has the given options (see VT100_DIFF_SCROLL). With
+ * VT100_DIFF_SCROLL, the update may be a redraw, as with vt100_update_scrolling.
+ */
+vt100_status vt100_update_with(vt100_handle *mirror, uint64_t viewer, uint8_t options,
+                               uint16_t *rows, uint16_t *cols, size_t *len);
 
 /*
  * Stores 1 if the viewer is known to be up to date, otherwise 0. The next update of an up-to-date

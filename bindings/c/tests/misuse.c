@@ -111,6 +111,11 @@ static vt100_status update_scrolling(vt100_handle *h) {
     return vt100_update_scrolling(h, viewer, &rows, &cols, &len);
 }
 
+static vt100_status update_with(vt100_handle *h) {
+    if (vt100_kind(h) == VT100_MIRROR) must(vt100_join(h, &viewer) == VT100_OK);
+    return vt100_update_with(h, viewer, VT100_DIFF_SCROLL | VT100_DIFF_REPEAT, &rows, &cols, &len);
+}
+
 static const struct {
     const char *name;
     call_of_one *call;
@@ -128,7 +133,8 @@ static const struct {
     {"rows_formatted", drawn_rows, P | S}, {"events", events, P},
     {"clear_events", vt100_clear_events, P}, {"set_event_limit", limit, P}, {"join", join, M},
     {"leave", leave, M},
-    {"update", update, M}, {"update_scrolling", update_scrolling, M}, {"save", save, P | S | C},
+    {"update", update, M}, {"update_scrolling", update_scrolling, M},
+    {"update_with", update_with, M}, {"save", save, P | S | C},
     {"shown_copy", shown_copy, P | S}, {"is_steady", steady, P | S},
     {"mirror_is_current", current, M}, {"pending_len", pending, P},
 };
@@ -166,6 +172,9 @@ static vt100_status diff(vt100_handle *h, vt100_handle *o) {
 static vt100_status scrolling(vt100_handle *h, vt100_handle *o) {
     return vt100_contents_diff_scrolling(h, o, &len);
 }
+static vt100_status diff_with(vt100_handle *h, vt100_handle *o) {
+    return vt100_contents_diff_with(h, o, VT100_DIFF_REPEAT, &len);
+}
 static vt100_status state_diff(vt100_handle *h, vt100_handle *o) {
     return vt100_state_diff(h, o, &len);
 }
@@ -186,6 +195,7 @@ static const struct {
 } of_two[] = {
     {"contents_diff", diff, P | S, P | S, 1},
     {"contents_diff_scrolling", scrolling, P | S, P | S, 1},
+    {"contents_diff_with", diff_with, P | S, P | S, 1},
     {"state_diff", state_diff, P | S, P | S, 1}, {"rows_diff", rows_diff, P | S, P | S, 1},
     {"input_mode_diff", input_diff, P | S, P | S, 0}, {"swap", vt100_swap, P | S, P | S, 0},
     {"capture_screen", capture, P | S, C, 0},

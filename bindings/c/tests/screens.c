@@ -138,6 +138,31 @@ static void viewers(void) {
     vt100_free(&mirror);
 }
 
+/* A run of a character is written with REP (ECMA-48, 8.3.103) if the options allow it. */
+static void repeated(void) {
+    vt100_handle parser = VT100_EMPTY, before = VT100_EMPTY, mirror = VT100_EMPTY;
+    uint64_t viewer;
+    uint16_t rows, cols;
+    size_t len;
+    must(vt100_parser_new(2, 20, 0, 0, &parser) == VT100_OK);
+    must(vt100_save(&parser, &before) == VT100_OK);
+    read_into(&parser, "----------");
+    must(vt100_contents_diff_with(&parser, &before, VT100_DIFF_REPEAT, &len) == VT100_OK);
+    must(is_text(&parser, len, "-\x1b[9b"));
+    must(vt100_contents_diff_with(&parser, &before, VT100_DIFF_SCROLL, &len) == VT100_OK);
+    must(is_text(&parser, len, "----------"));
+    must(vt100_mirror_new(2, 20, 0, &mirror) == VT100_OK);
+    must(vt100_join(&mirror, &viewer) == VT100_OK);
+    must(vt100_update_with(&mirror, viewer, VT100_DIFF_REPEAT, &rows, &cols, &len) == VT100_OK);
+    must(rows == 2 && cols == 20);
+    read_into(&mirror, "----------");
+    must(vt100_update_with(&mirror, viewer, VT100_DIFF_REPEAT, &rows, &cols, &len) == VT100_OK);
+    must(rows == 0 && is_text(&mirror, len, "-\x1b[9b"));
+    vt100_free(&mirror);
+    vt100_free(&before);
+    vt100_free(&parser);
+}
+
 /*
  * The bytes of an unfinished command are counted until it ends; those of other sequences and
  * strings are not.
@@ -177,6 +202,7 @@ int main(void) {
     steady();
     shown_copies();
     viewers();
+    repeated();
     pending();
     version();
     must(heap_live == 0);

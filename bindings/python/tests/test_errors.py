@@ -84,6 +84,7 @@ class Integers(unittest.TestCase):
             self.assert_value_errors(
                 lambda: mirror.update(wrong),
                 lambda: mirror.update_scrolling(wrong),
+                lambda: mirror.update_with(wrong, repeat=True),
                 lambda: mirror.leave(wrong),
             )
         mirror.leave(viewer)
@@ -179,6 +180,7 @@ class Statuses(unittest.TestCase):
         for difference in (
             parser.contents_diff,
             parser.contents_diff_scrolling,
+            parser.contents_diff_with,
             parser.state_diff,
             parser.rows_diff,
         ):

@@ -24,6 +24,14 @@ class Viewers(unittest.TestCase):
         self.assertEqual(mirror.update(viewer), vt100.Update(""))
         mirror.leave(viewer)
 
+    def test_runs_are_repeated_if_the_options_allow_it(self):
+        mirror = vt100.Mirror(2, 20)
+        viewer = mirror.join()
+        self.assertEqual(mirror.update_with(viewer, repeat=True).size, (2, 20))
+        mirror.process(b"----------")
+        self.assertEqual(mirror.update_with(viewer, repeat=True), vt100.Update("-\x1b[9b"))
+        self.assertEqual(mirror.update_with(viewer, scroll=True), vt100.Update(""))
+
     def test_a_viewer_may_join_late(self):
         mirror = vt100.Mirror(2, 10)
         first = mirror.join()

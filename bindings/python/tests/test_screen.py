@@ -249,6 +249,14 @@ class Texts(unittest.TestCase):
         self.assertEqual(moved, "\x1b[H\x1b[M\x1b[4;1Heeeeeeeee")
         self.assertLess(len(moved), len(parser.contents_diff(before)))
 
+    def test_runs_are_repeated_if_the_options_allow_it(self):
+        parser = screen_of(b"", 2, 20)
+        before = parser.save()
+        parser.process(b"----------")
+        self.assertEqual(parser.contents_diff_with(before, repeat=True), "-\x1b[9b")
+        self.assertEqual(parser.contents_diff_with(before), parser.contents_diff(before))
+        self.assertEqual(parser.contents_diff_with(before, scroll=True), "-" * 10)
+
     def test_the_whole_state_is_drawn(self):
         modes = b"\x1b[?1h\x1b=\x1b[?2004h\x1b[?1002h\x1b[?1006h\x1b[5 q"
         screen = screen_of(modes + b"\x1b[1;31mab\x1b[2;3H")

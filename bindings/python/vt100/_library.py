@@ -147,8 +147,10 @@ def _arguments() -> Dict[str, List[Any]]:
         arguments[name] = [handle, length]
     for name in ("contents_diff", "contents_diff_scrolling", "state_diff", "input_mode_diff"):
         arguments[name] = [handle, handle, length]
+    arguments["contents_diff_with"] = [handle, handle, ctypes.c_uint8, length]
     for name in ("update", "update_scrolling"):
         arguments[name] = [handle, u64, side, side, length]
+    arguments["update_with"] = [handle, u64, ctypes.c_uint8, side, side, length]
     return arguments
 
 
@@ -221,6 +223,11 @@ def in_range(name: str, value: SupportsIndex, low: int, high: int) -> int:
     if not low <= number <= high:
         raise ValueError(f"{name} must be from {low} to {high}, not {number}")
     return number
+
+
+def diff_options(scroll: bool, repeat: bool) -> int:
+    """Returns the bits of the options of a difference."""
+    return int(bool(scroll)) | int(bool(repeat)) << 1
 
 
 def size_in_range(rows: SupportsIndex, cols: SupportsIndex) -> Tuple[int, int]:

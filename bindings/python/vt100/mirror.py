@@ -6,7 +6,7 @@ import ctypes
 from typing import Any, NamedTuple, Optional, SupportsIndex
 
 from ._cells import Size
-from ._library import MAX_SIZE, MAX_U64, check, in_range, library, size_in_range
+from ._library import MAX_SIZE, MAX_U64, check, diff_options, in_range, library, size_in_range
 from ._object import BytesLike, Object, as_bytes
 
 
@@ -68,6 +68,16 @@ class Mirror(Object):
         """
         return self._update(library.vt100_update_scrolling, viewer)
 
+    def update_with(
+        self, viewer: SupportsIndex, *, scroll: bool = False, repeat: bool = False
+    ) -> Update:
+        """Returns the next update of a viewer. It is never longer than that of `update`. With
+        `scroll`, it may move rows or columns first, and may be a full redraw, as with
+        `update_scrolling`. With `repeat`, runs of a printable ASCII character may be written with REP
+        (ECMA-48, 8.3.103), within a row; some terminals ignore REP.
+        """
+        return self._update(library.vt100_update_with, viewer, diff_options(scroll, repeat))
+
     def is_current(self, viewer: SupportsIndex) -> bool:
         """Returns whether a viewer is known to be up to date. If it is, its next update draws
         nothing, except that `update_scrolling` redraws the screen if it is not steady.
@@ -81,10 +91,10 @@ class Mirror(Object):
         self._call(library.vt100_mirror_is_current, number, ctypes.byref(current))
         return current.value == 1
 
-    def _update(self, function: Any, viewer: SupportsIndex) -> Update:
+    def _update(self, function: Any, viewer: SupportsIndex, *options: int) -> Update:
         number = in_range("viewer", viewer, 0, MAX_U64)
         rows, cols = ctypes.c_uint16(), ctypes.c_uint16()
-        text = self._text(function, number, ctypes.byref(rows), ctypes.byref(cols))
+        text = self._text(function, number, *options, ctypes.byref(rows), ctypes.byref(cols))
         return Update(text, Size(rows.value, cols.value) if rows.value else None)
 
     def __repr__(self) -> str:

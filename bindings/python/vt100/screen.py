@@ -20,7 +20,7 @@ from typing import (
 
 from . import _find
 from ._cells import CELL_SIZE, Cell, Position, cell_of, cells_of
-from ._library import MAX_SIZE, MAX_U16, State, in_range, library, size_in_range
+from ._library import MAX_SIZE, MAX_U16, State, diff_options, in_range, library, size_in_range
 from ._state import HasState
 
 _Index = SupportsIndex
@@ -285,6 +285,14 @@ class Screen(HasState):
         `contents_diff`."""
         return self._diff(library.vt100_contents_diff_scrolling, prev)
 
+    def contents_diff_with(
+        self, prev: Screen, *, scroll: bool = False, repeat: bool = False
+    ) -> str:
+        """Returns a difference that is never longer than `contents_diff`. With `scroll`, it may move
+        rows or columns first. With `repeat`, runs of a printable ASCII character may be written with
+        REP (ECMA-48, 8.3.103), within a row; some terminals ignore REP."""
+        return self._diff(library.vt100_contents_diff_with, prev, diff_options(scroll, repeat))
+
     def state_diff(self, prev: Screen) -> str:
         """Returns `contents_diff` followed by the escape sequences that change the input modes."""
         return self._diff(library.vt100_state_diff, prev)
@@ -294,9 +302,9 @@ class Screen(HasState):
         screen. The screens may have different sizes."""
         return self._diff(library.vt100_input_mode_diff, prev)
 
-    def _diff(self, function: Any, prev: Screen) -> str:
+    def _diff(self, function: Any, prev: Screen, *options: int) -> str:
         with self._and(prev) as other:
-            return self._text(function, other._at)
+            return self._text(function, other._at, *options)
 
     @contextlib.contextmanager
     def _and(self, other: Screen) -> Iterator[Screen]:

@@ -2,8 +2,8 @@
 //! screen that a person would see, and returns it as text, as a redraw or as a diff.
 //!
 //! The items are those of the crate `vt100` 0.18.1, with the addition of [`mirror`],
-//! [`Parser::pending_len`], [`Screen::contents_diff_scrolling`], [`Screen::is_steady`] and
-//! [`Screen::shown_copy`]. The crate wraps a library that is formally verified.
+//! [`DiffOptions`], [`Parser::pending_len`], [`Screen::contents_diff_scrolling`],
+//! [`Screen::contents_diff_with`], [`Screen::is_steady`] and [`Screen::shown_copy`]. The crate wraps a library that is formally verified.
 //!
 //! # Synopsis
 //!
@@ -43,6 +43,7 @@ pub mod capture;
 mod cell;
 mod cells;
 mod color;
+mod diff_options;
 mod event;
 #[allow(unsafe_code)]
 mod library;
@@ -55,6 +56,7 @@ mod texts;
 pub use callbacks::Callbacks;
 pub use cell::Cell;
 pub use color::Color;
+pub use diff_options::DiffOptions;
 pub use modes::{CursorStyle, MouseProtocolEncoding, MouseProtocolMode};
 pub use parser::Parser;
 pub use screen::Screen;

@@ -10,6 +10,8 @@
 //! - Bytes are passed as the pointer and length of a slice. Results are stored in local variables
 //!   of this module or in a vector, together with the length of that vector.
 
+use crate::diff_options::DiffOptions;
+
 /// Defines structs with the layout of the header.
 macro_rules! structs {
     ($($(#[$meta:meta])* $name:ident { $($field:ident: $type:ty,)* })*) => {
@@ -110,6 +112,12 @@ extern "C" {
     fn vt100_contents_diff(handle: *mut Handle, prev: *mut Handle, len: *mut usize) -> u8;
     fn vt100_contents_diff_scrolling(handle: *mut Handle, prev: *mut Handle, len: *mut usize)
         -> u8;
+    fn vt100_contents_diff_with(
+        handle: *mut Handle,
+        prev: *mut Handle,
+        options: u8,
+        len: *mut usize,
+    ) -> u8;
     fn vt100_state_diff(handle: *mut Handle, prev: *mut Handle, len: *mut usize) -> u8;
     fn vt100_input_mode_diff(handle: *mut Handle, prev: *mut Handle, len: *mut usize) -> u8;
     fn vt100_rows(
@@ -177,6 +185,14 @@ extern "C" {
     fn vt100_update_scrolling(
         mirror: *mut Handle,
         viewer: u64,
+        rows: *mut u16,
+        cols: *mut u16,
+        len: *mut usize,
+    ) -> u8;
+    fn vt100_update_with(
+        mirror: *mut Handle,
+        viewer: u64,
+        options: u8,
         rows: *mut u16,
         cols: *mut u16,
         len: *mut usize,
@@ -427,6 +443,18 @@ impl Handle {
         }
     }
 
+    /// Returns the difference from the screen `prev` with options, or `None` if the sizes differ.
+    pub fn difference_with(&mut self, prev: &mut Self, options: DiffOptions) -> Option<String> {
+        let mut len = 0;
+        match unsafe { vt100_contents_diff_with(self, prev, options.bits(), &mut len) } {
+            OTHER_SIZE => None,
+            status => {
+                check(status);
+                Some(self.copied(len))
+            }
+        }
+    }
+
     /// Returns the text of each displayed row; `rows` must be the number of rows of the screen.
     pub fn rows(&mut self, texts: RowTexts, start: u16, width: u16, rows: u16) -> Vec<String> {
         let mut ends = vec![0; usize::from(rows)];
@@ -518,6 +546,23 @@ impl Handle {
     pub fn update(&mut self, updates: Updates, viewer: u64) -> Option<((u16, u16), String)> {
         let (mut rows, mut cols, mut len) = (0, 0, 0);
         match unsafe { (updates.0)(self, viewer, &mut rows, &mut cols, &mut len) } {
+            BAD_ARGUMENT => None,
+            status => {
+                check(status);
+                Some(((rows, cols), self.copied(len)))
+            }
+        }
+    }
+
+    /// Returns the update that [`update`](Self::update) returns, with options for a difference.
+    pub fn update_with(
+        &mut self,
+        options: DiffOptions,
+        viewer: u64,
+    ) -> Option<((u16, u16), String)> {
+        let (mut rows, mut cols, mut len) = (0, 0, 0);
+        let bits = options.bits();
+        match unsafe { vt100_update_with(self, viewer, bits, &mut rows, &mut cols, &mut len) } {
             BAD_ARGUMENT => None,
             status => {
                 check(status);

@@ -1,5 +1,6 @@
 //! A terminal whose screen is mirrored by remote viewers. Not in the crate `vt100`.
 
+use crate::diff_options::DiffOptions;
 use crate::library::{Handle, Updates};
 use std::num::NonZeroU16;
 use std::sync::{Mutex, PoisonError};
@@ -106,6 +107,16 @@ impl Mirror {
         self.next(Updates::SCROLLING, viewer)
     }
 
+    /// Returns the next update of a viewer, or `None` if there is no viewer with this number. The
+    /// diff has the given options, which may differ from update to update.
+    ///
+    /// If rows and columns may move first, the update may be a full one, as with
+    /// [`update_scrolling`](Self::update_scrolling).
+    pub fn update_with(&mut self, viewer: u64, options: DiffOptions) -> Option<Update> {
+        let update = self.handle().update_with(options, viewer)?;
+        Some(update_of(update))
+    }
+
     /// Returns whether a viewer is known to be up to date. If it is, its next update is an empty
     /// diff, except that [`update_scrolling`](Self::update_scrolling) returns a full update if the
     /// screen is not steady.
@@ -120,10 +131,16 @@ impl Mirror {
     }
 
     fn next(&mut self, updates: Updates, viewer: u64) -> Option<Update> {
-        let ((rows, cols), text) = self.handle().update(updates, viewer)?;
-        Some(match (NonZeroU16::new(rows), NonZeroU16::new(cols)) {
-            (Some(rows), Some(cols)) => Update::Full { rows, cols, text },
-            _ => Update::Diff(text),
-        })
+        let update = self.handle().update(updates, viewer)?;
+        Some(update_of(update))
+    }
+}
+
+/// Returns the update with the given text for a terminal of the given size, or for a terminal that
+/// keeps its size if the size is 0.
+fn update_of(((rows, cols), text): ((u16, u16), String)) -> Update {
+    match (NonZeroU16::new(rows), NonZeroU16::new(cols)) {
+        (Some(rows), Some(cols)) => Update::Full { rows, cols, text },
+        _ => Update::Diff(text),
     }
 }

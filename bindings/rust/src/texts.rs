@@ -1,6 +1,7 @@
 //! The text of a screen, and its redraws and diffs as strings.
 
 use crate::capture::BasicFormattedCaptureRange;
+use crate::diff_options::DiffOptions;
 use crate::library::{Difference, Handle, RowTexts, Text};
 use crate::Screen;
 use std::fmt;
@@ -112,6 +113,15 @@ impl Screen {
     #[must_use]
     pub fn contents_diff_scrolling(&self, prev: &Self) -> String {
         self.difference(prev, Difference::SCROLLING)
+            .unwrap_or_else(|| self.contents_formatted())
+    }
+
+    /// Returns the escape sequences that turn the display of `prev` into that of `self`, with
+    /// options. The result is never longer than [`contents_diff`](Self::contents_diff). Not in the
+    /// crate `vt100`.
+    #[must_use]
+    pub fn contents_diff_with(&self, prev: &Self, options: DiffOptions) -> String {
+        self.with_both(prev, |handle, prev| handle.difference_with(prev, options))
             .unwrap_or_else(|| self.contents_formatted())
     }
 

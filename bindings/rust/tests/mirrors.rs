@@ -2,7 +2,7 @@
 
 use std::num::NonZeroU16;
 use vt100::mirror::{Mirror, Update};
-use vt100::Parser;
+use vt100::{DiffOptions, Parser};
 
 fn size(number: u16) -> NonZeroU16 {
     NonZeroU16::new(number).unwrap()
@@ -33,6 +33,48 @@ fn rows_move_where_that_is_shorter() {
     assert_eq!(
         screen.contents_diff_scrolling(other.screen()),
         screen.contents_formatted()
+    );
+}
+
+#[test]
+fn runs_are_repeated_if_the_options_allow_it() {
+    let mut parser = Parser::new(size(2), size(20), 0);
+    let before = parser.screen().clone();
+    parser.process(b"----------");
+    let screen = parser.screen();
+    let repeat = DiffOptions {
+        repeat: true,
+        ..DiffOptions::default()
+    };
+    assert_eq!(screen.contents_diff_with(&before, repeat), "-\x1b[9b");
+    assert_eq!(
+        screen.contents_diff_with(&before, DiffOptions::default()),
+        screen.contents_diff(&before)
+    );
+    let mut mirror = Mirror::new(size(2), size(20), 0);
+    let viewer = mirror.join();
+    mirror.update(viewer).unwrap();
+    mirror.process(b"----------");
+    assert_eq!(
+        mirror.update_with(viewer, repeat),
+        Some(Update::Diff("-\x1b[9b".into()))
+    );
+    assert_eq!(mirror.update_with(viewer + 1, repeat), None);
+}
+
+#[test]
+fn rows_move_and_runs_are_repeated() {
+    let mut parser = Parser::new(size(4), size(10), 0);
+    parser.process(b"aaaaaaaaa\r\nbbbbbbbbb\r\nccccccccc\r\nddddddddd");
+    let before = parser.screen().clone();
+    parser.process(b"\r\neeeeeeeee");
+    let both = DiffOptions {
+        scroll: true,
+        repeat: true,
+    };
+    assert_eq!(
+        parser.screen().contents_diff_with(&before, both),
+        "\x1b[H\x1b[M\x1b[4;1He\x1b[8b"
     );
 }
 

@@ -1,14 +1,16 @@
 -- The text or output that each call generates.
-use Rattle.std.specs.Prelude.{◌≡◌, ◌<◌, ◌≤◌, ℕ, List, Option, length}
+use Rattle.std.specs.Prelude.{◌≡◌, ◌<◌, ◌≤◌, ◌/◌, ◌%◌, ◌==◌, ℕ, List, Option, length}
 use Rattle.vt_cells.specs.Op.{bytes_of_all}
-use Rattle.vt_redraw.specs.Shifted.{IsMoving}
 use Rattle.vt_redraw.specs.Redraw.{cursor_state, difference, redraw}
 use Rattle.vt_rows.specs.Basic.{nothing_written}
 use Rattle.vt_screen.specs.AnyRegion.{reset_text}
 use Rattle.vt_screen.specs.Capture.{basic_texts}
 use Rattle.vt_screen.specs.Contents.{between_of, contents_of}
+use Rattle.vt_screen.specs.Diffs.{IsDiffWith}
+use Rattle.vt_screen.specs.declared.diff_options.DiffOptions.{DiffOptions}
 use Rattle.vt_screen.specs.InputTexts.{input_change, input_text}
 use Rattle.vt_screen.specs.Screen.{ScreenValue, visible_rows}
+use Rattle.vt_screen.specs.ShortMoves.{IsShortMoving}
 use Rattle.vt_screen.specs.Shown.{attributes_text, display}
 use Rattle.vt_screen.specs.States.{state_change, state_text}
 use Rattle.vt100_c.specs.Due.{HoldBoth, HoldsScreen, any_screen, any_screens, has_start, of_one_size, source_at, text_at}
@@ -42,12 +44,22 @@ due_for _ screen = any_screen screen
 
 -- The text is a diff that may move rows or columns first and is never longer than the diff that moves nothing.
 pub record IsScrollingDiff (screen prev : ScreenValue) (text : List ℕ) : Type 0 where
-  pub draws : IsMoving (display screen) (display prev) text
+  pub draws : IsShortMoving (display screen) (display prev) text
+  pub shorter : length text ≤ length (bytes_of_all (difference (display screen) (display prev)))
+
+-- The options that the bits of a number ask for: bit 0 for moving rows or columns first, and bit 1 for REP.
+abbrev pub options_of : ℕ → DiffOptions
+options_of bits = record { scroll = bits % 2 == 1; repeat = bits / 2 % 2 == 1 }
+
+-- The text is a difference with the given options, and never longer than the difference that moves nothing.
+pub record IsDiffWithOptions (options : DiffOptions) (screen prev : ScreenValue) (text : List ℕ) : Type 0 where
+  pub draws : IsDiffWith options prev screen text
   pub shorter : length text ≤ length (bytes_of_all (difference (display screen) (display prev)))
 
 abbrev pub IsDifference : Difference → ScreenValue → ScreenValue → List ℕ → Type 0
 IsDifference between.Contents screen prev text = text ≡ bytes_of_all (difference (display screen) (display prev))
 IsDifference between.Scrolling screen prev text = IsScrollingDiff screen prev text
+IsDifference (between.With options) screen prev text = IsDiffWithOptions options screen prev text
 IsDifference between.State screen prev text = text ≡ state_change prev screen
 IsDifference between.InputMode screen prev text = text ≡ input_change prev.modes screen.modes
 

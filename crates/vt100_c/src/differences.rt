@@ -5,12 +5,12 @@ ghost use Rattle.vt100_c.specs.Due.{IsAnswer, OnBoth, any_screens, due_at_both, 
 ghost use Rattle.vt100_c.specs.KeptText.{KeepsBoth, KeepsText};
 ghost use Rattle.vt100_c.specs.Sources.{screen_in};
 ghost use Rattle.vt100_c.specs.Status.{ok, out_of_memory};
-ghost use Rattle.vt100_c.specs.Texts.{HasDifference, IsDifference, MakesDifference, due_for_both};
+ghost use Rattle.vt100_c.specs.Texts.{HasDifference, IsDifference, MakesDifference, due_for_both, options_of};
 ghost use Rattle.vt100_c.specs.declared.output.Difference.TheVariants as between;
 
 use crate::handle::Handle;
 use crate::object::{Object, Source};
-use crate::output::{Difference, difference_in, keep};
+use crate::output::{Difference, difference_in, keep, options_in};
 use crate::status::{BAD_ARGUMENT, NO_OBJECT};
 use std::alloc::Global;
 
@@ -63,6 +63,35 @@ pub extern "C" fn vt100_contents_diff_scrolling(
     ensures keeps { KeepsBoth handle.old.held prev.old.held result handle.new.held prev.new.held len.old len.new }
 {
     make(alloc, handle, prev, Difference::Scrolling, len)
+}
+
+/// Generates the escape sequences that turn the display of `prev` into that of
+/// `handle`'s screen, with options ([`vt100::Screen::contents_diff_with`]).
+/// Bit 0 of `options` allows moving rows or columns first, and bit 1 allows
+/// REP; the other bits are ignored. Stores the output in `handle` and its
+/// length in `len`.
+///
+/// # Errors
+///
+/// Returns `NO_OBJECT` if a handle is empty, `WRONG_KIND` if a handle holds
+/// neither a parser nor a saved screen, `OTHER_SIZE` if the two screens differ
+/// in size, `BAD_ARGUMENT` if the same handle is passed twice, or
+/// `OUT_OF_MEMORY` if the output cannot be allocated. On error, nothing is
+/// changed.
+#[unsafe(no_mangle)]
+pub extern "C" fn vt100_contents_diff_with(
+    alloc: Global,
+    handle: &mut Handle,
+    prev: &mut Handle,
+    options: u8,
+    len: &mut usize,
+) -> u8
+    ensures answer { IsAnswer (due_at_both of_one_size handle.old.held prev.old.held) result }
+    ensures text { MakesDifference (between.With (options_of options)) handle.old.held prev.old.held result handle.new.held }
+    ensures keeps { KeepsBoth handle.old.held prev.old.held result handle.new.held prev.new.held len.old len.new }
+{
+    let chosen = options_in(options);
+    make(alloc, handle, prev, Difference::With(chosen), len)
 }
 
 /// Generates the escape sequences that turn the display and input modes of

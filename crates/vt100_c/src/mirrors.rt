@@ -9,14 +9,17 @@ ghost use Rattle.vt100_c.specs.Sources.{mirror_in};
 ghost use Rattle.vt100_c.specs.Status.{ok};
 ghost use Rattle.vt100_c.specs.Viewing.{HoldsMirror, IsNewMirror, JoinsSource, LeavesSource, OnMirror};
 ghost use Rattle.vt100_c.specs.Viewing.{TellsCurrent, UpdatesObject, due_to, due_to_mirror};
-ghost use Rattle.vt_mirror.specs.Calls.{Drawn, Scrolling};
+ghost use Rattle.vt100_c.specs.Texts.{options_of};
+ghost use Rattle.vt_mirror.specs.Calls.{Drawn, Scrolling, kind_with};
 
 use crate::handle::Handle;
 use crate::lifecycle::{hold, size_of};
 use crate::object::{Object, Source};
+use crate::output::options_in;
 use crate::status::{BAD_ARGUMENT, IN_USE, NO_OBJECT, OK, OUT_OF_MEMORY, WRONG_KIND};
 use crate::viewers;
 use std::alloc::Global;
+use vt100::DiffOptions;
 use vt_mirror::Mirror;
 
 /// Creates a mirror with a fresh screen and no viewers in the empty handle
@@ -149,6 +152,38 @@ pub extern "C" fn vt100_update_scrolling(
     status
 }
 
+/// Generates the next update for a viewer, as [`vt100_update`] does, with
+/// options for a diff ([`Mirror::update_with`]). Bit 0 of `options` allows
+/// moving rows or columns first, and bit 1 allows REP; the other bits are
+/// ignored.
+///
+/// # Errors
+///
+/// Returns the same errors as [`vt100_update`].
+#[unsafe(no_mangle)]
+pub extern "C" fn vt100_update_with(
+    alloc: Global,
+    handle: &mut Handle,
+    viewer: u64,
+    options: u8,
+    rows: &mut u16,
+    cols: &mut u16,
+    len: &mut usize,
+) -> u8
+    ensures call { OnObject (UpdatesObject (kind_with (options_of options)) viewer
+        (numbers rows.old cols.old len.old) (numbers rows.new cols.new len.new)) handle.old.held result handle.new.held }
+    ensures refused { ¬ (result ≡ ok) → numbers rows.new cols.new len.new ≡ numbers rows.old cols.old len.old }
+{
+    if !handle.is_full() {
+        return NO_OBJECT;
+    }
+    let chosen = options_in(options);
+    let mut object = handle.take_out(alloc);
+    let status = update_with(&mut object, viewer, chosen, rows, cols, len);
+    handle.put_back(object);
+    status
+}
+
 /// Stores 1 in `out` if a viewer is known to be up to date, otherwise 0
 /// ([`Mirror::is_current`]).
 ///
@@ -239,6 +274,32 @@ fn update_scrolling(
     match &mut object.source {
         Source::Mirror(mirror) => {
             let answer = mirror.update_scrolling(viewer);
+            viewers::hand_over(answer, &mut object.text, rows, cols, len)
+        }
+        Source::Parser(_) => WRONG_KIND,
+        Source::Screen(_) => WRONG_KIND,
+        Source::Capture(_) => WRONG_KIND,
+    }
+}
+
+/// Generates the next update for a viewer of a mirror, as
+/// [`vt100_update_with`] does. Returns `WRONG_KIND` if the object is not a
+/// mirror.
+fn update_with(
+    object: &mut Object,
+    viewer: u64,
+    options: DiffOptions,
+    rows: &mut u16,
+    cols: &mut u16,
+    len: &mut usize,
+) -> u8
+    ensures call { UpdatesObject (kind_with options) viewer
+        (numbers rows.old cols.old len.old) (numbers rows.new cols.new len.new) object.old result object.new }
+    ensures refused { ¬ (result ≡ ok) → numbers rows.new cols.new len.new ≡ numbers rows.old cols.old len.old }
+{
+    match &mut object.source {
+        Source::Mirror(mirror) => {
+            let answer = mirror.update_with(viewer, options);
             viewers::hand_over(answer, &mut object.text, rows, cols, len)
         }
         Source::Parser(_) => WRONG_KIND,

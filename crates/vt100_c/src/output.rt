@@ -9,12 +9,12 @@ ghost use Rattle.vt100_c.specs.Due.{IsAnswer, OnBoth, OnScreen, any_screens, due
 ghost use Rattle.vt100_c.specs.Due.{of_one_size, same_size, status_in};
 ghost use Rattle.vt100_c.specs.Sources.{screen_in};
 ghost use Rattle.vt100_c.specs.Status.{ok, out_of_memory};
-ghost use Rattle.vt100_c.specs.Texts.{HasDifference, HasText, IsDifference, due_for, due_for_both, text_of};
+ghost use Rattle.vt100_c.specs.Texts.{HasDifference, HasText, IsDifference, due_for, due_for_both, options_of, text_of};
 ghost use Rattle.vt100_c.specs.declared.output.Difference.TheVariants as between;
 
 use crate::object::{Source, screen_of};
 use crate::status::{BAD_ARGUMENT, OK, OTHER_SIZE, OUT_OF_MEMORY, WRONG_KIND};
-use vt100::{Error, Screen};
+use vt100::{DiffOptions, Error, Screen};
 
 /// The kinds of text and output that are generated from one screen.
 #[derive(Clone, Copy)]
@@ -58,6 +58,9 @@ pub enum Difference {
     /// The escape sequences that change the display, possibly by moving rows
     /// first.
     Scrolling,
+
+    /// The escape sequences that change the display, with options.
+    With(DiffOptions),
 
     /// The escape sequences that change the display and the input modes.
     State,
@@ -189,6 +192,7 @@ fn difference_of(screen: &Screen, prev: &Screen, difference: Difference) -> Resu
     match difference {
         Difference::Contents => contents_diff(screen, prev),
         Difference::Scrolling => contents_diff_scrolling(screen, prev),
+        Difference::With(options) => contents_diff_with(screen, prev, options),
         Difference::State => state_diff(screen, prev),
         Difference::InputMode => input_mode_diff(screen, prev),
     }
@@ -234,6 +238,26 @@ fn contents_diff_scrolling(screen: &Screen, prev: &Screen) -> Result<String, u8>
     or_status(screen.contents_diff_scrolling(prev))
 }
 
+/// Returns the escape sequences that turn the display of `prev` into that of
+/// `screen`, with options.
+///
+/// # Errors
+///
+/// Returns `OTHER_SIZE` if the two screens differ in size, or `OUT_OF_MEMORY`
+/// if an allocation fails.
+#[tactic(auto, using(crate::proofs::Refused::where_some))]
+fn contents_diff_with(screen: &Screen, prev: &Screen, options: DiffOptions) -> Result<String, u8>
+    ensures text { IfOk result (λ made. IsDifference (between.With options) screen.now prev.now (string_bytes made)) }
+    ensures answer { IsAnswer (of_one_size screen.now prev.now) (status_in result) }
+    ensures nonempty { status_in result ≡ out_of_memory → HasDifference (between.With options) screen.now prev.now }
+    ensures refused { IfErr result (λ status. ¬ (status ≡ ok)) }
+{
+    if !is_sized_as(screen, prev) {
+        return Err(OTHER_SIZE);
+    }
+    or_status(screen.contents_diff_with(prev, options))
+}
+
 /// Returns the escape sequences that turn the display and the input modes of
 /// `prev` into those of `screen`.
 ///
@@ -268,6 +292,17 @@ fn input_mode_diff(screen: &Screen, prev: &Screen) -> Result<String, u8>
     ensures refused { IfErr result (λ status. ¬ (status ≡ ok)) }
 {
     or_status(screen.input_mode_diff(prev))
+}
+
+/// Returns the options that bits ask for: bit 0 for moving rows or columns
+/// first, and bit 1 for REP.
+pub(crate) fn options_in(bits: u8) -> DiffOptions
+    ensures { result ≡ options_of bits }
+{
+    DiffOptions {
+        scroll: bits % 2 == 1,
+        repeat: bits / 2 % 2 == 1,
+    }
 }
 
 /// Returns whether two screens have the same size.

@@ -5,7 +5,13 @@ ghost use Rattle.std.specs.Prelude.{◌<◌};
 use anyhow::{Result, ensure};
 use std::alloc::Global;
 use std::num::NonZeroU16;
-use vt100::{Parser, Screen};
+use vt100::{DiffOptions, Parser, Screen};
+
+/// The options of a diff that may move rows or columns first and may contain REP.
+pub const BOTH: DiffOptions = DiffOptions {
+    scroll: true,
+    repeat: true,
+};
 
 /// The total length in bytes of each kind of diff between the same screens.
 #[derive(Clone, Copy)]
@@ -15,6 +21,9 @@ pub struct Lengths {
 
     /// The total length in bytes of the output of `contents_diff_scrolling`.
     pub scrolling: usize,
+
+    /// The total length in bytes of the output of `contents_diff_with` with both options.
+    pub repeating: usize,
 }
 
 /// The settings for parsing a file: the size of the terminal, and how many bytes are parsed between
@@ -50,6 +59,7 @@ fn sum(parser: &mut Parser, every: usize, bytes: &[u8]) -> Result<Lengths>
     let mut sums = Lengths {
         plain: 0,
         scrolling: 0,
+        repeating: 0,
     };
     let mut prev = parser.screen().clone()?;
     for piece in bytes.chunks(every) {
@@ -69,6 +79,9 @@ impl Lengths {
             scrolling: self
                 .scrolling
                 .saturating_add(screen.contents_diff_scrolling(prev)?.len()),
+            repeating: self
+                .repeating
+                .saturating_add(screen.contents_diff_with(prev, BOTH)?.len()),
         })
     }
 }

@@ -9,9 +9,9 @@
 //! returned `true`.
 //!
 //! `vt_bench lengths ROWS COLS CAPACITY EVERY FILE` prints the total lengths in bytes of
-//! `contents_diff` and of `contents_diff_scrolling`. One diff is taken after every EVERY bytes of
-//! FILE and one at its end. Each diff starts from the screen at the previous diff; the first diff
-//! starts from a new screen.
+//! `contents_diff`, of `contents_diff_scrolling` and of `contents_diff_with` with both options. One
+//! diff is taken after every EVERY bytes of FILE and one at its end. Each diff starts from the screen
+//! at the previous diff; the first diff starts from a new screen.
 //!
 //! `vt_bench texts ROWS COLS CAPACITY EVERY FILE` prints the same diffs, redraws of the same
 //! screens, and what these screens display: see `bench/tmux`.
@@ -87,8 +87,12 @@ fn show_on_the_way<R: AllocGlobal + Files + Print>(
     if what == "texts" {
         return show_texts(rt, reading, bytes.as_slice());
     }
-    let Lengths { plain, scrolling } = reading.lengths(rt.alloc(), bytes.as_slice())?;
-    println!(rt; "{plain} {scrolling}")?;
+    let Lengths {
+        plain,
+        scrolling,
+        repeating,
+    } = reading.lengths(rt.alloc(), bytes.as_slice())?;
+    println!(rt; "{plain} {scrolling} {repeating}")?;
     Ok(())
 }
 

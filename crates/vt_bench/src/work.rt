@@ -1,6 +1,6 @@
 //! The calls that `vt_bench` can measure.
 
-use vt100::{Error, Screen};
+use vt100::{DiffOptions, Error, Screen};
 
 /// A call that `vt_bench` can measure.
 #[derive(Clone, Copy)]
@@ -16,6 +16,9 @@ pub enum Work {
 
     /// Writes the scrolling diff, which may move rows first, from the earlier screen to the screen.
     Scrolling,
+
+    /// Writes the diff from the earlier screen to the screen, with REP for runs of a character.
+    Repeating,
 
     /// Writes the diff from the screen to itself.
     Same,
@@ -47,6 +50,7 @@ impl Work {
             "formatted" => Some(Work::Formatted),
             "diff" => Some(Work::Diff),
             "scrolling" => Some(Work::Scrolling),
+            "repeating" => Some(Work::Repeating),
             "same" => Some(Work::Same),
             "contents" => Some(Work::Contents),
             "basic" => Some(Work::Basic),
@@ -66,6 +70,7 @@ impl Work {
             Work::Formatted => Ok(screen.contents_formatted()?.len()),
             Work::Diff => difference(screen, prev),
             Work::Scrolling => scrolling_difference(screen, prev),
+            Work::Repeating => repeating_difference(screen, prev),
             Work::Same => difference(screen, screen),
             Work::Contents => Ok(screen.contents()?.len()),
             Work::Basic => Ok(screen.contents_formatted_basic()?.len()),
@@ -94,4 +99,15 @@ fn scrolling_difference(screen: &Screen, prev: &Screen) -> Result<usize, Error> 
         return Ok(0);
     }
     Ok(screen.contents_diff_scrolling(prev)?.len())
+}
+
+fn repeating_difference(screen: &Screen, prev: &Screen) -> Result<usize, Error> {
+    if !screen.is_sized_as(prev) {
+        return Ok(0);
+    }
+    let options = DiffOptions {
+        scroll: false,
+        repeat: true,
+    };
+    Ok(screen.contents_diff_with(prev, options)?.len())
 }

@@ -4,12 +4,12 @@ use Rattle.std.specs.Prelude.{IfSome}
 use Rattle.vt_grid.specs.Page.{SameSize}
 use Rattle.vt_redraw.specs.Steady.{IsSteady}
 use Rattle.vt_screen.specs.Again.{KeepsPlain}
-use Rattle.vt_screen.specs.MadeOf.{IsMadeOf, drawing_controls, drawing_finals}
+use Rattle.vt_screen.specs.MadeOf.{IsMadeOf, drawing_controls, drawing_finals, shortened_controls, shortened_finals}
 use Rattle.vt_screen.specs.Screen.{IsColored, IsScreen, ScreenValue}
 use Rattle.vt_screen.specs.Shown.{display, display_change}
 use Rattle.vt_screen.proofs.Became.{difference_redraws}
 use Rattle.vt_screen.proofs.EqualTexts.{difference_none}
-use Rattle.vt_screen.proofs.MadeOf.{difference_made, scrolling_made}
+use Rattle.vt_screen.proofs.MadeOf.{difference_made, made_nothing}
 use Rattle.vt_screen.proofs.PlainAgain.{difference_keeps}
 use Rattle.vt_screen.proofs.TouchedTexts.{difference_touches}
 use Rattle.vt_screen.proofs.Viewing.{same_shown}
@@ -47,8 +47,13 @@ unchanged_scrolling self is colored steady =
     record {
       diff = drawn.diff;
       from_steady = steady;
-      is = inl (inl drawn.is);
-      controls = scrolling_made self self [] is colored colored (inl drawn.is);
+      is = record {
+        plain = [];
+        moving = inl (inl drawn.is);
+        same = λ reader is_reader. refl;
+        shorter = omega arith;
+      };
+      controls = made_nothing shortened_finals shortened_controls;
       shorter = omega arith;
     }
 

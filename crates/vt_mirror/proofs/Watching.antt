@@ -17,6 +17,8 @@ use Rattle.vt100.specs.Parser.{ParserValue}
 use Rattle.vt100.specs.Pieces.{HasRead, IsPlainParser}
 use Rattle.vt100.proofs.Pieces.{read_pieces}
 use Rattle.vt_mirror.specs.Calls.{Asks, Drawn, IsDiff, IsFull, IsFullAfter, IsOfKind, IsUpdate, JoinsMirror, Kind}
+use Rattle.vt_mirror.specs.Calls.{Repeating, RepeatsFrom}
+use Rattle.vt_screen.proofs.RepeatedDiffs.{repeated_redraws}
 use Rattle.vt_mirror.specs.Calls.{Scrolling, Resizes, GivesUpdate}
 use Rattle.vt_mirror.specs.Mirror.{MirrorValue}
 use Rattle.vt_mirror.specs.Viewers.{Puts, ViewersValue, next_number, note_of}
@@ -89,8 +91,13 @@ reads_redraw self Reader text p q steady r plain reader t =
       shows = ap display all.screen ∙ made.1;
     }
 
+-- The text redraws the newer screen on a terminal that displays the older one, which has the same size.
+record IsShownBy (self prev : ScreenValue) (text : List ℕ) : Type 0 where
+  size : SameSize self.page prev.page
+  redraws : Redraws (display self) (IsReaderOf (display self) (display prev)) KeepsRest text
+
 reads_diff : {S : Type 0} (self prev : ScreenValue) (text : List ℕ) (p q : ParserValue S)
-    → IsDiff self prev text → IsSteady (display self)
+    → IsShownBy self prev text → IsSteady (display self)
     → IsScreen p.screen → IsPlainParser p → display p.screen ≡ display prev → ReadsText text p q → Plainly self q
 reads_diff self prev text p q diff steady sound plain shows t =
     reads_redraw self (IsReaderOf (display self) (display prev)) text p q steady diff.redraws plain (record {
@@ -145,14 +152,26 @@ sound_after : {S : Type 0} (update : Update) (p q : ParserValue S) → TakesUpda
 sound_after (Diff text) p q t = t.sound
 sound_after (Full rows cols text) p q t = t.2.sound
 
-of_kind : (kind : Kind) (self prev : ScreenValue) (text : List ℕ) → IsOfKind kind self prev text → IsDiff self prev text
-of_kind Drawn self prev text is = is.diff
-of_kind Scrolling self prev text is = is.diff
+of_diff : (self prev : ScreenValue) (text : List ℕ) → IsDiff self prev text → IsShownBy self prev text
+of_diff self prev text diff = record { size = diff.size; redraws = diff.redraws }
+
+of_repeats : (self prev : ScreenValue) (plain text : List ℕ) → IsDiff self prev plain → RepeatsFrom prev plain text →
+    IsShownBy self prev text
+of_repeats self prev plain text diff repeats =
+    record { size = diff.size; redraws = repeated_redraws prev self plain text repeats.same diff.redraws }
+
+of_kind : (kind : Kind) (self prev : ScreenValue) (text : List ℕ) → IsOfKind kind self prev text → IsShownBy self prev text
+of_kind Drawn self prev text is = of_diff self prev text is.diff
+of_kind Scrolling self prev text is = of_diff self prev text is.diff
+of_kind (Repeating true) self prev text is = of_repeats self prev is.plain text is.is.diff is.repeats
+of_kind (Repeating false) self prev text is = of_repeats self prev is.plain text is.is.diff is.repeats
 
 full_after : (kind : Kind) (self prev : ScreenValue) (rows cols : ℕ) (text : List ℕ) →
     IsFullAfter kind self prev rows cols text → IsFull self rows cols text
 full_after Drawn self prev rows cols text is = absurd is
 full_after Scrolling self prev rows cols text is = is.1
+full_after (Repeating true) self prev rows cols text is = is.1
+full_after (Repeating false) self prev rows cols text is = absurd is
 
 -- A viewer that displays the recorded screen, if there is one, displays the new screen after it reads an update.
 takes_update : {S : Type 0} (kind : Kind) (self : ScreenValue) (noted : Option ScreenValue)

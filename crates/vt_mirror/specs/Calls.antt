@@ -1,20 +1,22 @@
 -- The effects of the calls to a mirror: their results, and the mirror after them.
 use Rattle.std.specs.Prelude.{◌≡◌, ◌⊎◌, ℕ, ◌-◌, ◌^◌, ◌<◌, ◌≤◌, Bool, true, false, List, [], Option, Some, None, Err, Ok}
-use Rattle.std.specs.Prelude.{length, string_bytes, IfErr, IfOk}
+use Rattle.std.specs.Prelude.{length, string_bytes, IfErr, IfOk, if◌then◌else◌}
 use Rattle.std.specs.declared.result.Result.{Result}
 use Rattle.vt_cells.specs.Op.{bytes_of_all}
 use Rattle.vt_cells.specs.declared.error.Error.{Error}
 use Rattle.vt_cells.specs.declared.error.Error.TheVariants.{NoNumber, OutOfMemory}
 use Rattle.vt_grid.specs.Page.{SameSize}
-use Rattle.vt_redraw.specs.Shifted.{IsMoving}
 use Rattle.vt_redraw.specs.Redraw.{difference, redraw}
 use Rattle.vt_redraw.specs.Steady.{IsSteady}
 use Rattle.vt_screen.specs.Again.{KeepsPlain}
-use Rattle.vt_screen.specs.MadeOf.{IsMadeOf, drawing_controls, drawing_finals, scrolling_finals}
+use Rattle.vt_screen.specs.MadeOf.{IsMadeOf, drawing_controls, drawing_finals, shortened_controls, shortened_finals}
 use Rattle.vt_screen.specs.Pages.{has_size, screen_after_resize}
+use Rattle.vt_screen.specs.Repeating.{Repeats}
 use Rattle.vt_screen.specs.Screen.{IsColored, IsScreen, ScreenValue}
+use Rattle.vt_screen.specs.ShortMoves.{IsShortMoving}
 use Rattle.vt_screen.specs.Shown.{IsReader, IsReaderOf, IsSameIfEmpty, KeepsRest, Redraws, display}
 use Rattle.vt_screen.specs.Touched.{TouchesNear}
+use Rattle.vt_screen.specs.declared.diff_options.DiffOptions.{DiffOptions}
 use Rattle.vt100.specs.Calls.{ParserProcesses}
 use Rattle.vt100.specs.Parser.{does_nothing}
 use Rattle.vt_mirror.specs.Mirror.{MirrorValue}
@@ -88,10 +90,21 @@ pub record IsDiff (self prev : ScreenValue) (text : List ℕ) : Type 0 where
   pub empty : IsSameIfEmpty prev self text
   pub again : KeepsPlain text
 
--- The kind of a diff: one that moves nothing, or one that may first move rows or columns.
+-- The kind of a diff: one that moves nothing, one that may first move rows or columns, or one of these in which runs may
+-- be written with REP.
 pub data Kind : Type 0 where
   Drawn : Kind
   Scrolling : Kind
+  Repeating : (scroll : Bool) → Kind
+
+-- The kind of a diff without REP.
+abbrev pub kind_without_repeats : (scroll : Bool) → Kind
+kind_without_repeats true = Scrolling
+kind_without_repeats false = Drawn
+
+-- The kind of diff that the options ask for.
+abbrev pub kind_with : DiffOptions → Kind
+kind_with options = if options.repeat then Repeating options.scroll else kind_without_repeats options.scroll
 
 -- The text is a diff that moves no rows. If the screen `self` is steady, the diff touches only positions near rows that
 -- differ, as `IsLocal` defines.
@@ -101,28 +114,46 @@ pub record IsDrawn (self prev : ScreenValue) (text : List ℕ) : Type 0 where
   pub controls : IsMadeOf drawing_finals drawing_controls text
   pub touches : TouchesNear prev self text
 
--- The text is a diff that may move rows or columns first. The diff starts from a steady screen and is never longer than
--- the diff that moves nothing.
+-- The text is a diff that may move rows or columns first, with shortened cursor movements. The diff starts from a steady
+-- screen and is never longer than the diff that moves nothing.
 pub record Scrolls (self prev : ScreenValue) (text : List ℕ) : Type 0 where
   pub diff : IsDiff self prev text
   pub from_steady : IsSteady (display prev)
-  pub is : IsMoving (display self) (display prev) text
-  pub controls : IsMadeOf scrolling_finals drawing_controls text
+  pub is : IsShortMoving (display self) (display prev) text
+  pub controls : IsMadeOf shortened_finals shortened_controls text
   pub shorter : length text ≤ length (bytes_of_all (difference (display self) (display prev)))
+
+-- The text is a difference without REP.
+abbrev pub IsWithoutRepeats : (scroll : Bool) → (self prev : ScreenValue) → (text : List ℕ) → Type 0
+IsWithoutRepeats true self prev text = Scrolls self prev text
+IsWithoutRepeats false self prev text = IsDrawn self prev text
+
+-- The text is `plain` in which runs may be written with REP, for a terminal that displays the screen `prev`.
+abbrev pub RepeatsFrom : (prev : ScreenValue) → (plain text : List ℕ) → Type 0
+RepeatsFrom prev plain text = Repeats prev.page.width (prev.page.width - prev.page.column) plain text
+
+-- The text is a difference in which runs may be written with REP.
+pub record RepeatsRuns (scroll : Bool) (self prev : ScreenValue) (text : List ℕ) : Type 0 where
+  pub plain : List ℕ
+  pub is : IsWithoutRepeats scroll self prev plain
+  pub repeats : RepeatsFrom prev plain text
 
 abbrev pub IsOfKind : Kind → (self prev : ScreenValue) → (text : List ℕ) → Type 0
 IsOfKind Drawn self prev text = IsDrawn self prev text
 IsOfKind Scrolling self prev text = Scrolls self prev text
+IsOfKind (Repeating scroll) self prev text = RepeatsRuns scroll self prev text
 
 abbrev pub IsFullUpdate : (self : ScreenValue) → Update → Type 0
 IsFullUpdate self (Full rows cols text) = IsFull self rows cols (string_bytes text)
 IsFullUpdate self (Diff text) = ⊥
 
--- The update is a full redraw although a screen is recorded for the viewer. This is possible only for the kind
--- `Scrolling`, and only if the recorded screen is not steady.
+-- The update is a full redraw although a screen is recorded for the viewer. This is possible only if rows or columns
+-- may move, and only if the recorded screen is not steady.
 abbrev pub IsFullAfter : Kind → (self prev : ScreenValue) → (rows cols : ℕ) → (text : List ℕ) → Type 0
 IsFullAfter Drawn self prev rows cols text = ⊥
 IsFullAfter Scrolling self prev rows cols text = (IsSteady (display prev) → ⊥) × IsFull self rows cols text
+IsFullAfter (Repeating true) self prev rows cols text = (IsSteady (display prev) → ⊥) × IsFull self rows cols text
+IsFullAfter (Repeating false) self prev rows cols text = ⊥
 
 -- The update is a full redraw if no screen is recorded for the viewer. Otherwise, the update is a diff of the given
 -- kind from the recorded screen, or a full redraw as `IsFullAfter` describes.
@@ -147,7 +178,7 @@ abbrev pub Answers : Kind → (old : MirrorValue) → ℕ → Option Update → 
 Answers kind old viewer None new = (is_viewer old.viewers viewer ≡ false) × (new ≡ old)
 Answers kind old viewer (Some update) new = GivesUpdate kind old viewer update new
 
--- The effect of `update` or `update_scrolling`. If no viewer has the given number, the result is always `Ok(None)`. On
+-- The effect of `update`, `update_scrolling` or `update_with`. If no viewer has the given number, the result is always `Ok(None)`. On
 -- error, nothing is changed.
 pub record Asks (kind : Kind) (old : MirrorValue) (viewer : ℕ)
     (answer : Result (Option Update) Error) (new : MirrorValue) : Type 0 where

@@ -8,7 +8,8 @@ use Rattle.vt_scan.specs.Automaton.{start}
 use Rattle.vt_scan.specs.Scanner.{StandsFor}
 use Rattle.vt_screen.specs.Chain.{last_screen}
 use Rattle.vt100.specs.Parser.{Ran, does_nothing}
-use Rattle.vt_mirror.specs.Calls.{Drawn, GivesUpdate}
+use Rattle.vt_mirror.specs.Calls.{Drawn, GivesUpdate, RepeatsFrom}
+use Rattle.vt_screen.specs.Screen.{ScreenValue}
 use Rattle.vt_mirror.specs.Mirror.{MirrorValue}
 use Rattle.vt_mirror.specs.Runs.{IsUpdatedAfter, screens_on_way, text_on_way}
 use Rattle.vt_mirror.specs.Viewers.{is_viewer, note_of}
@@ -20,6 +21,13 @@ use Rattle.vt_mirror.specs.declared.update.Update.TheVariants.{Diff, Full}
 abbrev pub text_of_update : Update → List ℕ
 text_of_update (Diff text) = string_bytes text
 text_of_update (Full rows cols text) = string_bytes text
+
+-- The update `new` is `plain`, in whose difference from the recorded screen runs may be written with REP.
+abbrev pub RepeatsUpdate : Option ScreenValue → (plain new : Update) → Type 0
+RepeatsUpdate None plain new = new ≡ plain
+RepeatsUpdate (Some prev) (Full rows cols text) new = new ≡ Full rows cols text
+RepeatsUpdate (Some prev) (Diff text) (Full rows cols short) = ⊥
+RepeatsUpdate (Some prev) (Diff text) (Diff short) = RepeatsFrom prev (string_bytes text) (string_bytes short)
 
 -- The viewer got an update, and the text of the update was written: the output was `written` before and is `grown` now.
 pub record WritesUpdate (old : MirrorValue) (viewer : ℕ) (new : MirrorValue)

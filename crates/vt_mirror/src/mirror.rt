@@ -11,6 +11,8 @@ ghost use Rattle.vt_scan.specs.Automaton.{start};
 ghost use Rattle.vt_scan.specs.Scanner.{StandsFor};
 ghost use Rattle.vt_screen.specs.Screen.{IsColored, IsScreen};
 
+mod options;
+
 use crate::update::Update;
 use crate::viewers::Viewers;
 use std::alloc::Global;

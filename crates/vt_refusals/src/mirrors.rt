@@ -1,6 +1,7 @@
 //! Calls on a mirror with viewers that may allocate.
 
 use crate::step;
+use crate::step::BOTH;
 use std::{fmt, io};
 use vt_mirror::{Mirror, Update};
 use vt100::Error;
@@ -25,6 +26,9 @@ enum Call {
 
     /// A call to [`Mirror::update_scrolling`] with a viewer's number.
     UpdateScrolling(u64),
+
+    /// A call to [`Mirror::update_with`] with a viewer's number and both options.
+    UpdateWith(u64),
 }
 
 /// The result of a call on a mirror.
@@ -115,6 +119,19 @@ const SHARING_CALLS: [Call; 15] = [
     Call::UpdateScrolling(1),
 ];
 
+/// Calls on a mirror whose viewer receives diffs with REP.
+#[rattlefmt::skip]
+const REPEATING_CALLS: [Call; 8] = [
+    Call::Join,
+    Call::SetSize(1, 12),
+    Call::SetSize(1, 12),
+    Call::UpdateWith(0),
+    Call::UpdateWith(0),
+    Call::Process("----------"),
+    Call::UpdateWith(0),
+    Call::UpdateWith(0),
+];
+
 /// Makes the calls on a mirror whose viewers join and leave, and prints the results.
 pub fn run<R: AllocGlobal + Print>(rt: &R) -> io::Result<()> {
     println!(rt; "-- a mirror and its viewers")?;
@@ -125,6 +142,12 @@ pub fn run<R: AllocGlobal + Print>(rt: &R) -> io::Result<()> {
 pub fn run_scrolling<R: AllocGlobal + Print>(rt: &R) -> io::Result<()> {
     println!(rt; "-- a mirror whose rows move")?;
     run_calls(rt, &SCROLLING_CALLS)
+}
+
+/// Makes the calls on a mirror whose viewer receives diffs with REP, and prints the results.
+pub fn run_repeating<R: AllocGlobal + Print>(rt: &R) -> io::Result<()> {
+    println!(rt; "-- a mirror whose viewer repeats characters")?;
+    run_calls(rt, &REPEATING_CALLS)
 }
 
 /// Makes the calls on a mirror whose viewers keep up with its screen, and prints the results.
@@ -170,6 +193,7 @@ impl Call {
             Call::Leave(viewer) => Answer::Was(mirror.leave(viewer)),
             Call::Update(viewer) => answer_of(mirror.update(viewer)),
             Call::UpdateScrolling(viewer) => answer_of(mirror.update_scrolling(viewer)),
+            Call::UpdateWith(viewer) => answer_of(mirror.update_with(viewer, BOTH)),
         }
     }
 }
@@ -192,6 +216,7 @@ impl fmt::Display for Call {
             Call::Leave(viewer) => write!(f, "leave {viewer}"),
             Call::Update(viewer) => write!(f, "update {viewer}"),
             Call::UpdateScrolling(viewer) => write!(f, "update_scrolling {viewer}"),
+            Call::UpdateWith(viewer) => write!(f, "update_with {viewer}"),
         }
     }
 }

@@ -190,6 +190,17 @@ pub const MOVED: [Act; 4] = [
     Act::Differ(Change::Scrolling),
 ];
 
+/// Actions that generate, twice, a diff with REP. The diff without REP is generated first.
+pub const REPEATED: [Act; 7] = [
+    Act::First(Step::SetSize(1, 12)),
+    Act::First(Step::SetSize(1, 12)),
+    Act::Second(Step::SetSize(1, 12)),
+    Act::Second(Step::SetSize(1, 12)),
+    Act::First(Step::Process(b"----------")),
+    Act::Differ(Change::Repeating),
+    Act::Differ(Change::Repeating),
+];
+
 /// Actions that generate the output for the rows of two screens, item by item. The item after a
 /// failed item is the item of the next row.
 pub const ROWS: [Act; 4] = [

@@ -5,7 +5,13 @@ use std::alloc::Global;
 use std::fmt;
 use std::num::NonZeroU16;
 use vt100::capture::{BasicFormattedCaptureRange, BasicFormattedCaptureState};
-use vt100::{Error, Parser, Screen};
+use vt100::{DiffOptions, Error, Parser, Screen};
+
+/// The options of diffs that may move rows or columns first and may contain REP.
+pub const BOTH: DiffOptions = DiffOptions {
+    scroll: true,
+    repeat: true,
+};
 
 /// A call on a parser or on its screen.
 #[derive(Clone, Copy)]
@@ -156,6 +162,9 @@ pub enum Change {
     /// The output of `contents_diff_scrolling`.
     Scrolling,
 
+    /// The output of `contents_diff_with` with both options.
+    Repeating,
+
     /// The output of `state_diff`.
     State,
 
@@ -177,6 +186,7 @@ impl Change {
         match self {
             Change::Picture => answer_of(screen.contents_diff(prev)),
             Change::Scrolling => answer_of(screen.contents_diff_scrolling(prev)),
+            Change::Repeating => answer_of(screen.contents_diff_with(prev, BOTH)),
             Change::State => answer_of(screen.state_diff(prev)),
             Change::Modes => answer_of(screen.input_mode_diff(prev)),
             Change::Rows => {

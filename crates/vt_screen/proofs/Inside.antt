@@ -22,17 +22,12 @@ use Rattle.vt_grid.specs.Erasing.{erased_row, blanked_above, erased_above, erase
 use Rattle.vt_grid.specs.Printing.{carries, lifted_page, with_cursor_cells, left_row, goes_down, flagged_left}
 use Rattle.vt_grid.specs.Printing.{wrapped_page, lacks_room, room_made, glyph_put, mark_column, takes_mark, mark_put}
 use Rattle.vt_grid.specs.Printing.{page_after_wrap, made_wide, made_narrow, width_followed, mark_printed, page_after_print, printed_by}
+pub use Rattle.vt_screen.specs.Internals.{IsInside}
 use Rattle.vt_screen.proofs.Sizes.{same_cursor_cells, same_mark_put, same_through}
 use Rattle.vt_screen.proofs.Sizes.{same_scrolled_up}
 use Rattle.vt_screen.proofs.Sizes.{same_scrolled_down, same_lines_inserted, same_lines_deleted, same_chars_inserted}
 use Rattle.vt_screen.proofs.Sizes.{same_chars_deleted, same_erased_chars, same_erased_rest, same_erased_below}
 use Rattle.vt_screen.proofs.Sizes.{same_erased_start, same_erased_row, same_erased_page, same_printed}
-
--- Both cursors and the bottom of the scroll region are on the page.
-pub record IsInside (page : Page) : Type 0 where
-  pub row : page.row < length page.rows
-  pub saved_row : page.saved_row < length page.rows
-  pub bottom : page.bottom < length page.rows
 
 pub inside_page : (page : Page) → IsPage page → IsInside page
 inside_page page p = record { row = p.cursor_row; saved_row = p.saved_row; bottom = p.region_end }

@@ -62,3 +62,13 @@ mod MovedAgain
 mod ShiftedAgain
 mod ShiftedViews
 pub mod NoCallbacks
+pub mod RepeatRooms
+pub mod Repeated
+pub mod RepeatTokens
+mod NoRepeats
+mod RepeatedDiffs
+pub mod Replacing
+pub mod RoutesRead
+pub mod ElementsRead
+pub mod Numbers
+pub mod ShortMovesRead

@@ -61,6 +61,15 @@ pub record SameAside (new screen : ScreenValue) : Type 0 where
   pub modes : new.modes ≡ screen.modes
   pub size : SameSize new.page screen.page
 
+pub aside_both : (reader screen new : ScreenValue) → KeepsAside screen new → KeepsAside reader screen →
+    KeepsAside reader new
+aside_both reader screen new s k = record {
+  other = s.other ∙ k.other;
+  is_alternate = s.is_alternate ∙ k.is_alternate;
+  modes = s.modes ∙ k.modes;
+  size = same_through new.page screen.page reader.page s.size k.size;
+}
+
 aside_then : (reader screen new : ScreenValue) → SameAside new screen → KeepsAside reader screen →
     KeepsAside reader new
 aside_then reader screen new s k = record {
@@ -250,7 +259,7 @@ feed_goes saved reader screen h =
     goes_event saved reader screen (0x0A ∷ []) (Executed 0x0A) steps.LineFeed
     (read_control 0x0A (omega arith) (λ e. cc)) refl tt (fed_held saved reader screen h)
 
-return_goes : (saved : Bool) (reader screen : ScreenValue) → Holds saved reader screen →
+pub return_goes : (saved : Bool) (reader screen : ScreenValue) → Holds saved reader screen →
     Goes saved reader screen (0x0D ∷ [])
 unfolding control_steps
 return_goes saved reader screen h =

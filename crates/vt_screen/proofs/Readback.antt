@@ -64,7 +64,7 @@ kept false x h = refl
 
 -- ---- hiding and showing the cursor
 
-hidden_read : (hidden : Bool) (screen : ScreenValue) →
+pub hidden_read : (hidden : Bool) (screen : ScreenValue) →
     terminal_after (terminal start screen) (bytes_of (Hide hidden)) ≡ Some (terminal start (record screen { hidden = hidden }))
 unfolding read_byte fresh_step class_of table_of groups_of numbers_of number_of private_steps intermediate_steps mode_step
 hidden_read true screen = refl
@@ -90,7 +90,7 @@ unfolding counted_step scrolling_steps other_steps page_erasing
 erased_below_read screen =
     final_alone 0x4A screen (display_after (OnPage page.EraseBelow) screen) (omega arith, omega arith) refl
 
-erased_rest_read : (screen : ScreenValue) →
+pub erased_rest_read : (screen : ScreenValue) →
     terminal_after (terminal start screen) (csi [] 0x4B) ≡ Some (terminal start (display_after (OnPage page.EraseRest) screen))
 unfolding counted_step scrolling_steps other_steps row_erasing
 erased_rest_read screen =
@@ -116,20 +116,20 @@ counted_read (suc n) final step screen h is_final means =
     (decimal_is_parameter count (omega arith)) is_final (decimal_groups count (omega arith))
     (means groups ∙ ap (λ (k : ℕ). Some (display_after (OnPage (step k)) screen)) (count_read count [] (omega arith)))
 
-moved_right_read : (n : ℕ) (screen : ScreenValue) → suc n < 2 ^ 16 →
+pub moved_right_read : (n : ℕ) (screen : ScreenValue) → suc n < 2 ^ 16 →
     terminal_after (terminal start screen) (counted (suc n) 0x43)
     ≡ Some (terminal start (display_after (OnPage (page.MoveRight (suc n))) screen))
 unfolding counted_step
 moved_right_read n screen h = counted_read n 0x43 page.MoveRight screen h (omega arith, omega arith) (λ groups. refl)
 
-erased_chars_read : (n : ℕ) (screen : ScreenValue) → suc n < 2 ^ 16 →
+pub erased_chars_read : (n : ℕ) (screen : ScreenValue) → suc n < 2 ^ 16 →
     terminal_after (terminal start screen) (counted (suc n) 0x58)
     ≡ Some (terminal start (display_after (OnPage (page.EraseChars (suc n))) screen))
 unfolding counted_step
 erased_chars_read n screen h = counted_read n 0x58 page.EraseChars screen h (omega arith, omega arith) (λ groups. refl)
 
 -- A 0-based row or column that is written 1-based is read as itself.
-ordinal_read : (n : ℕ) → (if (n + 1) == 0 then 1 else n + 1) - 1 ≡ n
+pub ordinal_read : (n : ℕ) → (if (n + 1) == 0 then 1 else n + 1) - 1 ≡ n
 ordinal_read n = let t : ((n + 1) == 0) ≡ false = grind (arith, nat_tests) in rw t (omega arith)
 
 placed : (row col : ℕ) (screen : ScreenValue) →
@@ -220,7 +220,7 @@ changed_read was new screen fits =
 
 -- ---- line feeds
 
-fed_read : (screen : ScreenValue) (d : Canvas) → canvas_after_line_feed (canvas_of screen) ≡ Some d →
+pub fed_read : (screen : ScreenValue) (d : Canvas) → canvas_after_line_feed (canvas_of screen) ≡ Some d →
     terminal_after (terminal start screen) (0x0A ∷ []) ≡ Some (terminal start (with_canvas d screen))
 unfolding fresh_step class_of control_steps
 fed_read screen d h =
@@ -229,13 +229,13 @@ fed_read screen d h =
     (unless (feeds_out screen.page) (record (canvas_of screen) { page = line_feed screen.page })
     d (display_after steps.LineFeed screen) (λ (c : Canvas). with_canvas c screen) h refl))
 
-returned_read : (screen : ScreenValue) (rest : List ℕ) →
+pub returned_read : (screen : ScreenValue) (rest : List ℕ) →
     terminal_after (terminal start screen) (0x0D ∷ rest)
     ≡ terminal_after (terminal start (with_page (carriage_return screen.page) screen)) rest
 unfolding read_byte fresh_step class_of control_steps
 returned_read screen rest = refl
 
-left_read : (screen : ScreenValue) →
+pub left_read : (screen : ScreenValue) →
     terminal_after (terminal start screen) (0x08 ∷ []) ≡ Some (terminal start (display_after (OnPage (page.MoveLeft 1)) screen))
 unfolding read_byte fresh_step class_of control_steps
 left_read screen = refl

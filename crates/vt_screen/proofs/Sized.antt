@@ -7,6 +7,7 @@ use Rattle.vt_rows.specs.Row.{blank_row}
 use Rattle.vt_grid.specs.Page.{Page, SameSize, IsPage, blank_page}
 use Rattle.vt_grid.specs.Resize.{out_of_view}
 use Rattle.vt_grid.specs.Scrollback.{scrollback_after_push}
+pub use Rattle.vt_screen.specs.Internals.{IsSized, IsSizedPage}
 use Rattle.vt_screen.specs.Pages.{fresh_page, page_aside, screen_after_enter, entered_fresh, left_alternate, screen_after_save, screen_after_restore, screen_after_reset}
 use Rattle.vt_screen.specs.Screen.{ScreenValue, IsScreen}
 use Rattle.vt_screen.specs.Steps.{Step, Print, LineFeed, ScrollUp, OnPage, SaveCursor, RestoreCursor, EnterAlternate}
@@ -17,17 +18,6 @@ use Rattle.vt_screen.proofs.Inside.{IsInside, inside_page, inside_cursor_saved, 
 use Rattle.vt_screen.proofs.Inside.{inside_line_feed, inside_scrolled_up, inside_printed}
 use Rattle.vt_screen.proofs.Sizes.{same_cursor_saved, same_cursor_restored, same_line_feed, same_scrolled_up}
 use Rattle.vt_screen.proofs.Sizes.{same_printed}
-
--- The page has the given size, and its cursors are on it.
-pub record IsSizedPage (height width : ℕ) (page : Page) : Type 0 where
-  pub inside : IsInside page
-  pub width_is : page.width ≡ width
-  pub height_is : length page.rows ≡ height
-
--- Both pages of the screen have the given size.
-pub record IsSized (height width : ℕ) (screen : ScreenValue) : Type 0 where
-  pub page : IsSizedPage height width screen.page
-  pub other : IfSome screen.other (IsSizedPage height width)
 
 -- A step on the active page keeps the size of both pages.
 paged : (height width : ℕ) (screen after : ScreenValue) → after.other ≡ screen.other →

@@ -1,7 +1,7 @@
 -- How the fields of a screen represent its value, and the effects of private functions; only for the model and the
 -- contracts of private functions.
 use Rattle.std.specs.Prelude.{◌≡◌, ℕ, ◌<◌, ◌≤◌, Bool, true, false, List, [], ◌++◌, Option, Some, None}
-use Rattle.std.specs.Prelude.{IfSome, IsSome, OnErr, OnOk, Result, option_map, not, if◌then◌else◌}
+use Rattle.std.specs.Prelude.{IfSome, IsSome, OnErr, OnOk, Result, length, option_map, not, if◌then◌else◌}
 use Rattle.vt_rows.specs.Basic.{Written}
 use Rattle.vt_rows.specs.Row.{RowValue}
 use Rattle.vt_grid.specs.Page.{Page, IsPage}
@@ -56,6 +56,25 @@ pub record IsKept (page : Page) (last : Option ℕ) (aside : Aside) : Type 0 whe
   pub entered : aside.is_alternate ≡ true → IsSome aside.other
   pub nothing : IsNothing (alternate_scrollback aside.is_alternate aside.active aside.idle)
   pub above : IsAbove (main_scrollback aside.is_alternate aside.active aside.idle)
+
+-- ---- sizes
+
+-- Both cursors and the bottom of the scroll region are on the page.
+pub record IsInside (page : Page) : Type 0 where
+  pub row : page.row < length page.rows
+  pub saved_row : page.saved_row < length page.rows
+  pub bottom : page.bottom < length page.rows
+
+-- The page has the given size, and its cursors are on it.
+pub record IsSizedPage (height width : ℕ) (page : Page) : Type 0 where
+  pub inside : IsInside page
+  pub width_is : page.width ≡ width
+  pub height_is : length page.rows ≡ height
+
+-- Both pages of the screen have the given size.
+pub record IsSized (height width : ℕ) (screen : ScreenValue) : Type 0 where
+  pub page : IsSizedPage height width screen.page
+  pub other : IfSome screen.other (IsSizedPage height width)
 
 -- ---- parts of page switches and resets
 

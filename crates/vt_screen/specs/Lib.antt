@@ -28,3 +28,8 @@ pub mod MadeOf
 pub mod Escapes
 pub mod Again
 pub mod Streamed
+pub mod Repeating
+pub mod RepeatInternals
+pub mod Diffs
+pub mod DiffInternals
+pub mod ShortMoves

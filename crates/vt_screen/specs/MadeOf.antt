@@ -61,6 +61,16 @@ drawing_controls =
 abbrev pub scrolling_finals : List ℕ
 scrolling_finals = codes "@PLMHCXKJm"
 
+-- The final bytes of the control sequences that may occur in drawing output whose cursor movements have been
+-- shortened: that of CHA, and those in `scrolling_finals`.
+abbrev pub shortened_finals : List ℕ
+shortened_finals = codes "G@PLMHCXKJm"
+
+-- The fixed sequences that may occur in drawing output whose cursor movements have been shortened: CR, HT, and those in
+-- `drawing_controls`.
+abbrev pub shortened_controls : List (List ℕ)
+shortened_controls = (0x0D ∷ []) ∷ (0x09 ∷ []) ∷ drawing_controls
+
 -- The fixed sequences that may occur in drawing output that also resets the scroll region: the reset of origin mode,
 -- DECSTBM without parameters, and those in `drawing_controls`.
 abbrev pub reset_controls : List (List ℕ)

@@ -3,15 +3,19 @@
 #![tactic(auto)]
 
 pub mod callbacks;
+pub mod diff_options;
 pub mod laws;
 pub mod mode_step;
 pub mod modes;
+pub mod repeats;
 mod reporter;
 pub mod rows;
 pub mod screen;
+mod short_moves;
 pub mod sgr;
 
 pub use callbacks::{Call, Callbacks};
+pub use diff_options::DiffOptions;
 pub use mode_step::ModeStep;
 pub use rows::{Rows, RowsDiff, RowsFormatted};
 pub use screen::Screen;

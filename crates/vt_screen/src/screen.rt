@@ -10,6 +10,7 @@ ghost use Rattle.vt_screen.specs.Screen.{IsColored, IsScreen, fresh_screen, visi
 mod capture;
 mod contents;
 pub mod controls;
+mod diffs;
 mod input;
 mod moved;
 pub mod pages;

@@ -6,6 +6,7 @@ mod difference_tests;
 mod moved_tests;
 mod plain_tests;
 mod redraw_tests;
+mod repeated_tests;
 mod row_items_tests;
 mod state_tests;
 mod steady_tests;

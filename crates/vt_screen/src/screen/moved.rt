@@ -3,7 +3,7 @@
 //! The module `redraw` defines what a screen displays, when a terminal is
 //! plain, and when a screen is steady.
 
-ghost use Rattle.std.specs.Prelude.{◌≡◌, ◌≤◌, ◌++◌, [], IsOk, OnOk, length, string_bytes};
+ghost use Rattle.std.specs.Prelude.{◌≡◌, ◌<◌, ◌≤◌, ◌++◌, [], IsOk, IsTrue, OnOk, length, string_bytes};
 ghost use Rattle.vt_cells.specs.Attrs.{default_attrs};
 ghost use Rattle.vt_cells.specs.Refusals.{OnlyOutOfMemory};
 ghost use Rattle.vt_grid.specs.Page.{IsPage, SameSize};
@@ -13,13 +13,15 @@ ghost use Rattle.vt_redraw.specs.Shifted.{IsMoving, IsRowShift};
 ghost use Rattle.vt_redraw.specs.ShiftInternals.{AppendsShifting};
 ghost use Rattle.vt_redraw.specs.Refusals.{RefusedOnlyIfSome};
 ghost use Rattle.vt_screen.specs.Again.{KeepsPlain};
-ghost use Rattle.vt_screen.specs.MadeOf.{IsMadeOf, drawing_controls, scrolling_finals};
+ghost use Rattle.vt_screen.specs.MadeOf.{IsMadeOf, shortened_controls, shortened_finals};
 ghost use Rattle.vt_screen.specs.Screen.{IsColored, IsScreen};
+ghost use Rattle.vt_screen.specs.ShortMoves.{IsShortMoving, IsShortVersion, known_cursor};
 ghost use Rattle.vt_screen.specs.Shown.{IsSameIfEmpty, RedrawsFrom, ShowsOwnPage, display, display_change};
 ghost use Rattle.vt_screen.specs.TextResults.{IfText};
 
 use crate::screen::Screen;
-use vt_cells::{Attrs, Error, Sink};
+use crate::short_moves::with_short_moves;
+use vt_cells::{Attrs, Error, Pos, Sink};
 use vt_grid::Grid;
 use vt_redraw::pen::write_change;
 use vt_redraw::{
@@ -61,8 +63,8 @@ impl Screen {
     /// ```
     pub fn contents_diff_scrolling(&self, prev: &Screen) -> Result<String, Error>
         requires { SameSize self.now.page prev.now.page }
-        ensures text { IfText result (IsMoving (display self.now) (display prev.now)) }
-        ensures controls { IfText result (IsMadeOf scrolling_finals drawing_controls) }
+        ensures text { IfText result (IsShortMoving (display self.now) (display prev.now)) }
+        ensures controls { IfText result (IsMadeOf shortened_finals shortened_controls) }
         ensures again { IfText result KeepsPlain }
         ensures shorter { IfText result (λ text. length text ≤ length (display_change prev.now self.now)) }
         ensures redraws { IfText result (RedrawsFrom prev.now self.now) }
@@ -73,9 +75,42 @@ impl Screen {
         ensures never { display self.now ≡ display prev.now → IsOk result }
     {
         let text = self.contents_diff(prev)?;
+        let moving = self.shortened(prev, text)?;
         // Only for the proof: a named result lets the prover find the clauses of the call.
-        let shorter = self.shortened(prev, text)?;
-        Ok(shorter)
+        let short = prev.with_short_moves(moving)?;
+        Ok(short)
+    }
+
+    /// Returns the output `text`, meant for a terminal that displays this screen, or shorter output
+    /// that moves the cursor in other ways.
+    ///
+    /// # Errors
+    ///
+    /// Returns `Error::OutOfMemory` if the alternative output cannot be allocated.
+    fn with_short_moves(&self, text: String) -> Result<String, Error>
+        ensures text { IfText result (IsShortVersion self.now (string_bytes text)) }
+        ensures memory { OnlyOutOfMemory result }
+        ensures nonempty { RefusedOnlyIfSome result (string_bytes text) }
+    {
+        let size = self.grid.size();
+        let start = self.known_cursor();
+        match with_short_moves(self.alloc, text.as_str(), size, start) {
+            Err(error) => Err(error),
+            Ok(Some(short)) if is_better(short.as_str(), text.as_str()) => Ok(short),
+            Ok(_) => Ok(text),
+        }
+    }
+
+    /// Returns the position of the cursor, or `None` if a wrap is pending.
+    fn known_cursor(&self) -> Option<Pos>
+        ensures { result ≡ known_cursor self.now }
+    {
+        let pos = self.grid.pos();
+        if pos.col < self.grid.size().cols {
+            Some(pos)
+        } else {
+            None
+        }
     }
 
     /// Returns the plain diff `text`, or shorter output that moves rows or columns first.
@@ -220,4 +255,11 @@ impl Screen {
     {
         View::moved(&self.scrollback, &self.grid, self.hidden, band)
     }
+}
+
+/// Returns whether `short` is shorter than `text` but not empty.
+fn is_better(short: &str, text: &str) -> bool
+    ensures { IsTrue result → 0 < length short.now }
+{
+    !short.is_empty() && short.len() < text.len()
 }

@@ -5,7 +5,7 @@ use super::seen::read_keeping;
 use super::steps::{Pieces, feed};
 use std::alloc::Global;
 use std::test::Fail;
-use vt100::{Error, Screen};
+use vt100::{DiffOptions, Error, Screen};
 
 /// Input that makes a terminal busy: wide glyphs in color everywhere, rows in scrollback, a hidden
 /// cursor, attributes other than the defaults, application keypad, application cursor keys, and
@@ -120,6 +120,9 @@ pub enum Change {
     /// The output of `contents_diff_scrolling`.
     Scrolling,
 
+    /// The output of `contents_diff_with` with these options.
+    With(DiffOptions),
+
     /// The output of `state_diff`.
     State,
 
@@ -139,6 +142,7 @@ impl Change {
         let text = match self {
             Change::Picture => screen.contents_diff(prev),
             Change::Scrolling => screen.contents_diff_scrolling(prev),
+            Change::With(options) => screen.contents_diff_with(prev, options),
             Change::State => screen.state_diff(prev),
             Change::Modes => screen.input_mode_diff(prev),
         };
@@ -167,7 +171,7 @@ impl Change {
     /// output agrees with the screen in these parts, and is unchanged in all others.
     fn taken(self) -> &'static [Part] {
         match self {
-            Change::Picture | Change::Scrolling => &PICTURE,
+            Change::Picture | Change::Scrolling | Change::With(_) => &PICTURE,
             Change::State => &PARTS,
             Change::Modes => &[Part::Modes],
         }

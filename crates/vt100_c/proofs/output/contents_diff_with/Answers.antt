@@ -1,0 +1,7 @@
+use Rattle.vt100_c.proofs.Scrolling.{with_options}
+use Rattle.vt100_c.proofs.output.contents_diff_with.Goals as goal
+
+pub returns-clause-text : goal.returns-clause-text
+returns-clause-text c =
+    with_options c.args.options _ _ c.contents_diff_with.result c.or_status.result
+    c.contents_diff_with.ensures.text c.contents_diff_with.ensures.shorter c.or_status.ensures.text

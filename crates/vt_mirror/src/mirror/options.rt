@@ -1,0 +1,111 @@
+//! Updates with options.
+
+ghost use Rattle.std.specs.Prelude.{◌≡◌, IfOk};
+ghost use Rattle.vt_cells.specs.Refusals.{OnlyOutOfMemory};
+ghost use Rattle.vt_mirror.specs.Calls.{Asks, IsUpdate, kind_with, kind_without_repeats};
+ghost use Rattle.vt_mirror.specs.Internals.{RepeatsUpdate};
+ghost use Rattle.vt_mirror.specs.Viewers.{note_of};
+ghost use Rattle.vt_screen.specs.Screen.{IsColored, IsScreen};
+
+use crate::mirror::Mirror;
+use crate::update::Update;
+use vt100::{DiffOptions, Error};
+use vt_screen::repeats::with_repeats;
+
+impl Mirror {
+    /// Returns the viewer's next update, as [`update`](Mirror::update) does, with the given options
+    /// for a diff.
+    ///
+    /// With `scroll`, the update is the one that [`update_scrolling`](Mirror::update_scrolling)
+    /// would return. With `repeat`, runs of a printable ASCII character in a diff are written with
+    /// REP (ECMA-48, 8.3.103), as with `Screen::contents_diff_with`. Use `repeat` only if the
+    /// viewer's terminal performs REP. Each update may have other options, and may also come from
+    /// `update` or `update_scrolling`.
+    ///
+    /// # Errors
+    ///
+    /// Returns `Error::OutOfMemory` if an allocation fails, as `update` does.
+    /// On error, nothing is changed, and the same update can be requested
+    /// again.
+    pub fn update_with(
+        &mut self,
+        viewer: u64,
+        options: DiffOptions,
+    ) -> Result<Option<Update>, Error>
+        ensures call { Asks (kind_with options) self.old viewer result self.new }
+    {
+        if !self.viewers.has(viewer) {
+            return Ok(None);
+        }
+        let update = self.update_of_kind(viewer, options)?;
+        self.note(viewer)?;
+        Ok(Some(update))
+    }
+
+    /// Returns the diff from the screen recorded for a viewer to the current screen with the given
+    /// options, or a full redraw.
+    ///
+    /// # Errors
+    ///
+    /// Returns `Error::OutOfMemory` if the text of the update cannot be allocated.
+    fn update_of_kind(&mut self, viewer: u64, options: DiffOptions) -> Result<Update, Error>
+        ensures same { self.new ≡ self.old }
+        ensures whole { IsScreen self.new.parser.screen }
+        ensures colored { IsColored self.new.parser.screen }
+        ensures ok { IfOk result
+            (λ update. IsUpdate (kind_with options) self.old.parser.screen (note_of self.old.viewers viewer) update) }
+        ensures memory { OnlyOutOfMemory result }
+    {
+        let plain = self.update_without_repeats(viewer, options.scroll)?;
+        if !options.repeat {
+            return Ok(plain);
+        }
+        let update = self.update_with_repeats(viewer, plain)?;
+        Ok(update)
+    }
+
+    /// Returns the update without REP.
+    ///
+    /// # Errors
+    ///
+    /// Returns `Error::OutOfMemory` if the text of the update cannot be allocated.
+    fn update_without_repeats(&mut self, viewer: u64, scroll: bool) -> Result<Update, Error>
+        ensures same { self.new ≡ self.old }
+        ensures whole { IsScreen self.new.parser.screen }
+        ensures colored { IsColored self.new.parser.screen }
+        ensures ok { IfOk result (λ update.
+            IsUpdate (kind_without_repeats scroll) self.old.parser.screen (note_of self.old.viewers viewer) update) }
+        ensures memory { OnlyOutOfMemory result }
+    {
+        if scroll {
+            let update = self.scrolling_update(viewer)?;
+            return Ok(update);
+        }
+        let update = self.drawn_update(viewer)?;
+        Ok(update)
+    }
+
+    /// Returns the viewer's update `plain` with the runs of a diff written with REP.
+    ///
+    /// # Errors
+    ///
+    /// Returns `Error::OutOfMemory` if the text of the update cannot be allocated.
+    fn update_with_repeats(&self, viewer: u64, plain: Update) -> Result<Update, Error>
+        ensures ok { IfOk result (λ update. RepeatsUpdate (note_of self.now.viewers viewer) plain update) }
+        ensures memory { OnlyOutOfMemory result }
+    {
+        let text = match plain {
+            Update::Full { rows, cols, text } => return Ok(Update::Full { rows, cols, text }),
+            Update::Diff(text) => text,
+        };
+        let Some(noted) = self.viewers.noted(viewer) else {
+            return Ok(Update::Diff(text));
+        };
+        let prev = noted.screen();
+        let (_, cols) = prev.size();
+        let (_, column) = prev.cursor_position();
+        let room = cols.get().saturating_sub(column);
+        let short = with_repeats(self.alloc, text, cols.get(), room)?;
+        Ok(Update::Diff(short))
+    }
+}

@@ -1,0 +1,293 @@
+-- Reading cursor movements: where they lead, and that they keep plain terminals plain.
+use Rattle.std.proofs.Common.{◌≡◌, ℕ, zero, suc, ◌+◌, ◌-◌, ◌*◌, ◌/◌, ◌<◌, ◌^◌, ◌==◌, nat_lt, min, Bool, true, false}
+use Rattle.std.proofs.Common.{List, [], ◌∷◌, ◌++◌, Option, Some, length, refl, sym, ap, subst, ◌∙◌, arith, inl, inr}
+use Rattle.std.proofs.Common.{decimal, replicate, if◌then◌else◌}
+use Rattle.std.proofs.lemmas.Bool.Decides.{nat_tests}
+use Rattle.vt_cells.specs.Op.{MoveRight, LineFeed, Backspace, counted, csi}
+use Rattle.vt_cells.specs.declared.pos.Pos.{Pos}
+use Rattle.vt_grid.specs.Moves.{carriage_return, feeds_out, line_feed, moved_right}
+use Rattle.vt_grid.specs.Page.{Page}
+use Rattle.vt_grid.specs.declared.page_step.PageStep.TheVariants as page
+use Rattle.vt_scan.specs.Automaton.{start, fresh_step}
+use Rattle.vt_scan.specs.Table.{class_of}
+use Rattle.vt_scan.proofs.Written.{decimal_groups, decimal_is_parameter}
+use Rattle.vt_screen.specs.Controls.{control_steps, counted_step, seen_of, unmarked_steps}
+use Rattle.vt_screen.specs.MadeOf.{Control, IsMadeOf, Numbered, shortened_controls, shortened_finals}
+use Rattle.vt_screen.specs.Reading.{quiet_steps, read_byte, terminal}
+use Rattle.vt_screen.specs.Screen.{ScreenValue, canvas_of, with_page}
+use Rattle.vt_screen.specs.ShortMoves.{AppendsReplacement, IsAtPos, IsLastPart, IsPlainSized, IsRoute, LeadsTo, column_after_last, column_after_route}
+use Rattle.vt_screen.specs.ShortMoves.{column_after_tabs, last_text, next_stop, route_text, with_cursor}
+use Rattle.vt_screen.specs.Shown.{ReadsTo}
+use Rattle.vt_screen.specs.Steps.{OnPage, display_after}
+use Rattle.vt_screen.specs.declared.short_moves.route.Route.{Route}
+use Rattle.vt_screen.specs.declared.short_moves.route.Last.{Last}
+use Rattle.vt_screen.specs.declared.short_moves.route.Last.TheVariants as last
+use Rattle.vt_screen.proofs.MadeOf.{made_append, made_counted, made_nothing, made_piece}
+use Rattle.vt_screen.proofs.PlainAgain.{goes_read, held, op_goes, return_goes}
+use Rattle.vt_screen.proofs.Readback.{fed_read, moved_right_read, left_read, ordinal_read, returned_read}
+use Rattle.vt_screen.proofs.ReadbackTexts.{csi_read, reads_then}
+use Rattle.vt_screen.proofs.Replacing.{IsTame, leads_replace, tame_append, tame_keeps, tame_nothing}
+
+abbrev pub IsShort : List ℕ → Type 0
+IsShort text = IsMadeOf shortened_finals shortened_controls text
+
+-- The cursor moves from one column to another in every row of a plain terminal of the given width, or from one row to
+-- another in every column.
+abbrev Columns : (width : ℕ) → List ℕ → (from to : ℕ) → Type 0
+Columns width text from to =
+    (screen : ScreenValue) → screen.page.width ≡ width → screen.page.column ≡ from
+    → ReadsTo text screen (record screen { page = record screen.page { column = to } })
+
+record IsMove (width : ℕ) (text : List ℕ) (from to : ℕ) : Type 0 where
+  reads : Columns width text from to
+  tame : IsTame text
+  made : IsShort text
+
+move_then : (width : ℕ) (a b : List ℕ) (from middle to : ℕ) → IsMove width a from middle → IsMove width b middle to →
+    IsMove width (a ++ b) from to
+move_then width a b from middle to one two = record {
+  reads = λ screen w e.
+      let next : ScreenValue = record screen { page = record screen.page { column = middle } } in
+      reads_then (terminal start screen) (terminal start next)
+      (terminal start (record screen { page = record screen.page { column = to } })) a b (one.reads screen w e)
+      (two.reads next w refl);
+  tame = tame_append a b one.tame two.tame;
+  made = made_append shortened_finals shortened_controls a b one.made two.made;
+}
+
+stay : (width col : ℕ) → IsMove width [] col col
+stay width col = record {
+  reads = λ screen w e. ap (λ c. Some (terminal start (record screen { page = record screen.page { column = c } }))) e;
+  tame = tame_nothing;
+  made = made_nothing shortened_finals shortened_controls;
+}
+
+-- ---- tabs
+
+tab_read : (screen : ScreenValue) → ReadsTo (0x09 ∷ []) screen (display_after (OnPage page.Tab) screen)
+unfolding read_byte fresh_step class_of control_steps
+tab_read screen = refl
+
+tab_tame : IsTame (0x09 ∷ [])
+tab_tame reader screen h =
+    goes_read false reader screen (display_after (OnPage page.Tab) screen) (0x09 ∷ []) (tab_read screen)
+    (held false reader screen (display_after (OnPage page.Tab) screen)
+    (record { top = refl; bottom = refl; origin = refl; saved_origin = refl })
+    (record { other = refl; is_alternate = refl; modes = refl; size = record { width = refl; height = refl } })
+    h.offset h)
+
+tab : (width col : ℕ) → IsMove width (0x09 ∷ []) col (next_stop width col)
+tab width col = record {
+  reads = λ screen w e. tab_read screen
+      ∙ ap (λ c. Some (terminal start (record screen { page = record screen.page { column = c } })))
+      (ap (λ c. min ((c / 8 + 1) * 8) (screen.page.width - 1)) e ∙ ap (λ k. min ((col / 8 + 1) * 8) (k - 1)) w);
+  tame = tab_tame;
+  made = made_piece shortened_finals shortened_controls (Control (0x09 ∷ [])) (inr (inl refl));
+}
+
+tabs : (width n col : ℕ) → IsMove width (replicate n 0x09) col (column_after_tabs width n col)
+tabs width zero col = stay width col
+tabs width (suc n) col =
+    move_then width (0x09 ∷ []) (replicate n 0x09) col (next_stop width col) (column_after_tabs width n (next_stop width col))
+    (tab width col) (tabs width n (next_stop width col))
+
+-- ---- the last part
+
+back_one : (width col : ℕ) → IsMove width (0x08 ∷ []) col (col - 1)
+back_one width col = record {
+  reads = λ screen w e. left_read screen
+      ∙ ap (λ c. Some (terminal start (record screen { page = record screen.page { column = c - 1 } }))) e;
+  tame = λ reader screen h. op_goes Backspace false reader screen tt tt h;
+  made = made_piece shortened_finals shortened_controls (Control (0x08 ∷ [])) (inr (inr (inr (inr (inl refl)))));
+}
+
+back : (width n col : ℕ) → IsMove width (replicate n 0x08) col (col - n)
+back width zero col =
+    let e : col ≡ col - 0 = omega arith in subst (λ to. IsMove width [] col to) e (stay width col)
+back width (suc n) col =
+    let e : col - 1 - n ≡ col - suc n = omega arith in
+    subst (λ to. IsMove width (replicate (suc n) 0x08) col to) e
+    (move_then width (0x08 ∷ []) (replicate n 0x08) col (col - 1) (col - 1 - n) (back_one width col) (back width n (col - 1)))
+
+pub right_tame : (n : ℕ) → n < 2 ^ 16 → IsTame (counted n 0x43)
+right_tame n small reader screen h = op_goes (MoveRight n) false reader screen small tt h
+
+pub right_read : (n : ℕ) (screen : ScreenValue) → 0 < n → n < 2 ^ 16 →
+    ReadsTo (counted n 0x43) screen (record screen { page = moved_right n screen.page })
+right_read zero screen some small = absurd (omega arith)
+right_read (suc n) screen some small = moved_right_read n screen small
+
+right : (width n col : ℕ) → 0 < n → n < 2 ^ 16 → IsMove width (counted n 0x43) col (min (col + n) (width - 1))
+right width n col some small = record {
+  reads = λ screen w e. right_read n screen some small
+      ∙ ap (λ c. Some (terminal start (record screen { page = record screen.page { column = c } })))
+      (ap (λ c. min (c + n) (screen.page.width - 1)) e ∙ ap (λ k. min (col + n) (k - 1)) w);
+  tame = right_tame n small;
+  made = made_counted shortened_finals shortened_controls n 0x43 (inr (inr (inr (inr (inr (inr (inl refl)))))));
+}
+
+column_quiet : (target : ℕ) (screen : ScreenValue) →
+    quiet_steps (unmarked_steps (((target + 1) ∷ []) ∷ []) 0x47 (seen_of screen)) screen
+    ≡ Some (display_after (OnPage (page.MoveToColumn target)) screen)
+unfolding counted_step
+column_quiet target screen =
+    ap (λ (c : ℕ). Some (display_after (OnPage (page.MoveToColumn c)) screen)) (ordinal_read target)
+
+column_read : (target : ℕ) (screen : ScreenValue) → target < 65535 →
+    ReadsTo (csi (decimal (target + 1)) 0x47) screen (display_after (OnPage (page.MoveToColumn target)) screen)
+column_read target screen small =
+    csi_read (decimal (target + 1)) 0x47 (((target + 1) ∷ []) ∷ []) screen
+    (display_after (OnPage (page.MoveToColumn target)) screen)
+    (decimal_is_parameter (target + 1) (omega arith)) (omega arith, omega arith)
+    (decimal_groups (target + 1) (omega arith)) (column_quiet target screen)
+
+column : (width target col : ℕ) → target < 65535 →
+    IsMove width (csi (decimal (target + 1)) 0x47) col (min target (width - 1))
+column width target col small = record {
+  reads = λ screen w e. column_read target screen small
+      ∙ ap (λ k. Some (terminal start (record screen { page = record screen.page { column = min target (k - 1) } }))) w;
+  tame = λ reader screen h.
+      goes_read false reader screen (display_after (OnPage (page.MoveToColumn target)) screen)
+      (csi (decimal (target + 1)) 0x47) (column_read target screen small)
+      (held false reader screen (display_after (OnPage (page.MoveToColumn target)) screen)
+      (record { top = refl; bottom = refl; origin = refl; saved_origin = refl })
+      (record { other = refl; is_alternate = refl; modes = refl; size = record { width = refl; height = refl } })
+      h.offset h);
+  made = made_piece shortened_finals shortened_controls (Numbered ((target + 1) ∷ []) 0x47) (inl refl);
+}
+
+last_moves : (width : ℕ) (part : Last) (col : ℕ) → IsLastPart part →
+    IsMove width (last_text part) col (column_after_last width part col)
+last_moves width last.Stay col is = stay width col
+last_moves width (last.Back n) col is = back width n col
+last_moves width (last.Right n) col is = right width n col is.0 (omega (arith, is.1))
+last_moves width (last.Column target) col is = column width target col is
+
+-- ---- the carriage return
+
+pub return_read : (screen : ScreenValue) → ReadsTo (0x0D ∷ []) screen (with_page (carriage_return screen.page) screen)
+return_read screen = returned_read screen []
+
+return_if : (width : ℕ) (returns : Bool) (col : ℕ) →
+    IsMove width (if returns then 0x0D ∷ [] else []) col (if returns then 0 else col)
+return_if width true col = record {
+  reads = λ screen w e. return_read screen;
+  tame = λ reader screen h. return_goes false reader screen h;
+  made = made_piece shortened_finals shortened_controls (Control (0x0D ∷ [])) (inl refl);
+}
+return_if width false col = stay width col
+
+-- ---- line feeds
+
+-- The cursor moves down within the page.
+abbrev pub down : ℕ → ScreenValue → ScreenValue
+down n screen = record screen { page = record screen.page { row = screen.page.row + n } }
+
+feed_page : (p : Page) → p.bottom + 1 ≡ length p.rows → p.row + 1 < length p.rows →
+    (feeds_out p ≡ false) × (line_feed p ≡ record p { row = p.row + 1 })
+unfolding line_feed
+feed_page p whole inside =
+    let above : (p.row == p.bottom) ≡ false = grind (arith, nat_tests) in
+    let below : nat_lt (p.row + 1) (length p.rows) ≡ true = grind (arith, nat_tests) in
+    (rw above refl, rw (above, below) refl)
+
+pub feed_read : (screen : ScreenValue) → screen.page.bottom + 1 ≡ length screen.page.rows →
+    screen.page.row + 1 < length screen.page.rows → ReadsTo (0x0A ∷ []) screen (down 1 screen)
+feed_read screen whole inside =
+    let (none, goes) = feed_page screen.page whole inside in
+    fed_read screen (record (canvas_of screen) { page = record screen.page { row = screen.page.row + 1 } })
+    (rw (none, goes) refl)
+
+feeds_read : (n : ℕ) (screen : ScreenValue) → screen.page.bottom + 1 ≡ length screen.page.rows →
+    screen.page.row + n < length screen.page.rows → ReadsTo (replicate n 0x0A) screen (down n screen)
+feeds_read zero screen whole inside =
+    let e : screen.page.row ≡ screen.page.row + 0 = omega arith in
+    ap (λ r. Some (terminal start (record screen { page = record screen.page { row = r } }))) e
+feeds_read (suc n) screen whole inside =
+    let e : screen.page.row + 1 + n ≡ screen.page.row + suc n = omega arith in
+    reads_then (terminal start screen) (terminal start (down 1 screen)) (terminal start (down n (down 1 screen)))
+    (0x0A ∷ []) (replicate n 0x0A) (feed_read screen whole (omega arith))
+    (feeds_read n (down 1 screen) whole (omega arith))
+    ∙ ap (λ r. Some (terminal start (record screen { page = record screen.page { row = r } }))) e
+
+feeds_tame : (n : ℕ) → IsTame (replicate n 0x0A)
+feeds_tame zero = tame_nothing
+feeds_tame (suc n) =
+    tame_append (0x0A ∷ []) (replicate n 0x0A) (λ reader screen h. op_goes LineFeed false reader screen tt tt h)
+    (feeds_tame n)
+
+feeds_made : (n : ℕ) → IsShort (replicate n 0x0A)
+feeds_made zero = made_nothing shortened_finals shortened_controls
+feeds_made (suc n) =
+    made_append shortened_finals shortened_controls (0x0A ∷ []) (replicate n 0x0A)
+    (made_piece shortened_finals shortened_controls (Control (0x0A ∷ [])) (inr (inr (inr (inl refl))))) (feeds_made n)
+
+-- ---- routes
+
+along : (width : ℕ) (route : Route) (col : ℕ) → IsLastPart route.last →
+    IsMove width ((if route.returns then 0x0D ∷ [] else []) ++ (replicate route.tabs 0x09 ++ last_text route.last))
+    col (column_after_route width route col)
+along width route col is =
+    let first : ℕ = if route.returns then 0 else col in
+    let second = column_after_tabs width route.tabs first in
+    move_then width (if route.returns then 0x0D ∷ [] else []) (replicate route.tabs 0x09 ++ last_text route.last)
+    col first (column_after_route width route col) (return_if width route.returns col)
+    (move_then width (replicate route.tabs 0x09) (last_text route.last) first second
+    (column_after_route width route col) (tabs width route.tabs first) (last_moves width route.last second is))
+
+pub route_leads : (rows cols : ℕ) (from to : Pos) (route : Route) → IsRoute cols route from to → to.row < rows →
+    LeadsTo rows cols (Some from) to (route_text route)
+route_leads rows cols from to route is low = record {
+  reads = λ screen sized at. reads screen sized at;
+  keeps = tame_keeps (route_text route) (tame_append feeds rest (feeds_tame route.feeds) moves.tame);
+  made = made_append shortened_finals shortened_controls feeds rest (feeds_made route.feeds) moves.made;
+}
+  where
+    feeds : List ℕ
+    feeds = replicate route.feeds 0x0A
+
+    rest : List ℕ
+    rest = (if route.returns then 0x0D ∷ [] else []) ++ (replicate route.tabs 0x09 ++ last_text route.last)
+
+    moves : IsMove cols rest from.col (column_after_route cols route from.col)
+    moves = along cols route from.col is.part
+
+    reads : (screen : ScreenValue) → IsPlainSized rows cols screen → IsAtPos from screen →
+        ReadsTo (route_text route) screen (with_cursor to screen)
+    reads screen sized at =
+        let a = is.row in
+        let below : screen.page.row + route.feeds ≡ to.row = omega (arith, at.row, a) in
+        let whole = sized.plain.page.whole.1 in
+        let inside : screen.page.row + route.feeds < length screen.page.rows = omega (arith, below, low, sized.height) in
+        let middle = down route.feeds screen in
+        reads_then (terminal start screen) (terminal start middle)
+        (terminal start (record middle { page = record middle.page { column = column_after_route cols route from.col } }))
+        feeds rest (feeds_read route.feeds screen whole inside) (moves.reads middle sized.width at.column)
+        ∙ ap (λ r. Some (terminal start (record screen { page = record screen.page { row = r; column = column_after_route cols route from.col } }))) below
+        ∙ ap (λ c. Some (terminal start (record screen { page = record screen.page { row = to.row; column = c } }))) (sym is.column)
+
+-- A route was appended instead of the movement `head`.
+pub move_appended : (rows cols : ℕ) (known : Option Pos) (from to : Pos) (route : Route) (head moves before after : List ℕ)
+    → known ≡ Some from → LeadsTo rows cols known to head → IsRoute cols route from to → to.row < rows → to.col < cols
+    → moves ≡ route_text route → length moves < length head → after ≡ before ++ moves
+    → AppendsReplacement rows cols known (Some to) head before after
+move_appended rows cols known from to route head moves before after at leads is low inside spelled shorter appends =
+    let short : LeadsTo rows cols known to moves =
+    subst (λ (t : List ℕ). LeadsTo rows cols known to t) (sym spelled)
+    (subst (λ (k : Option Pos). LeadsTo rows cols k to (route_text route)) (sym at)
+    (route_leads rows cols from to route is low)) in
+    record {
+      text = moves;
+      appends = appends;
+      replaces = leads_replace rows cols known to head moves inside leads short (omega (arith, shorter));
+    }
+
+-- The movement was appended as it is.
+pub same_appended : (rows cols : ℕ) (known : Option Pos) (to : Pos) (head before after : List ℕ)
+    → LeadsTo rows cols known to head → to.col < cols → after ≡ before ++ head
+    → AppendsReplacement rows cols known (Some to) head before after
+same_appended rows cols known to head before after leads inside appends = record {
+  text = head;
+  appends = appends;
+  replaces = leads_replace rows cols known to head head inside leads leads (omega arith);
+}

@@ -1,0 +1,45 @@
+use Rattle.std.proofs.Common.{string_bytes}
+use Rattle.vt_screen.specs.Shown.{display}
+use Rattle.vt_screen.proofs.ContentTexts.{none_refused}
+use Rattle.vt_screen.proofs.EqualTexts.{difference_none}
+use Rattle.vt_screen.proofs.RepeatedDiffs.{diff_again, diff_empty, diff_none, diff_redraws, diff_rows}
+use Rattle.vt_screen.proofs.screen.Screen.contents_diff_with.Goals as goal
+
+pub returns-clause-text : goal.returns-clause-text
+returns-clause-text c =
+    let is = c.in_ok-plain.ensures.text in record {
+      plain = string_bytes c.in_ok-plain.plain;
+      diff = is.diff;
+      controls = is.controls;
+      repeats = c.in_ok-text.ensures.text;
+    }
+
+pub returns-in_err-plain-clause-never : goal.returns-in_err-plain-clause-never
+returns-in_err-plain-clause-never c same =
+    absurd (none_refused _ (difference_none (display c.args.self.now) (display c.args.prev.now) same)
+    c.in_err-plain.ensures.nonempty)
+
+pub returns-clause-rows : goal.returns-clause-rows
+returns-clause-rows c =
+    diff_rows c.args.options.repeat c.args.options.scroll c.args.prev.now c.args.self.now (string_bytes c.in_ok-plain.plain)
+    (string_bytes c.in_ok-text.text) c.in_ok-plain.ensures.text c.in_ok-text.ensures.text
+
+pub returns-clause-again : goal.returns-clause-again
+returns-clause-again c =
+    diff_again c.args.options.repeat c.args.options.scroll c.args.prev.now c.args.self.now (string_bytes c.in_ok-plain.plain)
+    (string_bytes c.in_ok-text.text) c.in_ok-plain.ensures.text c.in_ok-text.ensures.text
+
+pub returns-clause-redraws : goal.returns-clause-redraws
+returns-clause-redraws c =
+    diff_redraws c.args.options.repeat c.args.options.scroll c.args.prev.now c.args.self.now (string_bytes c.in_ok-plain.plain)
+    (string_bytes c.in_ok-text.text) c.in_ok-plain.ensures.text c.in_ok-text.ensures.text
+
+pub returns-clause-empty : goal.returns-clause-empty
+returns-clause-empty c =
+    diff_empty c.args.options.repeat c.args.options.scroll c.args.prev.now c.args.self.now (string_bytes c.in_ok-plain.plain)
+    (string_bytes c.in_ok-text.text) c.in_ok-plain.ensures.text c.in_ok-text.ensures.text
+
+pub returns-clause-none : goal.returns-clause-none
+returns-clause-none c =
+    diff_none c.args.options.repeat c.args.options.scroll c.args.prev.now c.args.self.now (string_bytes c.in_ok-plain.plain)
+    (string_bytes c.in_ok-text.text) c.in_ok-plain.ensures.text c.in_ok-text.ensures.text

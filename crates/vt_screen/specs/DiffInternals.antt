@@ -1,0 +1,17 @@
+-- What is known of a diff without REP; only for contracts of private functions and for proofs.
+use Rattle.std.specs.Prelude.{◌≡◌, ◌≤◌, Bool, List, [], ℕ, length}
+use Rattle.vt_screen.specs.Again.{KeepsPlain}
+use Rattle.vt_screen.specs.Diffs.{IsDiff, diff_controls, diff_finals}
+use Rattle.vt_screen.specs.MadeOf.{IsMadeOf}
+use Rattle.vt_screen.specs.Screen.{ScreenValue}
+use Rattle.vt_screen.specs.Shown.{IsSameIfEmpty, RedrawsFrom, display, display_change}
+
+-- The output is a diff without REP, with all that the clauses of `contents_diff` and `contents_diff_scrolling` say of both.
+pub record IsPlainDiff (scroll : Bool) (was new : ScreenValue) (text : List ℕ) : Type 0 where
+  pub diff : IsDiff scroll was new text
+  pub controls : IsMadeOf (diff_finals scroll) (diff_controls scroll) text
+  pub again : KeepsPlain text
+  pub shorter : length text ≤ length (display_change was new)
+  pub redraws : RedrawsFrom was new text
+  pub empty : IsSameIfEmpty was new text
+  pub none : display new ≡ display was → text ≡ []

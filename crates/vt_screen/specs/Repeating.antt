@@ -1,0 +1,91 @@
+-- Output in which runs of one character are written with REP, which repeats the last printed character (ECMA-48,
+-- 8.3.103), and its effect on the terminals that read it.
+use Rattle.std.specs.Prelude.{◌≡◌, ◌⊎◌, ℕ, suc, ◌+◌, ◌<◌, ◌≤◌, ◌==◌, List, [], ◌∷◌, ◌++◌, decimal, length}
+use Rattle.std.specs.Prelude.{replicate, if◌then◌else◌}
+use Rattle.std.specs.List.{AllByRecursion, flat_map}
+use Rattle.vt_cells.specs.Op.{csi}
+use Rattle.vt_scan.specs.Automaton.{Event, CsiDispatch, start}
+use Rattle.vt_scan.specs.Run.{run}
+use Rattle.vt_screen.specs.CallsOfRun.{screen_after_all, steps_in}
+use Rattle.vt_screen.specs.Controls.{number_or, seen_of, steps_of}
+use Rattle.vt_screen.specs.Reading.{terminal, terminal_after}
+use Rattle.vt_screen.specs.Screen.{IsScreen, ScreenValue}
+
+-- ---- the output
+
+-- The control sequence that repeats the last printed character the given number of times.
+abbrev pub repeat_text : ℕ → List ℕ
+repeat_text count = csi (decimal count) 0x62
+
+-- A part of the output that ends in a run: a character that is printed once and then `count` times more.
+pub record Run : Type 0 where
+  pub before : List ℕ
+  pub byte : ℕ
+  pub count : ℕ
+
+-- The character is printable ASCII, and REP is shorter than the characters that it stands for.
+pub record IsShortened (run : Run) : Type 0 where
+  pub low : 0x20 ≤ run.byte
+  pub high : run.byte < 0x7F
+  pub shorter : length (repeat_text run.count) < run.count
+
+-- The part with the run written out in full.
+abbrev pub full_text : Run → List ℕ
+full_text run = run.before ++ replicate (suc run.count) run.byte
+
+-- The part with the run written as the character and REP.
+abbrev pub short_text : Run → List ℕ
+short_text run = run.before ++ run.byte ∷ repeat_text run.count
+
+-- The output `text` is the output `plain` in which some runs are written with REP. All else is the same.
+pub record HasRuns (plain text : List ℕ) : Type 0 where
+  pub runs : List Run
+  pub rest : List ℕ
+  pub are_shortened : AllByRecursion IsShortened runs
+  pub in_full : plain ≡ flat_map full_text runs ++ rest
+  pub in_short : text ≡ flat_map short_text runs ++ rest
+
+-- ---- the effect of reading the output
+
+-- A terminal in ground state takes the same steps for both outputs and then is in the same state. If it reads one of
+-- them without invoking callbacks, allocating, or scrolling rows off the page, then also the other.
+pub record ReadsAlike (plain text : List ℕ) (reader : ScreenValue) : Type 0 where
+  pub state : (run start text).state ≡ (run start plain).state
+  pub steps : steps_in start reader text ≡ steps_in start reader plain
+  pub reads : terminal_after (terminal start reader) text ≡ terminal_after (terminal start reader) plain
+
+-- How often an event repeats the last printed character: REP's count, and 0 for all other events.
+abbrev pub repetitions : Event → ℕ
+repetitions (CsiDispatch groups [] b) = if b == 0x62 then number_or 1 0 groups else 0
+repetitions _ = 0
+
+-- Each REP among the events finds enough columns left in the cursor's row for all its characters, so that none of them
+-- wraps to the next row. The events begin on the given screen.
+abbrev pub RepeatInRows : List Event → ScreenValue → Type 0
+RepeatInRows [] screen = Unit {0}
+RepeatInRows (event ∷ events) screen =
+    ((repetitions event ≡ 0) ⊎ (screen.page.column + repetitions event ≤ screen.page.width))
+    × RepeatInRows events (screen_after_all (steps_of event (seen_of screen)) screen)
+
+-- A terminal in ground state that reads the output repeats each character only within its row.
+abbrev pub RepeatsInRows : List ℕ → ScreenValue → Type 0
+RepeatsInRows text reader = RepeatInRows (run start text).events reader
+
+-- No event of the output is REP.
+abbrev pub HasNoRepeat : List ℕ → Type 0
+HasNoRepeat text = AllByRecursion (λ event. repetitions event ≡ 0) (run start text).events
+
+-- The terminal has the given number of columns, and at least `room` of them lie between its cursor and the end of the
+-- row.
+pub record IsReaderWithRoom (width room : ℕ) (reader : ScreenValue) : Type 0 where
+  pub sound : IsScreen reader
+  pub width_is : reader.page.width ≡ width
+  pub columns : 0 < room → reader.page.column + room ≤ width
+
+-- The output `text` is `plain` with some runs written with REP. It has the same effect on every terminal, and if
+-- `plain` contains no REP, it repeats characters only within rows on terminals that have the given width and room.
+pub record Repeats (width room : ℕ) (plain text : List ℕ) : Type 0 where
+  pub runs : HasRuns plain text
+  pub same : (reader : ScreenValue) → IsScreen reader → ReadsAlike plain text reader
+  pub rows : HasNoRepeat plain → (reader : ScreenValue) → IsReaderWithRoom width room reader → RepeatsInRows text reader
+  pub shorter : length text ≤ length plain

@@ -1,0 +1,212 @@
+-- Output whose cursor movements are replaced by shorter ones.
+use Rattle.std.specs.Prelude.{◌≡◌, ◌≢◌, ◌⊎◌, nat_lt, ℕ, zero, suc, ◌+◌, ◌-◌, ◌*◌, ◌/◌, ◌<◌, ◌≤◌, Bool, true, false, min, if◌then◌else◌}
+use Rattle.std.specs.Prelude.{List, [], ◌∷◌, ◌++◌, length, replicate, decimal, encode_utf8, Option, Some, None}
+use Rattle.std.specs.List.{AllByRecursion}
+use Rattle.vt_redraw.specs.Fits.{IsDrawn}
+use Rattle.vt_redraw.specs.Picture.{Picture}
+use Rattle.vt_redraw.specs.Shifted.{IsMoving}
+use Rattle.vt_cells.specs.Op.{MoveTo, MoveRight, NextRow, EraseRest, EraseChars, Hide, bytes_of, counted, csi, semicolon_list}
+use Rattle.vt_cells.specs.declared.pos.Pos.{Pos}
+use Rattle.vt_scan.specs.Automaton.{start}
+use Rattle.vt_screen.specs.Again.{KeepsPlain}
+use Rattle.vt_screen.specs.MadeOf.{IsMadeOf, shortened_controls, shortened_finals}
+use Rattle.vt_screen.specs.Reading.{Terminal, terminal, terminal_after}
+use Rattle.vt_screen.specs.Screen.{ScreenValue}
+use Rattle.vt_screen.specs.Sgr.{group_read}
+use Rattle.vt_screen.specs.Shown.{IsPlain, IsReaderOf, ReadsTo}
+use Rattle.vt_screen.specs.declared.sgr.Reading.TheVariants.{Unhandled}
+use Rattle.vt_screen.specs.declared.sgr.Wanted.{Wanted}
+use Rattle.vt_screen.specs.declared.sgr.Wanted.TheVariants.{Any}
+use Rattle.vt_screen.specs.declared.short_moves.elements.Element.{Element}
+use Rattle.vt_screen.specs.declared.short_moves.elements.Element.TheVariants as element
+use Rattle.vt_screen.specs.declared.short_moves.route.Route.{Route}
+use Rattle.vt_screen.specs.declared.short_moves.route.Last.{Last}
+use Rattle.vt_screen.specs.declared.short_moves.route.Last.TheVariants as last
+
+-- ---- what is known about the terminal that reads the output
+
+-- The terminal is plain and has the given size.
+pub record IsPlainSized (rows cols : ℕ) (screen : ScreenValue) : Type 0 where
+  pub plain : IsPlain screen
+  pub height : length screen.page.rows ≡ rows
+  pub width : screen.page.width ≡ cols
+
+-- The cursor is at the given position, and no wrap is pending.
+pub record IsAtPos (pos : Pos) (screen : ScreenValue) : Type 0 where
+  pub row : screen.page.row ≡ pos.row
+  pub column : screen.page.column ≡ pos.col
+  pub inside : pos.col < screen.page.width
+
+-- The cursor is at the given position, if one is known.
+abbrev pub IsAt : Option Pos → ScreenValue → Type 0
+IsAt None screen = Unit {0}
+IsAt (Some pos) screen = IsAtPos pos screen
+
+-- A terminal in ground state that is plain, has the given size, and has its cursor at the given position, if one is
+-- known.
+pub record EndsAt (height width : ℕ) (known : Option Pos) (t : Terminal) : Type 0 where
+  pub ground : t.scan ≡ start
+  pub sized : IsPlainSized height width t.screen
+  pub at : IsAt known t.screen
+
+-- On a plain terminal of the given size whose cursor is at the position `known`, the output `text` has the same effect
+-- as the output `old`, which leaves the cursor at the position `new`. On all other plain terminals, `text` at least
+-- leaves the terminal plain. It is not longer than `old`.
+pub record Replaces (height width : ℕ) (known new : Option Pos) (old text : List ℕ) : Type 0 where
+  pub same : (screen : ScreenValue) → IsPlainSized height width screen → IsAt known screen →
+      terminal_after (terminal start screen) text ≡ terminal_after (terminal start screen) old
+  pub ends : (screen : ScreenValue) (t : Terminal) → IsPlainSized height width screen → IsAt known screen →
+      terminal_after (terminal start screen) old ≡ Some t → EndsAt height width new t
+  pub keeps : KeepsPlain text
+  pub made : IsMadeOf shortened_finals shortened_controls text
+  pub shorter : length text ≤ length old
+
+-- The screen with the cursor at the given position.
+abbrev pub with_cursor : Pos → ScreenValue → ScreenValue
+with_cursor pos screen = record screen { page = record screen.page { row = pos.row; column = pos.col } }
+
+-- On a plain terminal of the given size whose cursor is at the position `known`, if one is known, the output moves the
+-- cursor to the position `to` and changes nothing else. All other plain terminals stay plain.
+pub record LeadsTo (height width : ℕ) (known : Option Pos) (to : Pos) (text : List ℕ) : Type 0 where
+  pub reads : (screen : ScreenValue) → IsPlainSized height width screen → IsAt known screen →
+      ReadsTo text screen (with_cursor to screen)
+  pub keeps : KeepsPlain text
+  pub made : IsMadeOf shortened_finals shortened_controls text
+
+-- The string grew by output that replaces `old`.
+pub record AppendsReplacement (height width : ℕ) (known new : Option Pos) (old before after : List ℕ) : Type 0 where
+  pub text : List ℕ
+  pub appends : after ≡ before ++ text
+  pub replaces : Replaces height width known new old text
+
+-- ---- scrolling diffs
+
+-- The position of the screen's cursor; `None` if a wrap is pending.
+abbrev pub known_cursor : ScreenValue → Option Pos
+known_cursor screen =
+    if nat_lt screen.page.column screen.page.width
+    then Some (record { row = screen.page.row; col = screen.page.column })
+    else None
+
+-- On terminals that display what the screen `prev` displays, `text` can replace `old`, or is the same.
+abbrev pub IsShortVersion : (prev : ScreenValue) (old text : List ℕ) → Type 0
+IsShortVersion prev old text =
+    (text ≡ old)
+    ⊎ ((0 < length text) × Replaces (length prev.page.rows) prev.page.width (known_cursor prev) None old text)
+
+-- The output is a scrolling diff, or a version of one that is not longer and has the same effect on every plain
+-- terminal that displays the picture `prev`.
+pub record IsShortMoving (self prev : Picture) (text : List ℕ) : Type 0 where
+  pub plain : List ℕ
+  pub moving : IsMoving self prev plain
+  pub same : (reader : ScreenValue) → IsReaderOf self prev reader →
+      terminal_after (terminal start reader) text ≡ terminal_after (terminal start reader) plain
+  pub shorter : length text ≤ length plain
+
+-- ---- the elements of the output
+
+-- None of the groups of an SGR sequence, each of which is a single number, is unknown.
+abbrev pub AreHandled : Wanted → List ℕ → Type 0
+AreHandled wanted [] = Unit {0}
+AreHandled wanted (n ∷ ns) =
+    ((group_read wanted (n ∷ [])).reading ≢ Unhandled) × AreHandled (group_read wanted (n ∷ [])).wanted ns
+
+-- The text consists of at least one and at most `most` numbers joined by `;`, all of which SGR handles.
+pub record IsSgrText (most : ℕ) (wanted : Wanted) (text : List ℕ) : Type 0 where
+  pub first : ℕ
+  pub rest : List ℕ
+  pub spelled : text ≡ semicolon_list (first ∷ rest)
+  pub small : AllByRecursion (λ n. n < 65536) (first ∷ rest)
+  pub few : length (first ∷ rest) ≤ most
+  pub handled : AreHandled wanted (first ∷ rest)
+
+-- The character is printable ASCII.
+abbrev pub IsAsciiCharacter : ℕ → Type 0
+IsAsciiCharacter b = (0x20 ≤ b) × (b < 0x7F)
+
+-- The bytes are an element of the given kind.
+abbrev pub IsElement : Element → List ℕ → Type 0
+IsElement element.Ascii bytes = AllByRecursion IsAsciiCharacter bytes
+IsElement (element.Other c) bytes = IsDrawn c × (bytes ≡ encode_utf8 c)
+IsElement (element.Place pos) bytes = (pos.row < 65535) × (pos.col < 65535) × (bytes ≡ bytes_of (MoveTo pos.row pos.col))
+IsElement (element.Right count) bytes = (0 < count) × (count < 65536) × (bytes ≡ bytes_of (MoveRight count))
+IsElement element.NextRow bytes = bytes ≡ bytes_of NextRow
+IsElement element.EraseRest bytes = bytes ≡ bytes_of EraseRest
+IsElement (element.EraseChars count) bytes = (0 < count) × (count < 65536) × (bytes ≡ bytes_of (EraseChars count))
+IsElement (element.Lines count insert) bytes =
+    (0 < count) × (count < 65536) × (bytes ≡ counted count (if insert then 0x4C else 0x4D))
+IsElement (element.Chars count insert) bytes =
+    (0 < count) × (count < 65536) × (bytes ≡ counted count (if insert then 0x40 else 0x50))
+IsElement (element.Hide hidden) bytes = bytes ≡ bytes_of (Hide hidden)
+IsElement element.ClearAttrs bytes = bytes ≡ csi [] 0x6D
+IsElement element.Attrs bytes = (text : List ℕ) × IsSgrText 32 Any text × (bytes ≡ csi text 0x6D)
+
+-- The position is some columns to the right of `from`, and not past the last column.
+pub record IsAfter (cols : ℕ) (from : Pos) (count : ℕ) (to : Pos) : Type 0 where
+  pub row : to.row ≡ from.row
+  pub column : to.col ≡ from.col + count
+  pub inside : to.col < cols
+
+-- The element leaves the cursor where it is.
+abbrev pub is_still : Element → Bool
+is_still element.EraseRest = true
+is_still (element.EraseChars count) = true
+is_still (element.Lines count insert) = true
+is_still (element.Chars count insert) = true
+is_still (element.Hide hidden) = true
+is_still element.ClearAttrs = true
+is_still element.Attrs = true
+is_still _ = false
+
+-- ---- routes
+
+-- The column that the last part of a route leads to.
+abbrev pub column_after_last : (width : ℕ) → Last → ℕ → ℕ
+column_after_last width last.Stay col = col
+column_after_last width (last.Back count) col = col - count
+column_after_last width (last.Right count) col = min (col + count) (width - 1)
+column_after_last width (last.Column target) col = min target (width - 1)
+
+-- The last part of a route is valid: it moves the cursor right by at least one column, or to a column within a
+-- terminal's largest size.
+abbrev pub IsLastPart : Last → Type 0
+IsLastPart last.Stay = Unit {0}
+IsLastPart (last.Back count) = Unit {0}
+IsLastPart (last.Right count) = (0 < count) × (count < 65536)
+IsLastPart (last.Column target) = target < 65535
+
+-- The last part of a route is valid and leads from the column `col` to the column `after`.
+abbrev pub IsLast : (width : ℕ) → Last → (col after : ℕ) → Type 0
+IsLast width part col after = IsLastPart part × (after ≡ column_after_last width part col)
+
+-- The column after a tab: the next one that is a multiple of 8, or the last column if there is none (HT).
+abbrev pub next_stop : (width : ℕ) → ℕ → ℕ
+next_stop width col = min ((col / 8 + 1) * 8) (width - 1)
+
+abbrev pub column_after_tabs : (width : ℕ) → ℕ → ℕ → ℕ
+column_after_tabs width zero col = col
+column_after_tabs width (suc n) col = column_after_tabs width n (next_stop width col)
+
+-- The column that a route leads to from the given column.
+abbrev pub column_after_route : (width : ℕ) → Route → ℕ → ℕ
+column_after_route width route col =
+    column_after_last width route.last (column_after_tabs width route.tabs (if route.returns then 0 else col))
+
+-- The route leads from one position to the other on a terminal of the given width.
+pub record IsRoute (width : ℕ) (route : Route) (from to : Pos) : Type 0 where
+  pub row : to.row ≡ from.row + route.feeds
+  pub column : to.col ≡ column_after_route width route from.col
+  pub part : IsLastPart route.last
+
+-- The bytes of the last part of a route: BS, CUF or CHA.
+abbrev pub last_text : Last → List ℕ
+last_text last.Stay = []
+last_text (last.Back count) = replicate count 0x08
+last_text (last.Right count) = counted count 0x43
+last_text (last.Column target) = csi (decimal (target + 1)) 0x47
+
+-- The bytes of a route: line feeds, a carriage return, tabs, and the last part.
+abbrev pub route_text : Route → List ℕ
+route_text route =
+    replicate route.feeds 0x0A ++ ((if route.returns then 0x0D ∷ [] else [])
+    ++ (replicate route.tabs 0x09 ++ last_text route.last))

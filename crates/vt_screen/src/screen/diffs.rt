@@ -1,0 +1,114 @@
+//! Diffs with options.
+
+ghost use Rattle.std.specs.Prelude.{◌≡◌, ◌≤◌, [], IsOk, length, string_bytes};
+ghost use Rattle.vt_cells.specs.Refusals.{OnlyOutOfMemory};
+ghost use Rattle.vt_grid.specs.Page.{SameSize};
+ghost use Rattle.vt_redraw.specs.Refusals.{RefusedOnlyIfSome};
+ghost use Rattle.vt_screen.specs.DiffInternals.{IsPlainDiff};
+ghost use Rattle.vt_screen.specs.Diffs.{IsDiffWith, KeepsScreensPlain, MayRepeat, RepeatsOnlyInRows};
+ghost use Rattle.vt_screen.specs.Shown.{IsSameIfEmpty, RedrawsFrom, display, display_change};
+ghost use Rattle.vt_screen.specs.TextResults.{IfText};
+
+use crate::diff_options::DiffOptions;
+use crate::repeats::with_repeats;
+use crate::screen::Screen;
+use vt_cells::Error;
+
+impl Screen {
+    /// Returns the escape sequences that turn the display of `prev` into the
+    /// display of this screen, as [`Screen::contents_diff`] does, but with
+    /// options. Both screens must have the same size.
+    ///
+    /// With `scroll`, the output may move rows or columns first, as that of
+    /// [`Screen::contents_diff_scrolling`] does. With `repeat`, runs of a
+    /// printable ASCII character are written as the character followed by REP
+    /// (CSI `n` `b`, ECMA-48, 8.3.103) if that is shorter. Some terminals
+    /// ignore REP, so use `repeat` only if the reader performs it. Without
+    /// `repeat`, the output is that of `contents_diff` or, with `scroll`, of
+    /// `contents_diff_scrolling`.
+    ///
+    /// The output is never longer than that of `contents_diff` (clause
+    /// `shorter`). Every terminal in ground state takes the same steps for the
+    /// output with REP as for the output with the runs written out (clause
+    /// `text`). On a plain terminal that displays `prev`, the characters of each
+    /// REP fit in the row (clause `rows`), because terminals differ in what they
+    /// do otherwise.
+    ///
+    /// If this screen is steady, a plain terminal that displays `prev` displays
+    /// this screen after reading the output (clause `redraws`). The output is
+    /// empty if both screens have the same display; if this screen is steady, it
+    /// is empty only in that case (clause `empty`). A plain terminal that has
+    /// read the output is plain again, even if this screen is not steady (clause
+    /// `again`).
+    ///
+    /// # Errors
+    ///
+    /// Returns `Error::OutOfMemory` if the output, or output that it is made
+    /// from, cannot be allocated. There is no error if both screens have the
+    /// same display (clause `never`).
+    ///
+    /// # Examples
+    ///
+    /// ```text
+    /// // ten `-` on a blank screen: the character, and nine repetitions
+    /// let options = DiffOptions { scroll: false, repeat: true };
+    /// assert_eq!(screen.contents_diff_with(&blank, options)?, "-\x1b[9b");
+    /// ```
+    pub fn contents_diff_with(&self, prev: &Screen, options: DiffOptions) -> Result<String, Error>
+        requires { SameSize self.now.page prev.now.page }
+        ensures text { IfText result (IsDiffWith options prev.now self.now) }
+        ensures rows { IfText result (RepeatsOnlyInRows prev.now self.now) }
+        ensures again { IfText result KeepsScreensPlain }
+        ensures shorter { IfText result (λ text. length text ≤ length (display_change prev.now self.now)) }
+        ensures redraws { IfText result (RedrawsFrom prev.now self.now) }
+        ensures empty { IfText result (IsSameIfEmpty prev.now self.now) }
+        ensures none { IfText result (λ text. display self.now ≡ display prev.now → text ≡ []) }
+        ensures memory { OnlyOutOfMemory result }
+        ensures nonempty { RefusedOnlyIfSome result (display_change prev.now self.now) }
+        ensures never { display self.now ≡ display prev.now → IsOk result }
+    {
+        let plain = self.diff_without_repeats(prev, options.scroll)?;
+        let text = self.diff_with_repeats(prev, plain, options.repeat)?;
+        Ok(text)
+    }
+
+    /// Returns the plain diff or, if rows and columns may move first, the
+    /// scrolling diff.
+    ///
+    /// # Errors
+    ///
+    /// Returns `Error::OutOfMemory` if the output cannot be allocated.
+    fn diff_without_repeats(&self, prev: &Screen, scroll: bool) -> Result<String, Error>
+        requires { SameSize self.now.page prev.now.page }
+        ensures text { IfText result (IsPlainDiff scroll prev.now self.now) }
+        ensures memory { OnlyOutOfMemory result }
+        ensures nonempty { RefusedOnlyIfSome result (display_change prev.now self.now) }
+    {
+        if scroll {
+            let text = self.contents_diff_scrolling(prev)?;
+            return Ok(text);
+        }
+        let text = self.contents_diff(prev)?;
+        Ok(text)
+    }
+
+    /// Returns `plain`, or the same output with runs written with REP.
+    ///
+    /// # Errors
+    ///
+    /// Returns `Error::OutOfMemory` if the output cannot be allocated.
+    fn diff_with_repeats(&self, prev: &Screen, plain: String, repeat: bool) -> Result<String, Error>
+        ensures text { IfText result (MayRepeat repeat prev.now (string_bytes plain)) }
+        ensures memory { OnlyOutOfMemory result }
+        ensures nonempty { RefusedOnlyIfSome result (string_bytes plain) }
+    {
+        if !repeat {
+            return Ok(plain);
+        }
+        let (_, cols) = prev.size();
+        let (_, column) = prev.cursor_position();
+        let room = cols.get().saturating_sub(column);
+        let text = with_repeats(self.alloc, plain, cols.get(), room)?;
+        Ok(text)
+    }
+}

@@ -1,0 +1,226 @@
+//! Replaces the cursor movements of drawing output by shorter ones.
+//!
+//! The writers of `vt_redraw` move the cursor with CUP, CUF, and CR LF. This module reads their
+//! output, keeps track of where the cursor of the terminal is, and replaces a movement by LF, CR,
+//! HT, BS, CUF or CHA if these take fewer bytes. Nothing else in the output changes.
+
+ghost use Rattle.std.specs.Prelude.{◌≡◌, ◌+◌, ◌-◌, ◌<◌, IfOk, IfSome, None, Some, ℕ, min, string_bytes};
+ghost use Rattle.vt_cells.specs.Glyph.{columns_of};
+ghost use Rattle.vt_cells.specs.Refusals.{OnlyOutOfMemory};
+ghost use Rattle.vt_redraw.specs.Refusals.{RefusedOnlyIfSome};
+ghost use Rattle.vt_screen.specs.ShortMoves.{AppendsReplacement, IsAfter, IsElement, LeadsTo, Replaces};
+
+mod elements;
+mod route;
+
+use elements::{Element, first_element};
+use route::likely_route;
+use std::alloc::Global;
+use vt_cells::{Error, Pos, Sink, columns};
+use vt_grid::Size;
+
+/// Returns `text` with shorter cursor movements, for a plain terminal of the given size whose cursor
+/// is at `start` (`None` if a wrap is pending). Returns `None` if `text` has an element that is
+/// unknown here, or cannot be made shorter.
+///
+/// # Errors
+///
+/// Returns `Error::OutOfMemory` if the output cannot be allocated.
+pub fn with_short_moves(
+    alloc: Global,
+    text: &str,
+    size: Size,
+    start: Option<Pos>,
+) -> Result<Option<String>, Error>
+    ensures short { IfOk result (λ found. IfSome found (λ short.
+        Replaces size.rows size.cols start None text.now (string_bytes short))) }
+    ensures memory { OnlyOutOfMemory result }
+    ensures nonempty { RefusedOnlyIfSome result text.now }
+{
+    let mut short = String::new(alloc);
+    let mut moves = String::new(alloc);
+    let mut at = start;
+    let mut rest = text;
+    while !rest.is_empty() {
+        let Some((element, len)) = first_element(rest) else {
+            return Ok(None);
+        };
+        let Some((head, tail)) = rest.split_at_checked(len) else {
+            return Ok(None);
+        };
+        at = add_element(&mut short, &mut moves, size, at, element, head)?;
+        rest = tail;
+    }
+    Ok(Some(short))
+}
+
+/// Appends an element to `short`, or a shorter movement of the same effect, and returns the position
+/// of the cursor after it, if it is known. `moves` is overwritten.
+///
+/// # Errors
+///
+/// Returns `Error::OutOfMemory` if a string cannot grow.
+fn add_element(
+    short: &mut String,
+    moves: &mut String,
+    size: Size,
+    at: Option<Pos>,
+    element: Element,
+    head: &str,
+) -> Result<Option<Pos>, Error>
+    requires { IsElement element head.now }
+    ensures appends { IfOk result (λ after.
+        AppendsReplacement size.rows size.cols at after head.now (string_bytes short.old) (string_bytes short.new)) }
+    ensures memory { OnlyOutOfMemory result }
+{
+    match destination(element, size, at, head) {
+        Some(to) => add_move(short, moves, size, at, to, head),
+        None => {
+            short.write_str(head)?;
+            Ok(position_after(element, size, at, head))
+        }
+    }
+}
+
+/// Returns the position to which an element moves the cursor. Returns `None` if the element is not a
+/// cursor movement, or if it leads to an unknown position.
+fn destination(element: Element, size: Size, at: Option<Pos>, head: &str) -> Option<Pos>
+    requires { IsElement element head.now }
+    ensures leads { IfSome result (λ to. LeadsTo size.rows size.cols at to head.now) }
+    ensures row { IfSome result (λ to. to.row < size.rows) }
+    ensures col { IfSome result (λ to. to.col < size.cols) }
+{
+    match element {
+        Element::Place(to) if to.row < size.rows && to.col < size.cols => Some(to),
+        Element::Right(count) => {
+            let from = at?;
+            right_of(from, count, size)
+        }
+        Element::NextRow => {
+            let from = at?;
+            next_row(from, size)
+        }
+        _ => None,
+    }
+}
+
+/// Returns the position `count` columns to the right of `from`, or in the last column if that is
+/// nearer. Returns `None` if the position is outside the terminal.
+fn right_of(from: Pos, count: u16, size: Size) -> Option<Pos>
+    ensures row { IfSome result (λ to. (to.row ≡ from.row) × (to.row < size.rows)) }
+    ensures col { IfSome result (λ to. (to.col ≡ min (from.col + count) (size.cols - 1)) × (to.col < size.cols)) }
+{
+    if from.row >= size.rows || size.cols == 0 {
+        return None;
+    }
+    let col = from.col.saturating_add(count).min(size.cols - 1);
+    Some(Pos { row: from.row, col })
+}
+
+/// Returns the position in the first column of the row below `from`, or `None` if there is no row
+/// below.
+fn next_row(from: Pos, size: Size) -> Option<Pos>
+    ensures row { IfSome result (λ to. (to.row ≡ from.row + 1) × (to.row < size.rows)) }
+    ensures col { IfSome result (λ to. (to.col ≡ 0) × (to.col < size.cols)) }
+{
+    if from.row < size.rows && size.rows - from.row > 1 && size.cols > 0 {
+        Some(Pos {
+            row: from.row + 1,
+            col: 0,
+        })
+    } else {
+        None
+    }
+}
+
+/// Returns the position of the cursor after an element that is copied, if it is known.
+fn position_after(element: Element, size: Size, at: Option<Pos>, head: &str) -> Option<Pos>
+    requires { IsElement element head.now }
+    ensures { Replaces size.rows size.cols at result head.now head.now }
+{
+    match element {
+        Element::Ascii => match at {
+            Some(from) => after_characters(from, head.len(), size),
+            None => None,
+        },
+        Element::Other(c) => match at {
+            Some(from) => after_other(from, c, size),
+            None => None,
+        },
+        // Other terminals move the cursor to the first column after IL and DL.
+        Element::Lines(_, _) if !is_first_column(at) => None,
+        _ if element.is_still() => at,
+        _ => None,
+    }
+}
+
+/// Returns whether the position is known to be in the first column.
+fn is_first_column(at: Option<Pos>) -> bool {
+    match at {
+        Some(pos) => pos.col == 0,
+        None => false,
+    }
+}
+
+/// Returns the position after the character `c` is printed at `from`, or `None` if it is past the
+/// last column, or if `c` is a combining character.
+fn after_other(from: Pos, c: char, size: Size) -> Option<Pos>
+    ensures { IfSome result (λ to. (n : ℕ) × (columns_of c ≡ Some n) × (0 < n) × IsAfter size.cols from n to) }
+{
+    match columns(c) {
+        Some(1) => after_characters(from, 1, size),
+        Some(2) => after_characters(from, 2, size),
+        _ => None,
+    }
+}
+
+/// Returns the position `count` columns to the right of `from`, or `None` if it is past the last
+/// column, where a wrap is pending.
+fn after_characters(from: Pos, count: usize, size: Size) -> Option<Pos>
+    ensures { IfSome result (IsAfter size.cols from count) }
+{
+    let left = size.cols.saturating_sub(from.col);
+    match u16::try_from(count) {
+        Ok(count) if count < left => Some(Pos {
+            row: from.row,
+            col: from.col + count,
+        }),
+        _ => None,
+    }
+}
+
+/// Appends `head`, which moves the cursor from `at` to `to`, or a shorter movement of the same
+/// effect. Returns the new position. `moves` is overwritten.
+///
+/// # Errors
+///
+/// Returns `Error::OutOfMemory` if a string cannot grow.
+fn add_move(
+    short: &mut String,
+    moves: &mut String,
+    size: Size,
+    at: Option<Pos>,
+    to: Pos,
+    head: &str,
+) -> Result<Option<Pos>, Error>
+    requires leads { LeadsTo size.rows size.cols at to head.now }
+    requires row { to.row < size.rows }
+    requires col { to.col < size.cols }
+    ensures appends { IfOk result (λ after.
+        AppendsReplacement size.rows size.cols at after head.now (string_bytes short.old) (string_bytes short.new)) }
+    ensures memory { OnlyOutOfMemory result }
+{
+    if let Some(from) = at {
+        let route = likely_route(from, to, size.cols);
+        if route.leads(from, to, size.cols) {
+            moves.clear();
+            route.write(moves)?;
+            if moves.len() < head.len() {
+                short.write_str(moves.as_str())?;
+                return Ok(Some(to));
+            }
+        }
+    }
+    short.write_str(head)?;
+    Ok(Some(to))
+}

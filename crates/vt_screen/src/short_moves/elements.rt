@@ -1,0 +1,299 @@
+//! The elements of drawing output, in the form in which the writers of `vt_redraw` make them.
+
+ghost use Rattle.std.specs.Prelude.{◌≡◌, ◌<◌, ◌≤◌, ◌++◌, ◌∷◌, [], IfSome, decimal, length, take, slice_index_or};
+ghost use Rattle.std.specs.List.{AllByRecursion};
+ghost use Rattle.vt_cells.specs.Op.{counted};
+ghost use Rattle.vt_screen.specs.ShortMoves.{IsAsciiCharacter, IsElement, IsSgrText, is_still};
+
+use crate::sgr::{Reading, Wanted};
+use vt_cells::{Pos, columns};
+
+/// The largest number of numbers in an SGR sequence.
+const MOST_NUMBERS: u8 = 32;
+
+/// An element of drawing output.
+#[derive(Clone, Copy, PartialEq, Eq, Debug)]
+pub enum Element {
+    /// Characters of printable ASCII.
+    Ascii,
+
+    /// A different character.
+    Other(char),
+
+    /// CUP.
+    Place(Pos),
+
+    /// CUF.
+    Right(u16),
+
+    /// CR LF.
+    NextRow,
+
+    /// EL without a parameter.
+    EraseRest,
+
+    /// ECH.
+    EraseChars(u16),
+
+    /// DL, or IL if the flag is set.
+    Lines(u16, bool),
+
+    /// DCH, or ICH if the flag is set.
+    Chars(u16, bool),
+
+    /// DECTCEM, which hides the cursor if the flag is set and shows it otherwise.
+    Hide(bool),
+
+    /// SGR without a parameter.
+    ClearAttrs,
+
+    /// SGR with parameters.
+    Attrs,
+}
+
+impl Element {
+    /// Returns whether the element leaves the cursor where it is.
+    pub fn is_still(self) -> bool
+        ensures { result ≡ is_still self }
+    {
+        match self {
+            Element::EraseRest
+            | Element::EraseChars(_)
+            | Element::Lines(_, _)
+            | Element::Chars(_, _)
+            | Element::Hide(_)
+            | Element::ClearAttrs
+            | Element::Attrs => true,
+            _ => false,
+        }
+    }
+}
+
+/// Returns the first element of `text` and its length in bytes, or `None` if `text` does not begin
+/// with an element.
+pub fn first_element(text: &str) -> Option<(Element, usize)>
+    ensures nonempty { IfSome result (λ found. 0 < found.1) }
+    ensures inside { IfSome result (λ found. found.1 ≤ length text.now) }
+    ensures element { IfSome result (λ found. IsElement found.0 (take found.1 text.now)) }
+{
+    let bytes = text.as_bytes();
+    if bytes.is_empty() {
+        return None;
+    }
+    match bytes[0] {
+        0x1B => sequence(bytes),
+        b'\r' => next_row(bytes),
+        0x20..=0x7E => Some((Element::Ascii, ascii_len(bytes))),
+        0x00..=0x7F => None,
+        _ => other_character(text),
+    }
+}
+
+/// Returns the number of bytes of printable ASCII at the beginning of `bytes`.
+fn ascii_len(bytes: &[u8]) -> usize
+    ensures inside { result ≤ length bytes.now }
+    ensures ascii { AllByRecursion IsAsciiCharacter (take result bytes.now) }
+    ensures first { 0 < length bytes.now → IsAsciiCharacter (slice_index_or bytes.now 0 0) → 0 < result }
+{
+    let mut len = 0;
+    while len < bytes.len() && bytes[len] >= 0x20 && bytes[len] < 0x7F {
+        len += 1;
+    }
+    len
+}
+
+/// Returns CR LF if `bytes` begins with it.
+fn next_row(bytes: &[u8]) -> Option<(Element, usize)>
+    ensures nonempty { IfSome result (λ found. 0 < found.1) }
+    ensures inside { IfSome result (λ found. found.1 ≤ length bytes.now) }
+    ensures element { IfSome result (λ found. IsElement found.0 (take found.1 bytes.now)) }
+{
+    if bytes.len() >= 2 && bytes[0] == b'\r' && bytes[1] == b'\n' {
+        Some((Element::NextRow, 2))
+    } else {
+        None
+    }
+}
+
+/// Returns the first character of `text` if it is printed and is not ASCII.
+fn other_character(text: &str) -> Option<(Element, usize)>
+    ensures nonempty { IfSome result (λ found. 0 < found.1) }
+    ensures inside { IfSome result (λ found. found.1 ≤ length text.now) }
+    ensures element { IfSome result (λ found. IsElement found.0 (take found.1 text.now)) }
+{
+    let mut chars = text.chars();
+    let c = chars.next()?;
+    if c < '\u{a0}' || c == '\u{fffd}' || columns(c).is_none() {
+        return None;
+    }
+    Some((Element::Other(c), c.len_utf8()))
+}
+
+/// Returns the control sequence at the beginning of `bytes`.
+fn sequence(bytes: &[u8]) -> Option<(Element, usize)>
+    ensures nonempty { IfSome result (λ found. 0 < found.1) }
+    ensures inside { IfSome result (λ found. found.1 ≤ length bytes.now) }
+    ensures element { IfSome result (λ found. IsElement found.0 (take found.1 bytes.now)) }
+{
+    if bytes.len() < 3 || bytes[0] != 0x1B || bytes[1] != b'[' {
+        return None;
+    }
+    if bytes[2] == b'?' {
+        return hide(bytes);
+    }
+    match short_sequence(bytes[2]) {
+        Some(element) => Some((element, 3)),
+        None => numbered_sequence(bytes),
+    }
+}
+
+/// Returns the control sequence without parameters that ends with `last`.
+fn short_sequence(last: u8) -> Option<Element>
+    ensures { IfSome result (λ element. IsElement element (0x1B ∷ 0x5B ∷ last ∷ [])) }
+{
+    match last {
+        b'm' => Some(Element::ClearAttrs),
+        b'K' => Some(Element::EraseRest),
+        b'H' => Some(Element::Place(Pos { row: 0, col: 0 })),
+        _ => counted_sequence(1, last),
+    }
+}
+
+/// Returns the control sequence with the count `count`, which is not 0, that ends with `last`.
+fn counted_sequence(count: u16, last: u8) -> Option<Element>
+    requires { 0 < count }
+    ensures { IfSome result (λ element. IsElement element (counted count last)) }
+{
+    match last {
+        b'C' => Some(Element::Right(count)),
+        b'X' => Some(Element::EraseChars(count)),
+        b'L' => Some(Element::Lines(count, true)),
+        b'M' => Some(Element::Lines(count, false)),
+        b'@' => Some(Element::Chars(count, true)),
+        b'P' => Some(Element::Chars(count, false)),
+        _ => None,
+    }
+}
+
+/// Returns the sequence that hides or shows the cursor if `bytes` begins with it.
+fn hide(bytes: &[u8]) -> Option<(Element, usize)>
+    ensures nonempty { IfSome result (λ found. 0 < found.1) }
+    ensures inside { IfSome result (λ found. found.1 ≤ length bytes.now) }
+    ensures element { IfSome result (λ found. IsElement found.0 (take found.1 bytes.now)) }
+{
+    match bytes {
+        [0x1B, b'[', b'?', b'2', b'5', b'l', ..] => Some((Element::Hide(true), 6)),
+        [0x1B, b'[', b'?', b'2', b'5', b'h', ..] => Some((Element::Hide(false), 6)),
+        _ => None,
+    }
+}
+
+/// Returns the control sequence with numbers at the beginning of `bytes`.
+fn numbered_sequence(bytes: &[u8]) -> Option<(Element, usize)>
+    requires long { 2 ≤ length bytes.now }
+    requires introduced { take 2 bytes.now ≡ 0x1B ∷ 0x5B ∷ [] }
+    ensures nonempty { IfSome result (λ found. 0 < found.1) }
+    ensures inside { IfSome result (λ found. found.1 ≤ length bytes.now) }
+    ensures element { IfSome result (λ found. IsElement found.0 (take found.1 bytes.now)) }
+{
+    let parameters = &bytes[2..];
+    let (element, len) = numbered(parameters)?;
+    Some((element, len + 2))
+}
+
+/// Returns the control sequence whose parameters and final byte are at the beginning of `bytes`, and
+/// the number of these bytes.
+fn numbered(bytes: &[u8]) -> Option<(Element, usize)>
+    ensures inside { IfSome result (λ found. found.1 ≤ length bytes.now) }
+    ensures element { IfSome result (λ found. IsElement found.0 (0x1B ∷ 0x5B ∷ take found.1 bytes.now)) }
+{
+    if let Some(len) = sgr_len(bytes, Wanted::Any, MOST_NUMBERS) {
+        return Some((Element::Attrs, len + 1));
+    }
+    let (first, len) = number(bytes)?;
+    if len >= bytes.len() {
+        return None;
+    }
+    let rest = &bytes[len + 1..];
+    if bytes[len] == b';' {
+        let (pos, more) = place(first, rest)?;
+        return Some((Element::Place(pos), len + 1 + more));
+    }
+    if first < 2 {
+        return None;
+    }
+    let element = counted_sequence(first, bytes[len])?;
+    Some((element, len + 1))
+}
+
+/// Returns the position of a CUP whose second parameter and final byte are at the beginning of
+/// `bytes`, and the number of these bytes. `row` is the first parameter.
+fn place(row: u16, bytes: &[u8]) -> Option<(Pos, usize)>
+    ensures inside { IfSome result (λ found. found.1 ≤ length bytes.now) }
+    ensures element { IfSome result (λ found.
+        IsElement (Element.Place found.0) (0x1B ∷ 0x5B ∷ (decimal row ++ 0x3B ∷ take found.1 bytes.now))) }
+{
+    let (col, len) = number(bytes)?;
+    if row == 0 || col == 0 || (row == 1 && col == 1) {
+        return None;
+    }
+    if len >= bytes.len() || bytes[len] != b'H' {
+        return None;
+    }
+    let pos = Pos {
+        row: row - 1,
+        col: col - 1,
+    };
+    Some((pos, len + 1))
+}
+
+/// Returns the length of the SGR parameters at the beginning of `bytes`, which are followed by the
+/// final byte `m`. They have at most `most` numbers, and all of them are known.
+fn sgr_len(bytes: &[u8], wanted: Wanted, most: u8) -> Option<usize>
+    ensures inside { IfSome result (λ len. len < length bytes.now) }
+    ensures last { IfSome result (λ len. slice_index_or bytes.now len 0 ≡ 0x6D) }
+    ensures text { IfSome result (λ len. IsSgrText most wanted (take len bytes.now)) }
+{
+    if most == 0 {
+        return None;
+    }
+    let (first, len) = number(bytes)?;
+    let read = wanted.read(&[first]);
+    if read.reading == Reading::Unhandled || len >= bytes.len() {
+        return None;
+    }
+    match bytes[len] {
+        b'm' => Some(len),
+        b';' => {
+            let more = sgr_len(&bytes[len + 1..], read.wanted, most - 1)?;
+            Some(len + 1 + more)
+        }
+        _ => None,
+    }
+}
+
+/// Returns the decimal number at the beginning of `bytes`, which has no leading zeros, and the
+/// number of its digits.
+#[tactic(auto, using(crate::proofs::Numbers::number_first, crate::proofs::Numbers::number_next))]
+fn number(bytes: &[u8]) -> Option<(u16, usize)>
+    ensures inside { IfSome result (λ found. found.1 ≤ length bytes.now) }
+    ensures digits { IfSome result (λ found. take found.1 bytes.now ≡ decimal found.0) }
+    ensures some { IfSome result (λ found. 0 < found.1) }
+{
+    if bytes.is_empty() || bytes[0] < b'0' || bytes[0] > b'9' {
+        return None;
+    }
+    let mut value = u32::from(bytes[0] - b'0');
+    let mut len = 1;
+    while value > 0 && len < bytes.len() && bytes[len] >= b'0' && bytes[len] <= b'9' {
+        value = value * 10 + u32::from(bytes[len] - b'0');
+        len += 1;
+        if value > 0xFFFF {
+            return None;
+        }
+    }
+    match u16::try_from(value) {
+        Ok(value) => Some((value, len)),
+        Err(_) => None,
+    }
+}

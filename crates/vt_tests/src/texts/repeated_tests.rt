@@ -1,0 +1,101 @@
+//! Diffs in which runs of a character are written with REP (ECMA-48, 8.3.103).
+
+use super::difference_tests::{Example, expect_at_each_cut};
+use crate::aids::readback::Change;
+use crate::aids::steps::Step::Text;
+use std::test::Fail;
+use vt100::DiffOptions;
+
+/// The option for REP alone.
+const REPEAT: DiffOptions = DiffOptions {
+    scroll: false,
+    repeat: true,
+};
+
+/// Both options.
+const BOTH: DiffOptions = DiffOptions {
+    scroll: true,
+    repeat: true,
+};
+
+/// Neither option.
+const NEITHER: DiffOptions = DiffOptions {
+    scroll: false,
+    repeat: false,
+};
+
+/// Input that fills four rows.
+const FOUR: &str = "aaaaaaaaa\r\nbbbbbbbbb\r\nccccccccc\r\nddddddddd";
+
+#[rattlefmt::skip]
+const REPEATED: [Example; 12] = [
+    // The character, and nine repetitions.
+    ((2, 20), 0, &[], &[Text("----------")], "-\x1b[9b"),
+
+    // Spaces, too, and tildes, the first and the last printable ASCII characters.
+    ((2, 20), 0, &[], &[Text("          x")], " \x1b[9bx"),
+    ((2, 20), 0, &[], &[Text("~~~~~~~~~~")], "~\x1b[9b"),
+
+    // REP is used only if it is shorter.
+    ((2, 20), 0, &[], &[Text("aaaaaa")], "a\x1b[5b"),
+    ((2, 20), 0, &[], &[Text("aaaaa")], "aaaaa"),
+
+    // A run that fills a row.
+    ((2, 10), 0, &[], &[Text("==========")], "=\x1b[9b"),
+
+    // A repetition stops at the end of its row.
+    ((2, 10), 0, &[], &[Text("============")], "=\x1b[9b=="),
+    ((2, 10), 0, &[Text("abcde")], &[Text("abcde--------")], "--------"),
+
+    // Runs after attributes and after a movement of the cursor.
+    ((2, 10), 0, &[], &[Text("\x1b[31m#######")], "\x1b[31m#\x1b[6b"),
+    ((2, 10), 0, &[], &[Text("\x1b[2;3H*******")], "\x1b[2;3H*\x1b[6b"),
+
+    // A run between other characters.
+    ((2, 20), 0, &[], &[Text("\u{4e2d}.........z")], "\u{4e2d}.\x1b[8bz"),
+
+    // Only printable ASCII is repeated.
+    ((2, 20), 0, &[], &[Text("\u{2500}\u{2500}\u{2500}\u{2500}\u{2500}\u{2500}")],
+        "\u{2500}\u{2500}\u{2500}\u{2500}\u{2500}\u{2500}"),
+];
+
+#[test]
+fn runs_are_repeated(rt: HostRuntime) -> Result<(), Fail> {
+    for example in &REPEATED {
+        expect_at_each_cut(rt.alloc(), Change::With(REPEAT), example)?;
+    }
+    Ok(())
+}
+
+#[rattlefmt::skip]
+const MOVED: [Example; 1] = [
+    (
+        (4, 10), 0,
+        &[Text(FOUR)],
+        &[Text(FOUR), Text("\r\neeeeeeeee")],
+        "\x1b[H\x1b[M\x1b[4;1He\x1b[8b",
+    ),
+];
+
+#[test]
+fn runs_are_repeated_after_rows_move(rt: HostRuntime) -> Result<(), Fail> {
+    for example in &MOVED {
+        expect_at_each_cut(rt.alloc(), Change::With(BOTH), example)?;
+    }
+    Ok(())
+}
+
+#[rattlefmt::skip]
+const PLAIN: [Example; 2] = [
+    ((2, 20), 0, &[], &[Text("----------")], "----------"),
+    ((4, 10), 0, &[Text(FOUR)], &[Text(FOUR), Text("\x1b[H0")], "\x1b[H0"),
+];
+
+#[test]
+fn nothing_is_repeated_without_the_option(rt: HostRuntime) -> Result<(), Fail> {
+    for example in &PLAIN {
+        expect_at_each_cut(rt.alloc(), Change::With(NEITHER), example)?;
+        expect_at_each_cut(rt.alloc(), Change::With(DiffOptions::default()), example)?;
+    }
+    Ok(())
+}
