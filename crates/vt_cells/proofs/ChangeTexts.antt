@@ -1,5 +1,5 @@
 -- The text of an SGR change, written from its last byte to its first.
-use Rattle.std.proofs.Common.{◌≡◌, ℕ, ◌+◌, ◌<◌, ◌≤◌, true, false, List, [], ◌∷◌}
+use Rattle.std.proofs.Common.{◌≡◌, ℕ, ◌+◌, ◌^◌, ◌<◌, ◌≤◌, true, false, List, [], ◌∷◌}
 use Rattle.std.proofs.Common.{◌++◌, length, drop, decimal, flat_map, refl, sym}
 use Rattle.std.proofs.Common.{ap, ◌∙◌, append_assoc, append-nil, length-append, arith}
 use Rattle.std.proofs.lemmas.Fmt.{IsAscii-decimal, length-decimal-le}
@@ -19,39 +19,39 @@ use Rattle.vt_cells.proofs.Same.{two_parts}
 pub digits_of_byte : (n : ℕ) → n < 256 → length (decimal n) ≤ 3
 digits_of_byte n h = length-decimal-le 3 n (omega arith) (omega arith) (omega arith)
 
+-- A number of 32 bits has at most ten decimal digits.
+pub digits_of_count : (n : ℕ) → n < 2 ^ 32 → length (decimal n) ≤ 10
+digits_of_count n h = length-decimal-le 10 n (omega arith) (omega arith) (omega arith)
+
 -- Prepending the digits of a number to ASCII text at the end of an array gives ASCII text at the end of the array.
-pub digits_put : (n start next : ℕ) (rest text : List ℕ) → n < 256 → IsEnd start rest →
+pub digits_put : (n start next : ℕ) (rest text : List ℕ) → n < 2 ^ 64 → IsEnd start rest →
     next + length (decimal n) ≡ start → text ≡ decimal n ++ rest → IsEnd next text
-digits_put n start next rest text byte is_end sum e =
+digits_put n start next rest text small is_end sum e =
     let measured = is_end.measured in
     let joined_length = length-append (decimal n) rest in
     rw e (record {
       measured = omega arith;
-      ascii = IsAscii-append (decimal n) rest (IsAscii-decimal n (omega arith)) is_end.ascii;
+      ascii = IsAscii-append (decimal n) rest (IsAscii-decimal n small) is_end.ascii;
     })
 
-pub room_for_digits : (n start : ℕ) (rest now : List ℕ) → n < 256 →
-    IsEnd start rest → rest ≡ now → length now + 4 ≤ 64 → length (decimal n) ≤ start
-room_for_digits n start rest now byte is_end same room =
+pub room_for_digits : (n start : ℕ) (rest now : List ℕ) →
+    IsEnd start rest → rest ≡ now → length now + length (decimal n) + 1 ≤ 64 → length (decimal n) ≤ start
+room_for_digits n start rest now is_end same room =
     let measured = is_end.measured in
-    let digits = digits_of_byte n byte in
     let lengths = ap length same in
     omega arith
 
-pub room_for_separator : (n start next : ℕ) (rest text now : List ℕ) → n < 256
-    → IsEnd start rest → next + length (decimal n) ≡ start → text ≡ decimal n ++ rest
-    → rest ≡ now → length now + 4 ≤ 64 → length text + 1 ≤ 64
-room_for_separator n start next rest text now byte is_end sum e same room =
-    let measured = (digits_put n start next rest text byte is_end sum e).measured in
-    let before = is_end.measured in
-    let digits = digits_of_byte n byte in
+pub room_for_separator : (n : ℕ) (rest text now : List ℕ) → text ≡ decimal n ++ rest
+    → rest ≡ now → length now + length (decimal n) + 1 ≤ 64 → length text + 1 ≤ 64
+room_for_separator n rest text now e same room =
+    let both = length-append (decimal n) rest in
     let lengths = ap length same in
+    let text_length = ap length e in
     omega arith
 
-pub longer_by_number : (n : ℕ) (rest now text whole : List ℕ) → n < 256 →
-    text ≡ decimal n ++ rest → rest ≡ now → whole ≡ 0x3B ∷ text → length whole ≤ length now + 4
-longer_by_number n rest now text whole byte e same is_whole =
-    let digits = digits_of_byte n byte in
+pub longer_by_number : (n most : ℕ) (rest now text whole : List ℕ) → length (decimal n) ≤ most →
+    text ≡ decimal n ++ rest → rest ≡ now → whole ≡ 0x3B ∷ text → length whole ≤ length now + (most + 1)
+longer_by_number n most rest now text whole digits e same is_whole =
     let lengths = ap length same in
     let text_length = ap length e in
     let whole_length = ap length is_whole in
@@ -149,10 +149,12 @@ tail_left x m [] = refl
 tail_left x m (y ∷ ys) = refl
 
 -- Removing the first separator from separated numbers leaves them joined.
-pub numbers_left : (ns : List ℕ) → without_separator (separated_all ns ++ 0x6D ∷ []) ≡ semicolon_list ns ++ 0x6D ∷ []
-numbers_left [] = refl
-numbers_left (n ∷ ns) =
-    tail_left 0x3B 0x6D (decimal n ++ flat_map number_after_semicolon ns) ∙ ap (λ xs. xs ++ 0x6D ∷ []) (sym (joined_is n ns))
+pub numbers_left : (ns : List ℕ) (last : ℕ) →
+    without_separator (separated_all ns ++ last ∷ []) ≡ semicolon_list ns ++ last ∷ []
+numbers_left [] last = refl
+numbers_left (n ∷ ns) last =
+    tail_left 0x3B last (decimal n ++ flat_map number_after_semicolon ns)
+    ∙ ap (λ xs. xs ++ last ∷ []) (sym (joined_is n ns))
 
 -- The lemmas on the parameters that a change of a colour adds: none, one, or several.
 pub ruleset numbers_put = (nothing_put, one_put, some_put)

@@ -1,8 +1,9 @@
--- The text of an SGR change while it is being written; for private contracts and proofs only.
+-- The text of a control sequence while it is being written; for private contracts and proofs only.
 use Rattle.std.specs.Prelude.{◌≡◌, ℕ, ◌+◌, List, [], ◌∷◌, ◌++◌, decimal, flat_map, length}
 use Rattle.std.specs.Prelude.{if◌then◌else◌, IsAscii}
 use Rattle.vt_cells.specs.Attrs.{Attrs, same_bool, same_intensity}
-use Rattle.vt_cells.specs.Op.{intensity_number, part}
+use Rattle.vt_cells.specs.Op.{bytes_of_all, cursor_move_ops, intensity_number, part}
+use Rattle.vt_cells.specs.declared.pos.Pos.{Pos}
 
 -- The text is ASCII and fills a 64-byte array from index `start` to the end of the array.
 pub record IsEnd (start : ℕ) (text : List ℕ) : Type 0 where
@@ -30,3 +31,7 @@ style_part was new =
     ++ (part (same_bool was.italic new.italic) ((if new.italic then 3 else 23) ∷ [])
     ++ (part (same_bool was.underline new.underline) ((if new.underline then 4 else 24) ∷ [])
     ++ part (same_bool was.inverse new.inverse) ((if new.inverse then 7 else 27) ∷ [])))
+
+-- The output that moves the cursor from one position to another.
+abbrev pub move_text : (start stop : Pos) → List ℕ
+move_text start stop = bytes_of_all (cursor_move_ops start.row start.col stop.row stop.col)

@@ -62,10 +62,6 @@ impl Buffer {
         ensures full { IsErr result → 128 < length self.old + length text.now }
         ensures nonempty { IsErr result → 0 < length text.now }
     {
-        if text.len() == 1 && self.len < ROOM {
-            self.push_one(text);
-            return Ok(());
-        }
         if text.len() > self.room() {
             self.flush(sink)?;
             return sink.write_str(text);
@@ -105,8 +101,8 @@ impl Buffer {
     }
 
     /// Returns the number of bytes that still fit in the buffer.
-    #[inline]
-    fn room(&self) -> usize
+    #[inline(always)]
+    pub fn room(&self) -> usize
         ensures { length self.now + result ≡ 128 }
     {
         ROOM - self.len
@@ -114,24 +110,12 @@ impl Buffer {
 
     /// Appends `text`, which must fit in the buffer.
     #[inline(always)]
-    fn push(&mut self, text: &str)
+    pub fn push(&mut self, text: &str)
         requires { length self.old + length text.now ≤ 128 }
         ensures { self.new ≡ self.old ++ text.now }
     {
         let end = self.len + text.len();
         copy(&mut self.bytes[self.len..end], text.as_bytes());
-        self.len = end;
-    }
-
-    /// Appends a one-byte string, which must fit in the buffer. Most glyphs are one byte long.
-    #[inline(always)]
-    fn push_one(&mut self, text: &str)
-        requires room { length self.old + 1 ≤ 128 }
-        requires one { length text.now ≡ 1 }
-        ensures { self.new ≡ self.old ++ text.now }
-    {
-        let end = self.len + 1;
-        copy_one(&mut self.bytes[self.len..end], text.as_bytes());
         self.len = end;
     }
 
@@ -144,28 +128,18 @@ impl Buffer {
     }
 }
 
-/// Copies the single byte of `from` into `to`.
-#[inline(always)]
-#[tactic(auto, using(crate::proofs::Buffers::one_set))]
-fn copy_one(to: &mut [u8], from: &[u8])
-    requires room { length to.old ≡ length from.now }
-    requires one { length from.now ≡ 1 }
-    ensures { to.new ≡ from.now }
-{
-    to[0] = from[0];
-}
-
 /// Copies `from` into `to`, which must have the same length.
 ///
-/// A slice of two or three bytes, as for most glyphs outside ASCII, is copied inline rather than by
-/// a call to `memcpy`.
+/// A slice of at most three bytes, as for most glyphs, is copied inline rather than by a call to
+/// `memcpy`.
 #[inline(always)]
-#[tactic(auto, using(crate::proofs::Buffers::two_set, crate::proofs::Buffers::three_set))]
+#[tactic(auto, using(crate::proofs::Buffers::few_set))]
 fn copy(to: &mut [u8], from: &[u8])
     requires { length to.old ≡ length from.now }
     ensures { to.new ≡ from.now }
 {
     match from.len() {
+        1 => to[0] = from[0],
         2 => {
             to[0] = from[0];
             to[1] = from[1];

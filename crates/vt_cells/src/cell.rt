@@ -106,7 +106,7 @@ impl Cell {
     /// Returns whether the two cells agree in everything except the bytes of their text: the length
     /// and width of the text, whether the cell is a continuation cell, and the attributes.
     #[inline]
-    fn has_head_of(&self, other: &Cell) -> bool
+    pub fn has_head_of(&self, other: &Cell) -> bool
         ensures value { result ≡ same_head (head_of_cell self.now) (head_of_cell other.now) }
         ensures sound { IsCell self.now }
         ensures other { IsCell other.now }

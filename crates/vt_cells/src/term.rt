@@ -7,11 +7,11 @@ use crate::sink::Sink;
 
 mod changes;
 mod cursor;
-mod decimal;
 mod erasing;
 mod input;
 mod lines;
 mod moves;
+mod sequence_text;
 mod sgr;
 
 pub use changes::{ChangeAttrs, ClearAttrs};

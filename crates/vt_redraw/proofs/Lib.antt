@@ -45,6 +45,7 @@ pub mod Filling
 pub mod CellSteps
 pub mod Moving
 pub mod Shifting
+pub mod Alike
 pub mod BandPages
 pub mod Viewing
 pub mod RowSteps

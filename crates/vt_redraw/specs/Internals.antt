@@ -5,6 +5,7 @@ use Rattle.std.specs.Prelude.{List, [], ◌++◌, length, replicate, drop, All, 
 use Rattle.vt_cells.specs.Attrs.{Attrs, default_attrs}
 use Rattle.vt_cells.specs.Cell.{CellValue, blank, default_blank, is_blank, is_wide, is_right_half, attrs_of}
 use Rattle.vt_cells.specs.Cell.{same_cell, text_of, IsCell}
+use Rattle.vt_cells.specs.CellInternals.{head_of_cell}
 use Rattle.vt_cells.specs.Glyph.{glyph_columns}
 use Rattle.vt_cells.specs.Op.{Op, Print, bytes_of_all}
 use Rattle.vt_cells.specs.BufferInternals.{buffered_text}
@@ -150,6 +151,13 @@ pub record IsOther (c : ℕ) (x y : RowValue) : Type 0 where
   pub range : IsRange x.cells y.cells
   pub short : length y.cells < 65536
   pub other : stands c x y ≡ false
+
+-- The stored cell in column `c` of the cells `own` agrees with the glyph `like` in everything except the bytes of its
+-- text. If the displayed row has a stored cell in that column, the two cells differ.
+pub record IsAlike (c : ℕ) (like : CellValue) (own others : List CellValue) : Type 0 where
+  pub inside : c < length own
+  pub head : head_of_cell (at own c) ≡ head_of_cell like
+  pub other : c < length others → same_cell (at own c) (at others c) ≡ false
 
 -- Appending the remaining output `written` to `text` gives the same text as appending the whole output `whole` to
 -- `start`, and leads to the same pen and the same wrapped flag.

@@ -6,12 +6,15 @@
 //! terminal does not display it already. A parameter `flag` is true if the
 //! terminal's row is wrapped.
 
-ghost use Rattle.std.specs.Prelude.{◌≡◌, ◌++◌, ◌+◌, ◌<◌, ◌≤◌};
-ghost use Rattle.std.specs.Prelude.{false, OnOk, drop, length};
-ghost use Rattle.vt_cells.specs.Cell.{attrs_of};
+ghost use Rattle.std.specs.Prelude.{◌≡◌, ◌++◌, ◌+◌, ◌<◌, ◌≤◌, ℕ, List};
+ghost use Rattle.std.specs.Prelude.{true, false, IsTrue, OnOk, drop, length};
+ghost use Rattle.vt_cells.specs.BufferInternals.{buffered_text};
+ghost use Rattle.vt_cells.specs.Cell.{attrs_of, is_blank, is_glyph};
 ghost use Rattle.vt_cells.specs.Op.{bytes_of, bytes_of_all};
-ghost use Rattle.vt_redraw.specs.Internals.{AppendsOrStops, GathersOrStops, IsOther, IsRange, Passes, Writes};
-ghost use Rattle.vt_redraw.specs.Internals.{SettlesOrStops, cells_over, columns_of, glyph_ops, run_ops, stands};
+ghost use Rattle.vt_rows.specs.Cells.{at};
+ghost use Rattle.vt_redraw.specs.Internals.{AppendsOrStops, GathersOrStops, IsAlike, IsOther, IsRange, Leads, Passes};
+ghost use Rattle.vt_redraw.specs.Internals.{SettlesOrStops, Writes, cells_from, cells_over, columns_of, glyph_ops};
+ghost use Rattle.vt_redraw.specs.Internals.{run_ops, stands};
 ghost use Rattle.vt_redraw.specs.Refusals.{RefusedOnlyIfSome};
 ghost use Rattle.vt_redraw.specs.Script.{erase_run, flag_behind, flag_past, pen_at};
 
@@ -144,6 +147,53 @@ pub fn write_run<S: Sink>(
     write_erase(sink, count, end, over)
 }
 
+/// Buffers the sequence that erases `count` columns (ECH), or the rest of the
+/// row (EL) if the columns extend to its end. `end` is the column after the
+/// erased columns.
+#[tactic(auto, using(crate::proofs::Filling::erase_run_counted))]
+fn gather_erase<S: Sink>(
+    sink: &mut S,
+    buffer: &mut Buffer,
+    count: u16,
+    end: u16,
+    over: &PictureRow<'_>,
+) -> Result<(), S::Error>
+    requires { end ≤ length over.now.cells }
+    ensures text { OnOk result (buffered_text (S.text sink.new) buffer.new
+        ≡ buffered_text (S.text sink.old) buffer.old ++ bytes_of (erase_run count (drop end over.now.cells))) }
+    ensures grows { OnOk result (length (S.text sink.old) ≤ length (S.text sink.new)) }
+    ensures nonempty { RefusedOnlyIfSome result (bytes_of (erase_run count (drop end over.now.cells))) }
+{
+    if end == over.cols() {
+        ClearRowForward.add(sink, buffer)
+    } else {
+        EraseChar { count }.add(sink, buffer)
+    }
+}
+
+/// Buffers a run of `count` blanks at a position. The pen remains at the first
+/// column of the run.
+fn gather_run<S: Sink>(
+    sink: &mut S,
+    buffer: &mut Buffer,
+    pen: &mut Pen,
+    pos: Pos,
+    attrs: Attrs,
+    count: u16,
+    over: &PictureRow<'_>,
+) -> Result<(), S::Error>
+    requires inside { pos.col + count ≤ length over.now.cells }
+    requires short { pos.col + count < 65536 }
+    ensures gathers { GathersOrStops result (S.text sink.old) buffer.old (S.text sink.new) buffer.new
+        (run_ops pen.old pos attrs count over.now) }
+    ensures pen { OnOk result (pen.new ≡ pen_at pos.row pos.col attrs) }
+{
+    pen.move_behind(sink, buffer, pos)?;
+    pen.draw_in(sink, buffer, attrs)?;
+    let end = pos.col + count;
+    gather_erase(sink, buffer, count, end, over)
+}
+
 /// Returns whether the terminal's row is still wrapped after printing a glyph
 /// that ends just before column `col`. `flag` is true if the row was wrapped,
 /// and `wide` if the glyph is wide.
@@ -231,9 +281,85 @@ fn next_other(cells: &PictureRow<'_>, over: &PictureRow<'_>, col: u16) -> u16
     pass(cells, over, alone, cols)
 }
 
-/// Buffers the cell at a position if it is a glyph. If it is a blank, writes
-/// the buffer and the run of blanks that begins there. Returns the number of
-/// columns handled.
+/// Returns whether the stored cell in column `col` of `own` looks like the glyph
+/// `like` and differs from the stored cell of `others` in that column, if there
+/// is one.
+#[inline(always)]
+fn is_alike(like: &Cell, own: &[Cell], others: &[Cell], col: u16) -> bool
+    ensures { IsTrue result → IsAlike col like.now own.now others.now }
+{
+    let col = usize::from(col);
+    if col >= own.len() || !own[col].has_head_of(like) {
+        return false;
+    }
+    col >= others.len() || !(own[col] == others[col])
+}
+
+/// Buffers the glyphs after the pen that look like `like`: their attributes,
+/// their width and the length of their text are the same. Stops at a glyph that
+/// needs no output or does not fit in the buffer.
+#[inline]
+fn gather_alike(
+    buffer: &mut Buffer,
+    pen: &mut Pen,
+    flag: &mut bool,
+    like: &Cell,
+    cells: &PictureRow<'_>,
+    over: &PictureRow<'_>,
+)
+    requires range { IsRange cells.now.cells over.now.cells }
+    requires short { length over.now.cells < 65536 }
+    requires glyph { is_glyph like.now ≡ true }
+    requires attrs { pen.old.attrs ≡ attrs_of like.now }
+    requires inside { pen.old.col ≤ length over.now.cells }
+    ensures leads { (text : List ℕ) → Leads (buffered_text text buffer.new)
+        (cells_from pen.old.row pen.new.col pen.new flag.new cells.now.cells over.now.cells)
+        (buffered_text text buffer.old)
+        (cells_from pen.old.row pen.old.col pen.old flag.old cells.now.cells over.now.cells) }
+    ensures order { pen.old.col ≤ pen.new.col }
+    ensures inside { pen.new.col ≤ length over.now.cells }
+{
+    let own = cells.own_cells();
+    let others = over.own_cells();
+    let bytes = like.contents().len();
+    let wide = like.is_wide();
+    let count = columns(like);
+    let mut col = pen.col;
+    let mut on = *flag;
+    while bytes <= buffer.room() && is_alike(like, own, others, col) {
+        buffer.push(own[usize::from(col)].contents());
+        col += count;
+        on = flag_behind(on, wide, over, col);
+    }
+    pen.col = col;
+    *flag = on;
+}
+
+/// Buffers the glyph at a position and the glyphs after it that look like it.
+/// Returns the number of columns handled.
+fn gather_glyphs<S: Sink>(
+    sink: &mut S,
+    buffer: &mut Buffer,
+    pen: &mut Pen,
+    flag: &mut bool,
+    pos: Pos,
+    cells: &PictureRow<'_>,
+    over: &PictureRow<'_>,
+) -> Result<u16, S::Error>
+    requires other { IsOther pos.col cells.now over.now }
+    requires glyph { is_blank (at cells.now.cells pos.col) ≡ false }
+    ensures { SettlesOrStops result (S.text sink.old) buffer.old (S.text sink.new) buffer.new
+        pen.new flag.new pos cells.now over.now (cells_over pos pen.old flag.old cells.now over.now) }
+{
+    let cell = cells.cell(pos.col);
+    gather_glyph(sink, buffer, pen, pos, cell)?;
+    *flag = flag_behind(*flag, cell.is_wide(), over, pen.col);
+    gather_alike(buffer, pen, flag, cell, cells, over);
+    Ok(pen.col - pos.col)
+}
+
+/// Buffers the glyphs or the run of blanks that begin at a position. Returns
+/// the number of columns handled.
 fn write_next<S: Sink>(
     sink: &mut S,
     buffer: &mut Buffer,
@@ -249,15 +375,11 @@ fn write_next<S: Sink>(
 {
     let cell = cells.cell(pos.col);
     if !cell::is_blank(cell) {
-        let count = columns(cell);
-        gather_glyph(sink, buffer, pen, pos, cell)?;
-        *flag = flag_behind(*flag, cell.is_wide(), over, pos.col + count);
-        return Ok(count);
+        return gather_glyphs(sink, buffer, pen, flag, pos, cells, over);
     }
     let attrs = cell::attrs(cell);
     let count = cells.run(pos.col, attrs);
-    buffer.flush(sink)?;
-    write_run(sink, pen, pos, attrs, count, over)?;
+    gather_run(sink, buffer, pen, pos, attrs, count, over)?;
     *flag = flag_past(*flag, over, pos.col + count);
     Ok(count)
 }

@@ -103,8 +103,7 @@ impl Pen {
         Ok(())
     }
 
-    /// Moves the pen to a position, and writes the buffer and then the cursor
-    /// movement.
+    /// Moves the pen to a position, and buffers the cursor movement.
     ///
     /// # Errors
     ///
@@ -127,10 +126,9 @@ impl Pen {
         self.jump_behind(sink, buffer, to)
     }
 
-    /// Moves the pen to a different position, and writes the buffer and then
-    /// the cursor movement.
+    /// Moves the pen to a different position, and buffers the cursor movement.
     #[inline(never)]
-    #[tactic(auto, using(vt_cells::proofs::Buffers::nothing_gathered))]
+    #[tactic(auto, unfolding(crate::specs::Script::move_ops))]
     fn jump_behind<S: Sink>(
         &mut self,
         sink: &mut S,
@@ -141,8 +139,14 @@ impl Pen {
             (S.text sink.old) buffer.old (S.text sink.new) buffer.new (move_ops self.old to.row to.col) }
         ensures pen { OnOk result (self.new ≡ pen_at to.row to.col self.old.attrs) }
     {
-        buffer.flush(sink)?;
-        self.jump(sink, to)
+        let from = Pos {
+            row: self.row,
+            col: self.col,
+        };
+        MoveFromTo { from, to }.add(sink, buffer)?;
+        self.row = to.row;
+        self.col = to.col;
+        Ok(())
     }
 
     /// Changes the pen's attributes to those of a cell, and buffers the change.
@@ -164,10 +168,31 @@ impl Pen {
         ensures grows { OnOk result (length (S.text sink.old) ≤ length (S.text sink.new)) }
         ensures nonempty { RefusedOnlyIfSome result (bytes_of_all (attr_ops self.old.attrs (attrs_of cell.now))) }
     {
-        if cell::has_attrs(cell, &self.attrs) {
+        self.draw_in(sink, buffer, cell::attrs(cell))
+    }
+
+    /// Changes the pen's attributes to `new`, and buffers the change.
+    ///
+    /// # Errors
+    ///
+    /// Returns the sink's error. Part of the output may have been written by
+    /// then.
+    #[inline]
+    pub fn draw_in<S: Sink>(
+        &mut self,
+        sink: &mut S,
+        buffer: &mut Buffer,
+        new: Attrs,
+    ) -> Result<(), S::Error>
+        ensures text { OnOk result (buffered_text (S.text sink.new) buffer.new
+            ≡ buffered_text (S.text sink.old) buffer.old ++ bytes_of_all (attr_ops self.old.attrs new)) }
+        ensures pen { OnOk result (self.new ≡ pen_at self.old.row self.old.col new) }
+        ensures grows { OnOk result (length (S.text sink.old) ≤ length (S.text sink.new)) }
+        ensures nonempty { RefusedOnlyIfSome result (bytes_of_all (attr_ops self.old.attrs new)) }
+    {
+        if self.attrs.is_same(&new) {
             return Ok(());
         }
-        let new = cell::attrs(cell);
         add_change(sink, buffer, self.attrs, new)?;
         self.attrs = new;
         Ok(())

@@ -1,3 +1,4 @@
+pub mod AlikeCells
 pub mod Columns
 pub mod Pairs
 pub mod Sound

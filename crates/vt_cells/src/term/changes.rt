@@ -10,7 +10,7 @@ use crate::attrs::Attrs;
 use crate::buffer::Buffer;
 use crate::sink::Sink;
 use crate::term::BufWrite;
-use crate::term::sgr::ChangeText;
+use crate::term::sequence_text::SequenceText;
 
 /// The sequence that resets all attributes to their defaults (SGR 0).
 #[derive(Clone, Copy, Debug)]
@@ -75,8 +75,8 @@ impl ChangeAttrs {
         ensures err { OnErr result (IsStopped S.refuses (S.text sink.old)
             (buffer.old ++ csi (semicolon_list (change_numbers self.now.was self.now.new)) 0x6D) (S.text sink.new)) }
     {
-        let mut text = ChangeText::new();
-        text.write(&self.was, &self.new);
+        let mut text = SequenceText::new();
+        text.put_change(&self.was, &self.new);
         buffer.add(sink, text.as_str())
     }
 
@@ -91,8 +91,8 @@ impl ChangeAttrs {
         ensures { OnOk result (S.text sink.new
             ≡ S.text sink.old ++ csi (semicolon_list (change_numbers self.now.was self.now.new)) 0x6D) }
     {
-        let mut text = ChangeText::new();
-        text.write(&self.was, &self.new);
+        let mut text = SequenceText::new();
+        text.put_change(&self.was, &self.new);
         sink.write_str(text.as_str())
     }
 }

@@ -1,12 +1,15 @@
 //! Sequences that erase parts of the screen. Only [`ClearScreen`] moves the cursor.
 
-ghost use Rattle.std.specs.Prelude.{[], ◌∷◌};
+ghost use Rattle.std.specs.Prelude.{◌≡◌, ◌++◌, ◌<◌, ◌≤◌, [], ◌∷◌, length, OnErr, OnOk};
+ghost use Rattle.vt_cells.specs.BufferInternals.{buffered_text};
 ghost use Rattle.vt_cells.specs.Op as op;
 ghost use Rattle.vt_cells.specs.Op.{bytes_of, bytes_of_all};
+ghost use Rattle.vt_cells.specs.Sinks.{IsStopped};
 
+use crate::buffer::Buffer;
 use crate::sink::Sink;
 use crate::term::BufWrite;
-use crate::term::decimal::write_decimal;
+use crate::term::sequence_text::{add_counted, write_counted};
 
 /// The sequence that moves the cursor home and erases the whole screen (CUP, then ED).
 #[derive(Clone, Copy, Debug)]
@@ -24,6 +27,24 @@ impl BufWrite for ClearScreen {
 #[derive(Clone, Copy, Debug)]
 pub struct ClearRowForward;
 
+impl ClearRowForward {
+    /// Appends the sequence to `buffer`, which is flushed to `sink` when it is full.
+    ///
+    /// # Errors
+    ///
+    /// Returns the sink's error. Part of the output may have been written by then.
+    #[inline]
+    pub fn add<S: Sink>(&self, sink: &mut S, buffer: &mut Buffer) -> Result<(), S::Error>
+        ensures text { OnOk result (buffered_text (S.text sink.new) buffer.new
+            ≡ buffered_text (S.text sink.old) buffer.old ++ bytes_of op.EraseRest) }
+        ensures grows { OnOk result (length (S.text sink.old) ≤ length (S.text sink.new)) }
+        ensures err { OnErr result (IsStopped S.refuses (S.text sink.old)
+            (buffer.old ++ bytes_of op.EraseRest) (S.text sink.new)) }
+    {
+        buffer.add(sink, "\x1b[K")
+    }
+}
+
 impl BufWrite for ClearRowForward {
     ghost bytes = { λ _. bytes_of op.EraseRest };
 
@@ -39,18 +60,29 @@ pub struct EraseChar {
     pub count: u16,
 }
 
+impl EraseChar {
+    /// Appends the sequence to `buffer`, which is flushed to `sink` when it is full.
+    ///
+    /// # Errors
+    ///
+    /// Returns the sink's error. Part of the output may have been written by then.
+    #[inline]
+    pub fn add<S: Sink>(&self, sink: &mut S, buffer: &mut Buffer) -> Result<(), S::Error>
+        ensures text { OnOk result (buffered_text (S.text sink.new) buffer.new
+            ≡ buffered_text (S.text sink.old) buffer.old ++ bytes_of (op.EraseChars self.now.count)) }
+        ensures grows { OnOk result (length (S.text sink.old) ≤ length (S.text sink.new)) }
+        ensures err { OnErr result (IsStopped S.refuses (S.text sink.old)
+            (buffer.old ++ bytes_of (op.EraseChars self.now.count)) (S.text sink.new)) }
+        ensures nonempty { OnErr result (0 < length (bytes_of (op.EraseChars self.now.count))) }
+    {
+        add_counted(sink, buffer, self.count, b'X')
+    }
+}
+
 impl BufWrite for EraseChar {
     ghost bytes = { λ it. bytes_of (op.EraseChars it.count) };
 
     fn write_buf<S: Sink>(&self, sink: &mut S) -> Result<(), S::Error> {
-        match self.count {
-            0 => Ok(()),
-            1 => sink.write_str("\x1b[X"),
-            count => {
-                sink.write_str("\x1b[")?;
-                write_decimal(sink, u32::from(count))?;
-                sink.write_str("X")
-            }
-        }
+        write_counted(sink, self.count, b'X')
     }
 }

@@ -4,7 +4,7 @@ ghost use Rattle.vt_cells.specs.Op.{counted};
 
 use crate::sink::Sink;
 use crate::term::BufWrite;
-use crate::term::decimal::write_decimal;
+use crate::term::sequence_text::write_counted;
 
 /// The sequence that deletes `count` rows, starting at the cursor's row, and moves the rows below
 /// them up (DL); empty if `count` is 0.
@@ -18,15 +18,7 @@ impl BufWrite for DeleteLines {
     ghost bytes = { λ it. counted it.count 0x4D };
 
     fn write_buf<S: Sink>(&self, sink: &mut S) -> Result<(), S::Error> {
-        match self.count {
-            0 => Ok(()),
-            1 => sink.write_str("\x1b[M"),
-            count => {
-                sink.write_str("\x1b[")?;
-                write_decimal(sink, u32::from(count))?;
-                sink.write_str("M")
-            }
-        }
+        write_counted(sink, self.count, b'M')
     }
 }
 
@@ -42,14 +34,6 @@ impl BufWrite for InsertLines {
     ghost bytes = { λ it. counted it.count 0x4C };
 
     fn write_buf<S: Sink>(&self, sink: &mut S) -> Result<(), S::Error> {
-        match self.count {
-            0 => Ok(()),
-            1 => sink.write_str("\x1b[L"),
-            count => {
-                sink.write_str("\x1b[")?;
-                write_decimal(sink, u32::from(count))?;
-                sink.write_str("L")
-            }
-        }
+        write_counted(sink, self.count, b'L')
     }
 }

@@ -1,13 +1,17 @@
 //! Sequences that move the cursor to a column or a position.
 
+ghost use Rattle.std.specs.Prelude.{◌≡◌, ◌++◌, ◌<◌, ◌≤◌, [], length, OnErr, OnOk};
+ghost use Rattle.vt_cells.specs.BufferInternals.{buffered_text};
+ghost use Rattle.vt_cells.specs.ChangeInternals.{move_text};
 ghost use Rattle.vt_cells.specs.Op as op;
-ghost use Rattle.vt_cells.specs.Op.{bytes_of, bytes_of_all, cursor_move_ops};
+ghost use Rattle.vt_cells.specs.Op.{bytes_of};
+ghost use Rattle.vt_cells.specs.Sinks.{IsStopped};
 
+use crate::buffer::Buffer;
 use crate::pos::Pos;
 use crate::sink::Sink;
 use crate::term::BufWrite;
-use crate::term::cursor::Crlf;
-use crate::term::decimal::write_decimal;
+use crate::term::sequence_text::{SequenceText, write_counted};
 
 /// The sequence that moves the cursor to a position (CUP, whose parameters are 1-based).
 #[derive(Clone, Copy, Debug)]
@@ -20,15 +24,9 @@ impl BufWrite for MoveTo {
     ghost bytes = { λ it. bytes_of (op.MoveTo it.pos.row it.pos.col) };
 
     fn write_buf<S: Sink>(&self, sink: &mut S) -> Result<(), S::Error> {
-        let Pos { row, col } = self.pos;
-        if row == 0 && col == 0 {
-            return sink.write_str("\x1b[H");
-        }
-        sink.write_str("\x1b[")?;
-        write_decimal(sink, u32::from(row) + 1)?;
-        sink.write_str(";")?;
-        write_decimal(sink, u32::from(col) + 1)?;
-        sink.write_str("H")
+        let mut text = SequenceText::new();
+        text.put_place(self.pos);
+        text.write(sink)
     }
 }
 
@@ -44,15 +42,7 @@ impl BufWrite for MoveRight {
     ghost bytes = { λ it. bytes_of (op.MoveRight it.count) };
 
     fn write_buf<S: Sink>(&self, sink: &mut S) -> Result<(), S::Error> {
-        match self.count {
-            0 => Ok(()),
-            1 => sink.write_str("\x1b[C"),
-            count => {
-                sink.write_str("\x1b[")?;
-                write_decimal(sink, u32::from(count))?;
-                sink.write_str("C")
-            }
-        }
+        write_counted(sink, self.count, b'C')
     }
 }
 
@@ -69,20 +59,50 @@ pub struct MoveFromTo {
     pub to: Pos,
 }
 
-impl BufWrite for MoveFromTo {
-    ghost bytes = { λ it. bytes_of_all (cursor_move_ops it.from.row it.from.col it.to.row it.to.col) };
-
-    fn write_buf<S: Sink>(&self, sink: &mut S) -> Result<(), S::Error> {
+impl MoveFromTo {
+    /// Writes the sequence to `text`.
+    #[inline]
+    fn put(&self, text: &mut SequenceText)
+        requires { text.old ≡ [] }
+        ensures { text.new ≡ move_text self.now.from self.now.to }
+    {
         let MoveFromTo { from, to } = *self;
         if from.row < to.row && to.row - from.row == 1 && to.col == 0 {
-            Crlf.write_buf(sink)
+            text.put(b'\n');
+            text.put(b'\r');
         } else if to.row == from.row && from.col < to.col {
-            let count = to.col - from.col;
-            MoveRight { count }.write_buf(sink)
+            text.put_counted(to.col - from.col, b'C');
         } else if to != from {
-            MoveTo { pos: to }.write_buf(sink)
-        } else {
-            Ok(())
+            text.put_place(to);
         }
+    }
+
+    /// Appends the sequence to `buffer`, which is flushed to `sink` when it is full.
+    ///
+    /// # Errors
+    ///
+    /// Returns the sink's error. Part of the output may have been written by then.
+    #[inline]
+    pub fn add<S: Sink>(&self, sink: &mut S, buffer: &mut Buffer) -> Result<(), S::Error>
+        ensures text { OnOk result (buffered_text (S.text sink.new) buffer.new
+            ≡ buffered_text (S.text sink.old) buffer.old ++ move_text self.now.from self.now.to) }
+        ensures grows { OnOk result (length (S.text sink.old) ≤ length (S.text sink.new)) }
+        ensures err { OnErr result (IsStopped S.refuses (S.text sink.old)
+            (buffer.old ++ move_text self.now.from self.now.to) (S.text sink.new)) }
+        ensures nonempty { OnErr result (0 < length (move_text self.now.from self.now.to)) }
+    {
+        let mut text = SequenceText::new();
+        self.put(&mut text);
+        buffer.add(sink, text.as_str())
+    }
+}
+
+impl BufWrite for MoveFromTo {
+    ghost bytes = { λ it. move_text it.from it.to };
+
+    fn write_buf<S: Sink>(&self, sink: &mut S) -> Result<(), S::Error> {
+        let mut text = SequenceText::new();
+        self.put(&mut text);
+        text.write(sink)
     }
 }

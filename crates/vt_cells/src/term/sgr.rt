@@ -9,52 +9,15 @@ ghost use Rattle.vt_cells.specs.Op.{foreground_numbers, intensity_number, semico
 
 use crate::attrs::{Attrs, Intensity};
 use crate::color::Color;
-use itoa::write_digits;
-use std::marker::Model;
-use std::str;
+use crate::term::sequence_text::SequenceText;
 
-/// The size in bytes of the array that holds an SGR sequence. It exceeds the length of the longest
-/// sequence, which has 14 numbers of at most three digits, 13 separators, and the three bytes of
-/// `ESC [` and `m`.
-const ROOM: usize = 64;
-
-/// An SGR sequence that is built backward, from its last byte to its first, because the digits of a
-/// number are computed in that order.
-#[derive(Drop)]
-pub struct ChangeText {
-    bytes: [u8; ROOM],
-    start: usize,
-}
-
-impl Model for ChangeText {
-    ghost use Rattle.std.specs.Prelude.{ℕ, List, drop};
-    ghost use Rattle.vt_cells.specs.ChangeInternals.{IsEnd};
-
-    ghost Value = { List ℕ };
-
-    ghost view = { λ it. drop it.start it.bytes };
-
-    ghost invariant = { λ it. IsEnd it.start (drop it.start it.bytes) };
-}
-
-impl ChangeText {
-    /// Creates an empty sequence.
-    #[inline(always)]
-    pub fn new() -> Self
-        ensures { result ≡ [] }
-    {
-        ChangeText {
-            bytes: [0; ROOM],
-            start: ROOM,
-        }
-    }
-
+impl SequenceText {
     /// Writes the SGR sequence that changes the attributes from `was` to `new`.
     ///
     /// Only attributes that differ have parameters, in this order: foreground, background,
     /// intensity, italics, underline, inverse. If none differs, the sequence has no parameters.
     #[inline(always)]
-    pub fn write(&mut self, was: &Attrs, new: &Attrs)
+    pub fn put_change(&mut self, was: &Attrs, new: &Attrs)
         requires { self.old ≡ [] }
         ensures { self.new ≡ csi (semicolon_list (change_numbers was.now new.now)) 0x6D }
     {
@@ -63,37 +26,6 @@ impl ChangeText {
         self.put_background(was, new);
         self.put_foreground(was, new);
         self.begin();
-    }
-
-    /// Returns the sequence as a string.
-    #[inline]
-    pub fn as_str(&self) -> &str
-        ensures { result.now ≡ self.now }
-    {
-        unsafe { str::from_utf8_unchecked(&self.bytes[self.start..]) }
-    }
-
-    /// Completes the sequence by replacing the `;` before the first number, if any, with the
-    /// introducer `ESC [`.
-    #[inline]
-    fn begin(&mut self)
-        requires { length self.old + 2 ≤ 64 }
-        ensures { self.new ≡ 0x1B ∷ 0x5B ∷ without_separator self.old }
-    {
-        self.drop_separator();
-        self.put(b'[');
-        self.put(0x1B);
-    }
-
-    /// Removes the first byte, which is a separator, unless it is the only byte.
-    #[inline]
-    fn drop_separator(&mut self)
-        ensures value { self.new ≡ without_separator self.old }
-        ensures room { length self.new ≤ length self.old }
-    {
-        if self.start + 1 < ROOM {
-            self.start += 1;
-        }
     }
 
     /// Prepends the parameters of the foreground color if it differs between `was` and `new`.
@@ -200,7 +132,7 @@ impl ChangeText {
     }
 
     /// Prepends the parameters of a palette color: the layer (38 or 48), 5 and the index.
-    #[inline(never)]
+    #[inline(always)]
     fn put_indexed(&mut self, layer: u8, index: u8)
         requires { length self.old + 12 ≤ 64 }
         ensures value { self.new ≡ separated_all (layer ∷ 5 ∷ index ∷ []) ++ self.old }
@@ -212,7 +144,7 @@ impl ChangeText {
     }
 
     /// Prepends the parameters of an RGB color: the layer (38 or 48), 2 and the three components.
-    #[inline(never)]
+    #[inline(always)]
     fn put_parts(&mut self, layer: u8, red: u8, green: u8, blue: u8)
         requires { length self.old + 20 ≤ 64 }
         ensures value { self.new ≡ separated_all (layer ∷ 2 ∷ red ∷ green ∷ blue ∷ []) ++ self.old }
@@ -223,27 +155,5 @@ impl ChangeText {
         self.put_number(red);
         self.put_number(2);
         self.put_number(layer);
-    }
-
-    /// Prepends a number and the `;` before it.
-    #[inline]
-    fn put_number(&mut self, number: u8)
-        requires { length self.old + 4 ≤ 64 }
-        ensures value { self.new ≡ number_after_semicolon number ++ self.old }
-        ensures room { length self.new ≤ length self.old + 4 }
-    {
-        self.start = write_digits(u64::from(number), &mut self.bytes, self.start);
-        self.put(b';');
-    }
-
-    /// Prepends a byte.
-    #[inline]
-    fn put(&mut self, byte: u8)
-        requires room { length self.old + 1 ≤ 64 }
-        requires ascii { byte < 128 }
-        ensures { self.new ≡ byte ∷ self.old }
-    {
-        self.start -= 1;
-        self.bytes[self.start] = byte;
     }
 }

@@ -167,7 +167,8 @@ impl Scanner {
     }
 
     /// Parses the private marker and the parameter bytes at the start of `bytes`, after `[`, and
-    /// returns how many bytes it parsed.
+    /// returns how many bytes it parsed. Tests for a marker only if there are no parameter bytes,
+    /// since most sequences have no marker.
     #[inline(always)]
     fn lead_from_entry(&mut self, bytes: &[u8]) -> usize
         requires { self.old.kind ≡ Kind.CsiEntry }
@@ -176,11 +177,27 @@ impl Scanner {
         ensures longest { result < length bytes.now →
             is_introducer self.new.kind self.new.unfinished (slice_index_or bytes.now result 0) ≡ false }
     {
-        if bytes.is_empty() {
-            return 0;
+        let count = self.take_parameter_bytes(bytes);
+        if count > 0 || bytes.is_empty() {
+            return count;
         }
+        self.lead_from_marker(bytes)
+    }
+
+    /// Parses the private marker and the parameter bytes at the start of `bytes`, after `[`, and
+    /// returns how many bytes it parsed. `bytes` must not begin with a parameter byte.
+    #[inline(always)]
+    fn lead_from_marker(&mut self, bytes: &[u8]) -> usize
+        requires kind { self.old.kind ≡ Kind.CsiEntry }
+        requires nonempty { 0 < length bytes.now }
+        requires other { is_parameter (slice_index_or bytes.now 0 0) ≡ false }
+        ensures inside { result ≤ length bytes.now }
+        ensures fed { FeedsAll self.old (take result bytes.now) self.new [] }
+        ensures longest { result < length bytes.now →
+            is_introducer self.new.kind self.new.unfinished (slice_index_or bytes.now result 0) ≡ false }
+    {
         if !self.takes_marker(bytes[0]) {
-            return self.take_parameter_bytes(bytes);
+            return 0;
         }
         let more = self.take_parameter_bytes(&bytes[1..]);
         1 + more
@@ -194,6 +211,7 @@ impl Scanner {
         ensures fed { FeedsAll self.old (take result bytes.now) self.new [] }
         ensures longest { result < length bytes.now → is_parameter (slice_index_or bytes.now result 0) ≡ false }
         ensures kind { (self.new.kind ≡ Kind.CsiParam) ⊎ ((self.new.kind ≡ self.old.kind) × (result ≡ 0)) }
+        ensures none { result ≡ 0 → self.new.kind ≡ self.old.kind }
     {
         let count = self.parameters.push_all(bytes);
         if count == 0 {

@@ -1,92 +1,36 @@
 use Rattle.std.proofs.Common.{◌∙◌, ◌+◌, [], drop, refl, rules, sym, ap}
 use Rattle.vt_cells.proofs.Sinks.{on_err}
-use Rattle.vt_cells.specs.Cell.{attrs_of, is_blank, is_wide, text_of}
-use Rattle.vt_cells.specs.Glyph.{glyph_columns}
-use Rattle.vt_cells.specs.Op.{Print, bytes_of_all}
+use Rattle.vt_cells.specs.Cell.{attrs_of, is_blank}
+use Rattle.vt_cells.specs.Op.{bytes_of_all}
 use Rattle.vt_cells.specs.BufferInternals.{buffered_text}
-use Rattle.vt_redraw.specs.Script.{placed_op, erase_run, flag_behind, flag_past, pen_at}
-use Rattle.vt_redraw.proofs.CellSteps.{glyph_leads, next_run, run_some}
-use Rattle.vt_redraw.proofs.Refusals.{gathers_behind, buffer_some, some_behind, some_first, start_some}
+use Rattle.vt_redraw.specs.Script.{placed_op, erase_run, flag_past, pen_at}
+use Rattle.vt_redraw.proofs.CellSteps.{next_run, run_some}
+use Rattle.vt_redraw.proofs.Refusals.{buffer_some, start_some}
 use Rattle.vt_redraw.proofs.cells.write_next.Goals as goal
-
-pub returns-then-not-is_blank : goal.returns-then-not-is_blank
-returns-then-not-is_blank g c =
-    let text = g.S.Sink.text in
-    record {
-      leads =
-          glyph_leads c.args.pos.row c.args.pos.col c.columns-count.result c.args.pen.now c.gather_glyph.new.pen
-          c.args.flag.now c.flag_behind.result c.args.cells.now.cells c.args.over.now.cells c.cell-cell.result.now
-          (buffered_text (text c.args.sink.now) c.args.buffer.now)
-          (buffered_text (text c.gather_glyph.new.sink) c.gather_glyph.new.buffer) c.cell-cell.ensures c.requires.inside
-          c.requires.range.inside c.requires.other (sym c.is_blank.ensures ∙ c.if-not-is_blank.true)
-          c.columns-count.ensures c.in_ok-gather_glyph.ensures.gathers.text c.in_ok-gather_glyph.ensures.pen
-          (search rules);
-      nonempty = search rules;
-      inside = search rules;
-      grows = c.in_ok-gather_glyph.ensures.gathers.grows;
-      refused = search rules;
-    }
 
 pub returns : goal.returns
 returns g c =
     let text = g.S.Sink.text in
     let blank = ap is_blank (sym c.cell-cell.ensures) ∙ (sym c.is_blank.ensures ∙ c.if-not-is_blank.false) in
     let same = c.attrs-attrs.ensures ∙ ap attrs_of c.cell-cell.ensures in
-    let behind = gathers_behind _ _ _ _ _ _ _
-    c.in_ok-flush.ensures.text c.in_ok-flush.ensures.empty c.in_ok-write_run.ensures.ops in
     record {
       leads =
-          next_run c.args.pos.row c.args.pos.col c.run-count.result c.args.pen.now c.write_run.new.pen
+          next_run c.args.pos.row c.args.pos.col c.run-count.result c.args.pen.now c.gather_run.new.pen
           c.args.flag.now c.flag_past.result c.args.cells.now.cells c.args.over.now.cells c.attrs-attrs.result
           (buffered_text (text c.args.sink.now) c.args.buffer.now)
-          (buffered_text (text c.write_run.new.sink) c.flush.new.self) c.requires.inside c.requires.range.inside
-          c.requires.other blank same c.run-count.ensures.value behind.text c.in_ok-write_run.ensures.pen
-          c.flag_past.ensures;
+          (buffered_text (text c.gather_run.new.sink) c.gather_run.new.buffer) c.requires.inside c.requires.range.inside
+          c.requires.other blank same c.run-count.ensures.value c.in_ok-gather_run.ensures.gathers.text
+          c.in_ok-gather_run.ensures.pen c.flag_past.ensures;
       nonempty =
           run_some c.attrs-attrs.result c.args.cells.now.cells c.args.pos.col c.run-count.result c.requires.inside
           blank same c.run-count.ensures.value;
       inside = search rules;
-      grows = behind.grows;
+      grows = c.in_ok-gather_run.ensures.gathers.grows;
       refused = search rules;
     }
 
-pub returns-in_err-gather_glyph : goal.returns-in_err-gather_glyph
-returns-in_err-gather_glyph g c =
-    let row = c.args.pos.row in
-    let col = c.args.pos.col in
-    let n = c.columns-count.result in
-    let ys = c.args.over.now.cells in
-    let x = c.cell-cell.result.now in
-    let bytes = bytes_of_all (placed_op c.args.pen.now row col (attrs_of x) (Print (text_of x))) in
-    record {
-      leads = search rules;
-      nonempty = search rules;
-      inside = search rules;
-      grows = search rules;
-      refused =
-          on_err c.from_residual.result
-          (buffer_some c.args.buffer.now bytes _
-          (start_some bytes _ _
-          (glyph_leads row col n c.args.pen.now (pen_at row (col + glyph_columns (is_wide x)) (attrs_of x))
-          c.args.flag.now (flag_behind c.args.flag.now (is_wide x) (drop (col + n) ys)) c.args.cells.now.cells ys x []
-          bytes c.cell-cell.ensures c.requires.inside c.requires.range.inside c.requires.other
-          (sym c.is_blank.ensures ∙ c.if-not-is_blank.true) c.columns-count.ensures refl refl refl))
-          c.in_err-gather_glyph.ensures.gathers.nonempty);
-    }
-
-pub returns-in_err-flush : goal.returns-in_err-flush
-returns-in_err-flush g c = record {
-  leads = search rules;
-  nonempty = search rules;
-  inside = search rules;
-  grows = search rules;
-  refused =
-      on_err c.from_residual-in_err-flush.result
-      (some_first c.args.buffer.now _ (c.in_err-flush.ensures.nonempty refl));
-}
-
-pub returns-in_err-write_run : goal.returns-in_err-write_run
-returns-in_err-write_run g c =
+pub returns-in_err-gather_run : goal.returns-in_err-gather_run
+returns-in_err-gather_run g c =
     let row = c.args.pos.row in
     let col = c.args.pos.col in
     let n = c.run-count.result in
@@ -99,13 +43,13 @@ returns-in_err-write_run g c =
       inside = search rules;
       grows = search rules;
       refused =
-          on_err c.from_residual-in_err-write_run.result
-          (some_behind c.args.buffer.now _
+          on_err c.from_residual.result
+          (buffer_some c.args.buffer.now bytes _
           (start_some bytes _ _
           (next_run row col n c.args.pen.now (pen_at row col attrs) c.args.flag.now
           (flag_past c.args.flag.now (drop (col + n) ys)) c.args.cells.now.cells ys attrs [] bytes c.requires.inside
           c.requires.range.inside c.requires.other
           (ap is_blank (sym c.cell-cell.ensures) ∙ (sym c.is_blank.ensures ∙ c.if-not-is_blank.false))
-          (c.attrs-attrs.ensures ∙ ap attrs_of c.cell-cell.ensures) c.run-count.ensures.value refl refl refl)
-          c.in_err-write_run.ensures.ops.nonempty));
+          (c.attrs-attrs.ensures ∙ ap attrs_of c.cell-cell.ensures) c.run-count.ensures.value refl refl refl))
+          c.in_err-gather_run.ensures.gathers.nonempty);
     }

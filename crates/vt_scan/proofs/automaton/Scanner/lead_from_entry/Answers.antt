@@ -1,21 +1,16 @@
--- A private marker, and the parameter bytes after it.
-use Rattle.std.proofs.Common.{◌<◌, [], List, ℕ, arith, drop, get_or, length, subst, sym, take}
-use Rattle.std.proofs.lemmas.Bool.Decides.{nat_tests}
+-- Parameter bytes, or a private marker and the parameter bytes after it.
+use Rattle.std.proofs.Common.{[], ℕ, arith, subst, take, ◌≡◌}
 use Rattle.vt_scan.specs.Scanner.{FeedsAll}
-use Rattle.vt_scan.proofs.Leading.{feeds_first}
-use Rattle.vt_scan.proofs.Lists.{all_left, take_next}
+use Rattle.vt_scan.proofs.Leading.{feeds_then}
 use Rattle.vt_scan.proofs.automaton.Scanner.lead_from_entry.Goals as goal
 
 pub returns-clause-fed : goal.returns-clause-fed
 returns-clause-fed c =
     let bytes = c.args.bytes.now in
-    let more = c.take_parameter_bytes-more.result in
-    let told = c.if-is_empty.ensures in
-    let some : 0 < length bytes = grind (arith, nat_tests) in
-    let rest : FeedsAll c.takes_marker.new.self (take more (drop 1 bytes)) c.take_parameter_bytes-more.new.self [] =
-    subst (λ (left : List ℕ). FeedsAll c.takes_marker.new.self (take more left) c.take_parameter_bytes-more.new.self [])
-    (all_left bytes 1) c.take_parameter_bytes-more.ensures.fed in
-    subst (λ (text : List ℕ). FeedsAll c.args.self.now text c.take_parameter_bytes-more.new.self [])
-    (sym (take_next bytes more some))
-    (feeds_first c.args.self.now c.takes_marker.new.self c.take_parameter_bytes-more.new.self (get_or bytes 0 0)
-    (take more (drop 1 bytes)) (c.takes_marker.ensures.fed c.if-not-takes_marker.false) rest)
+    let middle = c.take_parameter_bytes-count.new.self in
+    let none : c.take_parameter_bytes-count.result ≡ 0 = omega (arith, c.if-count-gt0.false) in
+    let first : FeedsAll c.args.self.now [] middle [] =
+    subst (λ (n : ℕ). FeedsAll c.args.self.now (take n bytes) middle []) none
+    c.take_parameter_bytes-count.ensures.fed in
+    feeds_then c.args.self.now middle c.lead_from_marker.new.self [] (take c.lead_from_marker.result bytes) first
+    c.lead_from_marker.ensures.fed

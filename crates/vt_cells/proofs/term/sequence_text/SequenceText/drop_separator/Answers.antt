@@ -1,7 +1,7 @@
 use Rattle.std.proofs.Common.{ap, ◌∙◌}
 use Rattle.vt_cells.specs.ChangeInternals.{without_separator}
 use Rattle.vt_cells.proofs.ChangeTexts.{end_without_first, without_first_is}
-use Rattle.vt_cells.proofs.term.sgr.ChangeText.drop_separator.Goals as goal
+use Rattle.vt_cells.proofs.term.sequence_text.SequenceText.drop_separator.Goals as goal
 
 pub invariant_of-self : goal.invariant_of-self
 invariant_of-self c = end_without_first _ _ c.self.invariant c.if-self-lt-ROOM.true

@@ -2,7 +2,7 @@ use Rattle.std.proofs.Common.{◌≡◌, [], ◌∷◌, ◌++◌, ap, ◌∙◌}
 use Rattle.vt_cells.specs.ChangeInternals.{separated_all, without_separator}
 use Rattle.vt_cells.specs.Op.{change_numbers}
 use Rattle.vt_cells.proofs.ChangeTexts.{change_put, numbers_left}
-use Rattle.vt_cells.proofs.term.sgr.ChangeText.write.Goals as goal
+use Rattle.vt_cells.proofs.term.sequence_text.SequenceText.put_change.Goals as goal
 
 pub returns : goal.returns
 returns c =
@@ -17,4 +17,4 @@ returns c =
     (change_put c.args.was.now c.args.new.now) in
     c.begin.ensures
     ∙ ap (λ xs. 0x1B ∷ 0x5B ∷ xs)
-    (ap without_separator put ∙ numbers_left (change_numbers c.args.was.now c.args.new.now))
+    (ap without_separator put ∙ numbers_left (change_numbers c.args.was.now c.args.new.now) 0x6D)

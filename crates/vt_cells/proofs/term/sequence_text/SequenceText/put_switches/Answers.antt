@@ -1,5 +1,5 @@
 use Rattle.vt_cells.proofs.ChangeTexts.{switches_put}
-use Rattle.vt_cells.proofs.term.sgr.ChangeText.put_switches.Goals as goal
+use Rattle.vt_cells.proofs.term.sequence_text.SequenceText.put_switches.Goals as goal
 
 pub returns-clause-value : goal.returns-clause-value
 returns-clause-value c =

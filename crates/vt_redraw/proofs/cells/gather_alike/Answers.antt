@@ -1,0 +1,51 @@
+use Rattle.std.proofs.Common.{◌≡◌, ◌+◌, ◌++◌, ◌∙◌, List, ℕ, ap, arith, sym}
+use Rattle.std.proofs.Common.{drop}
+use Rattle.vt_cells.specs.BufferInternals.{buffered_text}
+use Rattle.vt_cells.specs.Cell.{text_of}
+use Rattle.vt_rows.proofs.AlikeCells.{glyph_text}
+use Rattle.vt_rows.specs.Cells.{at}
+use Rattle.vt_redraw.specs.Internals.{cells_from}
+use Rattle.vt_redraw.specs.Script.{flag_behind, pen_at}
+use Rattle.vt_redraw.proofs.Alike.{alike_inside, alike_leads, read_at}
+use Rattle.vt_redraw.proofs.CellSteps.{leads_then}
+use Rattle.vt_redraw.proofs.cells.gather_alike.Goals as goal
+
+pub loop-own-preserved : goal.loop-own-preserved
+loop-own-preserved c =
+    let l = c.loop-own in
+    let xs = c.args.cells.now.cells in
+    let ys = c.args.over.now.cells in
+    let own = c.own_cells-own.result.now in
+    let others = c.own_cells-others.result.now in
+    let like = c.args.like.now in
+    let pen = c.args.pen.now in
+    let n = c.columns-count.result in
+    let on = c.flag_behind-on.result in
+    let next = l.col + n in
+    let alike = c.is_alike.ensures c.if-is_alike.true in
+    let text = glyph_text like c.contents-bytes.ensures.sound c.requires.glyph in
+    let from = c.from.ensures in
+    let here = alike.inside in
+    let x : at own l.col ≡ c.index-own-from.result =
+    read_at own _ _ _ c.index-own-from.is from (omega (arith, from, here)) in
+    let pushed : c.push.new.self ≡ l.buffer ++ text_of (at own l.col) =
+    c.push.ensures ∙ ap (λ (more : List ℕ). l.buffer ++ more) (c.contents.ensures.value ∙ ap text_of (sym x)) in
+    let flags : on ≡ flag_behind l.on _ (drop next ys) =
+    c.flag_behind-on.ensures ∙ ap (λ w. flag_behind l.on w (drop next ys)) c.is_wide-wide.ensures in
+    let order = l.invariant.order in
+    record {
+      leads =
+          λ before. leads_then (buffered_text before c.args.buffer.now) (buffered_text before l.buffer)
+          (buffered_text before c.push.new.self)
+          (cells_from pen.row pen.col pen c.args.flag.now xs ys)
+          (cells_from pen.row l.col (pen_at pen.row l.col pen.attrs) l.on xs ys)
+          (cells_from pen.row next (pen_at pen.row next pen.attrs) on xs ys) (l.invariant.leads before)
+          (alike_leads pen.row l.col n pen.attrs l.on on like own others xs ys before l.buffer c.push.new.self alike
+          text c.requires.attrs c.own_cells-own.ensures.first c.own_cells-own.ensures.inside
+          c.own_cells-others.ensures.first c.own_cells-others.ensures.blank c.requires.range.inside
+          c.columns-count.ensures pushed flags);
+      order = omega (arith, order);
+      inside =
+          alike_inside l.col n like own others xs ys alike c.own_cells-own.ensures.first
+          c.own_cells-own.ensures.inside c.requires.range c.columns-count.ensures;
+    }
