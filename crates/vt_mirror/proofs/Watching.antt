@@ -8,6 +8,7 @@ use Rattle.vt_redraw.specs.Picture.{SamePictureSize}
 use Rattle.vt_redraw.specs.Steady.{IsSteady}
 use Rattle.vt_scan.specs.Automaton.{start}
 use Rattle.vt_scan.specs.Scanner.{StandsFor}
+use Rattle.vt_grid.specs.Page.{SameSize}
 use Rattle.vt_screen.specs.Pages.{has_size, screen_after_resize}
 use Rattle.vt_screen.specs.Reading.{terminal_after, terminal}
 use Rattle.vt_screen.specs.Screen.{IsScreen, ScreenValue}

@@ -66,7 +66,7 @@ pub mod RepeatRooms
 pub mod Repeated
 pub mod RepeatTokens
 mod NoRepeats
-mod RepeatedDiffs
+pub mod RepeatedDiffs
 pub mod Replacing
 pub mod RoutesRead
 pub mod ElementsRead
