@@ -246,7 +246,7 @@ class Texts(unittest.TestCase):
         before = parser.save()
         parser.process(b"\r\neeeeeeeee")
         moved = parser.contents_diff_scrolling(before)
-        self.assertEqual(moved, "\x1b[H\x1b[M\x1b[4;1Heeeeeeeee")
+        self.assertEqual(moved, "\x1b[H\x1b[M\n\n\neeeeeeeee")
         self.assertLess(len(moved), len(parser.contents_diff(before)))
 
     def test_runs_are_repeated_if_the_options_allow_it(self):

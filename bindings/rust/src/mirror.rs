@@ -47,7 +47,7 @@ impl Update {
 /// assert!(matches!(mirror.update(viewer), Some(Update::Full { .. })));
 /// mirror.process(b"\r\n");
 /// let update = mirror.update_scrolling(viewer).unwrap();
-/// assert_eq!(update, Update::Diff("\x1b[H\x1b[M\x1b[3;1H".to_owned()));
+/// assert_eq!(update, Update::Diff("\x1b[H\x1b[M\n\n".to_owned()));
 /// ```
 pub struct Mirror {
     /// The library's mirror. Each call to the library needs exclusive access, even a call that only

@@ -25,7 +25,7 @@ fn rows_move_where_that_is_shorter() {
     let screen = parser.screen();
     assert_eq!(
         screen.contents_diff_scrolling(&before),
-        "\x1b[H\x1b[M\x1b[4;1Heeeeeeeee"
+        "\x1b[H\x1b[M\n\n\neeeeeeeee"
     );
     assert!(screen.contents_diff_scrolling(&before).len() < screen.contents_diff(&before).len());
     assert_eq!(screen.contents_diff_scrolling(screen), "");

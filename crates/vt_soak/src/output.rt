@@ -3,11 +3,11 @@
 use std::str::Chars;
 
 /// The final bytes of the control sequences in output for terminals: CUP, CUF, ECH, EL, ED, SGR,
-/// and ICH, DCH, IL and DL in diffs that move rows or columns.
-const FINALS: &str = "HCXKJm@PLM";
+/// and ICH, DCH, IL, DL and CHA in diffs that move rows or columns.
+const FINALS: &str = "HCXKJm@PLMG";
 
-/// Returns whether the only control characters in a text are CR, LF, backspaces, and those of the
-/// escape sequences that draw.
+/// Returns whether the only control characters in a text are CR, LF, tabs, backspaces, and those of
+/// the escape sequences that draw.
 pub fn is_drawn(text: &str) -> bool {
     let mut chars = text.chars();
     for _ in 0..text.len() {
@@ -16,7 +16,7 @@ pub fn is_drawn(text: &str) -> bool {
         };
         let is_right = match c {
             '\u{1b}' => is_sequence(&mut chars),
-            '\r' | '\n' | '\u{8}' => true,
+            '\r' | '\n' | '\t' | '\u{8}' => true,
             _ => !is_control(c),
         };
         if !is_right {

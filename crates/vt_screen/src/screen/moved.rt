@@ -59,7 +59,7 @@ impl Screen {
     ///
     /// ```text
     /// // three rows of four columns: from `one`, `two`, `six` to `two`, `six`
-    /// assert_eq!(screen.contents_diff_scrolling(&prev)?, "\x1b[H\x1b[M\x1b[3;1H");
+    /// assert_eq!(screen.contents_diff_scrolling(&prev)?, "\x1b[H\x1b[M\n\n");
     /// ```
     pub fn contents_diff_scrolling(&self, prev: &Screen) -> Result<String, Error>
         requires { SameSize self.now.page prev.now.page }

@@ -26,7 +26,7 @@ const MOVED: [Example; 7] = [
         (4, 10), 0,
         &[Text(FOUR)],
         &[Text(FOUR), Text("\r\neeeeeeeee")],
-        "\x1b[H\x1b[M\x1b[4;1Heeeeeeeee",
+        "\x1b[H\x1b[M\n\n\neeeeeeeee",
     ),
 
     // The rows above the last one move up.
@@ -34,7 +34,7 @@ const MOVED: [Example; 7] = [
         (5, 10), 0,
         &[Text(FOUR), Text(FIFTH)],
         &[Text(FOUR), Text(FIFTH), Text("\x1b[1;4r\x1b[4;1H\neeeeeeeee\x1b[r\x1b[4;10H")],
-        "\x1b[H\x1b[M\x1b[4;1H\x1b[Leeeeeeeee",
+        "\x1b[H\x1b[M\n\n\n\x1b[Leeeeeeeee",
     ),
 
     // All rows move down, and then only the rows above the last one.
@@ -42,13 +42,13 @@ const MOVED: [Example; 7] = [
         (4, 10), 0,
         &[Text(FOUR), Text("\x1b[H")],
         &[Text(FOUR), Text("\x1b[H\x1b[Lzzzzzzzzz")],
-        "\x1b[H\x1b[Lzzzzzzzzz",
+        "\x1b[Lzzzzzzzzz",
     ),
     (
         (5, 10), 0,
         &[Text(FOUR), Text(FIFTH), Text("\x1b[H")],
         &[Text(FOUR), Text(FIFTH), Text("\x1b[1;4r\x1b[H\x1b[L\x1b[rzzzzzzzzz")],
-        "\x1b[4;1H\x1b[M\x1b[H\x1b[Lzzzzzzzzz",
+        "\n\n\n\x1b[M\x1b[H\x1b[Lzzzzzzzzz",
     ),
 
     // The attributes are reset to their defaults first.
@@ -56,13 +56,13 @@ const MOVED: [Example; 7] = [
         (4, 10), 0,
         &[Text(FOUR), Text("\x1b[41m")],
         &[Text(FOUR), Text("\r\neeeeeeeee")],
-        "\x1b[m\x1b[H\x1b[M\x1b[4;1Heeeeeeeee",
+        "\x1b[m\x1b[H\x1b[M\n\n\neeeeeeeee",
     ),
     (
         (4, 10), 0,
         &[Text(FOUR), Text("\x1b[41m")],
         &[Text(FOUR), Text("\x1b[41m\r\neeeeeeeee")],
-        "\x1b[m\x1b[H\x1b[M\x1b[4;1H\x1b[41meeeeeeeee",
+        "\x1b[m\x1b[H\x1b[M\n\n\n\x1b[41meeeeeeeee",
     ),
 
     // Nothing has moved.
@@ -76,7 +76,7 @@ const SHIFTED: [Example; 4] = [
         (1, 30), 0,
         &[Text(SIX)],
         &[Text(SIX), Text("\x1b[1;6H\x1b[4P")],
-        "\x1b[1;6H\x1b[4P",
+        "\x1b[6G\x1b[4P",
     ),
 
     // Columns are inserted, and the blanks are drawn over.
@@ -84,7 +84,7 @@ const SHIFTED: [Example; 4] = [
         (1, 30), 0,
         &[Text(FIVE)],
         &[Text(FIVE), Text("\x1b[1;6H\x1b[4@wo t")],
-        "\x1b[1;6H\x1b[4@wo t",
+        "\x1b[6G\x1b[4@wo t",
     ),
 
     // Columns of two rows are deleted, but not those of the row between them.
@@ -92,7 +92,7 @@ const SHIFTED: [Example; 4] = [
         (3, 30), 0,
         &[Text(SIX), Text("\r\nsix\r\n"), Text(SIX)],
         &[Text(SIX), Text("\r\nsix\r\n"), Text(SIX), Text("\x1b[1;6H\x1b[4P\x1b[3;6H\x1b[4P")],
-        "\x1b[1;6H\x1b[4P\x1b[3;6H\x1b[4P",
+        "\x1b[1;6H\x1b[4P\n\n\x1b[4P",
     ),
 
     // The attributes are reset to their defaults first.
@@ -100,7 +100,7 @@ const SHIFTED: [Example; 4] = [
         (1, 30), 0,
         &[Text(SIX), Text("\x1b[41m")],
         &[Text(FIVE), Text("\x1b[1;6H")],
-        "\x1b[m\x1b[1;6H\x1b[4P",
+        "\x1b[m\x1b[6G\x1b[4P",
     ),
 ];
 
