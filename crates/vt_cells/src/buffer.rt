@@ -62,6 +62,10 @@ impl Buffer {
         ensures full { IsErr result → 128 < length self.old + length text.now }
         ensures nonempty { IsErr result → 0 < length text.now }
     {
+        if text.len() == 1 && self.len < ROOM {
+            self.push_one(text);
+            return Ok(());
+        }
         if text.len() > self.room() {
             self.flush(sink)?;
             return sink.write_str(text);
@@ -119,6 +123,18 @@ impl Buffer {
         self.len = end;
     }
 
+    /// Appends a one-byte string, which must fit in the buffer. Most glyphs are one byte long.
+    #[inline(always)]
+    pub fn push_one(&mut self, text: &str)
+        requires room { length self.old + 1 ≤ 128 }
+        requires one { length text.now ≡ 1 }
+        ensures { self.new ≡ self.old ++ text.now }
+    {
+        let end = self.len + 1;
+        copy_one(&mut self.bytes[self.len..end], text.as_bytes());
+        self.len = end;
+    }
+
     /// Empties the buffer.
     #[inline]
     fn clear(&mut self)
@@ -126,6 +142,17 @@ impl Buffer {
     {
         self.len = 0;
     }
+}
+
+/// Copies the single byte of `from` into `to`.
+#[inline(always)]
+#[tactic(auto, using(crate::proofs::Buffers::one_set))]
+fn copy_one(to: &mut [u8], from: &[u8])
+    requires room { length to.old ≡ length from.now }
+    requires one { length from.now ≡ 1 }
+    ensures { to.new ≡ from.now }
+{
+    to[0] = from[0];
 }
 
 /// Copies `from` into `to`, which must have the same length.

@@ -11,10 +11,10 @@ use Rattle.vt_cells.proofs.Texts.{bytes_of_all-append}
 use Rattle.vt_cells.specs.Attrs.{Attrs}
 use Rattle.vt_cells.specs.BufferInternals.{buffered_text}
 use Rattle.vt_cells.specs.Cell.{CellValue, blank, glyph, right_half, default_blank, attrs_of, is_blank, is_glyph}
-use Rattle.vt_cells.specs.Cell.{is_right_half, is_wide, same_cell, text_of}
+use Rattle.vt_cells.specs.Cell.{IsCell, is_right_half, is_wide, same_cell, text_of}
 use Rattle.vt_cells.specs.Glyph.{glyph_columns}
 use Rattle.vt_cells.specs.Op.{Print, bytes_of_all}
-use Rattle.vt_rows.proofs.AlikeCells.{text_not_blank, text_not_half}
+use Rattle.vt_cells.proofs.Glyphs.{IsGlyphText-length}
 use Rattle.vt_rows.specs.Cells.{at}
 use Rattle.vt_redraw.specs.Internals.{IsAlike, IsRange, Leads, cells_from}
 use Rattle.vt_redraw.specs.Script.{Scripted, attr_ops, flag_behind, move_ops, pen_at, placed_op}
@@ -23,6 +23,22 @@ use Rattle.vt_redraw.proofs.CellSteps.{glyph_inside, glyph_leads, leads_then}
 use Rattle.vt_redraw.proofs.Writing.{change_none, going_none}
 
 -- ---- a cell with text
+
+text_not_blank : (x : CellValue) → 0 < length (text_of x) → is_blank x ≡ false
+text_not_blank (blank a) h = absurd (omega (arith, h))
+text_not_blank (glyph text wide a) h = refl
+text_not_blank right_half h = absurd (omega (arith, h))
+
+text_not_half : (x : CellValue) → 0 < length (text_of x) → is_right_half x ≡ false
+text_not_half (blank a) h = refl
+text_not_half (glyph text wide a) h = refl
+text_not_half right_half h = absurd (omega (arith, h))
+
+-- A glyph has text.
+pub glyph_text : (x : CellValue) → IsCell x → is_glyph x ≡ true → 0 < length (text_of x)
+glyph_text (blank a) is h = absurd cc
+glyph_text (glyph text wide a) is h = let some = (IsGlyphText-length text wide is).0 in omega (arith, some)
+glyph_text right_half is h = absurd cc
 
 text_unlike_blank : (x y : CellValue) → 0 < length (text_of x) → is_blank y ≡ true → same_cell x y ≡ false
 unfolding same_cell
@@ -133,6 +149,11 @@ alike_leads r c n a flag then like own others xs ys text old new alike some draw
     ∙ printed_again r c a (text_of x)))))
     (ap (λ (k : ℕ). pen_at r (c + k) a) columns ∙ ap (λ (b : Attrs). pen_at r (c + glyph_columns (is_wide x)) b) attrs)
     (flags ∙ ap (λ (w : Bool). flag_behind flag w (drop (c + n) ys)) (sym wide))
+
+-- A narrow glyph leaves the wrapped flag unchanged.
+pub narrow_keeps : (flag wide : Bool) (rest : List CellValue) → wide ≡ false → flag ≡ flag_behind flag wide rest
+narrow_keeps true wide rest e = rw e refl
+narrow_keeps false wide rest e = refl
 
 -- All columns of a glyph that looks alike lie within the row that the terminal displays.
 pub alike_inside : (c n : ℕ) (like : CellValue) (own others xs ys : List CellValue) → IsAlike c like own others →

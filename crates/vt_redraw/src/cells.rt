@@ -9,7 +9,7 @@
 ghost use Rattle.std.specs.Prelude.{◌≡◌, ◌++◌, ◌+◌, ◌<◌, ◌≤◌, ℕ, List};
 ghost use Rattle.std.specs.Prelude.{true, false, IsTrue, OnOk, drop, length};
 ghost use Rattle.vt_cells.specs.BufferInternals.{buffered_text};
-ghost use Rattle.vt_cells.specs.Cell.{attrs_of, is_blank, is_glyph};
+ghost use Rattle.vt_cells.specs.Cell.{attrs_of, is_blank, is_glyph, is_wide, text_of};
 ghost use Rattle.vt_cells.specs.Op.{bytes_of, bytes_of_all};
 ghost use Rattle.vt_rows.specs.Cells.{at};
 ghost use Rattle.vt_redraw.specs.Internals.{AppendsOrStops, GathersOrStops, IsAlike, IsOther, IsRange, Leads, Passes};
@@ -261,6 +261,20 @@ fn pass_same(cells: &PictureRow<'_>, over: &PictureRow<'_>, col: u16) -> u16
     col + cells.same_run(over, col) as u16
 }
 
+/// Skips consecutive columns, starting at `col`, in which the cells of the row
+/// equal the blank after the stored cells of `over` and therefore need no
+/// output. Returns the first column that was not skipped; its cells may still be
+/// equal.
+#[inline]
+fn pass_ended(cells: &PictureRow<'_>, over: &PictureRow<'_>, col: u16) -> u16
+    requires short { length cells.now.cells < 65536 }
+    requires range { IsRange cells.now.cells over.now.cells }
+    ensures order { col ≤ result }
+    ensures passed { Passes col result cells.now.cells over.now.cells }
+{
+    col + cells.end_run(over, col) as u16
+}
+
 /// Returns the first column at or after `col` whose cell needs output, or a
 /// column past the end of the row if there is none.
 ///
@@ -277,7 +291,8 @@ fn next_other(cells: &PictureRow<'_>, over: &PictureRow<'_>, col: u16) -> u16
     let own = cells.own_len();
     let same = pass_same(cells, over, col);
     let both = pass(cells, over, same, own.min(over.own_len()));
-    let alone = pass(cells, over, both, own);
+    let ended = pass_ended(cells, over, both);
+    let alone = pass(cells, over, ended, own);
     pass(cells, over, alone, cols)
 }
 
@@ -293,6 +308,41 @@ fn is_alike(like: &Cell, own: &[Cell], others: &[Cell], col: u16) -> bool
         return false;
     }
     col >= others.len() || !(own[col] == others[col])
+}
+
+/// Buffers the glyphs after the pen that look like the narrow glyph `like`, whose
+/// text is one byte long, up to a glyph that needs no output or does not fit in
+/// the buffer. `flag` says whether the terminal's row is wrapped.
+#[inline(always)]
+fn gather_bytes(
+    buffer: &mut Buffer,
+    pen: &mut Pen,
+    flag: bool,
+    like: &Cell,
+    cells: &PictureRow<'_>,
+    over: &PictureRow<'_>,
+)
+    requires range { IsRange cells.now.cells over.now.cells }
+    requires short { length over.now.cells < 65536 }
+    requires one { length (text_of like.now) ≡ 1 }
+    requires narrow { is_wide like.now ≡ false }
+    requires attrs { pen.old.attrs ≡ attrs_of like.now }
+    requires inside { pen.old.col ≤ length over.now.cells }
+    ensures leads { (text : List ℕ) → Leads (buffered_text text buffer.new)
+        (cells_from pen.old.row pen.new.col pen.new flag cells.now.cells over.now.cells)
+        (buffered_text text buffer.old)
+        (cells_from pen.old.row pen.old.col pen.old flag cells.now.cells over.now.cells) }
+    ensures order { pen.old.col ≤ pen.new.col }
+    ensures inside { pen.new.col ≤ length over.now.cells }
+{
+    let own = cells.own_cells();
+    let others = over.own_cells();
+    let mut col = pen.col;
+    while buffer.room() > 0 && is_alike(like, own, others, col) {
+        buffer.push_one(own[usize::from(col)].contents());
+        col += 1;
+    }
+    pen.col = col;
 }
 
 /// Buffers the glyphs after the pen that look like `like`: their attributes,
@@ -319,10 +369,13 @@ fn gather_alike(
     ensures order { pen.old.col ≤ pen.new.col }
     ensures inside { pen.new.col ≤ length over.now.cells }
 {
-    let own = cells.own_cells();
-    let others = over.own_cells();
     let bytes = like.contents().len();
     let wide = like.is_wide();
+    if bytes == 1 && !wide {
+        return gather_bytes(buffer, pen, *flag, like, cells, over);
+    }
+    let own = cells.own_cells();
+    let others = over.own_cells();
     let count = columns(like);
     let mut col = pen.col;
     let mut on = *flag;

@@ -10,7 +10,7 @@ ghost use Rattle.vt_redraw.specs.Internals.{cut_row, cell_past_cut, kept_len};
 ghost use Rattle.vt_redraw.specs.Script.{is_blank_of, is_torn, last_column, blank_run};
 
 use std::marker::Model;
-use vt_cells::cell_runs::same_run;
+use vt_cells::cell_runs::{run_of, same_run};
 use vt_cells::{Attrs, Cell, cell};
 use vt_rows::RowContents;
 use vt_rows::capture::cells_of;
@@ -167,6 +167,22 @@ impl<'a> PictureRow<'a> {
             return 0;
         }
         same_run(&self.cells[start..stop], &other.cells[start..stop])
+    }
+
+    /// Returns a lower bound on the number of consecutive stored cells, starting
+    /// at column `col`, that equal the blank after the stored cells of `other`.
+    /// Returns 0 if `other` has a stored cell at or after that column.
+    pub fn end_run(&self, other: &PictureRow<'_>, col: u16) -> usize
+        ensures inside { 0 < result → col + result ≤ length self.now.cells }
+        ensures same { (k : ℕ) → k < result
+            → at self.now.cells (col + k) ≡ at other.now.cells (col + k) }
+    {
+        let start = usize::from(col);
+        let stop = self.cells.len().min(usize::from(other.cols));
+        if start < other.cells.len() || stop <= start {
+            return 0;
+        }
+        run_of(&self.cells[start..stop], &other.end)
     }
 
     /// Returns whether the row is wrapped.

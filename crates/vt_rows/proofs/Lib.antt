@@ -1,4 +1,3 @@
-pub mod AlikeCells
 pub mod Columns
 pub mod Pairs
 pub mod Sound

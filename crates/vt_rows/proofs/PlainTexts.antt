@@ -1,13 +1,11 @@
 -- The plain text of cells, cell by cell.
-use Rattle.std.proofs.Common.{◌≡◌, ℕ, ◌+◌, ◌-◌, ◌<◌, ◌≤◌, Bool, true, false, List, [], ◌∷◌, ◌++◌, drop}
+use Rattle.std.proofs.Common.{◌≡◌, ℕ, ◌+◌, ◌-◌, ◌≤◌, Bool, true, false, List, [], ◌∷◌, ◌++◌, drop}
 use Rattle.std.proofs.Common.{length, replicate, take, slice_index_or, refl, sym, ap, ◌∙◌, arith}
 use Rattle.std.specs.Prelude.{if◌then◌else◌}
 use Rattle.std.specs.List.{flat_map, list_any}
-use Rattle.std.proofs.lemmas.List.{append_assoc, drop_more, take_rest, replicate_more, replicate-append-replicate}
+use Rattle.std.proofs.lemmas.List.{append_assoc, take_rest, replicate_more, replicate-append-replicate}
 use Rattle.vt_cells.specs.Attrs.{default_attrs, Attrs}
-use Rattle.vt_cells.specs.Cell.{CellValue, blank, glyph, right_half, default_blank, is_blank, is_glyph}
-use Rattle.vt_cells.specs.Cell.{is_right_half, text_of}
-use Rattle.vt_cells.specs.BufferInternals.{buffered_text}
+use Rattle.vt_cells.specs.Cell.{CellValue, blank, glyph, right_half, default_blank, is_glyph, is_right_half}
 use Rattle.vt_rows.specs.Basic.{shown_text}
 use Rattle.vt_rows.specs.Cells.{cells_after_cut}
 use Rattle.vt_rows.specs.Internals.{plain_behind}
@@ -90,28 +88,6 @@ pub plain_cut : (cells : List CellValue) → is_right_half (slice_index_or cells
     plain_behind 1 (take (length cells - 1) (drop 1 cells))
     ≡ flat_map shown_text (up_to_last_glyph (cells_after_cut default_blank cells))
 plain_cut cells e = ap (plain_behind 1) (take_rest cells 1) ∙ plain_opened cells e
-
--- A cell that is not a blank, after a glyph, adds only its text.
-pub text_after_glyph : (cell : CellValue) (cells : List CellValue) → is_blank cell ≡ false →
-    plain_behind 0 (cell ∷ cells) ≡ text_of cell ++ plain_behind 0 cells
-text_after_glyph (blank attrs) cells e = absurd cc
-text_after_glyph (glyph text wide attrs) cells e = refl
-text_after_glyph right_half cells e = refl
-
--- Buffering the text of such a cell leaves the texts of the cells after it to be written.
-pub text_pushed : (text old new : List ℕ) (n : ℕ) (cells : List CellValue) (cell : CellValue) → n < length cells →
-    cell ≡ slice_index_or cells n cell → is_blank cell ≡ false → new ≡ old ++ text_of cell →
-    buffered_text text new ++ plain_behind 0 (drop (n + 1) cells) ≡ buffered_text text old ++ plain_behind 0 (drop n cells)
-unfolding buffered_text
-text_pushed text old new n cells cell inside is_cell e pushed =
-    let rest = drop (n + 1) cells in
-    ap (λ (xs : List ℕ). (text ++ xs) ++ plain_behind 0 rest) pushed
-    ∙ (ap (λ (xs : List ℕ). xs ++ plain_behind 0 rest) (sym (append_assoc text old (text_of cell)))
-    ∙ (append_assoc (text ++ old) (text_of cell) (plain_behind 0 rest)
-    ∙ ap (λ (xs : List ℕ). (text ++ old) ++ xs)
-    (sym (text_after_glyph cell rest e)
-    ∙ (ap (λ (x : CellValue). plain_behind 0 (x ∷ rest)) is_cell
-    ∙ ap (plain_behind 0) (sym (drop_more cells n cell inside))))))
 
 -- Writing sixteen of the remaining spaces, and then the others, writes all remaining spaces.
 pub sixteen : (old new : List ℕ) (n : ℕ) → 16 ≤ n → new ≡ old ++ replicate 16 0x20 →

@@ -1,9 +1,6 @@
 //! The plain text of the columns of a row.
 
-ghost use Rattle.std.specs.Prelude.{◌≡◌, ◌<◌, ◌≤◌, ◌+◌, ◌++◌, ℕ, List, true, false, drop, length, replicate, take};
-ghost use Rattle.std.specs.Prelude.{IfOk, IsErr, IsTrue, OnErr, OnOk};
-ghost use Rattle.vt_cells.specs.BufferInternals.{buffered_text};
-ghost use Rattle.vt_cells.specs.Cell.{is_blank, is_glyph, text_of};
+ghost use Rattle.std.specs.Prelude.{◌≡◌, ◌<◌, ◌≤◌, ◌+◌, ◌++◌, drop, length, replicate, take, IfOk, IsErr, OnErr, OnOk};
 ghost use Rattle.vt_rows.specs.Internals.{Gathers, gap_behind, plain_behind, text_behind};
 ghost use Rattle.vt_rows.specs.Plain.{has_glyph, plain_text};
 
@@ -74,50 +71,11 @@ fn write_behind<S: Sink>(sink: &mut S, cells: &[Cell], gap: usize) -> Result<(),
 {
     let mut buffer = Buffer::new();
     let mut gap = gap;
-    let mut at = 0;
-    while at < cells.len() {
-        gap = add_cell(sink, &mut buffer, &cells[at], gap)?;
-        let more = push_alike(&mut buffer, gap, &cells[at], &cells[at + 1..]);
-        at += 1 + more;
+    for cell in cells {
+        gap = add_cell(sink, &mut buffer, cell, gap)?;
     }
     buffer.flush(sink)?;
     Ok(())
-}
-
-/// If `like` is a glyph, buffers the text of the cells after it that agree with it in everything
-/// except the bytes of their text, and passes over continuation cells. Stops at the first other
-/// cell, or at a glyph that does not fit in the buffer. Returns the number of cells handled.
-#[inline(always)]
-fn push_alike(buffer: &mut Buffer, gap: usize, like: &Cell, cells: &[Cell]) -> usize
-    requires { is_glyph like.now ≡ true → gap ≡ 0 }
-    ensures inside { result ≤ length cells.now }
-    ensures bytes { (text : List ℕ) → buffered_text text buffer.new ++ plain_behind gap (drop result cells.now)
-        ≡ buffered_text text buffer.old ++ plain_behind gap cells.now }
-{
-    if !like.has_contents() {
-        return 0;
-    }
-    let bytes = like.contents().len();
-    let mut count = 0;
-    while count < cells.len() && bytes <= buffer.room() && goes_on(like, &cells[count]) {
-        buffer.push(cells[count].contents());
-        count += 1;
-    }
-    count
-}
-
-/// Returns whether `cell` is a continuation cell or agrees with the glyph `like` in everything
-/// except the bytes of its text.
-#[inline(always)]
-fn goes_on(like: &Cell, cell: &Cell) -> bool
-    requires { is_glyph like.now ≡ true }
-    ensures whole { IsTrue result → is_blank cell.now ≡ false }
-    ensures short { IsTrue result → length (text_of cell.now) ≤ length (text_of like.now) }
-{
-    if cell.has_head_of(like) {
-        return true;
-    }
-    cell.is_wide_continuation()
 }
 
 /// If the cell is a glyph, appends `gap` spaces and the text of the cell. `gap` is the number of

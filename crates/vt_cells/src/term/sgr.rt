@@ -132,7 +132,7 @@ impl SequenceText {
     }
 
     /// Prepends the parameters of a palette color: the layer (38 or 48), 5 and the index.
-    #[inline(always)]
+    #[inline(never)]
     fn put_indexed(&mut self, layer: u8, index: u8)
         requires { length self.old + 12 ≤ 64 }
         ensures value { self.new ≡ separated_all (layer ∷ 5 ∷ index ∷ []) ++ self.old }
@@ -144,7 +144,7 @@ impl SequenceText {
     }
 
     /// Prepends the parameters of an RGB color: the layer (38 or 48), 2 and the three components.
-    #[inline(always)]
+    #[inline(never)]
     fn put_parts(&mut self, layer: u8, red: u8, green: u8, blue: u8)
         requires { length self.old + 20 ≤ 64 }
         ensures value { self.new ≡ separated_all (layer ∷ 2 ∷ red ∷ green ∷ blue ∷ []) ++ self.old }

@@ -2,11 +2,10 @@ use Rattle.std.proofs.Common.{◌≡◌, ◌+◌, ◌++◌, ◌∙◌, List, ℕ
 use Rattle.std.proofs.Common.{drop}
 use Rattle.vt_cells.specs.BufferInternals.{buffered_text}
 use Rattle.vt_cells.specs.Cell.{text_of}
-use Rattle.vt_rows.proofs.AlikeCells.{glyph_text}
 use Rattle.vt_rows.specs.Cells.{at}
 use Rattle.vt_redraw.specs.Internals.{cells_from}
 use Rattle.vt_redraw.specs.Script.{flag_behind, pen_at}
-use Rattle.vt_redraw.proofs.Alike.{alike_inside, alike_leads, read_at}
+use Rattle.vt_redraw.proofs.Alike.{alike_inside, alike_leads, glyph_text, read_at}
 use Rattle.vt_redraw.proofs.CellSteps.{leads_then}
 use Rattle.vt_redraw.proofs.cells.gather_alike.Goals as goal
 
