@@ -15,38 +15,43 @@ use Rattle.std.proofs.lemmas.Slice.{between_is, take-put_mid_below, drop-put_mid
 use borrow.Rule.Slice.PartMut.{put_mid, same_len_mid}
 use Rattle.vt_cells.specs.Cell.{CellValue, blank, default_blank}
 use Rattle.vt_cells.specs.Attrs.{Attrs, default_attrs}
-use Rattle.vt_rows.specs.Cells.{blanks, ends_blank}
+use Rattle.vt_rows.specs.Cells.{at, blanks, ends_blank}
 use Rattle.vt_grid.specs.PageRows.{PageRowsValue, blank_page_rows, page_row, with_page_row, with_row_cells}
-use Rattle.vt_rows.proofs.Columns.{blanks_is}
+use Rattle.vt_rows.proofs.Columns.{at-blanks, blanks_is}
 use Rattle.vt_rows.specs.Row.{RowValue, blank_row}
 use Rattle.vt_grid.specs.Page.{row_or}
 use Rattle.vt_grid.specs.declared.flat.Line.{Line}
 use Rattle.vt_grid.specs.declared.flat.Flat.{Flat}
-use Rattle.vt_grid.specs.Flat.{IsFlat, rows_of, cells_at, row_in, rows_in, no_line, line_at, in_order, IsTable}
+use Rattle.vt_grid.specs.Flat.{IsBlankFrom, IsFlat, IsStored, IsTable, rows_of, used_columns}
+use Rattle.vt_grid.specs.Flat.{cells_at, row_in, rows_in, no_line, line_at, in_order}
 
 -- ---- Places
 
 pub place_inside : (p n w : ℕ) → p < n → p * w + w ≤ n * w
 place_inside p n w h = grind arith
 
--- A write to the cells of place p leaves those of every other place unchanged.
-pub cells_at-put_other : (w n p q : ℕ) (cells new : List CellValue) → length cells ≡ n * w → p < n →
-    q < n → q ≢ p → length new ≡ w → cells_at w (put_mid (p * w) w cells new) q ≡ cells_at w cells q
-cells_at-put_other w n p q cells new e h i other l =
+-- A write to the first cells of place p leaves those of every other place unchanged.
+pub cells_at-put_part : (w u n p q : ℕ) (cells new : List CellValue) → length cells ≡ n * w → p < n →
+    q < n → q ≢ p → u ≤ w → length new ≡ u → cells_at w (put_mid (p * w) u cells new) q ≡ cells_at w cells q
+cells_at-put_part w u n p q cells new e h i other few l =
     let inside = place_inside p n w h in
     elim (cases_lt q p) [
       | inl lt ↦
           let below = place_inside q p w lt in
-          between_is (put_mid (p * w) w cells new) (q * w) (q * w + w)
+          between_is (put_mid (p * w) u cells new) (q * w) (q * w + w)
           ∙ (ap (λ (xs : List CellValue). drop (q * w) xs)
-          (take-put_mid_below (p * w) w cells new (q * w + w) below (omega (arith, inside, e)))
+          (take-put_mid_below (p * w) u cells new (q * w + w) below (omega (arith, inside, e)))
           ∙ sym (between_is cells (q * w) (q * w + w)))
       | inr ge ↦
           let gt : p < q = grind (arith, other, ge) in
           let above = place_inside p q w gt in
           ap (λ (xs : List CellValue). take (q * w + w - q * w) xs)
-          (drop-put_mid (p * w) w cells new (q * w) above (omega (arith, inside, e)) l)
+          (drop-put_mid (p * w) u cells new (q * w) (omega (arith, above, few)) (omega (arith, inside, e)) l)
     ]
+
+pub cells_at-put_other : (w n p q : ℕ) (cells new : List CellValue) → length cells ≡ n * w → p < n →
+    q < n → q ≢ p → length new ≡ w → cells_at w (put_mid (p * w) w cells new) q ≡ cells_at w cells q
+cells_at-put_other w n p q cells new e h i other l = cells_at-put_part w w n p q cells new e h i other (omega arith) l
 
 pub cells_at-put_same : (w n p : ℕ) (cells new : List CellValue) → length cells ≡ n * w →
     p < n → length new ≡ w → cells_at w (put_mid (p * w) w cells new) p ≡ new
@@ -54,18 +59,24 @@ cells_at-put_same w n p cells new e h l =
     let inside = place_inside p n w h in
     between-put_mid (p * w) w cells new (p * w + w) (omega (arith, inside, e)) (omega (arith, l))
 
--- If the cells of place p are borrowed and become `new`, the vector of cells has `new` at that place.
+-- If the first u cells of place p are borrowed and become `new`, the vector of cells has `new` there.
+pub written_part : (w u n p a k : ℕ) (v now : Vec CellValue Global) (xs new : List CellValue) →
+    now ≡ with_items v (put_mid a k xs new) → xs ≡ v.items →
+    length v.items ≡ n * w → p < n → a ≡ p * w → k ≡ u → u ≤ w → length new ≡ u →
+    now.items ≡ put_mid (p * w) u v.items new
+written_part w u n p a k v now xs new e was f h i j few l =
+    let inside = place_inside p n w h in
+    let size : length (put_mid (p * w) u v.items new) ≡ length v.items =
+    same_len_mid (p * w) u v.items new
+    (omega (arith, l, length-take u (drop (p * w) v.items), length-drop (p * w) v.items, inside, f, few)) in
+    ap (λ (u : Vec CellValue Global). u.items) (e ∙ (λ t. with_items v (put_mid (i t) (j t) (was t) new)))
+    ∙ with_items_is v (put_mid (p * w) u v.items new) (size ∙ sym v.ok.0)
+
 pub written : (w n p a k : ℕ) (v now : Vec CellValue Global) (xs new : List CellValue) →
     now ≡ with_items v (put_mid a k xs new) → xs ≡ v.items →
     length v.items ≡ n * w → p < n → a ≡ p * w → k ≡ w → length new ≡ w →
     now.items ≡ put_mid (p * w) w v.items new
-written w n p a k v now xs new e was f h i j l =
-    let inside = place_inside p n w h in
-    let size : length (put_mid (p * w) w v.items new) ≡ length v.items =
-    same_len_mid (p * w) w v.items new
-    (omega (arith, l, length-take w (drop (p * w) v.items), length-drop (p * w) v.items, inside, f)) in
-    ap (λ (u : Vec CellValue Global). u.items) (e ∙ (λ t. with_items v (put_mid (i t) (j t) (was t) new)))
-    ∙ with_items_is v (put_mid (p * w) w v.items new) (size ∙ sym v.ok.0)
+written w n p a k v now xs new e was f h i j l = written_part w w n p a k v now xs new e was f h i j (omega arith) l
 
 -- ---- Rows
 
@@ -87,14 +98,15 @@ rows_in_by w cells lines rows d e f =
     ext_get_or d (rows_in w cells lines) rows (l ∙ sym e)
     (λ k h. let i : k < length lines = omega (arith, l) in row_found w k cells lines d i ∙ f k i)
 
--- Giving row r new cells and a new flag replaces only that row, if the cells of every other place are unchanged.
-pub rows_in-replaced : (w r : ℕ) (cells now new : List CellValue) (flag : Bool) (lines : List Line) →
+-- Giving row r new cells, a new number of used columns and a new flag replaces only that row, if the cells of every
+-- other place are unchanged.
+pub rows_in-replaced : (w r used : ℕ) (cells now new : List CellValue) (flag : Bool) (lines : List Line) →
     IsTable w cells lines → r < length lines → cells_at w now (line_at lines r).place ≡ new →
     ((q : ℕ) → q < length lines → q ≢ (line_at lines r).place → cells_at w now q ≡ cells_at w cells q) →
-    rows_in w now (set lines r (record (line_at lines r) { wrapped = flag }))
+    rows_in w now (set lines r (record (line_at lines r) { used = used; wrapped = flag }))
     ≡ set (rows_in w cells lines) r (record { cells = new; wrapped = flag })
-rows_in-replaced w r cells now new flag lines t h own others =
-    let line = record (line_at lines r) { wrapped = flag } in
+rows_in-replaced w r used cells now new flag lines t h own others =
+    let line = record (line_at lines r) { used = used; wrapped = flag } in
     let table = set lines r line in
     let row : RowValue = record { cells = new; wrapped = flag } in
     let n : length table ≡ length lines = length-set lines r line in
@@ -121,14 +133,14 @@ rows_in-replaced w r cells now new flag lines t h own others =
           (others (line_at lines k).place (t.inside k k_in) apart))
     ])
 
-pub rows_in-edited : (w r : ℕ) (cells new : List CellValue) (flag : Bool) (lines : List Line) →
+pub rows_in-edited : (w r used : ℕ) (cells new : List CellValue) (flag : Bool) (lines : List Line) →
     IsTable w cells lines → r < length lines → length new ≡ w →
     rows_in w (put_mid ((line_at lines r).place * w) w cells new)
-    (set lines r (record (line_at lines r) { wrapped = flag }))
+    (set lines r (record (line_at lines r) { used = used; wrapped = flag }))
     ≡ set (rows_in w cells lines) r (record { cells = new; wrapped = flag })
-rows_in-edited w r cells new flag lines t h l =
+rows_in-edited w r used cells new flag lines t h l =
     let p = (line_at lines r).place in
-    rows_in-replaced w r cells (put_mid (p * w) w cells new) new flag lines t h
+    rows_in-replaced w r used cells (put_mid (p * w) w cells new) new flag lines t h
     (cells_at-put_same w (length lines) p cells new t.filled (t.inside r h) l)
     (λ q i other. cells_at-put_other w (length lines) p q cells new t.filled (t.inside r h) i other l)
 
@@ -181,6 +193,19 @@ IsTable-turned w from to n cells lines now h i e f t =
     IsTable-moved w (rotation_source from to n) cells lines now e (λ k l. turn_inside from to n k (length lines) h i l)
     (λ j k l m same. turn_once from to n j k h same) (λ k l. ap (λ (x : Line). x.place) (f k)) t
 
+IsStored-turned : (w from to n : ℕ) (cells : List CellValue) (lines now : List Line) →
+    from + n ≤ to → to ≤ length lines → length now ≡ length lines →
+    ((k : ℕ) → line_at now k ≡ line_at lines (rotation_source from to n k)) → IsStored w cells lines → IsStored w cells now
+IsStored-turned w from to n cells lines now h i e f t =
+    let inside : (r : ℕ) → r < length now → rotation_source from to n r < length lines =
+    λ r l. turn_inside from to n r (length lines) h i (omega (arith, e, l)) in
+    record {
+      table = IsTable-turned w from to n cells lines now h i e f t.table;
+      blank =
+          λ r l. subst (λ (x : Line). IsBlankFrom (used_columns w x.used) (cells_at w cells x.place)) (sym (f r))
+          (t.blank _ (inside r l));
+    }
+
 pub rows_in-turned : (w from to n : ℕ) (cells : List CellValue) (lines now : List Line) →
     from + n ≤ to → to ≤ length lines → length now ≡ length lines →
     ((k : ℕ) → line_at now k ≡ line_at lines (rotation_source from to n k)) → (k : ℕ) (d : RowValue) →
@@ -193,14 +218,14 @@ rows_in-turned w from to n cells lines now h i e f k d l =
 -- ---- Rows in their order
 
 pub length-in_order : (n : ℕ) → length (in_order n) ≡ n
-length-in_order n = length-map-range_with_len (λ place. record { place = place; wrapped = false }) 0 n
+length-in_order n = length-map-range_with_len (λ place. record { place = place; used = 0; wrapped = false }) 0 n
 
-pub line_in_order : (n r : ℕ) → r < n → line_at (in_order n) r ≡ record { place = r; wrapped = false }
+pub line_in_order : (n r : ℕ) → r < n → line_at (in_order n) r ≡ record { place = r; used = 0; wrapped = false }
 line_in_order n r h =
-    get_or-map-range_with_len (λ place. record { place = place; wrapped = false }) 0 n r r no_line h (omega arith)
+    get_or-map-range_with_len (λ place. record { place = place; used = 0; wrapped = false }) 0 n r r no_line h (omega arith)
 
-pub in_order_more : (n : ℕ) → in_order (n + 1) ≡ in_order n ++ record { place = n; wrapped = false } ∷ []
-in_order_more n = map-range_with_len_more (λ place. record { place = place; wrapped = false }) 0 n n (omega arith)
+pub in_order_more : (n : ℕ) → in_order (n + 1) ≡ in_order n ++ record { place = n; used = 0; wrapped = false } ∷ []
+in_order_more n = map-range_with_len_more (λ place. record { place = place; used = 0; wrapped = false }) 0 n n (omega arith)
 
 -- The table in which row k is at place k is valid for a page of blank rows.
 pub IsTable-in_order : (w n : ℕ) (attrs : Attrs) → IsTable w (blanks attrs (n * w)) (in_order n)
@@ -233,6 +258,22 @@ cells_at-blanks w n p attrs h =
     ∙ (get_or-drop (p * w) all k default_blank
     ∙ get_or-replicate (n * w) (p * w + k) (blank attrs) default_blank (omega (arith, inside))))
 
+-- The table in which row k is at place k and no column is used is valid for a page of default blanks.
+IsStored-in_order : (w n : ℕ) → IsStored w (blanks default_attrs (n * w)) (in_order n)
+IsStored-in_order w n =
+    let l = length-in_order n in
+    let line : (r : ℕ) → r < length (in_order n) → line_at (in_order n) r ≡ record { place = r; used = 0; wrapped = false } =
+    λ r h. line_in_order n r (omega (arith, l, h)) in
+    record {
+      table = IsTable-in_order w n default_attrs;
+      blank =
+          λ r h. subst
+          (λ (x : Line). IsBlankFrom (used_columns w x.used) (cells_at w (blanks default_attrs (n * w)) x.place))
+          (sym (line r h))
+          (λ k i. ap (λ (xs : List CellValue). at xs k) (cells_at-blanks w n r default_attrs (omega (arith, l, h)))
+          ∙ at-blanks w k);
+    }
+
 pub rows_in_order : (w n : ℕ) (attrs : Attrs) →
     rows_in w (blanks attrs (n * w)) (in_order n) ≡ replicate n (blank_row attrs w)
 rows_in_order w n attrs =
@@ -264,55 +305,55 @@ columns_counted flat r t h =
     let lines = flat.lines.items in
     let i : r < length lines = omega (arith, h, rows_counted w cells lines) in
     ap (λ (row : RowValue). length row.cells) (row_found w r cells lines (blank_row default_attrs w) i)
-    ∙ length-cells_at w (length lines) (line_at lines r).place cells t.filled (t.inside r i)
+    ∙ length-cells_at w (length lines) (line_at lines r).place cells t.table.filled (t.table.inside r i)
 
 -- If the cells of row r are borrowed and become `new`, and its flag is set, the page is the one with that row replaced.
-pub row_changed : (r a b : ℕ) (flat edited : Flat) (xs new : List CellValue) (flag : Bool) →
+pub row_changed : (r used a b : ℕ) (flat edited : Flat) (xs new : List CellValue) (flag : Bool) →
     IsFlat flat → r < length flat.lines.items →
     edited.cells ≡ with_items flat.cells (put_mid a (b - a) xs new) → xs ≡ flat.cells.items →
     a ≡ (line_at flat.lines.items r).place * flat.width → b ≡ a + flat.width → b ≤ length flat.cells.items →
     length new ≡ length (take (b - a) (drop a xs)) → edited.width ≡ flat.width →
-    edited.lines.items ≡ set flat.lines.items r (record (line_at flat.lines.items r) { wrapped = flag }) →
+    edited.lines.items ≡ set flat.lines.items r (record (line_at flat.lines.items r) { used = used; wrapped = flag }) →
     page_rows_of edited ≡ with_page_row r (record { cells = new; wrapped = flag }) (page_rows_of flat)
-row_changed r a b flat edited xs new flag t inside e was i j m size w f =
+row_changed r used a b flat edited xs new flag t inside e was i j m size w f =
     let lines = flat.lines.items in
     let l : length new ≡ flat.width =
     size ∙ omega (arith, length-take (b - a) (drop a xs), length-drop a xs, ap length was, j, m) in
     let cells = written flat.width (length lines) (line_at lines r).place a (b - a) flat.cells
-    edited.cells xs new e was t.filled (t.inside r inside) i (omega (arith, j)) l in
+    edited.cells xs new e was t.table.filled (t.table.inside r inside) i (omega (arith, j)) l in
     let rows : rows_of edited ≡ set (rows_of flat) r (record { cells = new; wrapped = flag }) =
-    (λ z. rows_in (w z) (cells z) (f z)) ∙ rows_in-edited flat.width r flat.cells.items new flag lines t inside l in
+    (λ z. rows_in (w z) (cells z) (f z)) ∙ rows_in-edited flat.width r used flat.cells.items new flag lines t.table inside l in
     λ z. record { rows = rows z; width = w z }
 
 -- If the cells of row r are replaced by a print or an erase, the page is the one with those cells in that row.
-pub row_printed : (r a b : ℕ) (flat edited : Flat) (xs new : List CellValue) (was_flag flag : Bool) →
+pub row_printed : (r used a b : ℕ) (flat edited : Flat) (xs new : List CellValue) (was_flag flag : Bool) →
     IsFlat flat → r < length flat.lines.items →
     edited.cells ≡ with_items flat.cells (put_mid a (b - a) xs new) → xs ≡ flat.cells.items →
     a ≡ (line_at flat.lines.items r).place * flat.width → b ≡ a + flat.width → b ≤ length flat.cells.items →
     length new ≡ length (take (b - a) (drop a xs)) → edited.width ≡ flat.width →
-    edited.lines.items ≡ set flat.lines.items r (record (line_at flat.lines.items r) { wrapped = flag }) →
+    edited.lines.items ≡ set flat.lines.items r (record (line_at flat.lines.items r) { used = used; wrapped = flag }) →
     was_flag ≡ (row_or flat.width (rows_of flat) r).wrapped → flag ≡ (was_flag && not (ends_blank new)) →
     page_rows_of edited ≡ with_row_cells r new (page_rows_of flat)
-row_printed r a b flat edited xs new was_flag flag t inside e was i j m size w f g k =
-    row_changed r a b flat edited xs new flag t inside e was i j m size w f
+row_printed r used a b flat edited xs new was_flag flag t inside e was i j m size w f g k =
+    row_changed r used a b flat edited xs new flag t inside e was i j m size w f
     ∙ ap (λ (x : Bool). with_page_row r (record { cells = new; wrapped = x }) (page_rows_of flat))
     (k ∙ ap (λ (x : Bool). x && not (ends_blank new)) g)
 
 -- If the cells of row r become blanks and its flag is cleared, the page is the one with a blank row r.
-pub row_blanked : (r : ℕ) (attrs : Attrs) (flat edited : Flat) → IsFlat flat → r < length (rows_of flat) →
+pub row_blanked : (r used : ℕ) (attrs : Attrs) (flat edited : Flat) → IsFlat flat → r < length (rows_of flat) →
     cells_at flat.width edited.cells.items (line_at flat.lines.items r).place ≡ blanks attrs flat.width →
     ((q : ℕ) → q < length flat.lines.items → q ≢ (line_at flat.lines.items r).place →
     cells_at flat.width edited.cells.items q ≡ cells_at flat.width flat.cells.items q) →
     edited.width ≡ flat.width →
-    edited.lines.items ≡ set flat.lines.items r (record (line_at flat.lines.items r) { wrapped = false }) →
+    edited.lines.items ≡ set flat.lines.items r (record (line_at flat.lines.items r) { used = used; wrapped = false }) →
     page_rows_of edited ≡ with_page_row r (blank_row attrs flat.width) (page_rows_of flat)
-row_blanked r attrs flat edited t h own others w f =
+row_blanked r used attrs flat edited t h own others w f =
     let inside : r < length flat.lines.items =
     omega (arith, h, rows_counted flat.width flat.cells.items flat.lines.items) in
     let rows : rows_of edited ≡ set (rows_of flat) r (blank_row attrs flat.width) =
     (λ z. rows_in (w z) edited.cells.items (f z))
-    ∙ rows_in-replaced flat.width r flat.cells.items edited.cells.items
-    (blanks attrs flat.width) false flat.lines.items t inside own others in
+    ∙ rows_in-replaced flat.width r used flat.cells.items edited.cells.items
+    (blanks attrs flat.width) false flat.lines.items t.table inside own others in
     λ z. record { rows = rows z; width = w z }
 
 -- Setting the wrapped flag in the table entry of row r gives the page with that flag set.
@@ -336,8 +377,8 @@ pub flat_turned : (from to n : ℕ) (flat turned : Flat) → IsFlat flat → fro
     ((k : ℕ) → line_at turned.lines.items k ≡ line_at flat.lines.items (rotation_source from to n k)) → IsFlat turned
 flat_turned from to n flat turned t h i c w e f =
     let all = rows_counted flat.width flat.cells.items flat.lines.items in
-    subst (λ (x : ℕ × List CellValue). IsTable x.0 x.1 turned.lines.items) (λ z. (sym w z, (sym c z).items))
-    (IsTable-turned flat.width from to n flat.cells.items
+    subst (λ (x : ℕ × List CellValue). IsStored x.0 x.1 turned.lines.items) (λ z. (sym w z, (sym c z).items))
+    (IsStored-turned flat.width from to n flat.cells.items
     flat.lines.items turned.lines.items h (omega (arith, i, all)) e f t)
 
 pub rows_turned : (from to n : ℕ) (flat turned : Flat) → from + n ≤ to → to ≤ length (rows_of flat) →
@@ -358,38 +399,6 @@ pub fresh_flat : (rows width : ℕ) (flat : Flat) → flat.cells.items ≡ blank
 fresh_flat rows width flat c l w = (
   (λ z. record { rows = rows_in (w z) (c z) (l z); width = w z })
       ∙ (λ z. record { rows = rows_in_order width rows default_attrs z; width = width }),
-  subst (λ (x : ℕ × (List CellValue × List Line)). IsTable x.0 x.1.0 x.1.1)
-      (λ z. (sym w z, (sym c z, sym l z))) (IsTable-in_order width rows default_attrs),
+  subst (λ (x : ℕ × (List CellValue × List Line)). IsStored x.0 x.1.0 x.1.1)
+      (λ z. (sym w z, (sym c z, sym l z))) (IsStored-in_order width rows),
 )
-
--- If all cells become blanks and all flags are cleared, all rows of the page are blank.
-pub all_blanked : (attrs : Attrs) (flat edited : Flat) → IsFlat flat →
-    edited.cells.items ≡ blanks attrs (length flat.cells.items) → edited.width ≡ flat.width →
-    length edited.lines.items ≡ length flat.lines.items →
-    ((k : ℕ) → k < length flat.lines.items →
-    line_at edited.lines.items k ≡ record (line_at flat.lines.items k) { wrapped = false }) →
-    (rows_of edited ≡ replicate (length (rows_of flat)) (blank_row attrs flat.width)) × IsFlat edited
-all_blanked attrs flat edited t cells w l f =
-    let lines = flat.lines.items in
-    let now = edited.lines.items in
-    let n = length lines in
-    let width = flat.width in
-    let d = blank_row attrs width in
-    let made : edited.cells.items ≡ blanks attrs (n * width) = cells ∙ ap (blanks attrs) t.filled in
-    let rows : rows_in width (blanks attrs (n * width)) now ≡ replicate n d =
-    rows_in_by width (blanks attrs (n * width)) now (replicate n d) d (length-replicate n d ∙ sym l) (λ k h.
-    let i : k < n = omega (arith, l) in
-    ap (row_in width (blanks attrs (n * width))) (f k i)
-    ∙ (ap (λ (xs : List CellValue). record { cells = xs; wrapped = false })
-    (cells_at-blanks width n (line_at lines k).place attrs (t.inside k i))
-    ∙ sym (get_or-replicate n k d d i))) in
-    let size : length edited.cells.items ≡ length flat.cells.items =
-    ap length cells ∙ length-replicate (length flat.cells.items) (blank attrs) in
-    let table : IsTable width edited.cells.items now =
-    IsTable-moved width (λ k. k) edited.cells.items lines now l (λ k i. i) (λ j k i m e. e)
-    (λ k i. ap (λ (x : Line). x.place) (f k i))
-    (IsTable-cells width flat.cells.items edited.cells.items lines size t) in (
-      (λ z. rows_in (w z) (made z) now)
-          ∙ (rows ∙ ap (λ (m : ℕ). replicate m d) (sym (rows_counted width flat.cells.items lines))),
-      subst (λ (m : ℕ). IsTable m edited.cells.items now) (sym w) table,
-    )

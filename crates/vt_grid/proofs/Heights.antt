@@ -10,15 +10,16 @@ use Rattle.std.proofs.lemmas.List.Elements.{All-append, All-from_get_or, All-get
 use Rattle.std.proofs.lemmas.List.FromFn.{length-map-range_with_len, get_or-map-range_with_len}
 use Rattle.vt_cells.specs.Attrs.{default_attrs}
 use Rattle.vt_cells.specs.Cell.{CellValue, default_blank}
-use Rattle.vt_rows.specs.Cells.{blanks}
+use Rattle.vt_rows.specs.Cells.{at, blanks}
 use Rattle.vt_rows.specs.Internals.{rotation_source}
 use Rattle.vt_rows.specs.Row.{RowValue, IsRow, blank_row, resized_row}
-use Rattle.vt_rows.proofs.Columns.{blanks_is}
+use Rattle.vt_rows.proofs.Columns.{at-blanks, blanks_is}
 use Rattle.vt_rows.proofs.Moves.{resized_row-same}
 use Rattle.vt_rows.proofs.Rows.{IsRow-blank_row}
 use Rattle.vt_grid.specs.declared.flat.Flat.{Flat}
 use Rattle.vt_grid.specs.declared.flat.Line.{Line}
-use Rattle.vt_grid.specs.Flat.{IsFlat, IsTable, cells_at, line_at, lines_from, no_line, row_in, rows_in}
+use Rattle.vt_grid.specs.Flat.{IsBlankFrom, IsFlat, IsStored, IsTable, cells_at, line_at, lines_from, no_line}
+use Rattle.vt_grid.specs.Flat.{row_in, rows_in, used_columns}
 use Rattle.vt_cells.specs.declared.pos.Pos.{Pos}
 use Rattle.vt_grid.specs.Internals.{IsSized, given_back, page_of, row_after_refill}
 use Rattle.vt_grid.specs.Page.{IsPage, Page}
@@ -36,7 +37,7 @@ pub same_flat : (flat new : Flat) → IsFlat flat → new.cells.items ≡ flat.c
     new.lines.items ≡ flat.lines.items → new.width ≡ flat.width → (page_rows_of new ≡ page_rows_of flat) × IsFlat new
 same_flat flat new t c l w = (
   λ z. record { rows = rows_in (w z) (c z) (l z); width = w z },
-  subst (λ (x : ℕ × (List CellValue × List Line)). IsTable x.0 x.1.0 x.1.1) (λ z. (sym w z, (sym c z, sym l z))) t,
+  subst (λ (x : ℕ × (List CellValue × List Line)). IsStored x.0 x.1.0 x.1.1) (λ z. (sym w z, (sym c z, sym l z))) t,
 )
 
 -- ---- Rows appended
@@ -47,10 +48,10 @@ line_before rows k lines h =
     get_or_append_left lines (lines_from (length lines) (rows - length lines)) no_line k h
 
 line_after : (rows k : ℕ) (lines : List Line) → length lines ≤ k → k < rows →
-    line_at (lines ++ lines_from (length lines) (rows - length lines)) k ≡ record { place = k; wrapped = false }
+    line_at (lines ++ lines_from (length lines) (rows - length lines)) k ≡ record { place = k; used = 0; wrapped = false }
 line_after rows k lines h i =
     get_or-append_right lines (lines_from (length lines) (rows - length lines)) (length lines) k no_line refl h
-    ∙ get_or-map-range_with_len (λ place. record { place = place; wrapped = false })
+    ∙ get_or-map-range_with_len (λ place. record { place = place; used = 0; wrapped = false })
     (length lines) (rows - length lines) (k - length lines) k no_line (omega (arith, h, i)) (omega (arith, h))
 
 length-lines : (rows : ℕ) (lines : List Line) → length lines ≤ rows →
@@ -58,7 +59,7 @@ length-lines : (rows : ℕ) (lines : List Line) → length lines ≤ rows →
 length-lines rows lines h = omega (
   arith,
   length-append lines (lines_from (length lines) (rows - length lines)),
-  length-map-range_with_len {X = Line} (λ place. record { place = place; wrapped = false }) (length lines)
+  length-map-range_with_len {X = Line} (λ place. record { place = place; used = 0; wrapped = false }) (length lines)
       (rows - length lines),
   h,
 )
@@ -157,6 +158,41 @@ rows_in-appended w rows cells lines t h =
           ∙ get_or-replicate (rows - n) (k - length (rows_in w cells lines)) d d (omega (arith, m, ge, inside))))
     ])
 
+IsStored-appended : (w rows : ℕ) (cells : List CellValue) (lines : List Line) → IsStored w cells lines →
+    length lines ≤ rows →
+    IsStored w (cells ++ blanks default_attrs (rows * w - length cells))
+    (lines ++ lines_from (length lines) (rows - length lines))
+IsStored-appended w rows cells lines t h =
+    let n = length lines in
+    let l = length-lines rows lines h in
+    let m = rows_counted w cells lines in
+    let d = blank_row default_attrs w in
+    let more = replicate (rows - n) d in
+    let all = cells ++ blanks default_attrs (rows * w - length cells) in
+    let table = lines ++ lines_from n (rows - n) in
+    let row : (k : ℕ) → k < length table →
+    row_in w all (line_at table k) ≡ get_or (rows_in w cells lines ++ more) k d = λ k i.
+    sym (row_found w k all table d i)
+    ∙ ap (λ (xs : List RowValue). get_or xs k d) (rows_in-appended w rows cells lines t.table h) in
+    record {
+      table = IsTable-appended w rows cells lines t.table h;
+      blank = λ k i. elim (cases_lt k n) [
+        | inl lt ↦
+            let same : cells_at w all (line_at table k).place ≡ cells_at w cells (line_at lines k).place =
+            ap (λ (x : RowValue). x.cells) (row k i
+            ∙ (get_or_append_left (rows_in w cells lines) more d k (omega (arith, m, lt)) ∙ row_found w k cells lines d lt)) in
+            subst (λ (x : ℕ × List CellValue). IsBlankFrom (used_columns w x.0) x.1)
+            (λ z. ((sym (line_before rows k lines lt) z).used, sym same z)) (t.blank k lt)
+        | inr ge ↦
+            let same : cells_at w all (line_at table k).place ≡ blanks default_attrs w =
+            ap (λ (x : RowValue). x.cells) (row k i
+            ∙ (get_or-append_right (rows_in w cells lines) more (length (rows_in w cells lines)) k d refl
+            (omega (arith, m, ge))
+            ∙ get_or-replicate (rows - n) (k - length (rows_in w cells lines)) d d (omega (arith, m, ge, i, l)))) in
+            λ j o. ap (λ (xs : List CellValue). at xs j) same ∙ at-blanks w j
+      ];
+    }
+
 -- The page after default blank rows were appended.
 pub appended_flat : (rows : ℕ) (flat new : Flat) → IsFlat flat → length flat.lines.items ≤ rows →
     new.cells.items ≡ flat.cells.items ++ blanks default_attrs (rows * flat.width - length flat.cells.items) →
@@ -168,14 +204,14 @@ appended_flat rows flat new t h c l w =
     let lines = flat.lines.items in
     let n = rows_counted flat.width cells lines in (
       (λ z. record { rows = rows_in (w z) (c z) (l z); width = w z })
-          ∙ ((λ z. record { rows = rows_in-appended flat.width rows cells lines t h z; width = flat.width })
+          ∙ ((λ z. record { rows = rows_in-appended flat.width rows cells lines t.table h z; width = flat.width })
           ∙ (λ z. record {
             rows = rows_in flat.width cells lines
                 ++ replicate (rows - sym n z) (blank_row default_attrs flat.width);
             width = flat.width;
           })),
-      subst (λ (x : ℕ × (List CellValue × List Line)). IsTable x.0 x.1.0 x.1.1)
-          (λ z. (sym w z, (sym c z, sym l z))) (IsTable-appended flat.width rows cells lines t h),
+      subst (λ (x : ℕ × (List CellValue × List Line)). IsStored x.0 x.1.0 x.1.1)
+          (λ z. (sym w z, (sym c z, sym l z))) (IsStored-appended flat.width rows cells lines t h),
     )
 
 -- ---- Rows brought back to the top

@@ -1,5 +1,6 @@
 pub mod Flats
 pub mod Packing
+pub mod Bounds
 pub mod Drawing
 pub mod Dispatch
 pub mod Carries

@@ -9,9 +9,11 @@ use Rattle.std.proofs.lemmas.List.{get_or_default, get_or-set_same, get_or-set_o
 use Rattle.std.proofs.lemmas.List.FromFn.{map-range_with_len_more}
 use Rattle.std.specs.List.{CopiedTo, SameBelow, SameFrom}
 use Rattle.vt_cells.specs.Cell.{CellValue, default_blank}
+use Rattle.vt_rows.specs.Row.{RowValue}
 use Rattle.vt_grid.specs.declared.flat.Line.{Line}
 use Rattle.vt_grid.specs.declared.flat.Flat.{Flat}
-use Rattle.vt_grid.specs.Flat.{IsFlat, IsTable, cells_at, line_at, lines_from, no_line, row_in}
+use Rattle.vt_grid.specs.Flat.{IsBlankFrom, IsFlat, IsStored, IsTable, cells_at, line_at, lines_from, no_line, row_in}
+use Rattle.vt_grid.specs.Flat.{used_columns}
 use Rattle.vt_grid.proofs.Flats.{IsTable-moved, IsTable-cells, length-cells_at, place_inside}
 
 -- ---- A function that maps the numbers below `n` to distinct numbers below `n` takes each of them as a value
@@ -194,18 +196,18 @@ swapped_rest row other k h i = grind (arith, nat_tests)
 pub record HasTraded (row other : ℕ) (lines now : List Line) : Type 0 where
   pub len : length now ≡ length lines
   pub moved : line_at now row ≡ record (line_at lines row) { place = (line_at lines other).place }
-  pub freed : (line_at now other).place ≡ (line_at lines row).place
+  pub freed : line_at now other ≡ line_at lines row
   pub rest : (k : ℕ) → k ≢ row → k ≢ other → line_at now k ≡ line_at lines k
 
-pub traded : (row other : ℕ) (lines : List Line) (own freed was left : Line) → row < length lines →
+pub traded : (row other : ℕ) (lines : List Line) (own freed was : Line) → row < length lines →
     other < length lines → row ≢ other → own ≡ get_or lines row own → freed ≡ get_or lines other freed →
     was ≡ get_or lines row was →
     HasTraded row other lines
-    (set (set lines row (record { place = freed.place; wrapped = was.wrapped })) other
-    (record { place = own.place; wrapped = left.wrapped }))
-traded row other lines own freed was left h i apart e f g =
-    let here : Line = record { place = freed.place; wrapped = was.wrapped } in
-    let there : Line = record { place = own.place; wrapped = left.wrapped } in
+    (set (set lines row (record { place = freed.place; used = was.used; wrapped = was.wrapped })) other
+    own)
+traded row other lines own freed was h i apart e f g =
+    let here : Line = record { place = freed.place; used = was.used; wrapped = was.wrapped } in
+    let there = own in
     let half = set lines row here in
     let l : length half ≡ length lines = length-set lines row here in
     let free = f ∙ get_or_default lines other freed no_line i in
@@ -215,10 +217,10 @@ traded row other lines own freed was left h i apart e f g =
       moved =
           get_or-set_other half other row there no_line apart
           ∙ (get_or-set_same lines row here no_line h
-          ∙ (λ z. record { place = (free z).place; wrapped = (mine z).wrapped }));
+          ∙ (λ z. record { place = (free z).place; used = (mine z).used; wrapped = (mine z).wrapped }));
       freed =
-          ap (λ (x : Line). x.place) (get_or-set_same half other there no_line (omega (arith, l, i)))
-          ∙ ap (λ (x : Line). x.place) (e ∙ get_or_default lines row own no_line h);
+          get_or-set_same half other there no_line (omega (arith, l, i))
+          ∙ (e ∙ get_or_default lines row own no_line h);
       rest = λ k a b. get_or-set_other half other k there no_line b ∙ get_or-set_other lines row k here no_line a;
     }
 
@@ -232,7 +234,7 @@ places_traded row other lines now t k = elim (cases_eq k row) [
   | inr o ↦ elim (cases_eq k other) [
     | inl e ↦
         ap (λ (j : ℕ). (line_at now j).place) e
-        ∙ (t.freed ∙ ap (λ (j : ℕ). (line_at lines j).place) (sym (ap (swapped row other) e ∙ swapped_other row other)))
+        ∙ (ap (λ (x : Line). x.place) t.freed ∙ ap (λ (j : ℕ). (line_at lines j).place) (sym (ap (swapped row other) e ∙ swapped_other row other)))
     | inr p ↦
         ap (λ (x : Line). x.place) (t.rest k o p)
         ∙ ap (λ (j : ℕ). (line_at lines j).place) (sym (swapped_rest row other k o p))
@@ -271,6 +273,58 @@ rows_in-traded w row other count cells after lines now h i l c there below above
           ap (row_in w after) (t.rest k o apart)
           ∙ ap (λ (xs : List CellValue). record { cells = xs; wrapped = (line_at lines k).wrapped }) still
     ]
+
+pub IsStored-traded : (w row other count : ℕ) (cells after : List CellValue) (lines now : List Line) →
+    row < length lines → other < length lines → row ≢ other → length after ≡ length cells → count ≡ w →
+    CopiedTo cells after ((line_at lines row).place * w) ((line_at lines other).place * w) count →
+    SameBelow cells after ((line_at lines other).place * w) →
+    SameFrom cells after ((line_at lines other).place * w + count) →
+    HasTraded row other lines now → IsStored w cells lines → IsStored w after now
+IsStored-traded w row other count cells after lines now h i apart l c there below above t stored =
+    let table = stored.table in
+    let q = (line_at lines other).place in
+    let source : ℕ → ℕ = λ k. if nat_eq k other then row else k in
+    let from : (k : ℕ) → k < length now →
+    (source k < length lines) × (((line_at now k).used ≡ (line_at lines (source k)).used)
+    × (cells_at w after (line_at now k).place ≡ cells_at w cells (line_at lines (source k)).place)) =
+    λ k m. elim (cases_eq k other) [
+      | inl e ↦
+          let s : source k ≡ row = grind (arith, nat_tests, e) in
+          let far : (line_at lines row).place ≢ q = λ same. apart (table.distinct row other h i same) in
+          let still = copied_elsewhere w (length lines) q (line_at lines row).place count cells after table.filled l
+          (table.inside other i) (table.inside row h) far c below above in
+          let line = ap (line_at now) e ∙ t.freed in (
+            omega (arith, s, h),
+            (
+              ap (λ (x : Line). x.used) line ∙ ap (λ (j : ℕ). (line_at lines j).used) (sym s),
+              ap (λ (x : Line). cells_at w after x.place) line
+                  ∙ (still ∙ ap (λ (j : ℕ). cells_at w cells (line_at lines j).place) (sym s)),
+            ),
+          )
+      | inr o ↦
+          let s : source k ≡ k = grind (arith, nat_tests, o) in
+          let inside : k < length lines = omega (arith, t.len, m) in
+          let same = rows_in-traded w row other count cells after lines now h i l c there below above t table k inside o in
+          let used : (line_at now k).used ≡ (line_at lines k).used = elim (cases_eq k row) [
+            | inl e ↦
+                ap (λ (j : ℕ). (line_at now j).used) e
+                ∙ (ap (λ (x : Line). x.used) t.moved ∙ ap (λ (j : ℕ). (line_at lines j).used) (sym e))
+            | inr p ↦ ap (λ (x : Line). x.used) (t.rest k p o)
+          ] in (
+            omega (arith, s, inside),
+            (
+              used ∙ ap (λ (j : ℕ). (line_at lines j).used) (sym s),
+              ap (λ (x : RowValue). x.cells) same ∙ ap (λ (j : ℕ). cells_at w cells (line_at lines j).place) (sym s),
+            ),
+          )
+    ] in
+    record {
+      table = IsTable-traded w row other cells after lines now h i l t table;
+      blank =
+          λ k m. let f = from k m in
+          subst (λ (x : ℕ × List CellValue). IsBlankFrom (used_columns w x.0) x.1) (λ z. (sym f.1.0 z, sym f.1.1 z))
+          (stored.blank (source k) f.0);
+    }
 
 -- ---- Rows moved to the first places
 
@@ -390,9 +444,23 @@ rows_in-cut w rows cells lines h packed t k i =
     ap (row_in w (take (rows * w) cells)) (line_taken rows k lines i)
     ∙ ap (λ (xs : List CellValue). record { cells = xs; wrapped = (line_at lines k).wrapped }) same
 
+pub IsStored-cut : (w rows : ℕ) (cells : List CellValue) (lines : List Line) → rows ≤ length lines →
+    IsPacked rows lines → IsStored w cells lines → IsStored w (take (rows * w) cells) (take rows lines)
+IsStored-cut w rows cells lines h packed t =
+    let l : length (take rows lines) ≡ rows = omega (arith, length-take rows lines) in
+    let inside : (k : ℕ) → k < length (take rows lines) → k < rows = λ k i. omega (arith, l, i) in
+    record {
+      table = IsTable-cut w rows cells lines h packed t.table;
+      blank =
+          λ k i. let line = line_taken rows k lines (inside k i) in
+          let same = ap (λ (x : RowValue). x.cells) (rows_in-cut w rows cells lines h packed t.table k (inside k i)) in
+          subst (λ (x : ℕ × List CellValue). IsBlankFrom (used_columns w x.0) x.1) (λ z. ((sym line z).used, sym same z))
+          (t.blank k (omega (arith, inside k i, h)));
+    }
+
 -- ---- Rows added at the end
 
 pub lines_from_more : (first n : ℕ) →
-    lines_from first (n + 1) ≡ lines_from first n ++ record { place = first + n; wrapped = false } ∷ []
+    lines_from first (n + 1) ≡ lines_from first n ++ record { place = first + n; used = 0; wrapped = false } ∷ []
 lines_from_more first n =
-    map-range_with_len_more (λ place. record { place = place; wrapped = false }) first n (first + n) refl
+    map-range_with_len_more (λ place. record { place = place; used = 0; wrapped = false }) first n (first + n) refl

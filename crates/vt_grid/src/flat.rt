@@ -8,7 +8,7 @@ ghost use Rattle.vt_cells.specs.Attrs.{default_attrs};
 ghost use Rattle.vt_cells.specs.Refusals.{OnlyOutOfMemory};
 ghost use Rattle.vt_rows.specs.Cells.{blanks};
 ghost use Rattle.vt_rows.specs.Internals.{rotation_source};
-ghost use Rattle.vt_grid.specs.Flat.{line_at};
+ghost use Rattle.vt_grid.specs.Flat.{line_at, used_columns};
 
 mod resizing;
 
@@ -19,11 +19,17 @@ use vt_rows::cells;
 use vt_rows::copies::{blank_cells, copied};
 use vt_rows::shifts::turn;
 
-/// An entry of the row table: the place of the row's cells, and whether the row is wrapped (its
-/// text continues on the next row).
+/// An entry of the row table: the place of the row's cells, whether the row is wrapped (its text
+/// continues on the next row), and the number of used columns in groups of eight, 255 for the whole
+/// row.
+///
+/// All cells after the used columns are default blanks, so a row that becomes blank is written up
+/// to this column only. An entry takes four bytes, which the compiler moves with vector
+/// instructions when the table is rotated.
 #[derive(Clone, Copy, Debug)]
 pub struct Line {
     pub(crate) place: u16,
+    pub(crate) used: u8,
     pub(crate) wrapped: bool,
 }
 
@@ -134,9 +140,33 @@ impl Flat {
         turn(&mut self.lines, from, to, count);
     }
 
-    /// Blanks a row and clears its wrapped flag. The cells at all other places are unchanged.
+    /// Turns a row into default blanks and clears its wrapped flag. Only the used columns are
+    /// written. The cells at all other places are unchanged.
     #[tactic(auto, using(crate::proofs::Flats::rows_counted))]
-    pub fn blank(&mut self, row: usize, attrs: Attrs)
+    pub fn blank(&mut self, row: usize)
+        requires flat { IsFlat self.old }
+        requires inside { row < length (rows_of self.old) }
+        ensures own { cells_at self.old.width self.new.cells.items (line_at self.old.lines.items row).place
+            ≡ blanks default_attrs self.old.width }
+        ensures others { (place : ℕ) → place < length self.old.lines.items →
+            place ≢ (line_at self.old.lines.items row).place →
+            cells_at self.old.width self.new.cells.items place ≡ cells_at self.old.width self.old.cells.items place }
+        ensures len { length self.new.cells.items ≡ length self.old.cells.items }
+        ensures width { self.new.width ≡ self.old.width }
+        ensures lines { self.new.lines.items
+            ≡ slice_set self.old.lines.items row
+            (record (line_at self.old.lines.items row) { used = 0; wrapped = false }) }
+    {
+        let (start, _end) = self.part(row);
+        let used = used_columns(self.lines[row].used, self.width);
+        cells::clear(&mut self.cells[start..start + used], Attrs::new());
+        self.set_entry(row, 0, false);
+    }
+
+    /// Turns all cells of a row into blanks with attributes `attrs`, and clears the row's wrapped
+    /// flag. The cells at all other places are unchanged.
+    #[tactic(auto, using(crate::proofs::Flats::rows_counted))]
+    pub fn fill(&mut self, row: usize, attrs: Attrs)
         requires flat { IsFlat self.old }
         requires inside { row < length (rows_of self.old) }
         ensures own { cells_at self.old.width self.new.cells.items (line_at self.old.lines.items row).place
@@ -147,23 +177,43 @@ impl Flat {
         ensures len { length self.new.cells.items ≡ length self.old.cells.items }
         ensures width { self.new.width ≡ self.old.width }
         ensures lines { self.new.lines.items
-            ≡ slice_set self.old.lines.items row (record (line_at self.old.lines.items row) { wrapped = false }) }
+            ≡ slice_set self.old.lines.items row
+            (record (line_at self.old.lines.items row) { used = 255; wrapped = false }) }
     {
         let (start, end) = self.part(row);
         cells::clear(&mut self.cells[start..end], attrs);
-        self.wrap(row, false);
+        self.end_edit(row, false);
     }
 
-    /// Blanks all rows and clears their wrapped flags.
-    pub fn blank_all(&mut self, attrs: Attrs)
-        ensures cells { self.new.cells.items ≡ blanks attrs (length self.old.cells.items) }
+    /// Sets the wrapped flag of a row whose cells were edited. All its columns then count as used.
+    #[inline]
+    pub fn end_edit(&mut self, row: usize, wrapped: bool)
+        requires { row < length self.old.lines.items }
+        ensures cells { self.new.cells ≡ self.old.cells }
         ensures width { self.new.width ≡ self.old.width }
-        ensures len { length self.new.lines.items ≡ length self.old.lines.items }
-        ensures lines { (k : ℕ) → k < length self.old.lines.items →
-            line_at self.new.lines.items k ≡ record (line_at self.old.lines.items k) { wrapped = false } }
+        ensures lines { self.new.lines.items
+            ≡ slice_set self.old.lines.items row
+            (record (line_at self.old.lines.items row) { used = 255; wrapped = wrapped }) }
     {
-        cells::clear(&mut self.cells, attrs);
-        end_all(&mut self.lines);
+        self.set_entry(row, 255, wrapped);
+    }
+
+    /// Sets the number of used groups of columns and the wrapped flag of a row.
+    #[inline]
+    pub fn set_entry(&mut self, row: usize, used: u8, wrapped: bool)
+        requires { row < length self.old.lines.items }
+        ensures cells { self.new.cells ≡ self.old.cells }
+        ensures width { self.new.width ≡ self.old.width }
+        ensures lines { self.new.lines.items
+            ≡ slice_set self.old.lines.items row
+            (record (line_at self.old.lines.items row) { used = used; wrapped = wrapped }) }
+    {
+        let place = self.lines[row].place;
+        self.lines[row] = Line {
+            place,
+            used,
+            wrapped,
+        };
     }
 
     /// Creates the row table in which row `k` is at place `k`.
@@ -179,6 +229,7 @@ impl Flat {
         for place in 0..rows {
             lines.push_reserved(Line {
                 place,
+                used: 0,
                 wrapped: false,
             });
         }
@@ -186,13 +237,14 @@ impl Flat {
     }
 }
 
-/// Clears the wrapped flags of all rows.
-fn end_all(lines: &mut [Line])
-    ensures len { length lines.new ≡ length lines.old }
-    ensures by_index { (k : ℕ) → k < length lines.old →
-        line_at lines.new k ≡ record (line_at lines.old k) { wrapped = false } }
+/// Returns the number of used columns of a row of `width` columns whose table entry holds `groups`.
+#[inline]
+pub fn used_columns(groups: u8, width: u16) -> usize
+    ensures { result ≡ used_columns width groups }
 {
-    for k in 0..lines.len() {
-        lines[k].wrapped = false;
+    if groups < 255 {
+        (8 * usize::from(groups)).min(usize::from(width))
+    } else {
+        usize::from(width)
     }
 }

@@ -4,7 +4,8 @@ ghost use Rattle.std.specs.Fn.{FnOnceReturnsAtMut, FnOnceTakesAtMut};
 ghost use Rattle.std.specs.Prelude.{◌≡◌, ◌≢◌, ◌+◌, ◌-◌, ◌^◌, ◌&&◌, ◌++◌, ◌<◌, ◌≤◌, ℕ, IfOk, IfSome};
 ghost use Rattle.std.specs.Prelude.{List, Some, All, true, false, encode_utf8, if◌then◌else◌, length};
 ghost use Rattle.std.specs.Prelude.{min, nat_le, nat_lt, replicate, slice_index_or, slice_set, take, drop};
-ghost use Rattle.vt_cells.specs.Cell.{CellValue, IsCell, attrs_of, is_blank, is_right_half, is_wide, text_of, cell_made_wide};
+ghost use Rattle.vt_cells.specs.Cell.{CellValue, IsCell, attrs_of, blank, is_blank, is_default_blank, is_right_half};
+ghost use Rattle.vt_cells.specs.Cell.{is_wide, text_of, cell_made_wide};
 ghost use Rattle.vt_cells.specs.Glyph.{columns_of};
 ghost use Rattle.vt_cells.specs.Refusals.{OnlyOutOfMemory};
 ghost use Rattle.vt_rows.specs.Cells.{IsPaired, at, ends_blank, cells_after_erase, marked_at};
@@ -14,10 +15,12 @@ ghost use Rattle.vt_grid.specs.Sending.{LetsRowsGo};
 ghost use Rattle.vt_grid.specs.PageRows.{CanLetRowsGo, blank_page_rows, page_row, page_rows_down, page_rows_up};
 ghost use Rattle.vt_grid.specs.PageRows.{with_page_row, with_page_row_flag, with_row_cells};
 
+mod columns;
 mod resizing;
 mod texts;
 
 use crate::flat::Flat;
+use crate::page_rows::columns::erased_reach;
 use crate::scrollback::Scrollback;
 use crate::size::Size;
 use std::alloc::Global;
@@ -157,7 +160,7 @@ impl PageRows {
     }
 
     /// Calls `edit` with the cells of a row and returns its result. Clears the row's wrapped flag
-    /// if the edited row ends with a blank.
+    /// if the edited row ends with a blank. All columns then count as used.
     #[inline(always)]
     fn edit_row<R, F: FnOnce(&mut [Cell]) -> R>(&mut self, row: u16, edit: F) -> R
         requires inside { row < length self.old.rows }
@@ -172,11 +175,12 @@ impl PageRows {
         let cells = &mut self.flat.cells[start..end];
         let edited = edit(cells);
         let is_wrapped = cells::flag_left(cells, is_wrapped);
-        self.flat.wrap(row, is_wrapped);
+        self.flat.end_edit(row, is_wrapped);
         edited
     }
 
-    /// Calls `edit` with the cells of a row, and sets the row's wrapped flag to `is_wrapped`.
+    /// Calls `edit` with the cells of a row, and sets the row's wrapped flag to `is_wrapped`. All
+    /// columns then count as used.
     #[inline(always)]
     fn edit_row_and_flag<F: FnOnce(&mut [Cell])>(&mut self, row: usize, is_wrapped: bool, edit: F)
         requires inside { row < length self.old.rows }
@@ -187,7 +191,7 @@ impl PageRows {
     {
         let (start, end) = self.flat.part(row);
         edit(&mut self.flat.cells[start..end]);
-        self.flat.wrap(row, is_wrapped);
+        self.flat.end_edit(row, is_wrapped);
     }
 
     /// Puts a narrow glyph at a column of a row, as [`cells::put_narrow`] does.
@@ -201,9 +205,11 @@ impl PageRows {
         ensures { self.new
             ≡ with_row_cells row (put_narrow col (encode_utf8 c) attrs (page_row self.old row).cells) self.old }
     {
+        let groups = self.groups(row);
         self.edit_row(row, |cells| {
             cells::put_narrow(cells, usize::from(col), c, attrs);
         });
+        self.note_used(row, groups, usize::from(col) + 1);
     }
 
     /// Puts a wide glyph at a column of a row and the next column, as [`cells::put_wide`] does.
@@ -217,9 +223,11 @@ impl PageRows {
         ensures { self.new
             ≡ with_row_cells row (put_wide col (encode_utf8 c) attrs (page_row self.old row).cells) self.old }
     {
+        let groups = self.groups(row);
         self.edit_row(row, |cells| {
             cells::put_wide(cells, usize::from(col), c, attrs);
         });
+        self.note_used(row, groups, usize::from(col) + 2);
     }
 
     /// Adds a combining character to the cell at a column of a row, as [`cells::append`] does.
@@ -230,7 +238,9 @@ impl PageRows {
         requires mark { columns_of mark ≡ Some 0 }
         ensures { self.new ≡ with_row_cells row (marked_at col mark (page_row self.old row).cells) self.old }
     {
+        let groups = self.groups(row);
         self.edit_row(row, |cells| cells::append(cells, usize::from(col), mark));
+        self.note_used(row, groups, usize::from(col) + 1);
     }
 
     /// Makes the glyph at a column of a row wide, as [`cells::widen`] does.
@@ -243,7 +253,9 @@ impl PageRows {
         requires fits { IsCell (cell_made_wide true (at (page_row self.old row).cells col)) }
         ensures { self.new ≡ with_row_cells row (widened_at col attrs (page_row self.old row).cells) self.old }
     {
+        let groups = self.groups(row);
         self.edit_row(row, |cells| cells::widen(cells, usize::from(col), attrs));
+        self.note_used(row, groups, usize::from(col) + 2);
     }
 
     /// Makes the glyph at a column of a row narrow, as [`cells::narrow`] does.
@@ -255,7 +267,9 @@ impl PageRows {
         requires fits { IsCell (cell_made_wide false (at (page_row self.old row).cells col)) }
         ensures { self.new ≡ with_row_cells row (narrowed_at col attrs (page_row self.old row).cells) self.old }
     {
+        let groups = self.groups(row);
         self.edit_row(row, |cells| cells::narrow(cells, usize::from(col), attrs));
+        self.note_used(row, groups, usize::from(col) + 1);
     }
 
     /// Removes the cell at a column of a row and returns it, as [`cells::lift`] does.
@@ -266,7 +280,10 @@ impl PageRows {
         ensures lifted { result ≡ at (page_row self.old row).cells col }
         ensures value { self.new ≡ with_row_cells row (cells_after_erase col 1 attrs (page_row self.old row).cells) self.old }
     {
-        self.edit_row(row, |cells| cells::lift(cells, usize::from(col), attrs))
+        let groups = self.groups(row);
+        let lifted = self.edit_row(row, |cells| cells::lift(cells, usize::from(col), attrs));
+        self.note_used(row, groups, usize::from(col) + 1);
+        lifted
     }
 
     /// Puts a removed cell back at a column of a row, and sets the row's wrapped flag to
@@ -293,9 +310,11 @@ impl PageRows {
         ensures { self.new
             ≡ with_row_cells row (put_wide col (text_of cell) (attrs_of cell) (page_row self.old row).cells) self.old }
     {
+        let groups = self.groups(row);
         self.edit_row(row, |cells| {
             cells::put_wide_cell(cells, usize::from(col), cell);
         });
+        self.note_used(row, groups, usize::from(col) + 2);
     }
 
     /// Sets columns `from..to` of a row to blanks, as [`cells::erase`] does.
@@ -307,9 +326,11 @@ impl PageRows {
         ensures { self.new
             ≡ with_row_cells row (cells_after_erase from (to - from) attrs (page_row self.old row).cells) self.old }
     {
+        let groups = self.groups(row);
         self.edit_row(row, |cells| {
             cells::erase(cells, usize::from(from), usize::from(to), attrs);
         });
+        self.note_used(row, groups, erased_reach(to, attrs));
     }
 
     /// Inserts default blanks at a column of a row, as [`shifts::insert`] does, and clears the
@@ -342,7 +363,11 @@ impl PageRows {
         requires inside { row < length self.old.rows }
         ensures { self.new ≡ with_page_row row (blank_row attrs self.old.width) self.old }
     {
-        self.flat.blank(row, attrs);
+        if attrs.is_same(&Attrs::new()) {
+            self.flat.blank(row);
+        } else {
+            self.flat.fill(row, attrs);
+        }
     }
 
     /// Blanks all rows and clears their wrapped flags.
@@ -351,7 +376,7 @@ impl PageRows {
         ensures { self.new
             ≡ record self.old { rows = replicate (length self.old.rows) (blank_row attrs self.old.width) } }
     {
-        self.flat.blank_all(attrs);
+        self.clear_rows(0, self.len(), attrs);
     }
 
     /// Blanks the rows above `row` and clears their wrapped flags.

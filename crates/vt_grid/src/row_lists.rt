@@ -48,7 +48,8 @@ pub fn trimmed_rows(alloc: Global, page: &PageRows, count: usize) -> Result<Vec<
     let mut copies = Vec::with_capacity(alloc, count)?;
     for k in 0..count {
         let row = page.row(k);
-        copies.push_reserved(Row::trimmed_copy(alloc, row.cells(), row.wrapped())?);
+        let cells = page.used_cells(k);
+        copies.push_reserved(Row::trimmed_copy(alloc, cells, row.wrapped())?);
     }
     Ok(copies)
 }
@@ -82,7 +83,7 @@ pub fn push_copy(alloc: Global, rows: &mut VecDeque<Row>, page: &PageRows) -> Re
     ensures memory { OnlyOutOfMemory result }
 {
     let row = page.row(0);
-    let copy = Row::trimmed_copy(alloc, row.cells(), row.wrapped())?;
+    let copy = Row::trimmed_copy(alloc, page.used_cells(0), row.wrapped())?;
     rows.reserve(1)?;
     rows.push_back_reserved(copy);
     Ok(())
@@ -109,11 +110,12 @@ pub fn recycle_oldest<L: Leaving>(
     ensures grows { IsErr result → OldestIsShorter page.now.rows rows.old.items }
 {
     let row = page.row(0);
+    let cells = page.used_cells(0);
     // The row moves before it is filled: a move right after it would wait for the cells just
     // written to reach memory.
     rows.rotate_left(1);
     let newest = rows.len() - 1;
-    if let Err(error) = rows[newest].leave_for(row.cells(), row.wrapped(), leaving) {
+    if let Err(error) = rows[newest].leave_for(cells, row.wrapped(), leaving) {
         rows.rotate_right(1);
         return Err(error);
     }

@@ -91,7 +91,7 @@ impl Flat {
     }
 
     /// Copies the cells of a row to the place of another row, and swaps the places of the two rows.
-    /// The cells of the other row are lost.
+    /// The cells of the other row are lost: it becomes a copy of the row.
     fn trade(&mut self, row: usize, other: usize)
         requires flat { IsFlat self.old }
         requires row { row < length self.old.lines.items }
@@ -102,7 +102,7 @@ impl Flat {
         ensures width { self.new.width ≡ self.old.width }
         ensures row { line_at self.new.lines.items row
             ≡ record (line_at self.old.lines.items row) { place = (line_at self.old.lines.items other).place } }
-        ensures other { (line_at self.new.lines.items other).place ≡ (line_at self.old.lines.items row).place }
+        ensures other { line_at self.new.lines.items other ≡ line_at self.old.lines.items row }
         ensures lines { (k : ℕ) → k ≢ row → k ≢ other →
             line_at self.new.lines.items k ≡ line_at self.old.lines.items k }
         ensures rows { (k : ℕ) → k < length self.old.lines.items → k ≢ other →
@@ -110,13 +110,13 @@ impl Flat {
             ≡ row_in self.old.width self.old.cells.items (line_at self.old.lines.items k) }
     {
         let width = usize::from(self.width);
-        let place = self.lines[row].place;
+        let line = self.lines[row];
         let free = self.lines[other].place;
-        let start = usize::from(place) * width;
+        let start = usize::from(line.place) * width;
         self.cells
             .copy_within(start..start + width, usize::from(free) * width);
         self.lines[row].place = free;
-        self.lines[other].place = place;
+        self.lines[other] = line;
     }
 }
 
@@ -130,6 +130,7 @@ fn push_lines(lines: &mut Vec<Line>, rows: u16)
     for place in lines.len() as u16..rows {
         lines.push_reserved(Line {
             place,
+            used: 0,
             wrapped: false,
         });
     }

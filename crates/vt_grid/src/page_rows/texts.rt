@@ -22,9 +22,11 @@ impl PageRows {
         requires printable { IsPrintableAscii text.now }
         ensures { self.new ≡ with_row_cells row (put_text col text.now attrs (page_row self.old row).cells) self.old }
     {
+        let groups = self.groups(row);
         self.edit_row(row, |cells| {
             cells::put_text(cells, usize::from(col), text, attrs);
         });
+        self.note_used(row, groups, usize::from(col) + text.len());
     }
 
     /// Puts the characters of `text` at consecutive columns of a row as narrow
@@ -38,9 +40,11 @@ impl PageRows {
         requires narrow { IsNarrowText text.now }
         ensures { self.new ≡ with_row_cells row (put_text col text.now attrs (page_row self.old row).cells) self.old }
     {
+        let groups = self.groups(row);
         self.edit_row(row, |cells| {
             cells::put_narrow_text(cells, usize::from(col), text, attrs);
         });
+        self.note_used(row, groups, usize::from(col) + text.len());
     }
 
     /// Puts the characters of `text` at consecutive pairs of columns of a row as
@@ -55,8 +59,10 @@ impl PageRows {
         ensures { self.new
             ≡ with_row_cells row (put_wide_text col text.now attrs (page_row self.old row).cells) self.old }
     {
+        let groups = self.groups(row);
         self.edit_row(row, |cells| {
             cells::put_wide_text(cells, usize::from(col), text, attrs);
         });
+        self.note_used(row, groups, usize::from(col) + 2 * text.len());
     }
 }

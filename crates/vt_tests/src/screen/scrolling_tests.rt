@@ -7,7 +7,7 @@ use std::test::Fail;
 use vt_notes::Note;
 
 #[rattlefmt::skip]
-const SHOWN: [((u16, u16), usize, &str, &str); 44] = [
+const SHOWN: [((u16, u16), usize, &str, &str); 51] = [
     // Rows that scroll off are kept, and rows beyond the capacity are reported.
     ((2, 4), 10, "a\r\nb\r\nc", "0:b 1:c @1,1 kept 1\n"),
     ((2, 4), 1, "a\r\nb\r\nc\r\nd", "0:c 1:d @1,1 kept 1\nscroll 61 0\n"),
@@ -28,6 +28,15 @@ const SHOWN: [((u16, u16), usize, &str, &str); 44] = [
     ((2, 2), 10, "a\r\nb\x1b[H\x1b[M", "0:b @0,0\n"),
     ((2, 2), 10, "a\r\nb\x1b[T", "1:a @1,1\n"),
     ((2, 2), 10, "a\r\nb\x1b[2J", "@1,1\n"),
+
+    // A row that becomes blank keeps nothing of the row whose cells were stored at its place.
+    ((1, 4), 0, "abcd\n\n", "@0,4\nscroll 61626364 0\nscroll . 0\n"),
+    ((1, 4), 0, "a\x1b[4Gd\n\n", "@0,4\nscroll 61202064 0\nscroll . 0\n"),
+    ((1, 4), 0, "ab中\n\n", "@0,4\nscroll 6162e4b8ad 0\nscroll . 0\n"),
+    ((1, 4), 0, "abcd\x1b[2K\n\x1b[3Gx", "0:..x @0,3\nscroll . 0\n"),
+    ((1, 4), 0, "ab\x1b[H\x1b[2@\n\n", "@0,0\nscroll 20206162 0\nscroll . 0\n"),
+    ((1, 4), 0, "abcd\x1b[H\x1b[P\n\n", "@0,0\nscroll 626364 0\nscroll . 0\n"),
+    ((2, 4), 0, "abcd\r\n\x1b[2J\x1b[2;2Hx\n\n", "@1,2\nscroll . 0\nscroll 2078 0\n"),
 
     // Scrollback is cleared.
     ((2, 1), 3, "a\r\nb\r\nc\r\nd", "0:c 1:d @1,1 kept 2\n"),

@@ -18,8 +18,10 @@ returns-clause-rows g c =
     let page = c.args.page.now in
     let d = blank_row default_attrs page.width in
     let made : c.leave_for.new.self ≡ trimmed_row (get_or page.rows 0 d) = c.in_default.ensures.row
-    ∙ ((λ z. trimmed_row (record { cells = c.cells.ensures.value z; wrapped = c.wrapped.ensures z }))
-    ∙ ap trimmed_row c.row-row.ensures) in
+    ∙ (λ z. record {
+      cells = c.used_cells-cells.ensures z;
+      wrapped = (c.wrapped.ensures ∙ ap (λ (r : RowValue). r.wrapped) c.row-row.ensures) z;
+    }) in
     turned_over c.args.rows.now.items c.rotate_left.new.self.items page.rows c.len-newest.result c.leave_for.new.self d
     c.requires.nonempty (omega (arith, c.requires.page.inside)) c.rotate_left.ensures.items
     (omega (arith, c.len-newest.ensures)) made

@@ -1,7 +1,7 @@
 use Rattle.std.proofs.Common.{◌++◌, ◌∷◌, [], length, take, sym, ap, ◌∙◌, arith}
 use Rattle.std.proofs.lemmas.List.{length-map, length-take}
 use Rattle.vt_cells.specs.Attrs.{default_attrs}
-use Rattle.vt_rows.specs.Row.{blank_row, trimmed_row}
+use Rattle.vt_rows.specs.Row.{RowValue, blank_row, trimmed_row}
 use Rattle.vt_grid.proofs.Stacking.{copied_more}
 use Rattle.vt_grid.proofs.row_lists.trimmed_rows.Goals as goal
 
@@ -23,8 +23,10 @@ pub loop-k-preserved : goal.loop-k-preserved
 loop-k-preserved c =
     let page = c.args.page.now in
     let row = c.in_ok-trimmed_copy.ensures.ok
-    ∙ ((λ z. trimmed_row (record { cells = c.cells.ensures.value z; wrapped = c.wrapped.ensures z }))
-    ∙ ap trimmed_row c.row-row.ensures) in
+    ∙ (λ z. record {
+      cells = c.used_cells-cells.ensures z;
+      wrapped = (c.wrapped.ensures ∙ ap (λ (r : RowValue). r.wrapped) c.row-row.ensures) z;
+    }) in
     record {
       copied =
           c.push_reserved.ensures.items

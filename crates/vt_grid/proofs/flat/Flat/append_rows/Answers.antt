@@ -12,7 +12,7 @@ returns-clause-cells c =
     let many : length flat.lines.items * flat.width ≤ c.args.rows * flat.width = grind (arith, c.requires.more) in
     let len : vec_len flat.cells ≡ length cells = flat.cells.ok.0 in
     let ok = c.resize.ensures.succeeds (omega (arith, end, c.requires.room.cells)) in
-    let all : take n cells ≡ cells = take_all n cells (omega (arith, end, many, c.requires.flat.filled)) in
+    let all : take n cells ≡ cells = take_all n cells (omega (arith, end, many, c.requires.flat.table.filled)) in
     let count : n - vec_len flat.cells ≡ c.args.rows * flat.width - length cells = omega (arith, end, len) in
     c.resize.ensures.items
     ∙ (ap (λ (ok : Bool). if ok then take n cells ++ replicate (n - vec_len flat.cells) c.default_blank.result else cells) ok

@@ -1,36 +1,92 @@
-use Rattle.std.proofs.Common.{◌≡◌, ◌-◌, List, length, take, drop, ap, ◌∙◌, arith}
-use Rattle.std.proofs.lemmas.List.{length-take, length-drop, length-replicate}
-use Rattle.vt_cells.specs.Cell.{CellValue, blank}
-use Rattle.vt_grid.specs.Flat.{line_at, cells_at}
-use Rattle.vt_grid.proofs.Flats.{cells_at-put_other, rows_counted, place_inside, written}
+use Rattle.std.proofs.Common.{◌≡◌, ◌+◌, ◌-◌, ◌*◌, ◌<◌, ◌∙◌, List, length, take, drop, ap, arith}
+use Rattle.std.proofs.lemmas.List.{get_or_default, length-take, length-drop, length-replicate}
+use borrow.Rule.Slice.PartMut.{put_mid}
+use Rattle.vt_cells.specs.Attrs.{default_attrs}
+use Rattle.vt_cells.specs.Cell.{CellValue, blank, default_blank}
+use Rattle.vt_rows.specs.Cells.{blanks}
+use Rattle.vt_grid.specs.declared.flat.Line.{Line}
+use Rattle.vt_grid.specs.Flat.{cells_at, line_at, no_line, used_columns}
+use Rattle.vt_grid.proofs.Bounds.{blanked_start, used_inside}
+use Rattle.vt_grid.proofs.Flats.{cells_at-put_part, place_inside, rows_counted, written_part}
 use Rattle.vt_grid.proofs.flat.Flat.blank.Goals as goal
+
+-- The used columns of the row's place are default blanks now, and nothing else was written.
+pub returns-clause-own : goal.returns-clause-own
+returns-clause-own c =
+    let flat = c.args.self.now in
+    let w = flat.width in
+    let lines = flat.lines.items in
+    let n = length lines in
+    let line = line_at lines c.args.row in
+    let found : c.args.row < n = omega (arith, c.requires.inside, rows_counted w flat.cells.items lines) in
+    let h = c.requires.flat.table.inside c.args.row found in
+    let u = used_columns w line.used in
+    let few = used_inside w line.used in
+    let fits = place_inside line.place n w h in
+    let used : c.used_columns-used.result ≡ u =
+    c.used_columns-used.ensures
+    ∙ ap (λ (x : Line). used_columns w x.used)
+    (c.index.ensures ∙ get_or_default lines c.args.row c.index.result.now no_line found) in
+    let s = c.part-start.result.0 in
+    let k = s + c.used_columns-used.result - s in
+    let xs = c.deref_mut.result.now in
+    let count : length (take k (drop s xs)) ≡ u = omega (
+      arith,
+      length-take k (drop s xs),
+      length-drop s xs,
+      ap length c.deref_mut.ensures.value,
+      used,
+      few,
+      fits,
+      c.part-start.ensures.start,
+      c.requires.flat.table.filled,
+    ) in
+    let new : c.clear.new.cells ≡ blanks default_attrs u =
+    c.clear.ensures ∙ (λ z. blanks (c.new.ensures z) (count z)) in
+    let cells = written_part w u n line.place s k flat.cells c.set_entry.new.self.cells xs c.clear.new.cells
+    c.set_entry.ensures.cells c.deref_mut.ensures.value c.requires.flat.table.filled h c.part-start.ensures.start
+    (omega (arith, used)) few (ap length new ∙ length-replicate u default_blank) in
+    ap (λ (items : List CellValue). cells_at w items line.place)
+    (cells ∙ ap (put_mid (line.place * w) u flat.cells.items) new)
+    ∙ blanked_start w u n line.place flat.cells.items c.requires.flat.table.filled h few
+    (c.requires.flat.blank c.args.row found)
 
 pub returns-clause-others : goal.returns-clause-others
 returns-clause-others c =
     let flat = c.args.self.now in
     let w = flat.width in
-    let n = length flat.lines.items in
-    let p = (line_at flat.lines.items c.args.row).place in
+    let lines = flat.lines.items in
+    let n = length lines in
+    let line = line_at lines c.args.row in
+    let found : c.args.row < n = omega (arith, c.requires.inside, rows_counted w flat.cells.items lines) in
+    let h = c.requires.flat.table.inside c.args.row found in
+    let u = used_columns w line.used in
+    let few = used_inside w line.used in
+    let fits = place_inside line.place n w h in
+    let used : c.used_columns-used.result ≡ u =
+    c.used_columns-used.ensures
+    ∙ ap (λ (x : Line). used_columns w x.used)
+    (c.index.ensures ∙ get_or_default lines c.args.row c.index.result.now no_line found) in
     let s = c.part-start.result.0 in
-    let k = c.part-start.result.1 - s in
-    let h = c.requires.flat.inside c.args.row
-    (omega (arith, c.requires.inside, rows_counted w flat.cells.items flat.lines.items)) in
-    let inside = place_inside p n w h in
-    let new = c.clear.new.cells in
+    let k = s + c.used_columns-used.result - s in
     let xs = c.deref_mut.result.now in
-    let was = ap length c.deref_mut.ensures.value in
-    let size : length new ≡ w = ap length c.clear.ensures
+    let size : length c.clear.new.cells ≡ u = ap length c.clear.ensures
     ∙ omega (
       arith,
-      length-replicate (length (take k (drop s xs))) (blank c.args.attrs),
+      length-replicate (length (take k (drop s xs))) (blank c.new.result),
       length-take k (drop s xs),
       length-drop s xs,
-      was,
-      c.part-start.ensures.end,
-      c.part-start.ensures.inside,
+      ap length c.deref_mut.ensures.value,
+      used,
+      few,
+      fits,
+      c.part-start.ensures.start,
+      c.requires.flat.table.filled,
     ) in
-    let cells = written w n p s k flat.cells c.wrap.new.self.cells xs new c.wrap.ensures.cells c.deref_mut.ensures.value
-    c.requires.flat.filled h c.part-start.ensures.start (omega (arith, c.part-start.ensures.end)) size in
+    let cells = written_part w u n line.place s k flat.cells c.set_entry.new.self.cells xs c.clear.new.cells
+    c.set_entry.ensures.cells c.deref_mut.ensures.value c.requires.flat.table.filled h c.part-start.ensures.start
+    (omega (arith, used)) few size in
     λ place q other.
     ap (λ (items : List CellValue). cells_at w items place) cells
-    ∙ cells_at-put_other w n p place flat.cells.items new c.requires.flat.filled h q other size
+    ∙ cells_at-put_part w u n line.place place flat.cells.items c.clear.new.cells
+    c.requires.flat.table.filled h q other few size

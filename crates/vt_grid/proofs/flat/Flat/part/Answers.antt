@@ -12,7 +12,7 @@ returns-clause-inside c =
     let lines = flat.lines.items in
     let found : c.args.row < length lines =
     omega (arith, c.requires.inside, rows_counted flat.width flat.cells.items lines) in
-    let place = c.requires.flat.inside c.args.row found in
+    let place = c.requires.flat.table.inside c.args.row found in
     let fits = place_inside (line_at lines c.args.row).place (length lines) flat.width place in
     rw (
       c.from.ensures,
@@ -20,7 +20,7 @@ returns-clause-inside c =
       c.from-3.ensures,
       c.index.ensures,
       get_or_default lines c.args.row _ no_line found,
-      c.requires.flat.filled,
+      c.requires.flat.table.filled,
     ) fits
 
 pub returns-clause-row : goal.returns-clause-row

@@ -4,7 +4,7 @@ use Rattle.std.proofs.lemmas.List.{get_or_default}
 use Rattle.vt_grid.specs.declared.flat.Line.{Line}
 use Rattle.vt_grid.specs.Flat.{line_at, no_line}
 use Rattle.vt_grid.proofs.Flats.{place_inside}
-use Rattle.vt_grid.proofs.Packing.{IsTable-traded, rows_in-traded, traded}
+use Rattle.vt_grid.proofs.Packing.{IsStored-traded, rows_in-traded, traded}
 use Rattle.vt_grid.proofs.flat.Flat.trade.Goals as goal
 
 pub copy_within-requires-clause-in_bounds : goal.copy_within-requires-clause-in_bounds
@@ -13,11 +13,11 @@ copy_within-requires-clause-in_bounds c =
     let lines = flat.lines.items in
     let place : c.from.result ≡ (line_at lines c.args.row).place =
     c.from.ensures
-    ∙ ap (λ (x : Line). x.place) (c.index.ensures ∙ get_or_default lines c.args.row _ no_line c.requires.row) in
+    ∙ ap (λ (x : Line). x.place) (c.index-line.ensures ∙ get_or_default lines c.args.row _ no_line c.requires.row) in
     let fits = place_inside c.from.result (length lines) flat.width
-    (omega (arith, place, c.requires.flat.inside c.args.row c.requires.row)) in
+    (omega (arith, place, c.requires.flat.table.inside c.args.row c.requires.row)) in
     subst (λ (w : ℕ). c.from.result * w + w ≤ vec_len flat.cells) (sym c.from-width.ensures)
-    (omega (arith, fits, c.requires.flat.filled, flat.cells.ok.0))
+    (omega (arith, fits, c.requires.flat.table.filled, flat.cells.ok.0))
 
 pub copy_within-requires-clause-dest_in_bounds : goal.copy_within-requires-clause-dest_in_bounds
 copy_within-requires-clause-dest_in_bounds c =
@@ -25,23 +25,41 @@ copy_within-requires-clause-dest_in_bounds c =
     let lines = flat.lines.items in
     let place : c.from-2.result ≡ (line_at lines c.args.other).place =
     c.from-2.ensures
-    ∙ ap (λ (x : Line). x.place) (c.index-2.ensures ∙ get_or_default lines c.args.other _ no_line c.requires.other) in
+    ∙ ap (λ (x : Line). x.place) (c.index.ensures ∙ get_or_default lines c.args.other _ no_line c.requires.other) in
     let fits = place_inside c.from-2.result (length lines) flat.width
-    (omega (arith, place, c.requires.flat.inside c.args.other c.requires.other)) in
+    (omega (arith, place, c.requires.flat.table.inside c.args.other c.requires.other)) in
     subst (λ (w : ℕ). c.from-2.result * w + (c.from.result * w + w - c.from.result * w) ≤ vec_len flat.cells)
-    (sym c.from-width.ensures) (omega (arith, fits, c.requires.flat.filled, flat.cells.ok.0))
+    (sym c.from-width.ensures) (omega (arith, fits, c.requires.flat.table.filled, flat.cells.ok.0))
 
 pub returns-clause-flat : goal.returns-clause-flat
 returns-clause-flat c =
     let flat = c.args.self.now in
     let lines = flat.lines.items in
-    let table = traded c.args.row c.args.other lines c.index.result.now c.index-2.result.now
-    c.index_mut.result.now c.index_mut-2.result.now c.requires.row c.requires.other c.requires.apart
-    c.index.ensures c.index-2.ensures c.index_mut.ensures.value in
-    let size : length c.copy_within.new.self.items ≡ length flat.cells.items =
+    let cells = flat.cells.items in
+    let after = c.copy_within.new.self.items in
+    let table = traded c.args.row c.args.other lines c.index-line.result.now c.index.result.now
+    c.index_mut.result.now c.requires.row c.requires.other c.requires.apart
+    c.index-line.ensures c.index.ensures c.index_mut.ensures.value in
+    let size : length after ≡ length cells =
     sym c.copy_within.new.self.ok.0 ∙ (c.copy_within.ensures.len ∙ flat.cells.ok.0) in
-    IsTable-traded flat.width c.args.row c.args.other flat.cells.items c.copy_within.new.self.items lines _
-    c.requires.row c.requires.other size table c.requires.flat
+    let place : c.from.result ≡ (line_at lines c.args.row).place =
+    c.from.ensures
+    ∙ ap (λ (x : Line). x.place) (c.index-line.ensures ∙ get_or_default lines c.args.row _ no_line c.requires.row) in
+    let free : c.from-2.result ≡ (line_at lines c.args.other).place =
+    c.from-2.ensures
+    ∙ ap (λ (x : Line). x.place) (c.index.ensures ∙ get_or_default lines c.args.other _ no_line c.requires.other) in
+    let w = c.from-width.result in
+    let start : c.from.result * w ≡ (line_at lines c.args.row).place * flat.width =
+    λ z. place z * c.from-width.ensures z in
+    let to : c.from-2.result * w ≡ (line_at lines c.args.other).place * flat.width =
+    λ z. free z * c.from-width.ensures z in
+    let count : c.from.result * w + w - c.from.result * w ≡ flat.width = omega (arith, c.from-width.ensures) in
+    let by_index = c.copy_within.ensures.by_index in
+    IsStored-traded flat.width c.args.row c.args.other flat.width cells after lines _
+    c.requires.row c.requires.other c.requires.apart size refl
+    (subst (λ (x : ℕ × (ℕ × ℕ)). CopiedTo cells after x.0 x.1.0 x.1.1) (λ z. (start z, (to z, count z))) by_index.0)
+    (subst (λ (x : ℕ). SameBelow cells after x) to by_index.1)
+    (subst (λ (x : ℕ × ℕ). SameFrom cells after (x.0 + x.1)) (λ z. (to z, count z)) by_index.2) table c.requires.flat
 
 pub returns-clause-rows : goal.returns-clause-rows
 returns-clause-rows c =
@@ -49,17 +67,17 @@ returns-clause-rows c =
     let lines = flat.lines.items in
     let cells = flat.cells.items in
     let after = c.copy_within.new.self.items in
-    let table = traded c.args.row c.args.other lines c.index.result.now c.index-2.result.now
-    c.index_mut.result.now c.index_mut-2.result.now c.requires.row c.requires.other c.requires.apart
-    c.index.ensures c.index-2.ensures c.index_mut.ensures.value in
+    let table = traded c.args.row c.args.other lines c.index-line.result.now c.index.result.now
+    c.index_mut.result.now c.requires.row c.requires.other c.requires.apart
+    c.index-line.ensures c.index.ensures c.index_mut.ensures.value in
     let size : length after ≡ length cells =
     sym c.copy_within.new.self.ok.0 ∙ (c.copy_within.ensures.len ∙ flat.cells.ok.0) in
     let place : c.from.result ≡ (line_at lines c.args.row).place =
     c.from.ensures
-    ∙ ap (λ (x : Line). x.place) (c.index.ensures ∙ get_or_default lines c.args.row _ no_line c.requires.row) in
+    ∙ ap (λ (x : Line). x.place) (c.index-line.ensures ∙ get_or_default lines c.args.row _ no_line c.requires.row) in
     let free : c.from-2.result ≡ (line_at lines c.args.other).place =
     c.from-2.ensures
-    ∙ ap (λ (x : Line). x.place) (c.index-2.ensures ∙ get_or_default lines c.args.other _ no_line c.requires.other) in
+    ∙ ap (λ (x : Line). x.place) (c.index.ensures ∙ get_or_default lines c.args.other _ no_line c.requires.other) in
     let w = c.from-width.result in
     let start : c.from.result * w ≡ (line_at lines c.args.row).place * flat.width =
     λ z. place z * c.from-width.ensures z in
@@ -71,4 +89,4 @@ returns-clause-rows c =
     c.requires.row c.requires.other size refl
     (subst (λ (x : ℕ × (ℕ × ℕ)). CopiedTo cells after x.0 x.1.0 x.1.1) (λ z. (start z, (to z, count z))) by_index.0)
     (subst (λ (x : ℕ). SameBelow cells after x) to by_index.1)
-    (subst (λ (x : ℕ × ℕ). SameFrom cells after (x.0 + x.1)) (λ z. (to z, count z)) by_index.2) table c.requires.flat
+    (subst (λ (x : ℕ × ℕ). SameFrom cells after (x.0 + x.1)) (λ z. (to z, count z)) by_index.2) table c.requires.flat.table

@@ -1,8 +1,8 @@
 use Rattle.std.proofs.Common.{◌≡◌, ◌*◌, ◌∙◌, ◌≤◌, ℕ, List, length, take, ap, sym, subst, arith}
 use Rattle.vt_cells.specs.Cell.{CellValue}
 use Rattle.vt_grid.specs.declared.flat.Line.{Line}
-use Rattle.vt_grid.specs.Flat.{IsTable, line_at, row_in}
-use Rattle.vt_grid.proofs.Packing.{IsTable-cut, rows_in-cut}
+use Rattle.vt_grid.specs.Flat.{IsStored, line_at, row_in}
+use Rattle.vt_grid.proofs.Packing.{IsStored-cut, rows_in-cut}
 use Rattle.vt_grid.proofs.flat.Flat.truncate.Goals as goal
 
 pub returns-clause-flat : goal.returns-clause-flat
@@ -11,9 +11,9 @@ returns-clause-flat c =
     let rows : c.args.rows ≤ length packed.lines.items = omega (arith, c.pack.ensures.len, c.requires.inside) in
     let cells : c.truncate-2.new.self.items ≡ take (c.args.rows * packed.width) packed.cells.items =
     c.truncate-2.ensures.items ∙ ap (λ (w : ℕ). take (c.args.rows * w) packed.cells.items) c.from.ensures in
-    subst (λ (x : List CellValue × List Line). IsTable packed.width x.0 x.1)
+    subst (λ (x : List CellValue × List Line). IsStored packed.width x.0 x.1)
     (λ z. (sym cells z, sym c.truncate.ensures.items z))
-    (IsTable-cut packed.width c.args.rows packed.cells.items packed.lines.items rows
+    (IsStored-cut packed.width c.args.rows packed.cells.items packed.lines.items rows
     c.pack.ensures.packed c.pack.ensures.flat)
 
 pub returns-clause-rows : goal.returns-clause-rows
@@ -29,5 +29,5 @@ returns-clause-rows c =
     (line_at (take c.args.rows packed.lines.items) k) ≡ row_in w packed.cells.items (line_at packed.lines.items k))
     c.pack.ensures.width
     (rows_in-cut packed.width c.args.rows packed.cells.items packed.lines.items rows
-    c.pack.ensures.packed c.pack.ensures.flat k h)
+    c.pack.ensures.packed c.pack.ensures.flat.table k h)
     ∙ c.pack.ensures.rows k h)

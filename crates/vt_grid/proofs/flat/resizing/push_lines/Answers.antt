@@ -10,7 +10,7 @@ pub push_reserved-requires : goal.push_reserved-requires
 push_reserved-requires c =
     let n = length c.args.lines.now.items in
     let all = ap length c.loop-place.invariant.made ∙ (length-append c.args.lines.now.items (lines_from n (c.loop-place.place - n))
-    ∙ ap (λ m. n + m) (length-map-range_with_len (λ place. record { place = place; wrapped = false }) n (c.loop-place.place - n))) in
+    ∙ ap (λ m. n + m) (length-map-range_with_len (λ place. record { place = place; used = 0; wrapped = false }) n (c.loop-place.place - n))) in
     omega (arith, all, c.loop-place.invariant.room, c.loop-place.invariant.after, c.loop-place.lines.ok.0)
 
 pub loop-place-preserved : goal.loop-place-preserved
@@ -25,10 +25,10 @@ loop-place-preserved c =
     record {
       made =
           c.push_reserved.ensures.items
-          ∙ (ap (λ (xs : List Line). xs ++ record { place = p; wrapped = false } ∷ []) inv.made
-          ∙ (append_assoc old (lines_from n (p - n)) (record { place = p; wrapped = false } ∷ [])
+          ∙ (ap (λ (xs : List Line). xs ++ record { place = p; used = 0; wrapped = false } ∷ []) inv.made
+          ∙ (append_assoc old (lines_from n (p - n)) (record { place = p; used = 0; wrapped = false } ∷ [])
           ∙ ap (λ (xs : List Line). old ++ xs)
-          (ap (λ (m : ℕ). lines_from n (p - n) ++ record { place = m; wrapped = false } ∷ []) (sym place)
+          (ap (λ (m : ℕ). lines_from n (p - n) ++ record { place = m; used = 0; wrapped = false } ∷ []) (sym place)
           ∙ (sym (lines_from_more n (p - n)) ∙ ap (lines_from n) on))));
       after = omega (arith, inv.after);
       room = omega (arith, inv.room, c.push_reserved.ensures.capacity);

@@ -1,0 +1,270 @@
+-- The columns in use of each row: all cells after them are default blanks.
+use Rattle.std.proofs.Common.{◌≡◌, ◌≢◌, ℕ, zero, suc, ◌+◌, ◌*◌, ◌-◌, ◌/◌, ◌<◌, ◌≤◌, ◌&&◌, nat_lt, Bool, true, false}
+use Rattle.std.proofs.Common.{List, [], ◌∷◌, length, take, drop, max, min, set, inl, inr, refl, sym, ap, subst, ◌∙◌, arith}
+use Rattle.std.specs.List.{list_all}
+use Rattle.std.specs.Prelude.{if◌then◌else◌}
+use Rattle.std.specs.Vec.{with_items}
+use Rattle.std.proofs.lemmas.Bool.{cases_lt, cases_eq}
+use Rattle.std.proofs.lemmas.Bool.Decides.{nat_tests}
+use Rattle.std.proofs.lemmas.List.{length-take, length-drop, length-replicate, length-map, length-set, set-get_or}
+use Rattle.std.proofs.lemmas.List.{get_or-set_same, get_or-set_other, take-take}
+use borrow.Rule.Slice.PartMut.{put_mid}
+use Rattle.vt_cells.specs.Attrs.{Attrs, default_attrs, same_attrs}
+use Rattle.vt_cells.specs.Cell.{CellValue, blank, cell_with_mark, default_blank, glyph, is_default_blank}
+use Rattle.vt_cells.proofs.Same.{attrs_of-same, same_attrs-itself}
+use Rattle.vt_rows.proofs.WideTexts.{length-wide_glyphs_of}
+use Rattle.vt_rows.specs.WideTexts.{put_wide_text, wide_glyphs_of}
+use Rattle.vt_rows.specs.Texts.{glyphs_of, narrow_glyph, put_text}
+use Rattle.vt_rows.specs.Cells.{at, blanks, cells_after_erase, marked_at, put_cells}
+use Rattle.vt_rows.proofs.Columns.{at-blanks, at-past, blanks_is, put_columns}
+use Rattle.vt_rows.proofs.Steps.{at-put_mid, length-put_mid}
+use Rattle.vt_grid.specs.declared.flat.Line.{Line}
+use Rattle.vt_grid.specs.declared.flat.Flat.{Flat}
+use Rattle.vt_grid.specs.Flat.{IsBlankFrom, IsFlat, IsStored, cells_at, line_at, no_line}
+use Rattle.vt_grid.specs.Flat.{row_in, rows_in, rows_of, used_columns}
+use Rattle.vt_rows.specs.Row.{RowValue, blank_row, cells_without_end, with_cells}
+use Rattle.vt_grid.specs.PageRows.{PageRowsValue, page_row, with_row_cells}
+use Rattle.vt_grid.proofs.Flats.{IsTable-cells, IsTable-moved, cells_at-put_other, cells_at-put_same, length-cells_at}
+use Rattle.vt_grid.proofs.Flats.{page_rows_of, place_inside, row_found, rows_counted, rows_in-replaced, written}
+use Rattle.vt_grid.proofs.Packing.{cell_of_place}
+
+-- A page whose row r has new cells and a new table entry at the same place is stored validly, if the cells of every other
+-- place are unchanged.
+pub IsStored-replaced : (w r : ℕ) (cells now : List CellValue) (line : Line) (lines : List Line) →
+    IsStored w cells lines → r < length lines → length now ≡ length cells → line.place ≡ (line_at lines r).place →
+    IsBlankFrom (used_columns w line.used) (cells_at w now (line_at lines r).place) →
+    ((q : ℕ) → q < length lines → q ≢ (line_at lines r).place → cells_at w now q ≡ cells_at w cells q) →
+    IsStored w now (set lines r line)
+IsStored-replaced w r cells now line lines t h l p own others =
+    let n : length (set lines r line) ≡ length lines = length-set lines r line in
+    let here : line_at (set lines r line) r ≡ line = get_or-set_same lines r line no_line h in
+    let there : (k : ℕ) → k ≢ r → line_at (set lines r line) k ≡ line_at lines k =
+    λ k other. get_or-set_other lines r k line no_line other in
+    record {
+      table =
+          IsTable-moved w (λ k. k) now lines (set lines r line) n (λ k i. i) (λ j k i m e. e)
+          (λ k i. elim (cases_eq k r) [
+            | inl e ↦
+                ap (λ (j : ℕ). (line_at (set lines r line) j).place) e
+                ∙ (ap (λ (x : Line). x.place) here ∙ (p ∙ ap (λ (j : ℕ). (line_at lines j).place) (sym e)))
+            | inr o ↦ ap (λ (x : Line). x.place) (there k o)
+          ]) (IsTable-cells w cells now lines l t.table);
+      blank = λ k i. elim (cases_eq k r) [
+        | inl e ↦
+            subst (λ (x : Line). IsBlankFrom (used_columns w x.used) (cells_at w now x.place))
+            (sym (ap (line_at (set lines r line)) e ∙ here))
+            (subst (λ (q : ℕ). IsBlankFrom (used_columns w line.used) (cells_at w now q)) (sym p) own)
+        | inr o ↦
+            let inside : k < length lines = omega (arith, n, i) in
+            let q = (line_at lines k).place in
+            let apart : q ≢ (line_at lines r).place = λ e. o (t.table.distinct k r inside h e) in
+            subst (λ (x : Line). IsBlankFrom (used_columns w x.used) (cells_at w now x.place)) (sym (there k o))
+            (subst (IsBlankFrom (used_columns w (line_at lines k).used))
+            (sym (others q (t.table.inside k inside) apart)) (t.blank k inside))
+      ];
+    }
+
+-- The page of `row_changed` is stored validly, with all columns of the row in use.
+pub flat_changed : (r a b : ℕ) (flat edited : Flat) (xs new : List CellValue) (flag : Bool) →
+    IsFlat flat → r < length flat.lines.items →
+    edited.cells ≡ with_items flat.cells (put_mid a (b - a) xs new) → xs ≡ flat.cells.items →
+    a ≡ (line_at flat.lines.items r).place * flat.width → b ≡ a + flat.width → b ≤ length flat.cells.items →
+    length new ≡ length (take (b - a) (drop a xs)) → edited.width ≡ flat.width →
+    edited.lines.items
+    ≡ set flat.lines.items r (record (line_at flat.lines.items r) { used = 255; wrapped = flag }) → IsFlat edited
+flat_changed r a b flat edited xs new flag t inside e was i j m size w f =
+    let lines = flat.lines.items in
+    let cells = flat.cells.items in
+    let p = (line_at lines r).place in
+    let n = length lines in
+    let l : length new ≡ flat.width =
+    size ∙ omega (arith, length-take (b - a) (drop a xs), length-drop a xs, ap length was, j, m) in
+    let now = written flat.width n p a (b - a) flat.cells
+    edited.cells xs new e was t.table.filled (t.table.inside r inside) i (omega (arith, j)) l in
+    let fits = place_inside p n flat.width (t.table.inside r inside) in
+    subst (λ (x : ℕ × (List CellValue × List Line)). IsStored x.0 x.1.0 x.1.1) (λ z. (sym w z, (sym now z, sym f z)))
+    (IsStored-replaced flat.width r cells (put_mid (p * flat.width) flat.width cells new) _ lines t inside
+    (length-put_mid (p * flat.width) flat.width cells new l (omega (arith, fits, t.table.filled))) refl
+    (λ k h. ap (λ (ys : List CellValue). at ys k)
+    (cells_at-put_same flat.width n p cells new t.table.filled (t.table.inside r inside) l)
+    ∙ at-past new k (omega (arith, l, h)))
+    (λ q h other. cells_at-put_other flat.width n p q cells new t.table.filled (t.table.inside r inside) h other l))
+
+-- The page of `row_blanked` is stored validly.
+pub flat_blanked : (r used : ℕ) (attrs : Attrs) (flat edited : Flat) → IsFlat flat → r < length flat.lines.items →
+    cells_at flat.width edited.cells.items (line_at flat.lines.items r).place ≡ blanks attrs flat.width →
+    ((q : ℕ) → q < length flat.lines.items → q ≢ (line_at flat.lines.items r).place →
+    cells_at flat.width edited.cells.items q ≡ cells_at flat.width flat.cells.items q) →
+    length edited.cells.items ≡ length flat.cells.items → edited.width ≡ flat.width →
+    edited.lines.items ≡ set flat.lines.items r (record (line_at flat.lines.items r) { used = used; wrapped = false }) →
+    IsBlankFrom (used_columns flat.width used) (blanks attrs flat.width) → IsFlat edited
+flat_blanked r used attrs flat edited t inside own others l w f b =
+    subst (λ (x : ℕ × List Line). IsStored x.0 edited.cells.items x.1) (λ z. (sym w z, sym f z))
+    (IsStored-replaced flat.width r flat.cells.items edited.cells.items _ flat.lines.items t inside l refl
+    (subst (IsBlankFrom (used_columns flat.width used)) (sym own) b) others)
+
+-- ---- Writing the used columns only
+
+pub used_inside : (width groups : ℕ) → used_columns width groups ≤ width
+used_inside width groups = grind (arith, nat_tests)
+
+-- A column after the larger one of two numbers of used columns is after both.
+pub groups_hold : (width groups reach new k : ℕ) → new ≡ max groups ((min reach 2040 + 7) / 8) →
+    used_columns width new ≤ k → k < width → max (used_columns width groups) reach ≤ k
+groups_hold width groups reach new k e h lt = elim (cases_lt new 255) [
+  | inl less ↦
+      let t : nat_lt new 255 ≡ true = grind (arith, nat_tests, less) in
+      let u : nat_lt groups 255 ≡ true = let a : groups < 255 = omega (arith, e, less) in grind (arith, nat_tests, a) in
+      let i : min (8 * new) width ≤ k =
+      subst (λ (b : Bool). (if b then min (8 * new) width else width) ≤ k) t h in
+      let j : min (8 * groups) width ≤ k = omega (arith, e, less, i, lt) in
+      let used : used_columns width groups ≤ k =
+      subst (λ (b : Bool). (if b then min (8 * groups) width else width) ≤ k) (sym u) j in
+      let reached : reach ≤ k = omega (arith, e, less, i, lt) in
+      omega (arith, used, reached)
+  | inr ge ↦
+      let t : nat_lt new 255 ≡ false = grind (arith, nat_tests, ge) in
+      let i : width ≤ k = subst (λ (b : Bool). (if b then min (8 * new) width else width) ≤ k) t h in
+      absurd (omega (arith, i, lt))
+]
+
+pub blanked_start : (w u n p : ℕ) (cells : List CellValue) → length cells ≡ n * w → p < n → u ≤ w →
+    IsBlankFrom u (cells_at w cells p) →
+    cells_at w (put_mid (p * w) u cells (blanks default_attrs u)) p ≡ blanks default_attrs w
+blanked_start w u n p cells e h few b =
+    let fits = place_inside p n w h in
+    let size = length-replicate u default_blank in
+    let now = put_mid (p * w) u cells (blanks default_attrs u) in
+    let l : length now ≡ length cells = length-put_mid (p * w) u cells (blanks default_attrs u) size (omega (arith, fits, e, few)) in
+    blanks_is default_attrs w (cells_at w now p) (length-cells_at w n p now (l ∙ e) h) (λ k lt.
+    cell_of_place w p k now default_blank lt
+    ∙ (at-put_mid (p * w) u (p * w + k) cells (blanks default_attrs u) size (omega (arith, fits, e, few))
+    ∙ elim (cases_lt k u) [
+      | inl less ↦
+          let found = at-blanks u (p * w + k - p * w) in
+          grind (arith, nat_tests, less, found)
+      | inr ge ↦
+          let found = sym (cell_of_place w p k cells default_blank lt) ∙ b k ge in
+          grind (arith, nat_tests, ge, found)
+    ]))
+
+-- The page after only the number of used columns of row r was set is the same page.
+pub flat_noted : (r used : ℕ) (flag : Bool) (flat edited : Flat) → IsFlat flat → r < length flat.lines.items →
+    edited.cells ≡ flat.cells → edited.width ≡ flat.width →
+    edited.lines.items ≡ set flat.lines.items r (record (line_at flat.lines.items r) { used = used; wrapped = flag }) →
+    flag ≡ (line_at flat.lines.items r).wrapped →
+    IsBlankFrom (used_columns flat.width used) (cells_at flat.width flat.cells.items (line_at flat.lines.items r).place) →
+    (page_rows_of edited ≡ page_rows_of flat) × IsFlat edited
+flat_noted r used flag flat edited t h c w f g b =
+    let cells = flat.cells.items in
+    let lines = flat.lines.items in
+    let n = rows_counted flat.width cells lines in
+    let d = row_in flat.width cells (line_at lines r) in
+    let rows : rows_of edited ≡ rows_of flat =
+    (λ z. rows_in (w z) (c z).items (f z))
+    ∙ (rows_in-replaced flat.width r used cells cells (cells_at flat.width cells (line_at lines r).place)
+    flag lines t.table h refl (λ q i other. refl)
+    ∙ (ap (λ (x : Bool). set (rows_of flat) r
+    (record { cells = cells_at flat.width cells (line_at lines r).place; wrapped = x })) g
+    ∙ (ap (set (rows_of flat) r) (sym (row_found flat.width r cells lines d h)) ∙ set-get_or (rows_of flat) r d))) in (
+      λ z. record { rows = rows z; width = w z },
+      subst (λ (x : ℕ × (List CellValue × List Line)). IsStored x.0 x.1.0 x.1.1)
+          (λ z. (sym w z, ((sym c z).items, sym f z)))
+          (IsStored-replaced flat.width r cells cells _ lines t h refl refl b (λ q i other. refl)),
+    )
+
+-- ---- Edits of a row
+
+-- An edit that replaces columns leaves default blanks after the used columns and after the last column it replaces.
+pub put_cells_used : (used c n : ℕ) (o : CellValue) (new cells : List CellValue) → length new ≡ n →
+    c + n ≤ length cells → IsBlankFrom used cells → IsBlankFrom (max used (c + n)) (put_cells c o new n cells)
+put_cells_used used c n o new cells e h b k i =
+    let was = b k (omega (arith, i)) in
+    let behind : c + n ≤ k = omega (arith, i) in
+    put_columns c n o new cells k e h ∙ grind (arith, nat_tests, behind, was)
+
+pub put_text_used : (used c : ℕ) (text : List ℕ) (attrs : Attrs) (cells : List CellValue) →
+    c + length text ≤ length cells → IsBlankFrom used cells →
+    IsBlankFrom (max used (c + length text)) (put_text c text attrs cells)
+put_text_used used c text attrs cells h b =
+    put_cells_used used c (length text) (glyph (0x20 ∷ []) false attrs) (glyphs_of attrs text) cells
+    (length-map text (narrow_glyph attrs)) h b
+
+pub put_wide_text_used : (used c : ℕ) (text : List ℕ) (attrs : Attrs) (cells : List CellValue) →
+    c + 2 * length text ≤ length cells → IsBlankFrom used cells →
+    IsBlankFrom (max used (c + 2 * length text)) (put_wide_text c text attrs cells)
+put_wide_text_used used c text attrs cells h b =
+    put_cells_used used c (2 * length text) (blank attrs) (wide_glyphs_of attrs text) cells
+    (length-wide_glyphs_of attrs text) h b
+
+pub marked_used : (used c mark : ℕ) (cells : List CellValue) → IsBlankFrom used cells →
+    IsBlankFrom (max used (c + 1)) (marked_at c mark cells)
+marked_used used c mark cells b k i =
+    get_or-set_other cells c k (cell_with_mark mark (at cells c)) default_blank (λ e. absurd (omega (arith, e, i)))
+    ∙ b k (omega (arith, i))
+
+-- An erasure in default attributes leaves default blanks after the used columns, and one in other attributes also after
+-- the erased columns.
+pub erased_used : (used from to : ℕ) (attrs : Attrs) (cells : List CellValue) → from < to → to ≤ length cells →
+    IsBlankFrom used cells →
+    IsBlankFrom (max used (if is_default_blank (blank attrs) then 0 else to)) (cells_after_erase from (to - from) attrs cells)
+erased_used used from to attrs cells less h b = by_attrs (same_attrs attrs default_attrs) refl where
+  by_attrs : (same : Bool) → same_attrs attrs default_attrs ≡ same →
+      IsBlankFrom (max used (if same then 0 else to)) (cells_after_erase from (to - from) attrs cells)
+  by_attrs true e k i =
+      let was = b k (omega (arith, i)) in
+      let erased : at (blanks attrs (to - from)) (k - from) ≡ default_blank =
+      ap (λ (a : Attrs). at (blanks a (to - from)) (k - from)) (attrs_of-same attrs default_attrs e)
+      ∙ at-blanks (to - from) (k - from) in
+      put_columns from (to - from) default_blank (blanks attrs (to - from)) cells k
+      (length-replicate (to - from) (blank attrs)) (omega (arith, less, h))
+      ∙ grind (arith, nat_tests, was, erased)
+  by_attrs false e k i =
+      put_cells_used used from (to - from) default_blank (blanks attrs (to - from)) cells
+      (length-replicate (to - from) (blank attrs)) (omega (arith, less, h)) b k (omega (arith, i, less))
+
+-- The row that a page has where its cells were replaced.
+pub row_replaced : (r groups reach : ℕ) (own edited : PageRowsValue) (new : List CellValue) →
+    edited ≡ with_row_cells r new own → r < length own.rows →
+    IsBlankFrom (max (used_columns own.width groups) reach) new →
+    IsBlankFrom (max (used_columns edited.width groups) reach) (page_row edited r).cells
+row_replaced r groups reach own edited new e h b =
+    let row = with_cells (page_row own r) new in
+    let here : page_row edited r ≡ row =
+    ap (λ (s : PageRowsValue). page_row s r) e
+    ∙ get_or-set_same own.rows r row (blank_row default_attrs own.width) h in
+    subst (λ (x : ℕ × RowValue). IsBlankFrom (max (used_columns x.0 groups) reach) x.1.cells)
+    (λ z. ((sym e z).width, sym here z)) b
+
+-- ---- Rows without the default blanks at their end
+
+all_blank : (cells : List CellValue) → IsBlankFrom 0 cells → list_all is_default_blank cells ≡ true
+all_blank [] b = refl
+all_blank (x ∷ xs) b =
+    rw (ap is_default_blank (b 0 (omega arith)) ∙ same_attrs-itself default_attrs)
+    (all_blank xs (λ k h. b (suc k) (omega arith)))
+
+list_all_used : (used : ℕ) (cells : List CellValue) → IsBlankFrom used cells →
+    list_all is_default_blank (take used cells) ≡ list_all is_default_blank cells
+list_all_used zero cells b = sym (all_blank cells b)
+list_all_used (suc n) [] b = refl
+list_all_used (suc n) (x ∷ xs) b =
+    ap (λ (r : Bool). is_default_blank x && r) (list_all_used n xs (λ k h. b (suc k) (omega arith)))
+
+pub used_without_end : (used : ℕ) (cells : List CellValue) → IsBlankFrom used cells →
+    cells_without_end (take used cells) ≡ cells_without_end cells
+used_without_end zero [] b = refl
+used_without_end zero (x ∷ xs) b =
+    sym (ap (λ (r : Bool). if r then [] else x ∷ cells_without_end xs) (all_blank (x ∷ xs) b))
+used_without_end (suc n) [] b = refl
+used_without_end (suc n) (x ∷ xs) b =
+    let rest : IsBlankFrom n xs = λ k h. b (suc k) (omega arith) in
+    (λ z. if is_default_blank x && list_all_used n xs rest z then [] else x ∷ used_without_end n xs rest z)
+
+-- The first cells of a place.
+pub place_start : (w u p s : ℕ) (cells xs : List CellValue) → xs ≡ cells → s ≡ p * w → u ≤ w →
+    take (s + u - s) (drop s xs) ≡ take u (cells_at w cells p)
+place_start w u p s cells xs e f few =
+    (λ z. take (f z + u - f z) (drop (f z) (e z)))
+    ∙ (ap (λ (n : ℕ). take n (drop (p * w) cells)) (omega (arith, few))
+    ∙ sym (take-take u (p * w + w - p * w) (drop (p * w) cells) (omega (arith, few))))
