@@ -97,21 +97,10 @@ impl Cell {
     fn is_same(&self, other: &Cell) -> bool
         ensures { result ≡ same_cell self.now other.now }
     {
-        if !self.has_head_of(other) {
+        if !has_head_of(self, other) {
             return false;
         }
         self.has_text_of(other)
-    }
-
-    /// Returns whether the two cells agree in everything except the bytes of their text: the length
-    /// and width of the text, whether the cell is a continuation cell, and the attributes.
-    #[inline]
-    pub fn has_head_of(&self, other: &Cell) -> bool
-        ensures value { result ≡ same_head (head_of_cell self.now) (head_of_cell other.now) }
-        ensures sound { IsCell self.now }
-        ensures other { IsCell other.now }
-    {
-        self.head.is_same(&other.head)
     }
 
     /// Returns whether the two cells have the same text. The texts must have the same length.
@@ -252,6 +241,17 @@ pub fn is_blank(cell: &Cell) -> bool
     ensures { result ≡ is_blank cell.now }
 {
     cell.head.shape().is_blank()
+}
+
+/// Returns whether the two cells agree in everything except the bytes of their text: the length and
+/// width of the text, whether the cell is a continuation cell, and the attributes.
+#[inline]
+pub fn has_head_of(cell: &Cell, other: &Cell) -> bool
+    ensures value { result ≡ same_head (head_of_cell cell.now) (head_of_cell other.now) }
+    ensures sound { IsCell cell.now }
+    ensures other { IsCell other.now }
+{
+    cell.head.is_same(&other.head)
 }
 
 /// Returns whether the cell's whole text is more than one column wide according to `unicode_width`.

@@ -4,7 +4,7 @@ ghost use Rattle.std.specs.Fn.{FnOnceReturnsAtMut, FnOnceTakesAtMut};
 ghost use Rattle.std.specs.Prelude.{◌≡◌, ◌≢◌, ◌+◌, ◌-◌, ◌^◌, ◌&&◌, ◌++◌, ◌<◌, ◌≤◌, ℕ, IfOk, IfSome};
 ghost use Rattle.std.specs.Prelude.{List, Some, All, true, false, encode_utf8, if◌then◌else◌, length};
 ghost use Rattle.std.specs.Prelude.{min, nat_le, nat_lt, replicate, slice_index_or, slice_set, take, drop};
-ghost use Rattle.vt_cells.specs.Cell.{CellValue, IsCell, attrs_of, blank, is_blank, is_default_blank, is_right_half};
+ghost use Rattle.vt_cells.specs.Cell.{CellValue, IsCell, attrs_of, is_blank, is_right_half};
 ghost use Rattle.vt_cells.specs.Cell.{is_wide, text_of, cell_made_wide};
 ghost use Rattle.vt_cells.specs.Glyph.{columns_of};
 ghost use Rattle.vt_cells.specs.Refusals.{OnlyOutOfMemory};

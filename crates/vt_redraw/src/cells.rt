@@ -304,7 +304,7 @@ fn is_alike(like: &Cell, own: &[Cell], others: &[Cell], col: u16) -> bool
     ensures { IsTrue result → IsAlike col like.now own.now others.now }
 {
     let col = usize::from(col);
-    if col >= own.len() || !own[col].has_head_of(like) {
+    if col >= own.len() || !cell::has_head_of(&own[col], like) {
         return false;
     }
     col >= others.len() || !(own[col] == others[col])

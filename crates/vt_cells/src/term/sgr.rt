@@ -1,9 +1,9 @@
 //! The text of an SGR sequence.
 
-ghost use Rattle.std.specs.Prelude.{◌≡◌, ◌+◌, ◌≤◌, ◌<◌, ℕ, List, [], ◌∷◌, ◌++◌};
+ghost use Rattle.std.specs.Prelude.{◌≡◌, ◌+◌, ◌≤◌, [], ◌∷◌, ◌++◌};
 ghost use Rattle.std.specs.Prelude.{length, if◌then◌else◌};
 ghost use Rattle.vt_cells.specs.Attrs.{same_bool, same_color, same_intensity};
-ghost use Rattle.vt_cells.specs.ChangeInternals.{number_after_semicolon, separated_all, style_part, without_separator};
+ghost use Rattle.vt_cells.specs.ChangeInternals.{separated_all, style_part};
 ghost use Rattle.vt_cells.specs.Op.{background_numbers, change_numbers, csi};
 ghost use Rattle.vt_cells.specs.Op.{foreground_numbers, intensity_number, semicolon_list, part};
 

@@ -1,6 +1,6 @@
-use Rattle.std.proofs.Common.{◌≡◌, ◌<◌, ◌≤◌, ◌∙◌, ℕ, ap, arith, length, subst, sym, refl, true, false, not, Bool}
+use Rattle.std.proofs.Common.{◌≡◌, ◌∙◌, ap, arith, sym, true, false}
 use Rattle.vt_cells.proofs.Shapes.{head_of-same}
-use Rattle.vt_cells.specs.Cell.{CellValue, default_blank, same_cell}
+use Rattle.vt_cells.specs.Cell.{CellValue, same_cell}
 use Rattle.vt_cells.specs.CellInternals.{head_of_cell}
 use Rattle.vt_rows.specs.Cells.{at}
 use Rattle.vt_redraw.proofs.Alike.{read_at, refuted}

@@ -1,5 +1,5 @@
 -- A private marker, and the parameter bytes after it.
-use Rattle.std.proofs.Common.{[], List, ℕ, drop, get_or, length, subst, sym, take}
+use Rattle.std.proofs.Common.{[], List, ℕ, drop, get_or, subst, sym, take}
 use Rattle.vt_scan.specs.Scanner.{FeedsAll}
 use Rattle.vt_scan.proofs.Leading.{feeds_first}
 use Rattle.vt_scan.proofs.Lists.{all_left, take_next}

@@ -1,4 +1,4 @@
-use Rattle.std.proofs.Common.{◌<◌, ◌^◌, arith}
+use Rattle.std.proofs.Common.{◌<◌, arith}
 use Rattle.vt_cells.proofs.ChangeTexts.{digits_of_byte, digits_put, longer_by_number, room_for_digits, room_for_separator}
 use Rattle.vt_cells.proofs.term.sequence_text.SequenceText.put_number.Goals as goal
 
