@@ -116,7 +116,7 @@ class Holes(unittest.TestCase):
 class AlwaysRefused(unittest.TestCase):
     def judged(self, change):
         """The status of a judgement of a program that prints other sections than it should, and ends, with a change."""
-        heads = re.findall(r"^-- .*$", read(f"{ROOT}/crates/vt_refusals/stdout"), re.M)
+        heads = re.findall(r"^-- .*$", read(f"{ROOT}/crates/test_refusals/stdout"), re.M)
         text = change("".join(f"{it}\nrefused\n" for it in heads) + "case=none run=ended status=0 \n")
         with tempfile.NamedTemporaryFile("w", encoding="utf-8") as file:
             file.write(text)

@@ -1,6 +1,6 @@
 /*
  * bench PIECE WHAT ROWS COLS CAPACITY TIMES FILE: one parser processes FILE TIMES times, in chunks
- * of PIECE bytes, as `vt_bench process` does in chunks of 4096. WHAT says what is done in addition:
+ * of PIECE bytes, as `tool_bench process` does in chunks of 4096. WHAT says what is done in addition:
  *     process  nothing
  *     events   all events are logged, and copied after each chunk
  *     cell     a cell of the first row is fetched after each chunk

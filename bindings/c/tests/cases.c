@@ -1,5 +1,5 @@
 /*
- * cases FILE..: replays recorded cases and scripts (crates/vt_cases/README.md). Prints a line for
+ * cases FILE..: replays recorded cases and scripts (crates/test_cases/README.md). Prints a line for
  * each difference, and the counts. The exit status is 1 if something differs or if there are no
  * cases.
  */

@@ -1,5 +1,5 @@
 /*
- * The lines with which case files describe a screen and its callbacks (crates/vt_cases/README.md).
+ * The lines with which case files describe a screen and its callbacks (crates/test_cases/README.md).
  */
 #ifndef LINES_H
 #define LINES_H

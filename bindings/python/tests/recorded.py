@@ -1,4 +1,4 @@
-"""Reads the recorded cases (crates/vt_cases/README.md), and writes a screen and its callbacks in
+"""Reads the recorded cases (crates/test_cases/README.md), and writes a screen and its callbacks in
 their format."""
 
 import os
@@ -6,7 +6,7 @@ import re
 
 import vt100
 
-DATA = os.path.join(os.path.dirname(__file__), *[os.pardir] * 3, "crates", "vt_cases", "data")
+DATA = os.path.join(os.path.dirname(__file__), *[os.pardir] * 3, "crates", "test_cases", "data")
 
 MOUSE_MODES = ("None", "Press", "PressRelease", "ButtonMotion", "AnyMotion")
 ENCODINGS = ("Default", "Utf8", "Sgr")

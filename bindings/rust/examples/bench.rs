@@ -1,5 +1,5 @@
 //! `bench PIECE WHAT ROWS COLS CAPACITY TIMES FILE`: one parser processes FILE TIMES times, in
-//! chunks of PIECE bytes, as `vt_bench process` does in chunks of 4096. WHAT says what is done in
+//! chunks of PIECE bytes, as `tool_bench process` does in chunks of 4096. WHAT says what is done in
 //! addition: `process` for nothing, `callbacks` for callbacks that do nothing, `rows` for an
 //! `on_scroll` that writes the row, `cell` for reading a cell of the first row after each chunk.
 

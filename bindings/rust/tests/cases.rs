@@ -1,4 +1,4 @@
-//! Tests that replay the recorded cases and scripts of `crates/vt_cases`, whose README describes
+//! Tests that replay the recorded cases and scripts of `crates/test_cases`, whose README describes
 //! the lines.
 
 mod lines;
@@ -11,7 +11,7 @@ use vt100::{Parser, Screen};
 /// Replays all cases and scripts of a file, and returns how many there were. Panics if one of them
 /// differs.
 fn replay_file(name: &str) -> usize {
-    let folder = Path::new(env!("CARGO_MANIFEST_DIR")).join("../../crates/vt_cases/data");
+    let folder = Path::new(env!("CARGO_MANIFEST_DIR")).join("../../crates/test_cases/data");
     let text = std::fs::read_to_string(folder.join(name)).unwrap();
     let blocks: Vec<&str> = text.strip_prefix("= ").unwrap().split("\n= ").collect();
     let mut differing = Vec::new();

@@ -1,7 +1,0 @@
--- The loop invariant: the terminal has received the differences sent so far.
-use Rattle.std.proofs.Common.{take}
-use Rattle.vt_callers.specs.Remote.{HasFollowed}
-use Rattle.vt_callers.proofs.multiplexer.follow.Given as goal
-
-abbrev pub invariant-loop-next : goal.invariant-loop-next
-invariant-loop-next g l = HasFollowed l.fn.first (take l.next-index l.nexts) l.prev l.fn.remote l.remote
