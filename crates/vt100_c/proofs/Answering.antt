@@ -37,7 +37,7 @@ parser_reads old new bytes (Ok u) ran stopped before only other good harmless = 
   failed_before = λ e. absurd (cc (before e).0);
   failed_only = λ e. absurd (cc e);
   one_of = inl refl;
-  is_wrapped = λ _. not_true new.is_failed good.0;
+  works = λ _. not_true new.is_failed good.0;
   fails = λ no. absurd (no refl);
   harmless = λ _ _. refl;
 }
@@ -47,7 +47,7 @@ parser_reads old new bytes (Err OutOfMemory) ran stopped before only other good 
   failed_before = λ e. absurd (cc (before e).0);
   failed_only = λ e. absurd (cc e);
   one_of = inr (inl refl);
-  is_wrapped = λ e. absurd (cc e);
+  works = λ e. absurd (cc e);
   fails = λ _. good.1 refl;
   harmless = λ whole quiet. absurd (cc (harmless whole quiet));
 }
@@ -57,7 +57,7 @@ parser_reads old new bytes (Err Failed) ran stopped before only other good harml
   failed_before = λ e. (refl, (before e).1);
   failed_only = λ _. only refl;
   one_of = inr (inr refl);
-  is_wrapped = λ e. absurd (cc e);
+  works = λ e. absurd (cc e);
   fails = λ _. good.1 refl;
   harmless = λ whole quiet. absurd (cc (harmless whole quiet));
 }
@@ -72,7 +72,7 @@ unit_read old new bytes count (Ok done) unit = record {
   inside = unit.inside;
   last = λ _. unit.last;
   ran = λ _. unit.ran;
-  is_wrapped = λ _. (not_true old.is_failed (λ e. absurd (cc (unit.failed e).0)), not_true new.is_failed unit.for_good.0);
+  works = λ _. (not_true old.is_failed (λ e. absurd (cc (unit.failed e).0)), not_true new.is_failed unit.for_good.0);
   memory = λ no. absurd (no refl);
   failed_before = λ no. absurd (no refl);
   fails = λ no. absurd (no refl);
@@ -82,7 +82,7 @@ unit_read old new bytes count (Err OutOfMemory) unit = record {
   inside = omega (arith, (unit.memory refl).inside);
   last = λ e. absurd (cc e);
   ran = λ e. absurd (cc e);
-  is_wrapped = λ e. absurd (cc e);
+  works = λ e. absurd (cc e);
   memory = λ _ _. (refl, unit.memory refl);
   failed_before = λ _ e. absurd (cc (unit.failed e).0);
   fails = λ _. unit.for_good.1 refl;
@@ -92,7 +92,7 @@ unit_read old new bytes count (Err Failed) unit = record {
   inside = omega (arith, (unit.failed (unit.only refl)).2);
   last = λ e. absurd (cc e);
   ran = λ e. absurd (cc e);
-  is_wrapped = λ e. absurd (cc e);
+  works = λ e. absurd (cc e);
   memory = λ _ good. absurd (false≢true (sym good ∙ unit.only refl));
   failed_before = λ _ e. (refl, (unit.failed e).2, (unit.failed e).1);
   fails = λ _. unit.for_good.1 refl;
@@ -145,11 +145,11 @@ pub quiet_more : (mark : Mark) (old now new : ParserValue Logged) (bytes : List 
     → HasReadQuietly mark old bytes at now → ReadsUnit now (drop at bytes) count status new
     → status ≡ ok → is_quiet mark new.callbacks ≡ true → HasReadQuietly mark old bytes (at + count) new
 quiet_more mark old now new bytes at count status read unit well quiet =
-    let good : old.is_failed ≡ false = sym read.still ∙ (unit.is_wrapped well).0 in
+    let good : old.is_failed ≡ false = sym read.still ∙ (unit.works well).0 in
     record {
       ran = next_ran old now new bytes at count read.ran (unit.ran well);
       quiet = quiet;
-      still = (unit.is_wrapped well).1 ∙ sym good;
+      still = (unit.works well).1 ∙ sym good;
       nothing = λ e. absurd (false≢true (sym good ∙ e));
     }
 
@@ -230,8 +230,8 @@ event_left mark old now new bytes at count status read unit well event = elim (u
         status_is = refl;
         used_is = omega (arith, some.0);
         ran = next_ran old now new bytes at count read.ran (unit.ran well);
-        sound = sym read.still ∙ (unit.is_wrapped well).0;
-        is_wrapped = (unit.is_wrapped well).1;
+        sound = sym read.still ∙ (unit.works well).0;
+        works = (unit.works well).1;
       }))
 ]
 

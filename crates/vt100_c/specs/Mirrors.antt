@@ -1,9 +1,10 @@
 -- The results of calls to a mirror, as C receives them.
-use Rattle.std.specs.Prelude.{◌≡◌, ℕ, Bool, List, Option, Some, None, Result, Ok, Err, string_bytes, string_len}
+use Rattle.std.specs.Prelude.{◌≡◌, ℕ, Bool, false, List, Option, Some, None, Result, Ok, Err, string_bytes, string_len}
 use Rattle.std.specs.Prelude.{if◌then◌else◌}
 use Rattle.vt_cells.specs.declared.error.Error.{Error}
 use Rattle.vt_mirror.specs.Calls.{Asks, JoinsMirror, Kind, Leaves}
-use Rattle.vt_mirror.specs.Mirror.{MirrorValue}
+use Rattle.vt_mirror.specs.Mirror.{MirrorValue, is_current}
+use Rattle.vt_mirror.specs.Viewers.{PutsAmong}
 use Rattle.vt_mirror.specs.declared.update.Update.{Update}
 use Rattle.vt_mirror.specs.declared.update.Update.TheVariants.{Diff, Full}
 use Rattle.vt100_c.specs.Status.{ok, bad_argument, status_of}
@@ -16,18 +17,22 @@ abbrev pub GivesNumber : Result ℕ Error → (status before after : ℕ) → Ty
 GivesNumber (Ok number) status before after = (status ≡ ok) × (after ≡ number)
 GivesNumber (Err error) status before after = (status ≡ status_of error) × (after ≡ before)
 
--- A viewer joins the mirror, and the viewer's number is stored in the caller's variable.
+-- A viewer joins the mirror, and the viewer's number is stored in the caller's variable. The same viewers are up to
+-- date as before.
 pub record Joins (status before after : ℕ) (old new : MirrorValue) : Type 0 where
   pub answer : Result ℕ Error
   pub parser : new.parser ≡ old.parser
   pub call : JoinsMirror old.viewers answer new.viewers
+  pub current : (other : ℕ) → is_current new other ≡ is_current old other
   pub gives : GivesNumber answer status before after
 
--- A viewer leaves the mirror; if there is no viewer with the given number, the status is `bad_argument`.
+-- A viewer leaves the mirror; if there is no viewer with the given number, the status is `bad_argument`. All other
+-- viewers that were up to date still are.
 pub record LeavesIt (viewer status : ℕ) (old new : MirrorValue) : Type 0 where
   pub answer : Bool
   pub parser : new.parser ≡ old.parser
   pub call : Leaves old.viewers viewer answer new.viewers
+  pub current : PutsAmong old.current viewer false new.current
   pub answers : status ≡ (if answer then ok else bad_argument)
 
 -- ---- updates

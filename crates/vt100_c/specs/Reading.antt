@@ -27,7 +27,7 @@ pub record ReadsParser (old : ParserValue Logged) (bytes : List ℕ) (status : �
   pub failed_before : old.is_failed ≡ true → (status ≡ failed) × (new ≡ old)
   pub failed_only : status ≡ failed → old.is_failed ≡ true
   pub one_of : (status ≡ ok) ⊎ ((status ≡ out_of_memory) ⊎ (status ≡ failed))
-  pub is_wrapped : status ≡ ok → new.is_failed ≡ false
+  pub works : status ≡ ok → new.is_failed ≡ false
   pub fails : ¬ (status ≡ ok) → new.is_failed ≡ true
   pub harmless : old.is_failed ≡ false → IsHarmless Logs old bytes → status ≡ ok
 
@@ -100,7 +100,7 @@ pub record ReadsEvent (mark : Mark) (old : ParserValue Logged) (bytes : List ℕ
   pub used_is : used ≡ count + 1
   pub ran : Ran Logs old (take used bytes) new
   pub sound : old.is_failed ≡ false
-  pub is_wrapped : new.is_failed ≡ false
+  pub works : new.is_failed ≡ false
 
 -- Parsing the first `used` bytes from the scanner state `start` reaches a point at which reading continues, and an
 -- allocation for the next byte fails.
@@ -130,7 +130,7 @@ pub record ReadsUnit (old : ParserValue Logged) (bytes : List ℕ) (count status
   pub inside : count ≤ length bytes
   pub last : status ≡ ok → CallsByLast old.callbacks old.scanner bytes count new.callbacks
   pub ran : status ≡ ok → Ran Logs old (take count bytes) new
-  pub is_wrapped : status ≡ ok → (old.is_failed ≡ false) × (new.is_failed ≡ false)
+  pub works : status ≡ ok → (old.is_failed ≡ false) × (new.is_failed ≡ false)
   pub memory : ¬ (status ≡ ok) → old.is_failed ≡ false → (status ≡ out_of_memory) × StoppedAt Logs old bytes count new
   pub failed_before : ¬ (status ≡ ok) → old.is_failed ≡ true → (status ≡ failed) × (count ≡ 0) × (new ≡ old)
   pub fails : ¬ (status ≡ ok) → new.is_failed ≡ true

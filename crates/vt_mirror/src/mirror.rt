@@ -1,15 +1,17 @@
 //! A terminal with viewers.
 
-ghost use Rattle.std.specs.Prelude.{◌≡◌, IfOk, IsTrue, None, OnErr, OnOk, Some, [], false, string_bytes, true, ℕ};
+ghost use Rattle.std.specs.Prelude.{◌≡◌, IfOk, IsOk, IsTrue, None, OnErr, OnOk, Some, [], false, string_bytes, true, ℕ};
 ghost use Rattle.vt_cells.specs.Refusals.{OnlyOutOfMemory};
 ghost use Rattle.vt_mirror.specs.Calls.{Asks, Drawn, IsFullUpdate, IsUpdate, JoinsMirror, Leaves};
 ghost use Rattle.vt_mirror.specs.Calls.{MirrorProcesses, Resizes, Scrolling};
 ghost use Rattle.vt_mirror.specs.Mirror.{ShowsFreshScreen, is_current};
 ghost use Rattle.vt_mirror.specs.Sharing.{IsRedraw};
 ghost use Rattle.vt_mirror.specs.Viewers.{Puts, PutsAmong, is_viewer, note_of};
+ghost use Rattle.vt_redraw.specs.Steady.{IsSteady};
 ghost use Rattle.vt_scan.specs.Automaton.{start};
 ghost use Rattle.vt_scan.specs.Scanner.{StandsFor};
 ghost use Rattle.vt_screen.specs.Screen.{IsColored, IsScreen};
+ghost use Rattle.vt_screen.specs.Shown.{display};
 
 mod options;
 
@@ -174,7 +176,7 @@ impl Mirror {
     /// row and one column. Every other update is a diff from the screen at the viewer's last update
     /// to the current screen. The diff is empty if the display has not changed since that update.
     /// If the screen is steady (each glyph reproduces itself when printed), the diff is empty only
-    /// in that case. Reading the diff touches only what is near a change, as with
+    /// in that case, and reading the diff touches only what is near a change, as with
     /// `Screen::contents_diff`.
     ///
     /// A plain terminal is one in ground state, with the full scroll region, origin mode off and no
@@ -187,9 +189,12 @@ impl Mirror {
     ///
     /// Returns `Error::OutOfMemory` if the text of the update or the copy of
     /// the screen that is recorded cannot be allocated. On error, nothing is
-    /// changed, and the same update can be requested again.
+    /// changed, and the same update can be requested again. There is no error
+    /// if the viewer is up to date (clause `never`; see
+    /// [`is_current`](Mirror::is_current)).
     pub fn update(&mut self, viewer: u64) -> Result<Option<Update>, Error>
         ensures call { Asks Drawn self.old viewer result self.new }
+        ensures never { is_current self.old viewer ≡ true → IsOk result }
     {
         if !self.viewers.has(viewer) {
             return Ok(None);
@@ -213,9 +218,11 @@ impl Mirror {
     ///
     /// Returns `Error::OutOfMemory` if an allocation fails, as `update` does.
     /// On error, nothing is changed, and the same update can be requested
-    /// again.
+    /// again. There is no error if the viewer is up to date and the screen is
+    /// steady (clause `never`).
     pub fn update_scrolling(&mut self, viewer: u64) -> Result<Option<Update>, Error>
         ensures call { Asks Scrolling self.old viewer result self.new }
+        ensures never { is_current self.old viewer ≡ true → IsSteady (display self.old.parser.screen) → IsOk result }
     {
         if !self.viewers.has(viewer) {
             return Ok(None);
@@ -227,8 +234,9 @@ impl Mirror {
 
     /// Returns whether the viewer is up to date, which means that it has had an update since the
     /// last call to [`process`](Mirror::process) and the last change of size. The next update of
-    /// such a viewer is an empty diff, or a full update if it comes from `update_scrolling` and the
-    /// screen is not steady. The test allocates nothing and reads no cells.
+    /// such a viewer cannot fail and is an empty diff, unless it comes from `update_scrolling` and
+    /// the screen is not steady: then it is a full update. The test allocates nothing and reads no
+    /// cells.
     ///
     /// Returns `false` if there is no viewer whose number is `viewer`. After each call to
     /// `process`, returns `false` for every viewer until that viewer's next update, even if the
@@ -273,17 +281,18 @@ impl Mirror {
         ensures ok { IfOk result
             (λ update. IsUpdate Drawn self.old.parser.screen (note_of self.old.viewers viewer) update) }
         ensures memory { OnlyOutOfMemory result }
+        ensures never { is_current self.old viewer ≡ true → IsOk result }
     {
         let screen = self.parser.screen();
         // Only for the proof: the contract of `size` says that every screen is valid.
         screen.size();
-        let Some(noted) = self.viewers.noted(viewer) else {
-            return self.full();
-        };
         if self.viewers.is_current(viewer) {
             let text = String::new(self.alloc);
             return Ok(Update::Diff(text));
         }
+        let Some(noted) = self.viewers.noted(viewer) else {
+            return self.full();
+        };
         if let Some(kept) = self.viewers.kept_diff(viewer) {
             let copy = String::from_str(self.alloc, kept)?;
             return Ok(Update::Diff(copy));
@@ -308,17 +317,19 @@ impl Mirror {
         ensures ok { IfOk result
             (λ update. IsUpdate Scrolling self.old.parser.screen (note_of self.old.viewers viewer) update) }
         ensures memory { OnlyOutOfMemory result }
+        ensures never { is_current self.old viewer ≡ true → IsSteady (display self.old.parser.screen) → IsOk result }
     {
         let screen = self.parser.screen();
         // Only for the proof: the contract of `size` says that every screen is valid.
         screen.size();
+        let is_current = self.viewers.is_current(viewer);
         let Some(noted) = self.viewers.noted(viewer) else {
             return self.full();
         };
         if !noted.is_steady() {
             return self.full();
         }
-        if self.viewers.is_current(viewer) {
+        if is_current {
             let text = String::new(self.alloc);
             return Ok(Update::Diff(text));
         }
@@ -348,6 +359,7 @@ impl Mirror {
         ensures current { OnOk result (PutsAmong self.old.current viewer true self.new.current) }
         ensures err { OnErr result (self.new ≡ self.old) }
         ensures memory { OnlyOutOfMemory result }
+        ensures never { is_current self.old viewer ≡ true → IsOk result }
     {
         let screen = self.parser.screen();
         self.viewers.note(viewer, screen, self.alloc)?;

@@ -1,6 +1,6 @@
 //! The viewers of a mirror.
 
-ghost use Rattle.std.specs.Prelude.{◌≡◌, ◌≢◌, ◌⊎◌, IfNone, IfOk, IfSome, IsTrue, None, OnErr, OnOk, Some, [], false, option_copied, true, ℕ};
+ghost use Rattle.std.specs.Prelude.{◌≡◌, ◌≢◌, ◌⊎◌, IfNone, IfOk, IfSome, IsOk, IsTrue, None, OnErr, OnOk, Some, [], false, option_copied, true, ℕ};
 ghost use Rattle.vt_cells.specs.Refusals.{OnlyOutOfMemory};
 ghost use Rattle.vt_mirror.specs.Calls.{JoinsMirror, Leaves, greatest};
 ghost use Rattle.vt_mirror.specs.Kept.{HasVersion, HaveNext, IsCurrentNote, IsRenewed};
@@ -246,7 +246,7 @@ impl Viewers {
     /// # Errors
     ///
     /// Returns `Error::OutOfMemory` if an allocation fails. On error, the
-    /// records are unchanged.
+    /// records are unchanged. There is no error if the viewer is up to date.
     pub(crate) fn note(&mut self, viewer: u64, screen: &Screen, alloc: Global) -> Result<(), Error>
         requires viewer { is_viewer self.old.viewers viewer ≡ true }
         requires current { IfSome self.old.current (λ current. current ≡ screen.now) }
@@ -261,6 +261,7 @@ impl Viewers {
             (PutsAmong self.old.current_viewers viewer true self.new.current_viewers) }
         ensures unnoted { OnErr result (self.new.current_viewers ≡ self.old.current_viewers) }
         ensures memory { OnlyOutOfMemory result }
+        ensures never { is_among self.old.current_viewers viewer ≡ true → IsOk result }
     {
         if self.is_current(viewer) {
             return Ok(());

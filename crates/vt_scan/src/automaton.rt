@@ -166,6 +166,7 @@ impl Scanner {
     pub fn release_text(&mut self)
         ensures stands { (state : State) → StandsFor self.old state → StandsFor self.new state }
         ensures text { (self.new ≡ self.old) ⊎ (self.new ≡ record self.old { text = [] }) }
+        ensures short { self.old.kind ≢ Kind.OscString → length self.new.text ≤ 4096 }
     {
         match self.kind {
             Kind::OscString => {}
@@ -301,6 +302,7 @@ fn release(text: &mut Vec<u8>)
     ensures bounded { vec_capacity text.new ≤ 4096 }
     ensures kept { vec_capacity text.old ≤ 4096 → text.new ≡ text.old }
     ensures emptied { 4096 < vec_capacity text.old → text.new.items ≡ [] }
+    ensures short { length text.new.items ≤ 4096 }
 {
     if text.capacity() <= KEPT_CAPACITY {
         return;

@@ -230,15 +230,15 @@ rest_tame : IsTame (bytes_of EraseRest)
 rest_tame reader screen h = op_goes EraseRest false reader screen tt tt h
 
 rest_made : IsShort (bytes_of EraseRest)
-rest_made = made_piece shortened_finals shortened_controls (Numbered [] 0x4B)
-    (inr (inr (inr (inr (inr (inr (inr (inr (inl refl)))))))))
+rest_made = made_piece shortened_finals shortened_controls (Control (bytes_of EraseRest))
+    (inr (inr (inr (inr (inr (inr (inr (inr (inr (inr (inl refl)))))))))))
 
 clear_tame : IsTame (csi [] 0x6D)
 clear_tame reader screen h = op_goes ClearAttrs false reader screen tt tt h
 
 clear_made : IsShort (csi [] 0x6D)
 clear_made = made_piece shortened_finals shortened_controls (Numbered [] 0x6D)
-    (inr (inr (inr (inr (inr (inr (inr (inr (inr (inr (inl refl)))))))))))
+    (inr (inr (inr (inr (inr (inr (inr (inr (inl refl)))))))))
 
 hide_tame : (hidden : Bool) → IsTame (bytes_of (Hide hidden))
 hide_tame hidden reader screen h = op_goes (Hide hidden) false reader screen tt tt h
@@ -331,7 +331,7 @@ sgr_made : (text : List ℕ) → IsSgrText 32 Any text → IsShort (csi text 0x6
 sgr_made text is =
     subst (λ (t : List ℕ). IsShort (csi t 0x6D)) (sym is.spelled)
     (made_piece shortened_finals shortened_controls (Numbered (is.first ∷ is.rest) 0x6D)
-    (inr (inr (inr (inr (inr (inr (inr (inr (inr (inr (inl refl))))))))))))
+    (inr (inr (inr (inr (inr (inr (inr (inr (inl refl))))))))))
 
 sgr_copied : (rows cols : ℕ) (known : Option Pos) (text : List ℕ) → IsSgrText 32 Any text →
     Replaces rows cols known known (csi text 0x6D) (csi text 0x6D)

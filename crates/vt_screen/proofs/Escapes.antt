@@ -171,7 +171,7 @@ one_visible (g ∷ finals) are nexts bracket f (inl e) = (ap is_low e ∙ are.0,
 one_visible (g ∷ finals) are nexts bracket f (inr is) = one_visible finals are.1 nexts bracket f is
 
 abbrev drawing_tails : List (List ℕ)
-drawing_tails = codes "7" ∷ codes "8" ∷ codes "[?25h" ∷ codes "[?25l" ∷ []
+drawing_tails = codes "7" ∷ codes "8" ∷ codes "[?25h" ∷ codes "[?25l" ∷ codes "[J" ∷ codes "[K" ∷ []
 
 abbrev input_tails : List (List ℕ)
 input_tails =
@@ -222,18 +222,18 @@ abbrev pub state_nexts : List ℕ
 state_nexts = codes "[78=>"
 
 scrolling_low : AllLow scrolling_finals
-scrolling_low = (refl, (refl, (refl, (refl, (refl, (refl, (refl, (refl, (refl, (refl, tt))))))))))
+scrolling_low = (refl, (refl, (refl, (refl, (refl, (refl, (refl, (refl, tt))))))))
 
 -- In output that draws and moves rows, only `[`, `7` and `8` follow ESC.
 pub scrolling_only : (text : List ℕ) → IsMadeOf scrolling_finals drawing_controls text → HasOnlyEscapes drawing_nexts text
 scrolling_only text made =
     made_only drawing_nexts scrolling_finals drawing_controls
-    (one_visible scrolling_finals scrolling_low drawing_nexts (inl refl)) (drawing_only drawing_nexts ((inr (inl refl), refl), ((inr (inr (inl refl)), refl), ((inl refl, refl), ((inl refl, refl), tt))))) text made
+    (one_visible scrolling_finals scrolling_low drawing_nexts (inl refl)) (drawing_only drawing_nexts ((inr (inl refl), refl), ((inr (inr (inl refl)), refl), ((inl refl, refl), ((inl refl, refl), ((inl refl, refl), ((inl refl, refl), tt))))))) text made
 
 pub drawn_only : (text : List ℕ) → IsMadeOf drawing_finals drawing_controls text → HasOnlyEscapes drawing_nexts text
 drawn_only text made =
     made_only drawing_nexts drawing_finals drawing_controls
-    (one_visible drawing_finals scrolling_low.1.1.1.1 drawing_nexts (inl refl)) (drawing_only drawing_nexts ((inr (inl refl), refl), ((inr (inr (inl refl)), refl), ((inl refl, refl), ((inl refl, refl), tt))))) text made
+    (one_visible drawing_finals scrolling_low.1.1.1.1 drawing_nexts (inl refl)) (drawing_only drawing_nexts ((inr (inl refl), refl), ((inr (inr (inl refl)), refl), ((inl refl, refl), ((inl refl, refl), ((inl refl, refl), ((inl refl, refl), tt))))))) text made
 
 pub reset_only : (text : List ℕ) → IsMadeOf drawing_finals reset_controls text → HasOnlyEscapes drawing_nexts text
 reset_only text made =
@@ -245,7 +245,7 @@ reset_only text made =
         HasOnlyEscapes drawing_nexts bytes
     by_kind bytes (inl is) =
         tails_only drawing_nexts reset_tails ((inl refl, refl), ((inl refl, refl), tt)) bytes is
-    by_kind bytes (inr is) = drawing_only drawing_nexts ((inr (inl refl), refl), ((inr (inr (inl refl)), refl), ((inl refl, refl), ((inl refl, refl), tt)))) bytes is
+    by_kind bytes (inr is) = drawing_only drawing_nexts ((inr (inl refl), refl), ((inr (inr (inl refl)), refl), ((inl refl, refl), ((inl refl, refl), ((inl refl, refl), ((inl refl, refl), tt)))))) bytes is
 
 -- In output that also sets input modes, `=` and `>` may follow ESC, too.
 pub state_only : (text : List ℕ) → IsMadeOf drawing_finals state_controls text → HasOnlyEscapes state_nexts text
@@ -258,7 +258,7 @@ state_only text made =
         HasOnlyEscapes state_nexts bytes
     by_kind bytes (inl is) =
         tails_only state_nexts input_tails ((inr (inr (inr (inl refl))), refl), ((inr (inr (inr (inr (inl refl)))), refl), ((inl refl, refl), ((inl refl, refl), ((inl refl, refl), ((inl refl, refl), ((inl refl, refl), ((inl refl, refl), ((inl refl, refl), ((inl refl, refl), ((inl refl, refl), ((inl refl, refl), ((inl refl, refl), ((inl refl, refl), ((inl refl, refl), ((inl refl, refl), ((inl refl, refl), ((inl refl, refl), ((inl refl, refl), ((inl refl, refl), ((inl refl, refl), ((inl refl, refl), ((inl refl, refl), ((inl refl, refl), ((inl refl, refl), tt))))))))))))))))))))))))) bytes is
-    by_kind bytes (inr is) = drawing_only state_nexts ((inr (inl refl), refl), ((inr (inr (inl refl)), refl), ((inl refl, refl), ((inl refl, refl), tt)))) bytes is
+    by_kind bytes (inr is) = drawing_only state_nexts ((inr (inl refl), refl), ((inr (inr (inl refl)), refl), ((inl refl, refl), ((inl refl, refl), ((inl refl, refl), ((inl refl, refl), tt)))))) bytes is
 
 -- In captures, only `[` follows ESC; plain text contains no ESC.
 line_only : (nexts bytes : List ℕ) → IsOneOf bytes plain_controls → HasOnlyEscapes nexts bytes

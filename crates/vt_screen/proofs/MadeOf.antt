@@ -124,19 +124,19 @@ made_change finals controls was new is =
 made_op : (op : Op) → Fits op → IsDrawing (bytes_of op)
 made_op (Hide true) fits = control _ (inr (inr (inr (inr (inr (inr (inl refl)))))))
 made_op (Hide false) fits = control _ (inr (inr (inr (inr (inr (inl refl))))))
-made_op ClearAttrs fits = numbered drawing_finals drawing_controls [] 0x6D (inr (inr (inr (inr (inr (inl refl))))))
+made_op ClearAttrs fits = numbered drawing_finals drawing_controls [] 0x6D (inr (inr (inr (inl refl))))
 made_op (MoveTo row col) fits = made_place drawing_finals drawing_controls row col 0x48 (inl refl)
 made_op (MoveRight count) fits = made_counted drawing_finals drawing_controls count 0x43 (inr (inl refl))
 made_op NextRow fits = control _ (inl refl)
 made_op LineFeed fits = control _ (inr (inl refl))
 made_op Backspace fits = control _ (inr (inr (inl refl)))
-made_op EraseBelow fits = numbered drawing_finals drawing_controls [] 0x4A (inr (inr (inr (inr (inl refl)))))
-made_op EraseRest fits = numbered drawing_finals drawing_controls [] 0x4B (inr (inr (inr (inl refl))))
+made_op EraseBelow fits = control _ (inr (inr (inr (inr (inr (inr (inr (inl refl))))))))
+made_op EraseRest fits = control _ (inr (inr (inr (inr (inr (inr (inr (inr (inl refl)))))))))
 made_op (EraseChars count) fits = made_counted drawing_finals drawing_controls count 0x58 (inr (inr (inl refl)))
 made_op SaveCursor fits = control _ (inr (inr (inr (inl refl))))
 made_op RestoreCursor fits = control _ (inr (inr (inr (inr (inl refl)))))
 made_op (ChangeAttrs was new) fits =
-    made_change drawing_finals drawing_controls was new (inr (inr (inr (inr (inr (inl refl))))))
+    made_change drawing_finals drawing_controls was new (inr (inr (inr (inl refl))))
 made_op (Print text) fits = made_drawn drawing_finals drawing_controls text fits
 
 pub made_ops : (ops : List Op) → AllByRecursion Fits ops → IsMadeOf drawing_finals drawing_controls (bytes_of_all ops)
@@ -250,7 +250,7 @@ attr_ops_made was new = by_same (same_attrs was new) where
   by_same true = made_nothing drawing_finals drawing_controls
   by_same false =
       made_append drawing_finals drawing_controls (change_text was new) []
-      (made_change drawing_finals drawing_controls was new (inr (inr (inr (inr (inr (inl refl)))))))
+      (made_change drawing_finals drawing_controls was new (inr (inr (inr (inl refl)))))
       (made_nothing drawing_finals drawing_controls)
 
 scrolled_made : (screen prev : ScreenValue) (band : Band) → IsScreen screen → IsColored screen →

@@ -142,7 +142,11 @@ control_none bytes (inr (inr (inr (inr (inl e))))) = subst IsQuiet (sym e) (reco
 control_none bytes (inr (inr (inr (inr (inr (inl e)))))) = subst IsQuiet (sym e) (record { state = refl; none = (refl, tt) })
 control_none bytes (inr (inr (inr (inr (inr (inr (inl e))))))) =
     subst IsQuiet (sym e) (record { state = refl; none = (refl, tt) })
-control_none bytes (inr (inr (inr (inr (inr (inr (inr none))))))) = absurd none
+control_none bytes (inr (inr (inr (inr (inr (inr (inr (inl e)))))))) =
+    subst IsQuiet (sym e) (record { state = refl; none = (refl, tt) })
+control_none bytes (inr (inr (inr (inr (inr (inr (inr (inr (inl e))))))))) =
+    subst IsQuiet (sym e) (record { state = refl; none = (refl, tt) })
+control_none bytes (inr (inr (inr (inr (inr (inr (inr (inr (inr none))))))))) = absurd none
 
 control_of : (scroll : Bool) (bytes : List ℕ) → IsOneOf bytes (diff_controls scroll) → IsQuiet bytes
 unfolding fresh_step class_of

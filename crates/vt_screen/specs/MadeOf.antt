@@ -44,27 +44,26 @@ pub record IsMadeOf (finals : List ℕ) (controls : List (List ℕ)) (text : Lis
 abbrev pub escapes : List (List ℕ) → List (List ℕ)
 escapes texts = map (λ text. 0x1B ∷ text) texts
 
--- The final bytes of the control sequences with numbers that may occur in drawing output: CUP, CUF, ECH, EL, ED and
--- SGR.
+-- The final bytes of the control sequences with numbers that may occur in drawing output: CUP, CUF, ECH and SGR.
 abbrev pub drawing_finals : List ℕ
-drawing_finals = codes "HCXKJm"
+drawing_finals = codes "HCXm"
 
--- The fixed sequences that may occur in drawing output: CR LF, LF, BS, DECSC, DECRC, and DECTCEM to show or hide the
--- cursor.
+-- The fixed sequences that may occur in drawing output: CR LF, LF, BS, DECSC, DECRC, DECTCEM to show or hide the
+-- cursor, and ED and EL without a number. ED 3 is therefore excluded, with which xterm erases its saved lines.
 abbrev pub drawing_controls : List (List ℕ)
 drawing_controls =
     (0x0D ∷ 0x0A ∷ []) ∷ (0x0A ∷ []) ∷ (0x08 ∷ [])
-    ∷ escapes (codes "7" ∷ codes "8" ∷ codes "[?25h" ∷ codes "[?25l" ∷ [])
+    ∷ escapes (codes "7" ∷ codes "8" ∷ codes "[?25h" ∷ codes "[?25l" ∷ codes "[J" ∷ codes "[K" ∷ [])
 
 -- The final bytes of the control sequences that may occur in drawing output that moves rows or columns: those of ICH,
 -- DCH, IL and DL, and those in `drawing_finals`.
 abbrev pub scrolling_finals : List ℕ
-scrolling_finals = codes "@PLMHCXKJm"
+scrolling_finals = codes "@PLMHCXm"
 
 -- The final bytes of the control sequences that may occur in drawing output whose cursor movements have been
 -- shortened: that of CHA, and those in `scrolling_finals`.
 abbrev pub shortened_finals : List ℕ
-shortened_finals = codes "G@PLMHCXKJm"
+shortened_finals = codes "G@PLMHCXm"
 
 -- The fixed sequences that may occur in drawing output whose cursor movements have been shortened: CR, HT, and those in
 -- `drawing_controls`.

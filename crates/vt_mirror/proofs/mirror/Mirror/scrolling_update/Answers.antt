@@ -26,7 +26,7 @@ returns-then-not-is_steady-clause-ok c =
 -- A viewer that is up to date gets an empty difference.
 pub returns-then-is_current-clause-ok : goal.returns-then-is_current-clause-ok
 returns-then-is_current-clause-ok c =
-    let it = c.is_current.ensures.noted c.if-is_current.true in
+    let it = c.is_current-is_current.ensures.noted c.if-is_current.true in
     let screen = c.self.inside.parser.screen in
     let is = subst (λ (s : ScreenValue). IsScreen s) c.screen-screen.ensures.value c.size.ensures.whole in
     let colored = subst (λ (s : ScreenValue). IsColored s) c.screen-screen.ensures.value c.size.ensures.colored in
