@@ -10,7 +10,7 @@ use vt_cells::term::{
     SaveCursor,
 };
 use vt_cells::{
-    Color, CursorStyle as Style, Error, Intensity, MouseProtocolEncoding as Encoding,
+    Buffer, Color, CursorStyle as Style, Error, Intensity, MouseProtocolEncoding as Encoding,
     MouseProtocolMode as Mode, Pos,
 };
 
@@ -102,6 +102,34 @@ fn moves(rt: HostRuntime) -> Result<(), Fail> {
     for (from, to, want) in &MOVES {
         let (from, to) = (pos_of(*from), pos_of(*to));
         expect_text(rt.alloc(), &MoveFromTo { from, to }, want)?;
+    }
+    Ok(())
+}
+
+/// Tests sequences that are appended to a buffer, and that the buffer passes them to its sink in
+/// order when it is flushed.
+#[test]
+fn buffered(rt: HostRuntime) -> Result<(), Fail> {
+    let mut text = String::new(rt.alloc());
+    let mut buffer = Buffer::new();
+    let (home, far) = (pos_of((0, 0)), pos_of((2, 4)));
+    MoveFromTo {
+        from: home,
+        to: far,
+    }
+    .add(&mut text, &mut buffer)?;
+    EraseChar { count: 1 }.add(&mut text, &mut buffer)?;
+    EraseChar { count: 12 }.add(&mut text, &mut buffer)?;
+    MoveFromTo { from: far, to: far }.add(&mut text, &mut buffer)?;
+    ClearRowForward.add(&mut text, &mut buffer)?;
+    assert!(rt; text.is_empty());
+    assert_eq!(rt; buffer.room(), 111);
+    buffer.push("\u{2500}");
+    assert_eq!(rt; buffer.room(), 108);
+    buffer.flush(&mut text)?;
+    assert_eq!(rt; buffer.room(), 128);
+    if text.as_str() != "\x1b[3;5H\x1b[X\x1b[12X\x1b[K\u{2500}" {
+        return Err(Fail::new(format_args!("{text:?}")));
     }
     Ok(())
 }

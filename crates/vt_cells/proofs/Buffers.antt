@@ -62,6 +62,3 @@ pushed len k bytes copied text buffer inside fits same utf8 =
 pub nothing_gathered : (text : List ℕ) → buffered_text text [] ≡ text
 unfolding buffered_text
 nothing_gathered text = append-nil text
-
--- The lemmas on a list of at most three items that is set item by item.
-pub ruleset few_set = (one_set, two_set, three_set)

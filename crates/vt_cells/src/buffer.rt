@@ -157,16 +157,15 @@ fn copy_one(to: &mut [u8], from: &[u8])
 
 /// Copies `from` into `to`, which must have the same length.
 ///
-/// A slice of at most three bytes, as for most glyphs, is copied inline rather than by a call to
-/// `memcpy`.
+/// A slice of two or three bytes, as for most glyphs outside ASCII, is copied inline rather than by
+/// a call to `memcpy`.
 #[inline(always)]
-#[tactic(auto, using(crate::proofs::Buffers::few_set))]
+#[tactic(auto, using(crate::proofs::Buffers::two_set, crate::proofs::Buffers::three_set))]
 fn copy(to: &mut [u8], from: &[u8])
     requires { length to.old ≡ length from.now }
     ensures { to.new ≡ from.now }
 {
     match from.len() {
-        1 => to[0] = from[0],
         2 => {
             to[0] = from[0];
             to[1] = from[1];

@@ -348,8 +348,8 @@ fn gather_bytes(
 /// Buffers the glyphs after the pen that look like `like`: their attributes,
 /// their width and the length of their text are the same. Stops at a glyph that
 /// needs no output or does not fit in the buffer.
-#[inline]
-fn gather_alike(
+#[inline(never)]
+fn gather_more(
     buffer: &mut Buffer,
     pen: &mut Pen,
     flag: &mut bool,
@@ -386,6 +386,36 @@ fn gather_alike(
     }
     pen.col = col;
     *flag = on;
+}
+
+/// Buffers the glyphs after the pen that look like `like`: their attributes,
+/// their width and the length of their text are the same. Stops at a glyph that
+/// needs no output or does not fit in the buffer. Most glyphs between other
+/// colors are alone, so the first one is tested before the call.
+#[inline]
+fn gather_alike(
+    buffer: &mut Buffer,
+    pen: &mut Pen,
+    flag: &mut bool,
+    like: &Cell,
+    cells: &PictureRow<'_>,
+    over: &PictureRow<'_>,
+)
+    requires range { IsRange cells.now.cells over.now.cells }
+    requires short { length over.now.cells < 65536 }
+    requires glyph { is_glyph like.now ≡ true }
+    requires attrs { pen.old.attrs ≡ attrs_of like.now }
+    requires inside { pen.old.col ≤ length over.now.cells }
+    ensures leads { (text : List ℕ) → Leads (buffered_text text buffer.new)
+        (cells_from pen.old.row pen.new.col pen.new flag.new cells.now.cells over.now.cells)
+        (buffered_text text buffer.old)
+        (cells_from pen.old.row pen.old.col pen.old flag.old cells.now.cells over.now.cells) }
+    ensures order { pen.old.col ≤ pen.new.col }
+    ensures inside { pen.new.col ≤ length over.now.cells }
+{
+    if is_alike(like, cells.own_cells(), over.own_cells(), pen.col) {
+        gather_more(buffer, pen, flag, like, cells, over);
+    }
 }
 
 /// Buffers the glyph at a position and the glyphs after it that look like it.

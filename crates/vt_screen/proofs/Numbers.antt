@@ -5,10 +5,15 @@ use Rattle.std.proofs.Math.Seq.{take-length, take-suc}
 use Rattle.std.proofs.lemmas.Fmt.{decimal_digit, decimal_step}
 use Rattle.std.proofs.lemmas.List.{replicate-append-replicate, append_assoc}
 use Rattle.std.proofs.Common.{◌≢◌}
-use Rattle.vt_screen.specs.Sgr.{GroupRead, group_read}
+use Rattle.vt_cells.specs.declared.color.Color.TheVariants.{Idx}
+use Rattle.vt_screen.specs.Sgr.{GroupRead, group_read, number_read, set}
+use Rattle.vt_screen.specs.declared.sgr.Setting.{Setting}
+use Rattle.vt_screen.specs.declared.sgr.Setting.TheVariants.{Foreground, Background}
+use Rattle.vt_screen.specs.declared.sgr.Wanted.TheVariants.{Any}
+use Rattle.vt_screen.proofs.ReadbackSgr.{background_bright, background_low, foreground_bright, foreground_low, number_group}
 use Rattle.vt_screen.specs.declared.sgr.Reading.TheVariants.{Unhandled}
 use Rattle.vt_screen.specs.declared.sgr.Wanted.{Wanted}
-use Rattle.vt_screen.specs.ShortMoves.{AreHandled, IsSgrText, column_after_tabs, next_stop}
+use Rattle.vt_screen.specs.ShortMoves.{AreHandled, IsSgrText, IsWantedNext, column_after_tabs, next_stop}
 
 pub number_first : (bytes : List ℕ) → 0 < length bytes → 48 ≤ get_or bytes 0 0 → get_or bytes 0 0 ≤ 57 →
     take 1 bytes ≡ decimal (get_or bytes 0 0 - 48)
@@ -72,12 +77,11 @@ slice_parts bytes len more inside =
     ∙ ap (λ (xs : List ℕ). take len bytes ++ get_or bytes len 0 ∷ take more xs) (sym (slice_rest bytes (len + 1)))
 
 -- A known number before known numbers.
-pub sgr_more : (most first len more : ℕ) (wanted : Wanted) (read : GroupRead) (bytes : List ℕ) → 0 < most → len < length bytes
-    → first < 65536 → take len bytes ≡ decimal first → get_or bytes len 0 ≡ 0x3B → read ≡ group_read wanted (first ∷ [])
-    → (group_read wanted (first ∷ [])).reading ≢ Unhandled
-    → IsSgrText (most - 1) read.wanted (take more (take (length bytes - (len + 1)) (drop (len + 1) bytes)))
+pub sgr_more : (most first len more : ℕ) (wanted next : Wanted) (bytes : List ℕ) → 0 < most → len < length bytes
+    → first < 65536 → take len bytes ≡ decimal first → get_or bytes len 0 ≡ 0x3B → IsWantedNext wanted first next
+    → IsSgrText (most - 1) next (take more (take (length bytes - (len + 1)) (drop (len + 1) bytes)))
     → IsSgrText most wanted (take (len + 1 + more) bytes)
-sgr_more most first len more wanted read bytes some inside small digits separator is handled rest =
+sgr_more most first len more wanted next bytes some inside small digits separator is rest =
     let few = rest.few in
     record {
       first = first;
@@ -87,7 +91,7 @@ sgr_more most first len more wanted read bytes some inside small digits separato
           (ap₂ (λ (x : ℕ) (xs : List ℕ). x ∷ xs) separator rest.spelled);
       small = (small, rest.small);
       few = omega (arith, few, some);
-      handled = (handled, subst (λ (r : GroupRead). AreHandled r.wanted (rest.first ∷ rest.rest)) is rest.handled);
+      handled = (is.0, subst (λ (w : Wanted). AreHandled w (rest.first ∷ rest.rest)) is.1 rest.handled);
     }
 
 -- A number before the rest of CUP.
@@ -100,3 +104,30 @@ place_more first len more bytes whole inside digits separator e =
     ap (λ (xs : List ℕ). 0x1B ∷ 0x5B ∷ xs) (slice_parts bytes len more inside)
     ∙ (ap (λ (xs : List ℕ). 0x1B ∷ 0x5B ∷ (xs ++ get_or bytes len 0 ∷ rest)) digits
     ∙ (ap (λ (x : ℕ). 0x1B ∷ 0x5B ∷ (decimal first ++ x ∷ rest)) separator ∙ e))
+
+-- ---- the numbers of the first 16 colors
+
+set_read : (n : ℕ) (s : Setting) → number_read n ≡ set s → IsWantedNext Any n Any
+set_read n s e =
+    let read : group_read Any (n ∷ []) ≡ set s = number_group n (set s) e in
+    (subst (λ (r : GroupRead). r.reading ≢ Unhandled) (sym read) (λ met. absurd cc), sym (ap (λ (r : GroupRead). r.wanted) read))
+
+pub foreground_known : (n : ℕ) → 30 ≤ n → n ≤ 37 → IsWantedNext Any n Any
+foreground_known n low high =
+    let e : 30 + (n - 30) ≡ n = omega arith in
+    set_read n (Foreground (Idx (n - 30))) (ap number_read (sym e) ∙ foreground_low (n - 30) (omega arith))
+
+pub background_known : (n : ℕ) → 40 ≤ n → n ≤ 47 → IsWantedNext Any n Any
+background_known n low high =
+    let e : 40 + (n - 40) ≡ n = omega arith in
+    set_read n (Background (Idx (n - 40))) (ap number_read (sym e) ∙ background_low (n - 40) (omega arith))
+
+pub bright_known : (n : ℕ) → 90 ≤ n → n ≤ 97 → IsWantedNext Any n Any
+bright_known n low high =
+    let e : 90 + (n - 90) ≡ n = omega arith in
+    set_read n (Foreground (Idx (8 + (n - 90)))) (ap number_read (sym e) ∙ foreground_bright (n - 90) (omega arith))
+
+pub bright_background_known : (n : ℕ) → 100 ≤ n → n ≤ 107 → IsWantedNext Any n Any
+bright_background_known n low high =
+    let e : 100 + (n - 100) ≡ n = omega arith in
+    set_read n (Background (Idx (8 + (n - 100)))) (ap number_read (sym e) ∙ background_bright (n - 100) (omega arith))

@@ -36,7 +36,7 @@ one_group : (groups : List (List ℕ)) (wanted : Wanted) (group : List ℕ) (res
 one_group groups wanted group rest r e =
     ap (λ (q : GroupRead). reading_steps groups q.reading ++ sgr_from groups q.wanted rest) e
 
-number_group : (n : ℕ) (r : GroupRead) → number_read n ≡ r → group_read Any (n ∷ []) ≡ r
+pub number_group : (n : ℕ) (r : GroupRead) → number_read n ≡ r → group_read Any (n ∷ []) ≡ r
 unfolding group_read setting_read
 number_group n r e = e
 
@@ -56,20 +56,20 @@ below_8 P a b c d e f g h (suc (suc (suc (suc (suc (suc zero)))))) l = g
 below_8 P a b c d e f g h (suc (suc (suc (suc (suc (suc (suc zero))))))) l = h
 below_8 P a b c d e f g h (suc (suc (suc (suc (suc (suc (suc (suc n)))))))) l = absurd (omega arith)
 
-foreground_low : (i : ℕ) → i < 8 → number_read (30 + i) ≡ set (Foreground (Idx i))
+pub foreground_low : (i : ℕ) → i < 8 → number_read (30 + i) ≡ set (Foreground (Idx i))
 unfolding number_read
 foreground_low = below_8 (λ i. number_read (30 + i) ≡ set (Foreground (Idx i))) refl refl refl refl refl refl refl refl
 
-background_low : (i : ℕ) → i < 8 → number_read (40 + i) ≡ set (Background (Idx i))
+pub background_low : (i : ℕ) → i < 8 → number_read (40 + i) ≡ set (Background (Idx i))
 unfolding number_read
 background_low = below_8 (λ i. number_read (40 + i) ≡ set (Background (Idx i))) refl refl refl refl refl refl refl refl
 
-foreground_bright : (j : ℕ) → j < 8 → number_read (90 + j) ≡ set (Foreground (Idx (8 + j)))
+pub foreground_bright : (j : ℕ) → j < 8 → number_read (90 + j) ≡ set (Foreground (Idx (8 + j)))
 unfolding number_read
 foreground_bright =
     below_8 (λ j. number_read (90 + j) ≡ set (Foreground (Idx (8 + j)))) refl refl refl refl refl refl refl refl
 
-background_bright : (j : ℕ) → j < 8 → number_read (100 + j) ≡ set (Background (Idx (8 + j)))
+pub background_bright : (j : ℕ) → j < 8 → number_read (100 + j) ≡ set (Background (Idx (8 + j)))
 unfolding number_read
 background_bright =
     below_8 (λ j. number_read (100 + j) ≡ set (Background (Idx (8 + j)))) refl refl refl refl refl refl refl refl

@@ -111,6 +111,11 @@ AreHandled wanted [] = Unit {0}
 AreHandled wanted (n ∷ ns) =
     ((group_read wanted (n ∷ [])).reading ≢ Unhandled) × AreHandled (group_read wanted (n ∷ [])).wanted ns
 
+-- The number is known in SGR, and the next group is interpreted as `next` says.
+abbrev pub IsWantedNext : Wanted → ℕ → Wanted → Type 0
+IsWantedNext wanted n next =
+    ((group_read wanted (n ∷ [])).reading ≢ Unhandled) × (next ≡ (group_read wanted (n ∷ [])).wanted)
+
 -- The text consists of at least one and at most `most` numbers joined by `;`, all of which SGR handles.
 pub record IsSgrText (most : ℕ) (wanted : Wanted) (text : List ℕ) : Type 0 where
   pub first : ℕ

@@ -37,7 +37,9 @@ pub fn with_short_moves(
     ensures memory { OnlyOutOfMemory result }
     ensures nonempty { RefusedOnlyIfSome result text.now }
 {
-    let mut short = String::new(alloc);
+    let Ok(mut short) = String::with_capacity(alloc, text.len()) else {
+        return Err(Error::OutOfMemory);
+    };
     let mut moves = String::new(alloc);
     let mut at = start;
     let mut rest = text;

@@ -1,9 +1,9 @@
 //! The elements of drawing output, in the form in which the writers of `vt_redraw` make them.
 
-ghost use Rattle.std.specs.Prelude.{◌≡◌, ◌<◌, ◌≤◌, ◌++◌, ◌∷◌, [], IfSome, decimal, length, take, slice_index_or};
+ghost use Rattle.std.specs.Prelude.{◌≡◌, ◌<◌, ◌≤◌, ◌++◌, ◌∷◌, [], IfSome, IsTrue, decimal, length, take, slice_index_or};
 ghost use Rattle.std.specs.List.{AllByRecursion};
 ghost use Rattle.vt_cells.specs.Op.{counted};
-ghost use Rattle.vt_screen.specs.ShortMoves.{IsAsciiCharacter, IsElement, IsSgrText, is_still};
+ghost use Rattle.vt_screen.specs.ShortMoves.{IsAsciiCharacter, IsElement, IsSgrText, IsWantedNext, is_still};
 
 use crate::sgr::{Reading, Wanted};
 use vt_cells::{Pos, columns};
@@ -207,7 +207,8 @@ fn numbered(bytes: &[u8]) -> Option<(Element, usize)>
     ensures inside { IfSome result (λ found. found.1 ≤ length bytes.now) }
     ensures element { IfSome result (λ found. IsElement found.0 (0x1B ∷ 0x5B ∷ take found.1 bytes.now)) }
 {
-    if let Some(len) = sgr_len(bytes, Wanted::Any, MOST_NUMBERS) {
+    if final_byte(bytes) == b'm' {
+        let len = sgr_len(bytes, Wanted::Any, MOST_NUMBERS)?;
         return Some((Element::Attrs, len + 1));
     }
     let (first, len) = number(bytes)?;
@@ -258,18 +259,54 @@ fn sgr_len(bytes: &[u8], wanted: Wanted, most: u8) -> Option<usize>
         return None;
     }
     let (first, len) = number(bytes)?;
-    let read = wanted.read(&[first]);
-    if read.reading == Reading::Unhandled || len >= bytes.len() {
+    let next = wanted_next(wanted, first)?;
+    if len >= bytes.len() {
         return None;
     }
     match bytes[len] {
         b'm' => Some(len),
         b';' => {
-            let more = sgr_len(&bytes[len + 1..], read.wanted, most - 1)?;
+            let more = sgr_len(&bytes[len + 1..], next, most - 1)?;
             Some(len + 1 + more)
         }
         _ => None,
     }
+}
+
+/// Returns how the number after `number` in an SGR sequence is interpreted, or `None` if `number` is
+/// unknown. Few numbers are looked up in the table of SGR.
+#[inline]
+fn wanted_next(wanted: Wanted, number: u16) -> Option<Wanted>
+    ensures { IfSome result (IsWantedNext wanted number) }
+{
+    if is_palette_number(wanted, number) {
+        return Some(Wanted::Any);
+    }
+    let read = wanted.read(&[number]);
+    if read.reading == Reading::Unhandled {
+        return None;
+    }
+    Some(read.wanted)
+}
+
+/// Returns whether `number`, which is interpreted as `wanted` says, sets one of the first 16 colors
+/// of the palette.
+#[inline]
+#[tactic(auto, using(crate::proofs::Numbers::foreground_known, crate::proofs::Numbers::background_known, crate::proofs::Numbers::bright_known, crate::proofs::Numbers::bright_background_known))]
+fn is_palette_number(wanted: Wanted, number: u16) -> bool
+    ensures { IsTrue result → IsWantedNext wanted number Wanted.Any }
+{
+    matches!(wanted, Wanted::Any) && matches!(number, 30..=37 | 40..=47 | 90..=97 | 100..=107)
+}
+
+/// Returns the first byte of `bytes` that is neither a digit nor `;`, or 0 if there is none.
+fn final_byte(bytes: &[u8]) -> u8 {
+    for byte in bytes {
+        if !matches!(*byte, b'0'..=b'9' | b';') {
+            return *byte;
+        }
+    }
+    0
 }
 
 /// Returns the decimal number at the beginning of `bytes`, which has no leading zeros, and the

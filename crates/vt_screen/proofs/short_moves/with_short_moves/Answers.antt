@@ -1,11 +1,12 @@
-use Rattle.std.proofs.Common.{rules, ◌≡◌, ◌<◌, length, string_bytes}
+use Rattle.std.proofs.Common.{rules, ◌≡◌, ◌<◌, [], length, string_bytes}
 use Rattle.vt_screen.proofs.Replacing.{replaced_first, replaced_next, replaced_some, replaced_whole}
 use Rattle.vt_screen.proofs.short_moves.with_short_moves.Goals as goal
 
 pub loop-rest-init : goal.loop-rest-init
 loop-rest-init c =
+    let none : string_bytes c.in-Ok.short ≡ [] = search rules in
     (c.utf8.text, replaced_first c.args.size.rows c.args.size.cols c.args.start c.args.text.now
-    (string_bytes c.new-short.result) c.new-short.ensures.bytes)
+    (string_bytes c.in-Ok.short) none)
 
 pub loop-rest-preserved : goal.loop-rest-preserved
 loop-rest-preserved c =

@@ -7,7 +7,7 @@ use Rattle.vt_redraw.specs.Internals.{cells_from}
 use Rattle.vt_redraw.specs.Script.{flag_behind, pen_at}
 use Rattle.vt_redraw.proofs.Alike.{alike_inside, alike_leads, glyph_text, read_at}
 use Rattle.vt_redraw.proofs.CellSteps.{leads_then}
-use Rattle.vt_redraw.proofs.cells.gather_alike.Goals as goal
+use Rattle.vt_redraw.proofs.cells.gather_more.Goals as goal
 
 pub loop-own-preserved : goal.loop-own-preserved
 loop-own-preserved c =
