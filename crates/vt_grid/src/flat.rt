@@ -19,6 +19,9 @@ use vt_rows::cells;
 use vt_rows::copies::{blank_cells, copied};
 use vt_rows::shifts::turn;
 
+/// The number of groups of used columns that stands for the whole row.
+pub const WHOLE_ROW: u8 = 255;
+
 /// An entry of the row table: the place of the row's cells, whether the row is wrapped (its text
 /// continues on the next row), and the number of used columns in groups of eight, 255 for the whole
 /// row.
@@ -182,20 +185,7 @@ impl Flat {
     {
         let (start, end) = self.part(row);
         cells::clear(&mut self.cells[start..end], attrs);
-        self.end_edit(row, false);
-    }
-
-    /// Sets the wrapped flag of a row whose cells were edited. All its columns then count as used.
-    #[inline]
-    pub fn end_edit(&mut self, row: usize, wrapped: bool)
-        requires { row < length self.old.lines.items }
-        ensures cells { self.new.cells ≡ self.old.cells }
-        ensures width { self.new.width ≡ self.old.width }
-        ensures lines { self.new.lines.items
-            ≡ slice_set self.old.lines.items row
-            (record (line_at self.old.lines.items row) { used = 255; wrapped = wrapped }) }
-    {
-        self.set_entry(row, 255, wrapped);
+        self.set_entry(row, WHOLE_ROW, false);
     }
 
     /// Sets the number of used groups of columns and the wrapped flag of a row.
@@ -242,7 +232,7 @@ impl Flat {
 pub fn used_columns(groups: u8, width: u16) -> usize
     ensures { result ≡ used_columns width groups }
 {
-    if groups < 255 {
+    if groups < WHOLE_ROW {
         (8 * usize::from(groups)).min(usize::from(width))
     } else {
         usize::from(width)

@@ -19,7 +19,7 @@ mod columns;
 mod resizing;
 mod texts;
 
-use crate::flat::Flat;
+use crate::flat::{Flat, WHOLE_ROW};
 use crate::page_rows::columns::erased_reach;
 use crate::scrollback::Scrollback;
 use crate::size::Size;
@@ -175,7 +175,7 @@ impl PageRows {
         let cells = &mut self.flat.cells[start..end];
         let edited = edit(cells);
         let is_wrapped = cells::flag_left(cells, is_wrapped);
-        self.flat.end_edit(row, is_wrapped);
+        self.flat.set_entry(row, WHOLE_ROW, is_wrapped);
         edited
     }
 
@@ -191,7 +191,7 @@ impl PageRows {
     {
         let (start, end) = self.flat.part(row);
         edit(&mut self.flat.cells[start..end]);
-        self.flat.end_edit(row, is_wrapped);
+        self.flat.set_entry(row, WHOLE_ROW, is_wrapped);
     }
 
     /// Puts a narrow glyph at a column of a row, as [`cells::put_narrow`] does.

@@ -263,8 +263,11 @@ erase_copied : (rows cols : ℕ) (known : Option Pos) → Replaces rows cols kno
 erase_copied rows cols known =
     still_copied rows cols known (bytes_of EraseRest)
     rest_tame rest_made
-    (λ screen. (display_after (OnPage page.EraseRest) screen, erased_rest_read screen,
-    erased_rest_still screen.attrs screen.page))
+    (λ screen. (
+      display_after (OnPage page.EraseRest) screen,
+      erased_rest_read screen,
+      erased_rest_still screen.attrs screen.page,
+    ))
 
 clear_copied : (rows cols : ℕ) (known : Option Pos) → Replaces rows cols known known (csi [] 0x6D) (csi [] 0x6D)
 clear_copied rows cols known =
@@ -312,8 +315,8 @@ sgr_read text screen is =
     let (attrs, quiet) = handled_read (alone ns) Any ns screen is.handled in (
       attrs,
       subst (λ (t : List ℕ). ReadsTo (csi t 0x6D) screen (record screen { attrs = attrs })) (sym is.spelled)
-      (csi_read (semicolon_list ns) 0x6D (alone ns) screen (record screen { attrs = attrs })
-      (joined_is_parameter ns small) (omega arith, omega arith) (joined_groups ns some is.few small) quiet),
+          (csi_read (semicolon_list ns) 0x6D (alone ns) screen (record screen { attrs = attrs })
+          (joined_is_parameter ns small) (omega arith, omega arith) (joined_groups ns some is.few small) quiet),
     )
   where
     weaker : (ns : List ℕ) → AllByRecursion (λ n. n < 65536) ns → AllByRecursion (λ n. n ≤ 65535) ns
@@ -481,18 +484,24 @@ IsStill text =
 
 erase_still : (n : ℕ) → 0 < n → n < 2 ^ 16 → IsStill (counted n 0x58)
 erase_still zero some small screen = absurd (omega arith)
-erase_still (suc n) some small screen =
-    (display_after (OnPage (page.EraseChars (suc n))) screen, erased_chars_read n screen small,
-    chars_erased_cursor (suc n) screen.attrs screen.page)
+erase_still (suc n) some small screen = (
+  display_after (OnPage (page.EraseChars (suc n))) screen,
+  erased_chars_read n screen small,
+  chars_erased_cursor (suc n) screen.attrs screen.page,
+)
 
 lines_still : (n : ℕ) (insert : Bool) → 0 < n → n < 2 ^ 16 → IsStill (counted n (if insert then 0x4C else 0x4D))
 lines_still zero insert some small screen = absurd (omega arith)
-lines_still (suc n) true some small screen =
-    (display_after (OnPage (page.InsertLines (suc n))) screen, inserted_read n screen small,
-    lines_inserted_cursor (suc n) screen.page)
-lines_still (suc n) false some small screen =
-    (display_after (OnPage (page.DeleteLines (suc n))) screen, deleted_read n screen small,
-    lines_deleted_cursor (suc n) screen.page)
+lines_still (suc n) true some small screen = (
+  display_after (OnPage (page.InsertLines (suc n))) screen,
+  inserted_read n screen small,
+  lines_inserted_cursor (suc n) screen.page,
+)
+lines_still (suc n) false some small screen = (
+  display_after (OnPage (page.DeleteLines (suc n))) screen,
+  deleted_read n screen small,
+  lines_deleted_cursor (suc n) screen.page,
+)
 
 chars_still : (n : ℕ) (insert : Bool) → 0 < n → n < 2 ^ 16 → IsStill (counted n (if insert then 0x40 else 0x50))
 chars_still zero insert some small screen = absurd (omega arith)
@@ -510,25 +519,29 @@ element_kept (elements.Other c) bytes is =
     let text = other_text c bytes is.0 is.1 in
     (text_tame bytes text, made_drawn shortened_finals shortened_controls bytes text)
 element_kept (elements.Place pos) bytes is =
-    subst (λ (t : List ℕ). IsTame t × IsShort t) (sym is.2)
-    (λ reader screen h. op_goes (MoveTo pos.row pos.col) false reader screen (is.0, is.1) tt h,
-    made_place shortened_finals shortened_controls pos.row pos.col 0x48 (inr (inr (inr (inr (inr (inl refl)))))))
+    subst (λ (t : List ℕ). IsTame t × IsShort t) (sym is.2) (
+      λ reader screen h. op_goes (MoveTo pos.row pos.col) false reader screen (is.0, is.1) tt h,
+      made_place shortened_finals shortened_controls pos.row pos.col 0x48 (inr (inr (inr (inr (inr (inl refl)))))),
+    )
 element_kept (elements.Right n) bytes is =
     let small = is.1 in
-    subst (λ (t : List ℕ). IsTame t × IsShort t) (sym is.2)
-    (right_tame n (omega arith),
-    made_counted shortened_finals shortened_controls n 0x43 (inr (inr (inr (inr (inr (inr (inl refl))))))))
+    subst (λ (t : List ℕ). IsTame t × IsShort t) (sym is.2) (
+      right_tame n (omega arith),
+      made_counted shortened_finals shortened_controls n 0x43 (inr (inr (inr (inr (inr (inr (inl refl))))))),
+    )
 element_kept elements.NextRow bytes is =
-    subst (λ (t : List ℕ). IsTame t × IsShort t) (sym is)
-    (λ reader screen h. op_goes NextRow false reader screen tt tt h,
-    made_piece shortened_finals shortened_controls (Control (bytes_of NextRow)) (inr (inr (inl refl))))
+    subst (λ (t : List ℕ). IsTame t × IsShort t) (sym is) (
+      λ reader screen h. op_goes NextRow false reader screen tt tt h,
+      made_piece shortened_finals shortened_controls (Control (bytes_of NextRow)) (inr (inr (inl refl))),
+    )
 element_kept elements.EraseRest bytes is =
     subst (λ (t : List ℕ). IsTame t × IsShort t) (sym is) (rest_tame, rest_made)
 element_kept (elements.EraseChars n) bytes is =
     let small = is.1 in
-    subst (λ (t : List ℕ). IsTame t × IsShort t) (sym is.2)
-    (chars_erased_tame n (omega arith),
-    made_counted shortened_finals shortened_controls n 0x58 (inr (inr (inr (inr (inr (inr (inr (inl refl)))))))))
+    subst (λ (t : List ℕ). IsTame t × IsShort t) (sym is.2) (
+      chars_erased_tame n (omega arith),
+      made_counted shortened_finals shortened_controls n 0x58 (inr (inr (inr (inr (inr (inr (inr (inl refl)))))))),
+    )
 element_kept (elements.Lines n insert) bytes is =
     let some = is.0 in
     let small = is.1 in

@@ -102,7 +102,10 @@ pub version_short : (prev : ScreenValue) (rows cols : ℕ) (at : Option Pos) (ol
     → Replaces rows cols at None whole text → rows ≡ length prev.page.rows → cols ≡ prev.page.width
     → at ≡ known_cursor prev → whole ≡ old → 0 < length text → IsShortVersion prev old text
 version_short prev rows cols at old whole text r tall wide known same some =
-    inr (some, subst (λ h. Replaces h prev.page.width (known_cursor prev) None old text) tall
-    (subst (λ w. Replaces rows w (known_cursor prev) None old text) wide
-    (subst (λ (k : Option Pos). Replaces rows cols k None old text) known
-    (subst (λ (xs : List ℕ). Replaces rows cols at None xs text) same r))))
+    inr (
+      some,
+      subst (λ h. Replaces h prev.page.width (known_cursor prev) None old text) tall
+          (subst (λ w. Replaces rows w (known_cursor prev) None old text) wide
+          (subst (λ (k : Option Pos). Replaces rows cols k None old text) known
+          (subst (λ (xs : List ℕ). Replaces rows cols at None xs text) same r))),
+    )

@@ -11,8 +11,8 @@ pub mod repeats;
 mod reporter;
 pub mod rows;
 pub mod screen;
-mod short_moves;
 pub mod sgr;
+mod short_moves;
 
 pub use callbacks::{Call, Callbacks};
 pub use diff_options::DiffOptions;

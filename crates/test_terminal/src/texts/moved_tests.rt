@@ -104,6 +104,46 @@ const SHIFTED: [Example; 4] = [
     ),
 ];
 
+#[rattlefmt::skip]
+const SHORTENED: [Example; 8] = [
+    // HT moves to the next column that is a multiple of 8.
+    ((1, 30), 0, &[Text("\x1b[H")], &[Text("\x1b[1;9Hz")], "\tz"),
+
+    // HT moves too far, and BS moves back.
+    ((1, 30), 0, &[Text("\x1b[H")], &[Text("\x1b[1;7Hz")], "\t\x08\x08z"),
+
+    // CUF remains if HT is not shorter.
+    ((1, 30), 0, &[Text("\x1b[H")], &[Text("\x1b[1;3Hz")], "\x1b[2Cz"),
+
+    // BS moves left.
+    ((1, 30), 0, &[Text("abcde")], &[Text("abcde"), Text("\x1b[1;4Hz")], "\x08\x08z"),
+
+    // CR moves to the first column.
+    ((1, 30), 0, &[Text("abcde")], &[Text("abcde"), Text("\rz")], "\rz"),
+
+    // LF moves down and keeps the column.
+    ((3, 30), 0, &[Text("ab")], &[Text("ab"), Text("\x1b[3;3Hz")], "\n\nz"),
+
+    // CHA moves to a column.
+    (
+        (2, 90), 0,
+        &[Text("\x1b[1;70H")],
+        &[Text("\x1b[2;40Hz")],
+        "\n\x1b[40Gz",
+    ),
+
+    // While a wrap is pending, the position is not known.
+    ((2, 3), 0, &[Text("abc")], &[Text("abc"), Text("\x1b[2;2Hz")], "\x1b[2;2Hz"),
+];
+
+#[test]
+fn movements_are_short(rt: HostRuntime) -> Result<(), Fail> {
+    for example in &SHORTENED {
+        expect_at_each_cut(rt.alloc(), Change::Scrolling, example)?;
+    }
+    Ok(())
+}
+
 #[test]
 fn columns_move_first(rt: HostRuntime) -> Result<(), Fail> {
     for example in &SHIFTED {

@@ -207,8 +207,7 @@ fn numbered(bytes: &[u8]) -> Option<(Element, usize)>
     ensures inside { IfSome result (λ found. found.1 ≤ length bytes.now) }
     ensures element { IfSome result (λ found. IsElement found.0 (0x1B ∷ 0x5B ∷ take found.1 bytes.now)) }
 {
-    if final_byte(bytes) == b'm' {
-        let len = sgr_len(bytes, Wanted::Any, MOST_NUMBERS)?;
+    if let Some(len) = sgr_len(bytes, Wanted::Any, MOST_NUMBERS) {
         return Some((Element::Attrs, len + 1));
     }
     let (first, len) = number(bytes)?;
@@ -297,16 +296,6 @@ fn is_palette_number(wanted: Wanted, number: u16) -> bool
     ensures { IsTrue result → IsWantedNext wanted number Wanted.Any }
 {
     matches!(wanted, Wanted::Any) && matches!(number, 30..=37 | 40..=47 | 90..=97 | 100..=107)
-}
-
-/// Returns the first byte of `bytes` that is neither a digit nor `;`, or 0 if there is none.
-fn final_byte(bytes: &[u8]) -> u8 {
-    for byte in bytes {
-        if !matches!(*byte, b'0'..=b'9' | b';') {
-            return *byte;
-        }
-    }
-    0
 }
 
 /// Returns the decimal number at the beginning of `bytes`, which has no leading zeros, and the

@@ -29,7 +29,7 @@ returns-clause-others c =
       c.part-start.ensures.end,
       c.part-start.ensures.inside,
     ) in
-    let cells = written w n p s k flat.cells c.end_edit.new.self.cells xs new c.end_edit.ensures.cells c.deref_mut.ensures.value
+    let cells = written w n p s k flat.cells c.set_entry.new.self.cells xs new c.set_entry.ensures.cells c.deref_mut.ensures.value
     c.requires.flat.table.filled h c.part-start.ensures.start (omega (arith, c.part-start.ensures.end)) size in
     λ place q other.
     ap (λ (items : List CellValue). cells_at w items place) cells

@@ -9,10 +9,10 @@ use Rattle.vt_grid.proofs.page_rows.PageRows.edit_row.Goals as goal
 pub invariant_of-self : goal.invariant_of-self
 invariant_of-self g c =
     flat_changed c.from-row.result c.part-start.result.0 c.part-start.result.1 c.self.inside.flat
-    c.end_edit.new.self c.deref_mut.result.now c.edit-edited.new.arg2 c.flag_left-is_wrapped.result c.self.invariant
-    c.part-start.ensures.line c.end_edit.ensures.cells c.deref_mut.ensures.value c.part-start.ensures.start
-    c.part-start.ensures.end c.part-start.ensures.inside c.edit-edited.auto.arg2 c.end_edit.ensures.width
-    c.end_edit.ensures.lines
+    c.set_entry.new.self c.deref_mut.result.now c.edit-edited.new.arg2 c.flag_left-is_wrapped.result c.self.invariant
+    c.part-start.ensures.line c.set_entry.ensures.cells c.deref_mut.ensures.value c.part-start.ensures.start
+    c.part-start.ensures.end c.part-start.ensures.inside c.edit-edited.auto.arg2 c.set_entry.ensures.width
+    c.set_entry.ensures.lines
 
 pub returns : goal.returns
 returns g c =
@@ -20,11 +20,11 @@ returns g c =
     let flat = c.self.inside.flat in
     let new = c.edit-edited.new.arg2 in
     let edited = row_printed r 255 c.part-start.result.0 c.part-start.result.1
-    flat c.end_edit.new.self c.deref_mut.result.now new
+    flat c.set_entry.new.self c.deref_mut.result.now new
     c.wrapped-is_wrapped.result c.flag_left-is_wrapped.result c.self.invariant c.part-start.ensures.line
-    c.end_edit.ensures.cells c.deref_mut.ensures.value c.part-start.ensures.start
-    c.part-start.ensures.end c.part-start.ensures.inside c.edit-edited.auto.arg2 c.end_edit.ensures.width
-    c.end_edit.ensures.lines c.wrapped-is_wrapped.ensures c.flag_left-is_wrapped.ensures in
+    c.set_entry.ensures.cells c.deref_mut.ensures.value c.part-start.ensures.start
+    c.part-start.ensures.end c.part-start.ensures.inside c.edit-edited.auto.arg2 c.set_entry.ensures.width
+    c.set_entry.ensures.lines c.wrapped-is_wrapped.ensures c.flag_left-is_wrapped.ensures in
     let cells = ap (λ (items : List CellValue). slice_range items c.part-start.result.0 c.part-start.result.1)
     c.deref_mut.ensures.value
     ∙ c.part-start.ensures.row in

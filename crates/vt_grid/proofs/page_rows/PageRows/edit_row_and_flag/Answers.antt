@@ -9,19 +9,19 @@ use Rattle.vt_grid.proofs.page_rows.PageRows.edit_row_and_flag.Goals as goal
 pub invariant_of-self : goal.invariant_of-self
 invariant_of-self g c =
     flat_changed c.args.row c.part-start.result.0 c.part-start.result.1 c.self.inside.flat
-    c.end_edit.new.self c.deref_mut.result.now c.edit.new.arg2 c.args.is_wrapped c.self.invariant
-    c.part-start.ensures.line c.end_edit.ensures.cells c.deref_mut.ensures.value c.part-start.ensures.start
-    c.part-start.ensures.end c.part-start.ensures.inside c.edit.auto.arg2 c.end_edit.ensures.width
-    c.end_edit.ensures.lines
+    c.set_entry.new.self c.deref_mut.result.now c.edit.new.arg2 c.args.is_wrapped c.self.invariant
+    c.part-start.ensures.line c.set_entry.ensures.cells c.deref_mut.ensures.value c.part-start.ensures.start
+    c.part-start.ensures.end c.part-start.ensures.inside c.edit.auto.arg2 c.set_entry.ensures.width
+    c.set_entry.ensures.lines
 
 pub returns : goal.returns
 returns g c =
     let r = c.args.row in
     let new = c.edit.new.arg2 in
     let edited = row_changed r 255 c.part-start.result.0 c.part-start.result.1 c.self.inside.flat
-    c.end_edit.new.self c.deref_mut.result.now new c.args.is_wrapped c.self.invariant c.part-start.ensures.line
-    c.end_edit.ensures.cells c.deref_mut.ensures.value c.part-start.ensures.start c.part-start.ensures.end
-    c.part-start.ensures.inside c.edit.auto.arg2 c.end_edit.ensures.width c.end_edit.ensures.lines in
+    c.set_entry.new.self c.deref_mut.result.now new c.args.is_wrapped c.self.invariant c.part-start.ensures.line
+    c.set_entry.ensures.cells c.deref_mut.ensures.value c.part-start.ensures.start c.part-start.ensures.end
+    c.part-start.ensures.inside c.edit.auto.arg2 c.set_entry.ensures.width c.set_entry.ensures.lines in
     let cells = ap (λ (items : List CellValue). slice_range items c.part-start.result.0 c.part-start.result.1)
     c.deref_mut.ensures.value
     ∙ c.part-start.ensures.row in

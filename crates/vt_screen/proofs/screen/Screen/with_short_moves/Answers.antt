@@ -6,7 +6,7 @@ use Rattle.vt_screen.proofs.screen.Screen.with_short_moves.Goals as goal
 pub returns-in-Ok-Some-clause-text : goal.returns-in-Ok-Some-clause-text
 returns-in-Ok-Some-clause-text c =
     let r : Replaces c.size-size.result.rows c.size-size.result.cols c.known_cursor-start.result None c.as_str.result.now
-        (string_bytes c.in-Ok-Some.short) = search rules in
+    (string_bytes c.in-Ok-Some.short) = search rules in
     let tall : c.size-size.result.rows ≡ length c.args.self.now.page.rows = search rules in
     let wide : c.size-size.result.cols ≡ c.args.self.now.page.width = search rules in
     let known : c.known_cursor-start.result ≡ known_cursor c.args.self.now = search rules in
