@@ -12,12 +12,13 @@ ghost use Rattle.vt_cells.specs.BufferInternals.{buffered_text};
 ghost use Rattle.vt_cells.specs.Cell.{attrs_of, is_blank, is_glyph, is_wide, text_of};
 ghost use Rattle.vt_cells.specs.Op.{bytes_of, bytes_of_all};
 ghost use Rattle.vt_rows.specs.Cells.{at};
-ghost use Rattle.vt_redraw.specs.Internals.{AppendsOrStops, GathersOrStops, IsAlike, IsOther, IsRange, Leads, Passes};
+ghost use Rattle.vt_redraw.specs.Internals.{AppendsOrStops, GathersOrStops, IsAlike, IsOther, IsRange, Leads};
 ghost use Rattle.vt_redraw.specs.Internals.{SettlesOrStops, Writes, cells_from, cells_over, columns_of, glyph_ops};
-ghost use Rattle.vt_redraw.specs.Internals.{run_ops, stands};
+ghost use Rattle.vt_redraw.specs.Internals.{run_ops};
 ghost use Rattle.vt_redraw.specs.Refusals.{RefusedOnlyIfSome};
 ghost use Rattle.vt_redraw.specs.Script.{erase_run, flag_behind, flag_past, pen_at};
 
+use crate::passing::{next_other, stands};
 use crate::pen::Pen;
 use crate::picture_row::PictureRow;
 use vt_cells::term::{BufWrite, ClearRowForward, EraseChar};
@@ -215,85 +216,6 @@ pub fn flag_past(flag: bool, over: &PictureRow<'_>, col: u16) -> bool
         return false;
     }
     flag && !over.is_torn(col)
-}
-
-/// Returns whether the cell at a column needs no output, because the terminal
-/// already displays it or because it is the continuation cell of a wide
-/// character.
-#[inline(always)]
-fn stands(cells: &PictureRow<'_>, over: &PictureRow<'_>, col: u16) -> bool
-    requires inside { col < length cells.now.cells }
-    requires over { length cells.now.cells ≤ length over.now.cells }
-    ensures { result ≡ stands col cells.now over.now }
-{
-    let cell = cells.cell(col);
-    *cell == *over.cell(col) || cell.is_wide_continuation()
-}
-
-/// Returns the first column in `col..stop` whose cell needs output, or the
-/// greater of `col` and `stop` if there is none.
-#[inline(always)]
-fn pass(cells: &PictureRow<'_>, over: &PictureRow<'_>, col: u16, stop: usize) -> u16
-    requires inside { stop ≤ length cells.now.cells }
-    requires short { stop < 65536 }
-    requires range { IsRange cells.now.cells over.now.cells }
-    ensures order { col ≤ result }
-    ensures passed { Passes col result cells.now.cells over.now.cells }
-    ensures other { result < stop → stands result cells.now over.now ≡ false }
-{
-    let mut next = col;
-    while usize::from(next) < stop && stands(cells, over, next) {
-        next += 1;
-    }
-    next
-}
-
-/// Skips consecutive columns, starting at `col`, in which the cells of the two
-/// rows are equal and therefore need no output. Returns the first column that
-/// was not skipped; its cells may still be equal.
-#[inline]
-fn pass_same(cells: &PictureRow<'_>, over: &PictureRow<'_>, col: u16) -> u16
-    requires short { length cells.now.cells < 65536 }
-    requires range { IsRange cells.now.cells over.now.cells }
-    ensures order { col ≤ result }
-    ensures passed { Passes col result cells.now.cells over.now.cells }
-{
-    col + cells.same_run(over, col) as u16
-}
-
-/// Skips consecutive columns, starting at `col`, in which the cells of the row
-/// equal the blank after the stored cells of `over` and therefore need no
-/// output. Returns the first column that was not skipped; its cells may still be
-/// equal.
-#[inline]
-fn pass_ended(cells: &PictureRow<'_>, over: &PictureRow<'_>, col: u16) -> u16
-    requires short { length cells.now.cells < 65536 }
-    requires range { IsRange cells.now.cells over.now.cells }
-    ensures order { col ≤ result }
-    ensures passed { Passes col result cells.now.cells over.now.cells }
-{
-    col + cells.end_run(over, col) as u16
-}
-
-/// Returns the first column at or after `col` whose cell needs output, or a
-/// column past the end of the row if there is none.
-///
-/// One loop handles the columns in which both rows have stored cells, a second
-/// loop the columns in which only `cells` has stored cells, and a third loop
-/// the remaining columns.
-fn next_other(cells: &PictureRow<'_>, over: &PictureRow<'_>, col: u16) -> u16
-    requires range { IsRange cells.now.cells over.now.cells }
-    ensures order { col ≤ result }
-    ensures passed { Passes col result cells.now.cells over.now.cells }
-    ensures other { result < length cells.now.cells → stands result cells.now over.now ≡ false }
-{
-    let cols = usize::from(cells.cols());
-    let own = cells.own_len();
-    let same = pass_same(cells, over, col);
-    let both = pass(cells, over, same, own.min(over.own_len()));
-    let ended = pass_ended(cells, over, both);
-    let alone = pass(cells, over, ended, own);
-    pass(cells, over, alone, cols)
 }
 
 /// Returns whether the stored cell in column `col` of `own` looks like the glyph

@@ -10,6 +10,7 @@ mod cursor_rule;
 mod items;
 pub mod laws;
 mod links;
+mod passing;
 pub mod pen;
 pub mod picture_row;
 pub mod redraw;

@@ -1,5 +1,5 @@
 use Rattle.vt_redraw.proofs.CellSteps.{passes_run}
-use Rattle.vt_redraw.proofs.cells.pass_ended.Goals as goal
+use Rattle.vt_redraw.proofs.passing.pass_ended.Goals as goal
 
 pub returns-clause-passed : goal.returns-clause-passed
 returns-clause-passed c =

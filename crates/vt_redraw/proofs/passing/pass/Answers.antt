@@ -1,6 +1,6 @@
 use Rattle.std.proofs.Common.{◌∙◌, ◌+◌, sym, arith}
 use Rattle.vt_redraw.proofs.CellSteps.{passes_cell, passes_then}
-use Rattle.vt_redraw.proofs.cells.pass.Goals as goal
+use Rattle.vt_redraw.proofs.passing.pass.Goals as goal
 
 pub loop-next-preserved : goal.loop-next-preserved
 loop-next-preserved c =
