@@ -167,13 +167,13 @@ fn agrees_in_all_but_the_bytes_of_its_text(rt: HostRuntime) {
     let mut bold = Attrs::new();
     bold.set_intensity(Intensity::Bold);
     let e = cell_of_text("e");
-    assert!(rt; e.has_head_of(&cell_of_text("f")));
-    assert!(rt; !e.has_head_of(&cell_of_text("\u{e9}")));
-    assert!(rt; !e.has_head_of(&cell::glyph('f', false, bold)));
-    assert!(rt; !e.has_head_of(&cell::default_blank()));
+    assert!(rt; cell::has_head_of(&e, &cell_of_text("f")));
+    assert!(rt; !cell::has_head_of(&e, &cell_of_text("\u{e9}")));
+    assert!(rt; !cell::has_head_of(&e, &cell::glyph('f', false, bold)));
+    assert!(rt; !cell::has_head_of(&e, &cell::default_blank()));
     let wide = cell_of_text("\u{4e2d}");
-    assert!(rt; wide.has_head_of(&cell_of_text("\u{6587}")));
-    assert!(rt; !wide.has_head_of(&cell_of_text("\u{2500}")));
+    assert!(rt; cell::has_head_of(&wide, &cell_of_text("\u{6587}")));
+    assert!(rt; !cell::has_head_of(&wide, &cell_of_text("\u{2500}")));
 }
 
 #[test]

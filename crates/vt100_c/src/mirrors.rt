@@ -19,8 +19,8 @@ use crate::output::options_in;
 use crate::status::{BAD_ARGUMENT, IN_USE, NO_OBJECT, OK, OUT_OF_MEMORY, WRONG_KIND};
 use crate::viewers;
 use std::alloc::Global;
-use vt100::DiffOptions;
 use vt_mirror::Mirror;
+use vt100::DiffOptions;
 
 /// Creates a mirror with a fresh screen and no viewers in the empty handle
 /// `out`.

@@ -54,12 +54,7 @@ pub(crate) struct Skipped {
 /// # Errors
 ///
 /// Returns `Error::OutOfMemory` if the output cannot be allocated.
-pub fn with_repeats(
-    alloc: Global,
-    text: String,
-    cols: u16,
-    room: u16,
-) -> Result<String, Error>
+pub fn with_repeats(alloc: Global, text: String, cols: u16, room: u16) -> Result<String, Error>
     ensures text { IfText result (Repeats cols room (string_bytes text)) }
     ensures memory { OnlyOutOfMemory result }
     ensures nonempty { RefusedOnlyIfSome result (string_bytes text) }

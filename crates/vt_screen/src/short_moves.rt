@@ -19,9 +19,13 @@ use std::alloc::Global;
 use vt_cells::{Error, Pos, Sink, columns};
 use vt_grid::Size;
 
+/// The length in bytes of the longest output that is shortened. Reading longer output takes more time
+/// than the few bytes that it saves are worth.
+const LONGEST: usize = 4096;
+
 /// Returns `text` with shorter cursor movements, for a plain terminal of the given size whose cursor
-/// is at `start` (`None` if a wrap is pending). Returns `None` if `text` has an element that is
-/// unknown here, or cannot be made shorter.
+/// is at `start` (`None` if a wrap is pending). Returns `None` if `text` is longer than [`LONGEST`],
+/// or has an element that is unknown here.
 ///
 /// # Errors
 ///
@@ -37,6 +41,9 @@ pub fn with_short_moves(
     ensures memory { OnlyOutOfMemory result }
     ensures nonempty { RefusedOnlyIfSome result text.now }
 {
+    if text.len() > LONGEST {
+        return Ok(None);
+    }
     let Ok(mut short) = String::with_capacity(alloc, text.len()) else {
         return Err(Error::OutOfMemory);
     };

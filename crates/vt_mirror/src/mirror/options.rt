@@ -9,8 +9,8 @@ ghost use Rattle.vt_screen.specs.Screen.{IsColored, IsScreen};
 
 use crate::mirror::Mirror;
 use crate::update::Update;
-use vt100::{DiffOptions, Error};
 use vt_screen::repeats::with_repeats;
+use vt100::{DiffOptions, Error};
 
 impl Mirror {
     /// Returns the viewer's next update, as [`update`](Mirror::update) does, with the given options
