@@ -73,7 +73,7 @@ const MOVED: [Example; 1] = [
         (4, 10), 0,
         &[Text(FOUR)],
         &[Text(FOUR), Text("\r\neeeeeeeee")],
-        "\x1b[H\x1b[M\x1b[4;1He\x1b[8b",
+        "\x1b[H\x1b[M\n\n\ne\x1b[8b",
     ),
 ];
 
