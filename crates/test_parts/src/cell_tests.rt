@@ -169,7 +169,7 @@ fn agrees_in_all_but_the_bytes_of_its_text(rt: HostRuntime) {
     let e = cell_of_text("e");
     assert!(rt; cell::has_head_of(&e, &cell_of_text("f")));
     assert!(rt; !cell::has_head_of(&e, &cell_of_text("\u{e9}")));
-    assert!(rt; !cell::has_head_of(&e, &cell::glyph('f', false, bold)));
+    assert!(rt; !cell::has_head_of(&e, &cell::ascii(b'f', bold)));
     assert!(rt; !cell::has_head_of(&e, &cell::default_blank()));
     let wide = cell_of_text("\u{4e2d}");
     assert!(rt; cell::has_head_of(&wide, &cell_of_text("\u{6587}")));
