@@ -74,7 +74,7 @@ fn rows_move_and_runs_are_repeated() {
     };
     assert_eq!(
         parser.screen().contents_diff_with(&before, both),
-        "\x1b[H\x1b[M\x1b[4;1He\x1b[8b"
+        "\x1b[H\x1b[M\n\n\ne\x1b[8b"
     );
 }
 
