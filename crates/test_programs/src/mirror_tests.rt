@@ -136,7 +136,7 @@ const MIXED: [Call; 21] = [
     Call::Process("\x1b[H\x1b[Ltop-line"),
     Call::DiffScrolling(0, "\x1b[H\x1b[Ltop-line"),
     Call::Process("\x1b[1;3r\x1b[3;1H\r\nnew-line\x1b[r"),
-    Call::DiffScrolling(0, "\x1b[H\x1b[M\n\n\x1b[Lnew-line\x1b[H"),
+    Call::DiffScrolling(0, "\r\x1b[M\n\n\x1b[Lnew-line\x1b[H"),
     Call::SetSize(4, 9),
     Call::FullScrolling(0, (4, 9), "gamma-six\r\n$\r\nnew-line\r\ndelta-ten\x1b[H"),
     Call::Leave(0, true),
