@@ -95,7 +95,7 @@ class Walk:
             path = f"{parts[1]}/specs/{parts[3]}.antt"
             # (no such file: a module that the kit generates)
             return (path, "") if os.path.isfile(f"{self.root}/crates/{path}") else None
-        for end in range(5, len(parts)):
+        for end in range(len(parts) - 1, 4, -1):
             path = f"{parts[1]}/src/{'/'.join(parts[4:end])}.rt"
             if path in self.sources.files:
                 return path, parts[end]

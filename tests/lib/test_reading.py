@@ -111,6 +111,9 @@ class Verdicts(unittest.TestCase):
         self.assertEqual(self.why(FIELD + OPEN + "fn low::a: not proved"), verdicts.REFUSED)
         self.assertEqual(self.why("fn low::a: could not tell: a limit was met"), verdicts.NOT_TOLD)
 
+    def test_a_recursive_function(self):
+        self.assertEqual(self.why(ANSWER.replace("proofs/a/", "proofs/+a/") + "fn low::a: not proved"), verdicts.REFUSED)
+
     def test_a_callee(self):
         words = "fn low::a: not proved; it calls `low::b`, which is not proved"
         self.assertEqual(self.why(words), verdicts.CALLEE_ONLY)

@@ -26,6 +26,11 @@ CALLEE_ONLY = "NOT TRIED: a function that it calls is refused"
 NOT_TOLD = "COULD NOT TELL"
 
 
+def function_of(folder):
+    """The function whose proof files are in a folder. A recursive function's folder begins with `+`."""
+    return re.sub(r"(^|::)\+", r"\1", folder.replace("/", "::"))
+
+
 def is_renamed(old, new):
     """Whether two names of steps or goals differ in a condition alone: `if-a-lt7` and `if-a-lt8`, for example, or
     `returns-then-a-lt7-clause-value` and `returns-then-a-lt8-clause-value`."""
@@ -75,7 +80,7 @@ class Verdict:
         errors = {}
         for it in map(PROOF_ERROR.match, self.said):
             if it:
-                errors.setdefault(it[1].replace("/", "::"), []).append(it[2])
+                errors.setdefault(function_of(it[1]), []).append(it[2])
         start = 0
         for at, line in enumerate(lines):
             if line:

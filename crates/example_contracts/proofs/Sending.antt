@@ -94,7 +94,7 @@ pub as_one : {S : Type 0}
 as_one law text p q t = λ state after fine stands reads.
     (refl, (law p q t.calls state after fine stands (ap (terminal_after (terminal state p.screen)) t.whole ∙ reads) t.folds).1)
 
--- ---- A redraw, and differences after it
+-- ---- A redraw, and diffs after it
 
 same_size_back : (a b : Page) → SameSize a b → SameSize b a
 same_size_back a b s = record { width = sym s.width; height = sym s.height }

@@ -12,7 +12,7 @@ ghost use Rattle.vt_redraw.specs.Steady.{IsSteady};
 ghost use Rattle.vt_screen.specs.Chain.{last_screen};
 ghost use Rattle.vt_screen.specs.Shown.{display};
 
-use vt100::{Callbacks, Error, Parser, Screen, laws};
+use vt100::{Callbacks, DiffOptions, Error, Parser, Screen, laws};
 
 /// Sends a complete redraw of the screen to a remote terminal of the same size.
 ///
@@ -61,6 +61,37 @@ pub fn send_difference<CB: Callbacks>(
     // Only for the proof: a call on a screen makes its invariant available.
     remote.screen().size();
     let text = screen.contents_diff(prev)?;
+    remote.process(text.as_bytes())?;
+    Ok(())
+}
+
+/// Sends to a remote terminal a short diff from `prev`, a screen of the same size, to `screen`. The
+/// diff may move rows and columns first and repeat characters with REP, so the remote terminal must
+/// perform REP, as every terminal of this library does.
+///
+/// The terminal displays what it would display after [`send_difference`].
+///
+/// # Errors
+///
+/// Returns [`Error::OutOfMemory`] if an allocation fails, and [`Error::Failed`] if the remote
+/// terminal failed before.
+pub fn send_short_difference<CB: Callbacks>(
+    screen: &Screen,
+    prev: &Screen,
+    remote: &mut Parser<CB>,
+) -> Result<(), Error>
+    requires { SameSize screen.now.page prev.now.page }
+    ensures shows { OnOk result
+        (IsSteady (display screen.now) → ShowsScreen prev.now remote.old → ShowsScreen screen.now remote.new) }
+    ensures only { IfErr result (IsFailure remote.old) }
+{
+    // Only for the proof: a call on a screen makes its invariant available.
+    remote.screen().size();
+    let options = DiffOptions {
+        scroll: true,
+        repeat: true,
+    };
+    let text = screen.contents_diff_with(prev, options)?;
     remote.process(text.as_bytes())?;
     Ok(())
 }

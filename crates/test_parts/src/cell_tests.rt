@@ -1,7 +1,7 @@
 //! Tests of cells: their text, combining characters, equality and attributes.
 
 use std::test::Fail;
-use vt_cells::cell_runs::{run_of, same_run};
+use vt_cells::cell_runs::same_run;
 use vt_cells::{Attrs, Cell, Color, Intensity, cell, columns};
 
 /// Returns the cell that holds the character and the combining characters in `text`.
@@ -150,16 +150,6 @@ fn runs_of_the_same_cells_are_found(rt: HostRuntime) {
     assert_eq!(rt; same_run(&row, &other), 4);
     other[3] = cell::space(Attrs::new());
     assert_eq!(rt; same_run(&row, &other), 0);
-}
-
-#[test]
-fn runs_of_one_cell_are_found(rt: HostRuntime) {
-    let e = cell_of_text("e");
-    let f = cell_of_text("f");
-    assert_eq!(rt; run_of(&[e, e, e, e, e, e, e, e, e], &e), 8);
-    assert_eq!(rt; run_of(&[e, e, e, e, e, e, f, e], &e), 4);
-    assert_eq!(rt; run_of(&[e, e, e, e], &f), 0);
-    assert_eq!(rt; run_of(&[e, e, e], &e), 0);
 }
 
 #[test]

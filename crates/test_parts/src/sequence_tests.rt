@@ -7,7 +7,7 @@ use vt_cells::term::{
     ApplicationCursor, ApplicationKeypad, Backspace, BracketedPaste, BufWrite, ChangeAttrs,
     ClearAttrs, ClearRowForward, ClearScreen, Crlf, CursorStyle, EraseChar, HideCursor, LineFeed,
     MouseProtocolEncoding, MouseProtocolMode, MoveFromTo, MoveRight, MoveTo, RestoreCursor,
-    SaveCursor,
+    SHORT_ROOM, SaveCursor,
 };
 use vt_cells::{
     Buffer, Color, CursorStyle as Style, Error, Intensity, MouseProtocolEncoding as Encoding,
@@ -113,21 +113,29 @@ fn buffered(rt: HostRuntime) -> Result<(), Fail> {
     let mut text = String::new(rt.alloc());
     let mut buffer = Buffer::new();
     let (home, far) = (pos_of((0, 0)), pos_of((2, 4)));
-    MoveFromTo {
+    let away = MoveFromTo {
         from: home,
         to: far,
-    }
-    .add(&mut text, &mut buffer)?;
-    EraseChar { count: 1 }.add(&mut text, &mut buffer)?;
-    EraseChar { count: 12 }.add(&mut text, &mut buffer)?;
-    MoveFromTo { from: far, to: far }.add(&mut text, &mut buffer)?;
-    ClearRowForward.add(&mut text, &mut buffer)?;
+    };
+    let stays = MoveFromTo { from: far, to: far };
+    buffer.make_room(&mut text, SHORT_ROOM)?;
+    away.push(&mut buffer);
+    buffer.make_room(&mut text, SHORT_ROOM)?;
+    EraseChar { count: 1 }.push(&mut buffer);
+    buffer.make_room(&mut text, SHORT_ROOM)?;
+    EraseChar { count: 12 }.push(&mut buffer);
+    buffer.make_room(&mut text, SHORT_ROOM)?;
+    stays.push(&mut buffer);
+    buffer.make_room(&mut text, SHORT_ROOM)?;
+    ClearRowForward.push(&mut buffer);
     assert!(rt; text.is_empty());
-    assert_eq!(rt; buffer.room(), 111);
+    assert_eq!(rt; buffer.room(), 239);
+    buffer.make_room(&mut text, SHORT_ROOM)?;
     buffer.push("\u{2500}");
-    assert_eq!(rt; buffer.room(), 108);
+    assert_eq!(rt; buffer.room(), 236);
+    buffer.make_room(&mut text, 237)?;
+    assert_eq!(rt; buffer.room(), 256);
     buffer.flush(&mut text)?;
-    assert_eq!(rt; buffer.room(), 128);
     if text.as_str() != "\x1b[3;5H\x1b[X\x1b[12X\x1b[K\u{2500}" {
         return Err(Fail::new(format_args!("{text:?}")));
     }

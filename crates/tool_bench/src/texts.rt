@@ -1,13 +1,14 @@
 //! The output of a screen for a second terminal, and what that terminal must display.
 
-use crate::lengths::Reading;
+use crate::lengths::{BOTH, Reading};
 use anyhow::{Result, ensure};
 use std::alloc::{AllocError, Global};
 use vt100::{Cell, Color, Parser, Screen};
 
-/// Prints a group of four texts after every `every` bytes and at the end of the input:
-/// `contents_formatted`, `contents_diff` and `contents_diff_scrolling` from the screen of the
-/// previous group (for the first group, a new screen), and the display of the screen.
+/// Prints a group of five texts after every `every` bytes and at the end of the input:
+/// `contents_formatted`; `contents_diff`, `contents_diff_scrolling`, and `contents_diff_with` with
+/// both options, from the screen of the previous group (for the first group, a new screen); and the
+/// display of the screen.
 ///
 /// Each group begins with a line that contains the cursor's row and column, counted from 0, whether
 /// the cursor is hidden, and the length of each text in bytes. Each group ends with a newline.
@@ -28,13 +29,14 @@ fn show<R: AllocGlobal + Print>(rt: &R, screen: &Screen, prev: &Screen) -> Resul
     ensure!(screen.is_sized_as(prev), "another size");
     let (redraw, drawn) = (screen.contents_formatted()?, screen.contents_diff(prev)?);
     let scrolling = screen.contents_diff_scrolling(prev)?;
+    let repeating = screen.contents_diff_with(prev, BOTH)?;
     let shown = shown(rt.alloc(), screen)?;
     let (row, col) = screen.cursor_position();
     let hidden = screen.hide_cursor();
     let (first, second) = (redraw.len(), drawn.len());
-    let (third, fourth) = (scrolling.len(), shown.len());
-    println!(rt; "{row} {col} {hidden} {first} {second} {third} {fourth}")?;
-    println!(rt; "{redraw}{drawn}{scrolling}{shown}")?;
+    let (third, fourth, fifth) = (scrolling.len(), repeating.len(), shown.len());
+    println!(rt; "{row} {col} {hidden} {first} {second} {third} {fourth} {fifth}")?;
+    println!(rt; "{redraw}{drawn}{scrolling}{repeating}{shown}")?;
     Ok(())
 }
 

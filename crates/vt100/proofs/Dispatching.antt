@@ -1,7 +1,8 @@
 -- What a control sequence does, by the tests that the code makes.
 use Rattle.std.proofs.Common.{◌≡◌, ℕ, ◌-◌, List, [], ◌∷◌, Option, None, Some, refl, ap, subst, rules, ◌∙◌}
+use Rattle.vt_grid.specs.declared.grid.moves.CursorMove.TheVariants.{To}
 use Rattle.vt_grid.specs.declared.page_step.PageStep.{PageStep}
-use Rattle.vt_grid.specs.declared.page_step.PageStep.TheVariants.{MoveTo}
+use Rattle.vt_grid.specs.declared.page_step.PageStep.TheVariants.{Move}
 use Rattle.vt_screen.specs.Screen.{ScreenValue}
 use Rattle.vt_screen.specs.Controls.{counted_step, csi_steps, intermediate_at, intermediate_steps, number_or}
 use Rattle.vt_screen.specs.Controls.{Seen, one_or, other_steps, unmarked_steps, scrolling_steps, seen_of, sgr_steps}
@@ -74,7 +75,7 @@ unfolding counted_step scrolling_steps other_steps
 unmarked_sgr groups b seen is = rw is refl
 
 pub unmarked_place : (groups : List (List ℕ)) (b : ℕ) (seen : Seen) → b ≡ 0x48 →
-    unmarked_steps groups b seen ≡ OnPage (MoveTo (number_or 1 0 groups - 1) (number_or 1 1 groups - 1)) ∷ []
+    unmarked_steps groups b seen ≡ OnPage (Move (To (number_or 1 0 groups - 1) (number_or 1 1 groups - 1))) ∷ []
 unfolding counted_step scrolling_steps other_steps
 unmarked_place groups b seen is = rw is refl
 

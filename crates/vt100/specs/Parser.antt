@@ -31,7 +31,7 @@ abbrev pub HasFreshScreen : {S : Type 0} → (rows cols capacity : ℕ) → S �
 HasFreshScreen rows cols capacity callbacks parser =
     parser ≡ parser_value parser.scanner (fresh_screen rows cols capacity) callbacks
 
--- The part of a parser that the steps of events change: its callbacks and its screen.
+-- The part of a parser that performing an event can change: its callbacks and its screen.
 abbrev pub stage : {S : Type 0} → ParserValue S → screen.State S
 stage parser = screen.state parser.callbacks parser.screen
 

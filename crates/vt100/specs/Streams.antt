@@ -57,8 +57,8 @@ whole_text rows cols bytes =
     let fresh = fresh_screen rows cols 0 in
     basic_texts nothing_written (sent_off_in start fresh bytes ++ (screen_in start fresh bytes).page.rows)
 
--- The callbacks append each reported row of the main page to a text, using a single capture state. The text is complete
--- unless its sink rejected a part of it.
+-- The callbacks append each reported row of the main page to their output, using a single capture state. The output is
+-- complete unless its sink rejected a part of it.
 pub record IsRecorder {S : Type 0} (does : CallRelation S)
     (text_of : S → List ℕ) (state_of : S → Written) (is_whole : S → Bool) : Type 0 where
   pub leaves : LeavesScreen does

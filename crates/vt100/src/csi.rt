@@ -6,6 +6,7 @@ ghost use Rattle.vt_screen.specs.Calls.{UnhandledCsi};
 ghost use Rattle.vt_screen.specs.Controls.{counted_step, csi_steps, intermediate_steps, number_at, number_or, other_steps};
 ghost use Rattle.vt_screen.specs.Controls.{scrolling_steps, page_erasing, unmarked_steps, private_steps};
 ghost use Rattle.vt_screen.specs.Controls.{row_erasing, size_or, space_steps, style_of, window_steps, seen_of};
+ghost use Rattle.vt_grid.specs.declared.grid.moves.CursorMove.TheVariants.{To};
 ghost use Rattle.vt_grid.specs.declared.page_step.PageStep.TheVariants as page;
 ghost use Rattle.vt_screen.specs.Steps.{display_after};
 ghost use Rattle.vt_screen.specs.Steps as step;
@@ -14,7 +15,7 @@ use crate::repeating::repeat;
 use crate::sequence::Sequence;
 use crate::{numbers, private_modes, sgr};
 use vt_cells::{CursorStyle, Error};
-use vt_grid::PageStep;
+use vt_grid::{CursorMove, PageStep};
 use vt_scan::Parameters;
 use vt_screen::screen::{controls, scrolling};
 use vt_screen::{Callbacks, ModeStep, Screen};
@@ -165,19 +166,19 @@ fn counted(byte: u8, count: u16) -> Option<PageStep>
 {
     let step = match byte {
         b'@' => PageStep::InsertChars(count),
-        b'A' => PageStep::MoveUp(count),
-        b'B' => PageStep::MoveDown(count),
-        b'C' => PageStep::MoveRight(count),
-        b'D' => PageStep::MoveLeft(count),
-        b'E' => PageStep::NextLine(count),
-        b'F' => PageStep::PreviousLine(count),
-        b'G' | b'`' => PageStep::MoveToColumn(count - 1),
+        b'A' => PageStep::Move(CursorMove::Up(count)),
+        b'B' => PageStep::Move(CursorMove::Down(count)),
+        b'C' => PageStep::Move(CursorMove::Right(count)),
+        b'D' => PageStep::Move(CursorMove::Left(count)),
+        b'E' => PageStep::Move(CursorMove::NextLine(count)),
+        b'F' => PageStep::Move(CursorMove::PreviousLine(count)),
+        b'G' | b'`' => PageStep::Move(CursorMove::ToColumn(count - 1)),
         b'L' => PageStep::InsertLines(count),
         b'M' => PageStep::DeleteLines(count),
         b'P' => PageStep::DeleteChars(count),
         b'T' => PageStep::ScrollDown(count),
         b'X' => PageStep::EraseChars(count),
-        b'd' => PageStep::MoveToRow(count - 1),
+        b'd' => PageStep::Move(CursorMove::ToRow(count - 1)),
         _ => return None,
     };
     Some(step)
@@ -212,17 +213,17 @@ fn other<CB: Callbacks>(screen: &mut Screen, callbacks: &mut CB, sequence: Seque
 #[inline(always)]
 fn move_to(screen: &mut Screen, parameters: &Parameters)
     ensures { screen.new
-        ≡ display_after (step.OnPage (page.MoveTo (number_or 1 0 parameters.now.groups - 1)
-        (number_or 1 1 parameters.now.groups - 1)))
+        ≡ display_after (step.OnPage (page.Move (To (number_or 1 0 parameters.now.groups - 1)
+        (number_or 1 1 parameters.now.groups - 1))))
         screen.old }
 {
     let row = numbers::number_or(1, parameters, 0);
     let col = numbers::number_or(1, parameters, 1);
-    let step = PageStep::MoveTo {
+    let place = CursorMove::To {
         row: row - 1,
         col: col - 1,
     };
-    controls::apply(screen, step);
+    controls::apply(screen, PageStep::Move(place));
 }
 
 /// Performs DECSTBM. The rows are 1-based; the top defaults to 1, and the

@@ -10,7 +10,7 @@ ghost use Rattle.vt_screen.specs.Controls.{character_steps, control_steps, escap
 
 use crate::{csi, numbers, osc};
 use vt_cells::Error;
-use vt_grid::PageStep;
+use vt_grid::{CursorMove, PageStep};
 use vt_scan::{Event, Scanner};
 use vt_screen::screen::{controls, pages, printing, scrolling};
 use vt_screen::{Callbacks, ModeStep, Screen};
@@ -122,16 +122,16 @@ pub fn print<CB: Callbacks>(
     Ok(())
 }
 
-/// Prints or reports a character, as [`print`] does. The callers are code paths that few characters
+/// Prints or reports a character, as [`print`] does. Called only on code paths that few characters
 /// take.
 ///
-/// It is never inlined, because inlining it would slow down the loop over the
-/// input bytes.
+/// This function is never inlined, because inlining it would slow down the loop over the input
+/// bytes.
 ///
 /// # Errors
 ///
-/// Returns `Error::OutOfMemory` if there is not enough memory to keep a row
-/// that scrolls off the top. On error, the screen is unchanged.
+/// Returns `Error::OutOfMemory` if there is not enough memory to keep a row that scrolls off the
+/// top. On error, the screen is unchanged.
 #[inline(never)]
 pub fn print_apart<CB: Callbacks>(
     screen: &mut Screen,
@@ -186,9 +186,9 @@ fn execute_other<CB: Callbacks>(screen: &mut Screen, callbacks: &mut CB, byte: u
 {
     match byte {
         0x07 => callbacks.audible_bell(screen),
-        0x08 => controls::apply(screen, PageStep::MoveLeft(1)),
-        0x09 => controls::apply(screen, PageStep::Tab),
-        0x0D => controls::apply(screen, PageStep::CarriageReturn),
+        0x08 => controls::apply(screen, PageStep::Move(CursorMove::Left(1))),
+        0x09 => controls::apply(screen, PageStep::Move(CursorMove::Tab)),
+        0x0D => controls::apply(screen, PageStep::Move(CursorMove::Return)),
         0x0E | 0x0F => {}
         _ => callbacks.unhandled_control(screen, byte),
     }

@@ -11,8 +11,8 @@ IsPlace text at = IsUtf8 text × IsCharBoundary text at
 abbrev pub behind_line_end : List ℕ → ℕ → ℕ
 behind_line_end text end = if get_or text end 0 == 10 then end + 1 else end
 
--- The first of the pieces found from byte `at` begins at `start` and ends at `end`. If there is no piece, `start` and
--- `end` are `stop`.
+-- The first of the pieces found at or after byte `at` begins at `start` and ends at `end`. If there is no piece,
+-- `start` and `end` are `stop`.
 abbrev pub IsFirstPiece : (stop at : ℕ) → List Piece → (start end : ℕ) → Type 0
 IsFirstPiece stop at [] start end = (start ≡ stop) × (end ≡ stop)
 IsFirstPiece stop at (piece ∷ pieces) start end = (start ≡ at + piece.0) × (end ≡ at + piece_end piece)
@@ -21,8 +21,8 @@ IsFirstPiece stop at (piece ∷ pieces) start end = (start ≡ at + piece.0) × 
 abbrev pub no_place : ℕ
 no_place = 2 ^ 64 - 1
 
--- The first of the rows found from byte `at` ends at `end`, and the row after it begins at `next`. If there is no
--- second row, `next` is `no_place`.
+-- The first of the rows found at or after byte `at` ends at `end`, and the row after it begins at `next`. If there is
+-- no second row, `next` is `no_place`.
 abbrev pub IsFirstRow : (at : ℕ) → List Piece → (end next : ℕ) → Type 0
 IsFirstRow at [] end next = ⊥
 IsFirstRow at (row ∷ []) end next = (end ≡ at + piece_end row) × (next ≡ no_place)

@@ -67,8 +67,8 @@ is_quiet mark log =
 abbrev pub mark_of : Logged → Mark
 mark_of log = record { len = length log.records; rows = length log.rows; room = log.room; is_whole = log.is_whole }
 
--- All bytes are read, and none of them records an event at which reading stops. If the parser had failed before, the
--- list of bytes is empty.
+-- All bytes are read, and no event at which reading stops is recorded. If the parser had failed before, the list of
+-- bytes is empty.
 pub record ReadsAll (mark : Mark) (old : ParserValue Logged) (bytes : List ℕ) (used status : ℕ) (new : ParserValue Logged) :
     Type 0 where
   pub status_is : status ≡ ok
@@ -87,8 +87,8 @@ pub record IsQuietBetween (mark : Mark) (old : ParserValue Logged) (before after
   pub quiet : is_quiet mark between.callbacks ≡ true
   pub then : FoldsTo (Performs Logs) between (scan.run (scan.run start before).state after).events (stage new)
 
--- A prefix of the bytes records no event at which reading stops. The byte after this prefix records or loses such an
--- event and is the last byte that is read.
+-- Reading a prefix of the bytes records no event at which reading stops. Reading the next byte records or loses such an
+-- event, and no further byte is read.
 pub record ReadsEvent (mark : Mark) (old : ParserValue Logged) (bytes : List ℕ) (used status : ℕ) (new : ParserValue Logged) :
     Type 0 where
   pub count : ℕ
@@ -111,8 +111,8 @@ pub record IsQuietBefore (mark : Mark) (old : ParserValue Logged) (bytes : List 
   pub quiet : is_quiet mark between.callbacks ≡ true
   pub refused : IsRefused Logs between (scan.run start (take used bytes)).state (slice_index_or bytes used 0) (stage new)
 
--- The first `used` bytes record no event at which reading stops, and the next byte is not read, because an allocation
--- for that byte fails or because the parser had failed before.
+-- Reading the first `used` bytes records no event at which reading stops, and the next byte is not read, because an
+-- allocation for that byte fails or because the parser had failed before.
 pub record StopsUnread (mark : Mark) (old : ParserValue Logged) (bytes : List ℕ) (used status : ℕ) (new : ParserValue Logged) :
     Type 0 where
   pub inside : used < length bytes

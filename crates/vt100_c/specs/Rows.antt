@@ -59,7 +59,8 @@ pub record GivesRows (screen : ScreenValue) (texts : List (List ℕ)) (joined be
   pub rows : JoinsTexts (length screen.page.rows) texts joined after
   pub rest : drop (length screen.page.rows) after ≡ drop (length screen.page.rows) before
 
--- The column `start` is on the screen, and `room` is enough for the end of each row.
+-- The column `start` is on the screen, and `room` is at least the number of rows, so there is room for the end position
+-- of each row.
 pub record FitRows (start room : ℕ) (screen : ScreenValue) : Type 0 where
   pub column : start < screen.page.width
   pub places : length screen.page.rows ≤ room

@@ -42,7 +42,7 @@ style_flags attrs =
 abbrev pub cell_flags : CellValue → ℕ
 cell_flags cell = style_flags (attrs_of cell) + bit 32 (is_wide cell) + bit 64 (is_right_half cell)
 
--- A cell as C reads it. Unused bytes of the cell's text array are 0.
+-- The C representation of a cell. Unused bytes of the cell's text array are 0.
 abbrev pub cell_for_c : CellValue → VtCell
 cell_for_c cell = record {
   text = padded_text (text_of cell);

@@ -3,12 +3,14 @@ use Rattle.std.specs.Prelude.{◌≡◌, ◌<◌, ◌≤◌, ◌/◌, ◌%◌, �
 use Rattle.vt_cells.specs.Op.{bytes_of_all}
 use Rattle.vt_redraw.specs.Redraw.{cursor_state, difference, redraw}
 use Rattle.vt_rows.specs.Basic.{nothing_written}
+use Rattle.vt_screen.specs.Again.{KeepsPlain}
 use Rattle.vt_screen.specs.AnyRegion.{reset_text}
 use Rattle.vt_screen.specs.Capture.{basic_texts}
 use Rattle.vt_screen.specs.Contents.{between_of, contents_of}
-use Rattle.vt_screen.specs.Diffs.{IsDiffWith}
+use Rattle.vt_screen.specs.Diffs.{IsDiffWith, KeepsScreensPlain, RepeatsOnlyInRows}
 use Rattle.vt_screen.specs.declared.diff_options.DiffOptions.{DiffOptions}
 use Rattle.vt_screen.specs.InputTexts.{input_change, input_text}
+use Rattle.vt_screen.specs.MadeOf.{IsMadeOf, shortened_controls, shortened_finals}
 use Rattle.vt_screen.specs.Screen.{ScreenValue, visible_rows}
 use Rattle.vt_screen.specs.ShortMoves.{IsShortMoving}
 use Rattle.vt_screen.specs.Shown.{attributes_text, display}
@@ -42,18 +44,24 @@ due_for _ screen = any_screen screen
 
 -- ---- two screens
 
--- The text is a diff that may move rows or columns first and is never longer than the diff that moves nothing.
+-- The text is a diff that may move rows or columns first and is never longer than the diff that moves nothing. It
+-- contains only drawing sequences and leaves every plain terminal plain.
 pub record IsScrollingDiff (screen prev : ScreenValue) (text : List ℕ) : Type 0 where
   pub draws : IsShortMoving (display screen) (display prev) text
+  pub controls : IsMadeOf shortened_finals shortened_controls text
+  pub again : KeepsPlain text
   pub shorter : length text ≤ length (bytes_of_all (difference (display screen) (display prev)))
 
--- The options that the bits of a number ask for: bit 0 for moving rows or columns first, and bit 1 for REP.
+-- The options that the bits of a number select: bit 0 allows moving rows or columns first, and bit 1 allows REP.
 abbrev pub options_of : ℕ → DiffOptions
 options_of bits = record { scroll = bits % 2 == 1; repeat = bits / 2 % 2 == 1 }
 
--- The text is a difference with the given options, and never longer than the difference that moves nothing.
+-- The text is a diff with the given options and is never longer than the diff that moves nothing. It repeats characters
+-- only within rows and leaves every plain terminal plain.
 pub record IsDiffWithOptions (options : DiffOptions) (screen prev : ScreenValue) (text : List ℕ) : Type 0 where
   pub draws : IsDiffWith options prev screen text
+  pub rows : RepeatsOnlyInRows prev screen text
+  pub again : KeepsScreensPlain text
   pub shorter : length text ≤ length (bytes_of_all (difference (display screen) (display prev)))
 
 abbrev pub IsDifference : Difference → ScreenValue → ScreenValue → List ℕ → Type 0
@@ -95,8 +103,8 @@ pub record MakesText (name : Text) (old : Option Object) (status : ℕ) (new : O
   pub nonempty : status ≡ out_of_memory → HoldsScreen old (HasText name)
   pub made : status ≡ ok → HoldsScreen old (λ screen. text_at new ≡ text_of name screen)
 
--- The diff that `name` selects is generated; it leads from the screen of the handle `prev` to the screen of the handle
--- `old`. The screen of `old` is unchanged.
+-- The diff that `name` selects is generated, from the screen of the handle `prev` to the screen of the handle `old`.
+-- The screen of `old` is unchanged.
 pub record MakesDifference (name : Difference) (old prev : Option Object) (status : ℕ) (new : Option Object) :
     Type 0 where
   pub source : source_at new ≡ source_at old

@@ -8,8 +8,8 @@ use Rattle.vt100_c.specs.Captures.{IsFirstPiece, IsFirstRow, IsPlace, no_place}
 abbrev pub place_from : ℕ → Piece → ℕ × ℕ
 place_from at piece = (at + piece.0, at + piece_end piece)
 
--- The positions that `vt100_next_plain` stores: the first piece found from byte `at` begins at `start` and ends at
--- `end`.
+-- The positions that `vt100_next_plain` stores: the first piece found at or after byte `at` begins at `start` and ends
+-- at `end`.
 abbrev pub FindsPlain : List ℕ → (at start end : ℕ) → Type 0
 FindsPlain text at start end =
     (pieces : List Piece) × ArePiecesOf (drop at text) pieces × IsFirstPiece (length text) at pieces start end

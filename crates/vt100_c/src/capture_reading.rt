@@ -69,8 +69,8 @@ pub extern "C" fn vt100_next_row(
     OK
 }
 
-/// Returns the part of `text` from byte `at` on if `text` is valid UTF-8 and
-/// `at` is on a character boundary, otherwise `None`.
+/// Returns the part of `text` that starts at byte `at`, or `None` if `text` is not valid UTF-8 or
+/// `at` is not on a character boundary.
 fn text_from(text: &[u8], at: usize) -> Option<&str>
     ensures is { IsSome result ↔ IsPlace text.now at }
     ensures rest { IfSome result (λ rest. rest.now ≡ drop at text.now) }

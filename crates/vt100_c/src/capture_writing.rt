@@ -79,11 +79,10 @@ pub extern "C" fn vt100_capture_screen(
     status
 }
 
-/// Appends all rows of the screen in `handle` to the capture `object`, which
-/// was taken out of its own handle.
+/// Appends all rows of the screen in `handle` to the capture `object`.
 ///
-/// Returns `BAD_ARGUMENT` if `handle` is empty: `object` was taken out of it,
-/// so the caller passed the same handle twice.
+/// While a capture is being written to, its handle is empty. So if `handle` is empty, the caller
+/// passed the same handle twice, and the function returns `BAD_ARGUMENT`.
 fn screen_beside(alloc: Global, object: &mut Object, handle: &mut Handle, len: &mut usize) -> u8
     ensures answer { IsAnswer (due_beside_capture screen_in any_screen_is_due handle.old.held object.old) result }
     ensures nonempty { result ≡ out_of_memory → HoldAtCapture screen_in handle.old.held (Some object.old) HaveText }
@@ -201,10 +200,10 @@ pub extern "C" fn vt100_capture_row(
     status
 }
 
-/// Appends row `index` of the log in the handle `parser` to the capture
-/// `object`, which was taken out of its own handle. Returns `BAD_ARGUMENT` if
-/// `parser` is empty: `object` was taken out of it, so the caller passed the
-/// same handle twice.
+/// Appends row `index` of the log in the handle `parser` to the capture `object`.
+///
+/// While a capture is being written to, its handle is empty. So if `parser` is empty, the caller
+/// passed the same handle twice, and the function returns `BAD_ARGUMENT`.
 fn row_beside(
     alloc: Global,
     object: &mut Object,

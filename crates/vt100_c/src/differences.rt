@@ -165,11 +165,10 @@ fn make(
     status
 }
 
-/// Generates a diff of the given kind from the screen in `prev` to the screen
-/// of `object`, which was taken out of its own handle.
+/// Generates a diff of the given kind from the screen in `prev` to the screen of `object`.
 ///
-/// Returns `BAD_ARGUMENT` if `prev` is empty: `object` was taken out of it, so
-/// the caller passed the same handle twice.
+/// While output is being stored in an object, its handle is empty. So if `prev` is empty, the
+/// caller passed the same handle twice, and the function returns `BAD_ARGUMENT`.
 fn make_beside(
     alloc: Global,
     object: &mut Object,

@@ -185,8 +185,7 @@ fn fill_row(screen: &Screen, row: u16, out: &mut [VtCell])
     }
 }
 
-/// Returns the displayed cell of a row at a column, or a blank if the row has
-/// no such column.
+/// Returns the displayed cell at `row` and `col`, or a blank cell if the row has no such column.
 fn shown_cell(screen: &Screen, row: u16, col: u16) -> VtCell
     requires { row < length screen.now.page.rows }
     ensures { result ≡ cell_for_c (shown_cell row col screen.now) }

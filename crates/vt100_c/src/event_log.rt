@@ -16,8 +16,8 @@ use vt100::{Call, Callbacks, Screen};
 /// The size limit of a new log, in bytes, after which records are lost: 1 MiB.
 pub(crate) const DEFAULT_LIMIT: usize = 1_048_576;
 
-/// A log of callbacks, which has a record of each wanted call since the log was
-/// last cleared, in order, and a copy of each row that these calls report.
+/// A log of callback invocations. It contains, in order, a record of each wanted call made since the
+/// log was last cleared, and a copy of each row that these calls report.
 ///
 /// If an allocation for a record fails, or the log has reached its limit, the
 /// record is lost. After that, nothing is added until the log is cleared, so

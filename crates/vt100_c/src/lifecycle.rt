@@ -79,15 +79,15 @@ pub extern "C" fn vt100_save(alloc: Global, handle: &mut Handle, out: &mut Handl
     }
 }
 
-/// Stores in the empty handle `out` a copy of what the screen of a parser, or a
-/// saved screen, displays. The copy is a saved screen of the same size, without
-/// scrollback and without the inactive page ([`Screen::shown_copy`]).
+/// Copies what a parser's screen or a saved screen displays into the empty handle `out`. The copy
+/// is a saved screen of the same size, without scrollback and without the inactive page
+/// ([`Screen::shown_copy`]).
 ///
 /// # Errors
 ///
-/// Returns `NO_OBJECT` if `handle` is empty, `IN_USE` if `out` is not empty,
-/// `WRONG_KIND` if `handle` holds neither a parser nor a saved screen, or
-/// `OUT_OF_MEMORY` if an allocation fails. On error, nothing is changed.
+/// Returns `NO_OBJECT` if `handle` is empty, `IN_USE` if `out` is not empty, `WRONG_KIND` if
+/// `handle` holds neither a parser nor a saved screen, or `OUT_OF_MEMORY` if an allocation fails.
+/// On error, nothing is changed.
 #[unsafe(no_mangle)]
 pub extern "C" fn vt100_shown_copy(alloc: Global, handle: &mut Handle, out: &mut Handle) -> u8
     ensures same { handle.new.held ≡ handle.old.held }
@@ -196,12 +196,11 @@ pub(crate) fn hold(alloc: Global, source: Source, out: &mut Handle) -> u8
     }
 }
 
-/// Returns a copy of a source, in which a parser is replaced by its screen.
+/// Returns a copy of a source. If the source is a parser, only its screen is copied.
 ///
 /// # Errors
 ///
-/// Returns `WRONG_KIND` if the source is a mirror, or `OUT_OF_MEMORY` if an
-/// allocation fails.
+/// Returns `WRONG_KIND` if the source is a mirror, or `OUT_OF_MEMORY` if an allocation fails.
 fn copy_of(source: &Source) -> Result<Source, u8>
     ensures ok { IfOk result (λ copy. saved_from source.now ≡ Some copy) }
     ensures err { IfErr result (λ status. status ≡ refusal_of (saved_from source.now)) }

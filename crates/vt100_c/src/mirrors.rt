@@ -125,7 +125,8 @@ pub extern "C" fn vt100_update(
 }
 
 /// Generates the next update for a viewer, as [`vt100_update`] does, except
-/// that a diff may begin by moving rows.
+/// that a diff may begin by moving rows or columns. If the screen of the
+/// viewer's last update was not steady, the update is a full one.
 ///
 /// # Errors
 ///
@@ -155,7 +156,8 @@ pub extern "C" fn vt100_update_scrolling(
 /// Generates the next update for a viewer, as [`vt100_update`] does, with
 /// options for a diff ([`Mirror::update_with`]). Bit 0 of `options` allows
 /// moving rows or columns first, and bit 1 allows REP; the other bits are
-/// ignored.
+/// ignored. With bit 0, the update may be a full one, as with
+/// [`vt100_update_scrolling`].
 ///
 /// # Errors
 ///

@@ -93,8 +93,8 @@ pub(crate) fn text_in(source: &Source, text: Text) -> Result<String, u8>
 ///
 /// # Errors
 ///
-/// Returns `BAD_ARGUMENT` if a range of several rows begins past the screen's
-/// columns, or `OUT_OF_MEMORY` if an allocation fails.
+/// Returns `BAD_ARGUMENT` if a range of several rows begins past the last column, or
+/// `OUT_OF_MEMORY` if an allocation fails.
 fn text_of(screen: &Screen, text: Text) -> Result<String, u8>
     ensures text { IfOk result (λ made. string_bytes made ≡ text_of text screen.now) }
     ensures answer { IsAnswer (due_for text screen.now) (status_in result) }
@@ -120,8 +120,8 @@ fn text_of(screen: &Screen, text: Text) -> Result<String, u8>
 ///
 /// # Errors
 ///
-/// Returns `BAD_ARGUMENT` if a range of several rows begins past the screen's
-/// columns, or `OUT_OF_MEMORY` if an allocation fails.
+/// Returns `BAD_ARGUMENT` if a range of several rows begins past the last column, or
+/// `OUT_OF_MEMORY` if an allocation fails.
 #[tactic(auto, using(crate::proofs::Refused::where_some))]
 fn between(screen: &Screen, start: (u16, u16), end: (u16, u16)) -> Result<String, u8>
     ensures text { IfOk result
@@ -137,8 +137,7 @@ fn between(screen: &Screen, start: (u16, u16), end: (u16, u16)) -> Result<String
     or_status(screen.contents_between(start.0, start.1, end.0, end.1))
 }
 
-/// Returns whether a range of several rows begins past the columns of the
-/// screen.
+/// Returns whether a range of several rows begins past the last column of the screen.
 fn is_outside(screen: &Screen, start: (u16, u16), end_row: u16) -> bool
     ensures value { result ≡ (nat_lt start.0 end_row && nat_lt screen.now.page.width start.1) }
     ensures inside { result ≡ false → start.0 < end_row → start.1 ≤ screen.now.page.width }
@@ -238,8 +237,8 @@ fn contents_diff_scrolling(screen: &Screen, prev: &Screen) -> Result<String, u8>
     or_status(screen.contents_diff_scrolling(prev))
 }
 
-/// Returns the escape sequences that turn the display of `prev` into that of
-/// `screen`, with options.
+/// Returns a diff with the given options: the escape sequences that turn the
+/// display of `prev` into that of `screen`.
 ///
 /// # Errors
 ///
@@ -294,8 +293,8 @@ fn input_mode_diff(screen: &Screen, prev: &Screen) -> Result<String, u8>
     or_status(screen.input_mode_diff(prev))
 }
 
-/// Returns the options that bits ask for: bit 0 for moving rows or columns
-/// first, and bit 1 for REP.
+/// Returns the options that `bits` selects: bit 0 allows moving rows or columns first, and bit 1
+/// allows REP.
 pub(crate) fn options_in(bits: u8) -> DiffOptions
     ensures { result ≡ options_of bits }
 {

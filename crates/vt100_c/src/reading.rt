@@ -37,19 +37,18 @@ pub extern "C" fn vt100_process(alloc: Global, handle: &mut Handle, bytes: &[u8]
     status
 }
 
-/// Parses bytes with a parser, up to and including the first byte that records
-/// or loses an event. Stores the number of bytes parsed in `used`.
+/// Parses bytes with a parser, up to and including the first byte that causes an event to be
+/// recorded or lost. Stores the number of bytes parsed in `used`.
 ///
-/// Rows that are recorded without their text do not stop parsing until the rows
-/// recorded by this call take 64 KiB or the log reaches its limit.
+/// Rows that are recorded without their text do not stop parsing until the rows recorded by this
+/// call take 64 KiB or the log reaches its limit.
 ///
 /// # Errors
 ///
-/// Returns `NO_OBJECT` if the handle is empty, `WRONG_KIND` if it holds no
-/// parser, `OUT_OF_MEMORY` if an allocation fails, or `FAILED` if parsing ran
-/// out of memory in an earlier call. On `OUT_OF_MEMORY`, `used` is the number
-/// of bytes before the byte that required the allocation. On any other error,
-/// `used` is 0.
+/// Returns `NO_OBJECT` if the handle is empty, `WRONG_KIND` if it holds no parser, `OUT_OF_MEMORY`
+/// if an allocation fails, or `FAILED` if parsing ran out of memory in an earlier call. On
+/// `OUT_OF_MEMORY`, `used` is the number of bytes before the byte that required the allocation. On
+/// any other error, `used` is 0.
 #[unsafe(no_mangle)]
 pub extern "C" fn vt100_process_until(
     alloc: Global,

@@ -55,12 +55,12 @@ pub extern "C" fn vt100_rows_diff(
     status
 }
 
-/// Returns the output that turns the rows of the screen in `prev` into the rows of `source`, which
-/// was taken out of its own handle. `range` is the first column and the number of columns. Stores
-/// in `ends` the index at which the output for each row ends.
+/// Returns the output that turns the rows of the screen in `prev` into the rows of `source`.
+/// `range` is the first column and the number of columns. Stores in `ends` the index at which the
+/// output for each row ends.
 ///
-/// Returns `BAD_ARGUMENT` if `prev` is empty: the object with the value
-/// `source` was taken out of it, so the caller passed the same handle twice.
+/// While output is being stored in an object, its handle is empty. So if `prev` is empty, the
+/// caller passed the same handle twice, and the function returns `BAD_ARGUMENT`.
 fn beside(
     alloc: Global,
     source: &Source,

@@ -61,7 +61,7 @@ pub extern "C" fn vt100_screen_set_size(
     status
 }
 
-/// Scrolls the display back by `rows` rows, limited to the number of scrollback
+/// Scrolls the display back by `rows` rows, clamped to the number of scrollback
 /// rows.
 ///
 /// # Errors

@@ -32,15 +32,13 @@ pub extern "C" fn vt100_contents(alloc: Global, handle: &mut Handle, len: &mut u
 }
 
 /// Generates the text between two positions, without attributes
-/// ([`vt100::Screen::contents_between`]). Stores it in the handle and its
-/// length in `len`.
+/// ([`vt100::Screen::contents_between`]). Stores it in the handle and its length in `len`.
 ///
 /// # Errors
 ///
-/// Returns `NO_OBJECT` if the handle is empty, `WRONG_KIND` if it holds neither
-/// a parser nor a saved screen, `BAD_ARGUMENT` if a range of several rows
-/// begins past the screen's columns, or `OUT_OF_MEMORY` if the text cannot be
-/// allocated. On error, nothing is changed.
+/// Returns `NO_OBJECT` if the handle is empty, `WRONG_KIND` if it holds neither a parser nor a
+/// saved screen, `BAD_ARGUMENT` if a range of several rows begins past the last column, or
+/// `OUT_OF_MEMORY` if the text cannot be allocated. On error, nothing is changed.
 #[unsafe(no_mangle)]
 pub extern "C" fn vt100_contents_between(
     alloc: Global,

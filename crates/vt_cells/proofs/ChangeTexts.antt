@@ -1,18 +1,14 @@
--- The text of an SGR change, written from its last byte to its first.
-use Rattle.std.proofs.Common.{◌≡◌, ℕ, ◌+◌, ◌^◌, ◌<◌, ◌≤◌, true, false, List, [], ◌∷◌}
-use Rattle.std.proofs.Common.{◌++◌, length, drop, decimal, flat_map, refl, sym}
+-- The text of an SGR change, appended number by number.
+use Rattle.std.proofs.Common.{◌≡◌, ◌≢◌, ℕ, ◌+◌, ◌/◌, ◌%◌, ◌^◌, ◌<◌, ◌≤◌, true, false, List, [], ◌∷◌}
+use Rattle.std.proofs.Common.{◌++◌, length, decimal, refl, sym}
 use Rattle.std.proofs.Common.{ap, ◌∙◌, append_assoc, append-nil, length-append, arith}
-use Rattle.std.proofs.lemmas.Fmt.{IsAscii-decimal, length-decimal-le}
-use Rattle.std.proofs.lemmas.List.{drop-drop, length-drop}
-use Rattle.std.proofs.lemmas.List.Concat.{flat_map-append}
-use Rattle.std.proofs.lemmas.Str.{IsAscii-append, IsAscii-drop}
-use Rattle.vt_cells.specs.Attrs.{Attrs, same_bool, same_color, same_intensity}
-use Rattle.vt_cells.specs.AttrsInternals.{same_style, style_of_attrs}
-use Rattle.vt_cells.specs.ChangeInternals.{IsEnd, number_after_semicolon, separated_all, style_part, without_separator}
-use Rattle.vt_cells.specs.Op.{change_numbers, semicolon_list, part}
+use Rattle.std.proofs.lemmas.Fmt.{decimal_digit, decimal_step, length-decimal-le}
+use Rattle.vt_cells.specs.Attrs.{Attrs, same_bool, same_color}
+use Rattle.vt_cells.specs.AttrsInternals.{same_switches}
+use Rattle.vt_cells.specs.ChangeInternals.{AppendsNumbers, lead_after, numbers_after, style_part, switches_part}
+use Rattle.vt_cells.specs.Op.{change_numbers, csi, semicolon_list, part}
 use Rattle.vt_cells.specs.declared.color.Color.{Color}
-use Rattle.vt_cells.proofs.Changes.{background_part, foreground_part, intensity_part}
-use Rattle.vt_cells.proofs.Changes.{inverse_part, italic_part, joined_is, underline_part}
+use Rattle.vt_cells.proofs.Changes.{background_part, foreground_part, joined_is}
 use Rattle.vt_cells.proofs.Same.{two_parts}
 
 -- A byte has at most three decimal digits.
@@ -23,138 +19,149 @@ digits_of_byte n h = length-decimal-le 3 n (omega arith) (omega arith) (omega ar
 pub digits_of_count : (n : ℕ) → n < 2 ^ 32 → length (decimal n) ≤ 10
 digits_of_count n h = length-decimal-le 10 n (omega arith) (omega arith) (omega arith)
 
--- Prepending the digits of a number to ASCII text at the end of an array gives ASCII text at the end of the array.
-pub digits_put : (n start next : ℕ) (rest text : List ℕ) → n < 2 ^ 64 → IsEnd start rest →
-    next + length (decimal n) ≡ start → text ≡ decimal n ++ rest → IsEnd next text
-digits_put n start next rest text small is_end sum e =
-    let measured = is_end.measured in
-    let joined_length = length-append (decimal n) rest in
-    rw e (record {
-      measured = omega arith;
-      ascii = IsAscii-append (decimal n) rest (IsAscii-decimal n small) is_end.ascii;
-    })
+pub one_digit : (old : List ℕ) (lead n : ℕ) → n < 10 →
+    (old ++ lead ∷ []) ++ (48 + n) ∷ [] ≡ old ++ lead ∷ decimal n
+one_digit old lead n h =
+    append_assoc old (lead ∷ []) ((48 + n) ∷ [])
+    ∙ ap (λ (ds : List ℕ). old ++ lead ∷ ds) (sym (decimal_digit n h))
 
-pub room_for_digits : (n start : ℕ) (rest now : List ℕ) →
-    IsEnd start rest → rest ≡ now → length now + length (decimal n) + 1 ≤ 64 → length (decimal n) ≤ start
-room_for_digits n start rest now is_end same room =
-    let measured = is_end.measured in
-    let lengths = ap length same in
+two_digits : (n : ℕ) → 10 ≤ n → n < 100 → decimal n ≡ (48 + n / 10) ∷ (48 + n % 10) ∷ []
+two_digits n lo hi =
+    decimal_step n lo (omega arith) ∙ ap (λ (ds : List ℕ). ds ++ (48 + n % 10) ∷ []) (decimal_digit (n / 10) (omega arith))
+
+three_digits : (n : ℕ) → 100 ≤ n → n < 1000 →
+    decimal n ≡ (48 + n / 100) ∷ (48 + n / 10 % 10) ∷ (48 + n % 10) ∷ []
+three_digits n lo hi =
+    let hundreds : n / 10 / 10 ≡ n / 100 = omega arith in
+    decimal_step n (omega arith) (omega arith)
+    ∙ (ap (λ (ds : List ℕ). ds ++ (48 + n % 10) ∷ []) (two_digits (n / 10) (omega arith) (omega arith))
+    ∙ ap (λ (k : ℕ). (48 + k) ∷ (48 + n / 10 % 10) ∷ (48 + n % 10) ∷ []) hundreds)
+
+pub two_more : (old : List ℕ) (lead n : ℕ) → 10 ≤ n → n < 100 →
+    ((old ++ lead ∷ []) ++ (48 + n / 10) ∷ []) ++ (48 + n % 10) ∷ [] ≡ old ++ lead ∷ decimal n
+two_more old lead n lo hi =
+    append_assoc (old ++ lead ∷ []) ((48 + n / 10) ∷ []) ((48 + n % 10) ∷ [])
+    ∙ (append_assoc old (lead ∷ []) ((48 + n / 10) ∷ (48 + n % 10) ∷ [])
+    ∙ ap (λ (ds : List ℕ). old ++ lead ∷ ds) (sym (two_digits n lo hi)))
+
+pub three_more : (old : List ℕ) (lead n : ℕ) → 100 ≤ n → n < 256 →
+    (((old ++ lead ∷ []) ++ (48 + n / 100) ∷ []) ++ (48 + n / 10 % 10) ∷ []) ++ (48 + n % 10) ∷ []
+    ≡ old ++ lead ∷ decimal n
+three_more old lead n lo hi =
+    append_assoc ((old ++ lead ∷ []) ++ (48 + n / 100) ∷ []) ((48 + n / 10 % 10) ∷ []) ((48 + n % 10) ∷ [])
+    ∙ (append_assoc (old ++ lead ∷ []) ((48 + n / 100) ∷ []) ((48 + n / 10 % 10) ∷ (48 + n % 10) ∷ [])
+    ∙ (append_assoc old (lead ∷ []) ((48 + n / 100) ∷ (48 + n / 10 % 10) ∷ (48 + n % 10) ∷ [])
+    ∙ ap (λ (ds : List ℕ). old ++ lead ∷ ds) (sym (three_digits n lo (omega arith)))))
+
+-- Appending the digits of a number one after the other appends the number.
+pub ruleset digits_appended = (one_digit, two_more, three_more)
+
+pub longer_by_number : (n most lead : ℕ) (old new : List ℕ) → length (decimal n) ≤ most →
+    new ≡ old ++ lead ∷ decimal n → length new ≤ length old + (most + 1)
+longer_by_number n most lead old new digits e =
+    let whole = ap length e in
+    let both = length-append old (lead ∷ decimal n) in
     omega arith
 
-pub room_for_separator : (n : ℕ) (rest text now : List ℕ) → text ≡ decimal n ++ rest
-    → rest ≡ now → length now + length (decimal n) + 1 ≤ 64 → length text + 1 ≤ 64
-room_for_separator n rest text now e same room =
-    let both = length-append (decimal n) rest in
-    let lengths = ap length same in
-    let text_length = ap length e in
-    omega arith
+-- ---- numbers one after the other
 
-pub longer_by_number : (n most : ℕ) (rest now text whole : List ℕ) → length (decimal n) ≤ most →
-    text ≡ decimal n ++ rest → rest ≡ now → whole ≡ 0x3B ∷ text → length whole ≤ length now + (most + 1)
-longer_by_number n most rest now text whole digits e same is_whole =
-    let lengths = ap length same in
-    let text_length = ap length e in
-    let whole_length = ap length is_whole in
-    let both = length-append (decimal n) rest in
-    omega arith
+-- After any numbers, the next number is preceded by `;` if the first was.
+lead_stays : (ns : List ℕ) → lead_after 0x3B ns ≡ 0x3B
+lead_stays [] = refl
+lead_stays (n ∷ ns) = refl
 
-pub one_put : (n : ℕ) (xs : List ℕ) → separated_all (n ∷ []) ++ xs ≡ number_after_semicolon n ++ xs
-one_put n xs = ap (λ ys. ys ++ xs) (append-nil (number_after_semicolon n))
+numbers_then : (lead : ℕ) (ms ns : List ℕ) →
+    numbers_after lead (ms ++ ns) ≡ numbers_after lead ms ++ numbers_after (lead_after lead ms) ns
+numbers_then lead [] ns = refl
+numbers_then lead (m ∷ ms) ns =
+    ap (λ (rest : List ℕ). (lead ∷ decimal m) ++ rest)
+    (numbers_then 0x3B ms ns
+    ∙ ap (λ (k : ℕ). numbers_after 0x3B ms ++ numbers_after k ns) (lead_stays ms))
+    ∙ sym (append_assoc (lead ∷ decimal m) (numbers_after 0x3B ms) (numbers_after 0x3B ns))
 
--- If two colours are equal, no parameters are prepended.
-pub nothing_put : (a b : Color) (xs ns : List ℕ) → same_color a b ≡ true →
-    xs ≡ separated_all (part (same_color a b) ns) ++ xs
-nothing_put a b xs ns e = rw e refl
+lead_then : (lead : ℕ) (ms ns : List ℕ) → lead_after lead (ms ++ ns) ≡ lead_after (lead_after lead ms) ns
+lead_then lead [] ns = refl
+lead_then lead (m ∷ ms) ns = sym (lead_stays ns)
 
-pub some_put : (a b : Color) (xs ns : List ℕ) → same_color a b ≡ false →
-    separated_all (part (same_color a b) ns) ++ xs ≡ separated_all ns ++ xs
-some_put a b xs ns e = rw e refl
+-- Appending numbers, and then other numbers, appends all of them.
+pub appends_then : (old mid new : List ℕ) (lead next last most more : ℕ) (ms ns : List ℕ)
+    → AppendsNumbers old mid lead next most ms → AppendsNumbers mid new next last more ns
+    → AppendsNumbers old new lead last (most + more) (ms ++ ns)
+appends_then old mid new lead next last most more ms ns p q = record {
+  text =
+      q.text
+      ∙ (ap (λ (k : ℕ). mid ++ numbers_after k ns) p.next
+      ∙ (ap (λ (xs : List ℕ). xs ++ numbers_after (lead_after lead ms) ns) p.text
+      ∙ (append_assoc old (numbers_after lead ms) (numbers_after (lead_after lead ms) ns)
+      ∙ ap (λ (xs : List ℕ). old ++ xs) (sym (numbers_then lead ms ns)))));
+  next = q.next ∙ (ap (λ (k : ℕ). lead_after k ns) p.next ∙ sym (lead_then lead ms ns));
+  room = omega (arith, p.room, q.room);
+}
 
--- If two styles are equal, no parameters are prepended.
-pub no_style_put : (was new : Attrs) (xs : List ℕ) →
-    same_style (style_of_attrs was) (style_of_attrs new) ≡ true → xs ≡ separated_all (style_part was new) ++ xs
-unfolding same_style
-no_style_put was new xs e =
-    let (intensity, rest) = two_parts (same_intensity was.intensity new.intensity) _ e in
-    let (italic, others) = two_parts (same_bool was.italic new.italic) _ rest in
+-- If nothing differs, no number is appended.
+pub appends_none : (old : List ℕ) (lead most : ℕ) → AppendsNumbers old old lead lead most []
+appends_none old lead most = record { text = sym (append-nil old); next = refl; room = omega arith }
+
+pub appends_one : (old new : List ℕ) (lead n most : ℕ) → 4 ≤ most → new ≡ old ++ lead ∷ decimal n →
+    length new ≤ length old + 4 → AppendsNumbers old new lead 0x3B most (n ∷ [])
+appends_one old new lead n most le e room = record {
+  text = e ∙ ap (λ (xs : List ℕ). old ++ xs) (sym (append-nil (lead ∷ decimal n)));
+  next = refl;
+  room = omega (arith, le, room);
+}
+
+pub unchanged_color : (a b : Color) (old ns : List ℕ) (lead most : ℕ) → same_color a b ≡ true →
+    AppendsNumbers old old lead lead most (part (same_color a b) ns)
+unchanged_color a b old ns lead most e = rw e (appends_none old lead most)
+
+pub changed_color : (a b : Color) (old new ns : List ℕ) (lead most : ℕ) → same_color a b ≡ false →
+    AppendsNumbers old new lead 0x3B most ns → AppendsNumbers old new lead 0x3B most (part (same_color a b) ns)
+changed_color a b old new ns lead most e h = rw e h
+
+-- If italics, underline and inverse do not differ, they have no parameters.
+no_switches : (was new : Attrs) → same_switches was new ≡ true → switches_part was new ≡ []
+unfolding same_switches
+no_switches was new e =
+    let (italic, rest) = two_parts (same_bool was.italic new.italic) _ e in
     let (underline, inverse) =
-    two_parts (same_bool was.underline new.underline) (same_bool was.inverse new.inverse) others in
-    rw (intensity, italic, underline, inverse) refl
+    two_parts (same_bool was.underline new.underline) (same_bool was.inverse new.inverse) rest in
+    rw (italic, underline, inverse) refl
 
--- Prepending four lists of parameters in turn prepends their concatenation.
-four_put : (i t u v end : List ℕ)
-    → separated_all i ++ (separated_all t ++ (separated_all u ++ (separated_all v ++ end)))
-    ≡ separated_all (i ++ (t ++ (u ++ v))) ++ end
-four_put i t u v end =
-    rw (
-      flat_map-append number_after_semicolon i (t ++ (u ++ v)),
-      flat_map-append number_after_semicolon t (u ++ v),
-      flat_map-append number_after_semicolon u v,
-      append_assoc (separated_all i) (separated_all t ++ (separated_all u ++ separated_all v)) end,
-      append_assoc (separated_all t) (separated_all u ++ separated_all v) end,
-      append_assoc (separated_all u) (separated_all v) end,
-    ) refl
+pub unchanged_switches : (was new : Attrs) (old : List ℕ) (lead most : ℕ) → same_switches was new ≡ true →
+    AppendsNumbers old old lead lead most (switches_part was new)
+unchanged_switches was new old lead most e = rw (no_switches was new e) (appends_none old lead most)
 
-pub switches_put : (was new : Attrs) (end : List ℕ)
-    → separated_all (intensity_part was new)
-    ++ (separated_all (italic_part was new)
-    ++ (separated_all (underline_part was new) ++ (separated_all (inverse_part was new) ++ end)))
-    ≡ separated_all (style_part was new) ++ end
-switches_put was new end =
-    four_put (intensity_part was new) (italic_part was new) (underline_part was new) (inverse_part was new) end
+-- The lemmas on the parameters that a change of a color adds.
+pub ruleset numbers_appended = (unchanged_color, changed_color, appends_one)
 
--- Prepending three lists of parameters in turn prepends their concatenation.
-three_put : (f b i end : List ℕ) →
-    separated_all f ++ (separated_all b ++ (separated_all i ++ end)) ≡ separated_all (f ++ (b ++ i)) ++ end
-three_put f b i end =
-    rw (
-      flat_map-append number_after_semicolon f (b ++ i),
-      flat_map-append number_after_semicolon b i,
-      append_assoc (separated_all f) (separated_all b ++ separated_all i) end,
-      append_assoc (separated_all b) (separated_all i) end,
-    ) refl
+-- ---- the whole sequence
 
--- Prepending the three parts of a change in turn gives the parameters of the change.
-pub change_put : (was new : Attrs)
-    → separated_all (foreground_part was new)
-    ++ (separated_all (background_part was new) ++ (separated_all (style_part was new) ++ 0x6D ∷ []))
-    ≡ separated_all (change_numbers was new) ++ 0x6D ∷ []
+-- The three parts of a change make up its parameters.
+pub change_parts : (was new : Attrs)
+    → foreground_part was new ++ (background_part was new ++ style_part was new) ≡ change_numbers was new
 unfolding change_numbers
-change_put was new = three_put (foreground_part was new) (background_part was new) (style_part was new) (0x6D ∷ [])
+change_parts was new = refl
 
-without_first : (xs : List ℕ) → 2 ≤ length xs → drop 1 xs ≡ without_separator xs
-without_first [] h = absurd (omega (arith, h))
-without_first (x ∷ []) h = absurd (omega (arith, h))
-without_first (x ∷ y ∷ xs) h = refl
+after_numbers : (n : ℕ) (ns : List ℕ) → numbers_after 0x5B (n ∷ ns) ≡ 0x5B ∷ semicolon_list (n ∷ ns)
+after_numbers n ns = ap (λ (xs : List ℕ). 0x5B ∷ xs) (sym (joined_is n ns))
 
--- Starting the text one byte later removes its first separator, if that is not its last byte.
-pub without_first_is : (start : ℕ) (bytes : List ℕ) → IsEnd start (drop start bytes) →
-    start + 1 < 64 → drop (start + 1) bytes ≡ without_separator (drop start bytes)
-without_first_is start bytes is_end room =
-    let measured = is_end.measured in
-    sym (drop-drop 1 start bytes) ∙ without_first (drop start bytes) (omega arith)
+-- Numbers after `ESC`, and then the final byte, make up a sequence, if there are numbers.
+pub sequence_ended : (old text : List ℕ) (ns : List ℕ) (final lead : ℕ) → lead ≡ lead_after 0x5B ns → lead ≢ 0x5B →
+    text ≡ (old ++ 0x1B ∷ []) ++ numbers_after 0x5B ns →
+    text ++ final ∷ [] ≡ old ++ csi (semicolon_list ns) final
+sequence_ended old text [] final lead e other is = absurd (other e)
+sequence_ended old text (n ∷ ns) final lead e other is =
+    ap (λ (xs : List ℕ). xs ++ final ∷ []) is
+    ∙ (append_assoc (old ++ 0x1B ∷ []) (numbers_after 0x5B (n ∷ ns)) (final ∷ [])
+    ∙ (append_assoc old (0x1B ∷ []) (numbers_after 0x5B (n ∷ ns) ++ final ∷ [])
+    ∙ ap (λ (xs : List ℕ). old ++ 0x1B ∷ (xs ++ final ∷ [])) (after_numbers n ns)))
 
-pub end_without_first : (start : ℕ) (bytes : List ℕ) → IsEnd start (drop start bytes) →
-    start + 1 < 64 → IsEnd (start + 1) (drop (start + 1) bytes)
-end_without_first start bytes is_end room =
-    let measured = is_end.measured in
-    let shorter = length-drop 1 (drop start bytes) in
-    rw (sym (drop-drop 1 start bytes)) (record {
-      measured = omega arith;
-      ascii = IsAscii-drop (drop start bytes) 1 is_end.ascii;
-    })
-
-tail_left : (x m : ℕ) (ys : List ℕ) → without_separator (x ∷ (ys ++ m ∷ [])) ≡ ys ++ m ∷ []
-tail_left x m [] = refl
-tail_left x m (y ∷ ys) = refl
-
--- Removing the first separator from separated numbers leaves them joined.
-pub numbers_left : (ns : List ℕ) (last : ℕ) →
-    without_separator (separated_all ns ++ last ∷ []) ≡ semicolon_list ns ++ last ∷ []
-numbers_left [] last = refl
-numbers_left (n ∷ ns) last =
-    tail_left 0x3B last (decimal n ++ flat_map number_after_semicolon ns)
-    ∙ ap (λ xs. xs ++ last ∷ []) (sym (joined_is n ns))
-
--- The lemmas on the parameters that a change of a colour adds: none, one, or several.
-pub ruleset numbers_put = (nothing_put, one_put, some_put)
+-- A sequence without numbers needs its introducer.
+pub sequence_without : (old text : List ℕ) (ns : List ℕ) (final lead : ℕ) → lead ≡ lead_after 0x5B ns → lead ≡ 0x5B →
+    text ≡ (old ++ 0x1B ∷ []) ++ numbers_after 0x5B ns →
+    (text ++ 0x5B ∷ []) ++ final ∷ [] ≡ old ++ csi (semicolon_list ns) final
+sequence_without old text [] final lead e same is =
+    append_assoc text (0x5B ∷ []) (final ∷ [])
+    ∙ (ap (λ (xs : List ℕ). xs ++ 0x5B ∷ final ∷ []) (is ∙ append-nil (old ++ 0x1B ∷ []))
+    ∙ append_assoc old (0x1B ∷ []) (0x5B ∷ final ∷ []))
+sequence_without old text (n ∷ ns) final lead e same is = absurd (omega (arith, e, same))

@@ -1,12 +1,12 @@
 -- Changes of attributes: their parameters, and the agreement of `==` in the code with equality in the definitions.
 use Rattle.std.proofs.Common.{◌≡◌, ℕ, ◌≤◌, ◌<◌, Bool, true, false, List, [], ◌∷◌, ◌++◌, length}
 use Rattle.std.proofs.Common.{nat_lt, decimal, refl, sym, ap, append-nil}
-use Rattle.std.proofs.Common.{flat_map, if◌then◌else◌, rules, arith}
+use Rattle.std.proofs.Common.{if◌then◌else◌, rules, arith}
 use Rattle.std.proofs.lemmas.Bool.{cond_both}
 use Rattle.std.proofs.lemmas.Bool.Decides.{nat_tests}
 use Rattle.std.specs.List.{AllByRecursion}
 use Rattle.vt_cells.specs.Attrs.{default_attrs, same_attrs, same_bool, same_color, same_intensity, Attrs}
-use Rattle.vt_cells.specs.ChangeInternals.{number_after_semicolon}
+use Rattle.vt_cells.specs.ChangeInternals.{numbers_after}
 use Rattle.vt_cells.specs.Op.{FitsAttrs, FitsColor, background_numbers, change_numbers, change_text}
 use Rattle.vt_cells.specs.Op.{csi, foreground_numbers, intensity_number, semicolon_list, part}
 use Rattle.vt_cells.specs.declared.attrs.Intensity.{Intensity}
@@ -171,7 +171,7 @@ change_numbers-none was new none =
     refl
 
 -- Joined numbers are the first number in decimal, followed by each further number after a separator.
-pub joined_is : (x : ℕ) (xs : List ℕ) → semicolon_list (x ∷ xs) ≡ decimal x ++ flat_map number_after_semicolon xs
+pub joined_is : (x : ℕ) (xs : List ℕ) → semicolon_list (x ∷ xs) ≡ decimal x ++ numbers_after 0x3B xs
 joined_is x [] = sym (append-nil (decimal x))
 joined_is x (y ∷ xs) = ap (λ rest. decimal x ++ 0x3B ∷ rest) (joined_is y xs)
 

@@ -1,12 +1,12 @@
 -- Packed attributes are equal exactly if their words are.
-use Rattle.std.proofs.Common.{◌≡◌, ℕ, ◌+◌, ◌*◌, ◌/◌, ◌%◌, ◌<◌, ◌≤◌, ◌==◌, zero, suc}
+use Rattle.std.proofs.Common.{◌≡◌, ℕ, ◌+◌, ◌*◌, ◌/◌, ◌%◌, ◌<◌, ◌≤◌, ◌==◌, ◌&&◌, zero, suc}
 use Rattle.std.proofs.Common.{Bool, true, false, refl, arith, ap, subst, sym, ◌∙◌, eqb-true, if◌then◌else◌}
 use Rattle.std.proofs.lemmas.Bool.Decides.{nat_tests}
-use Rattle.vt_cells.specs.Attrs.{Attrs, same_attrs, same_color}
+use Rattle.vt_cells.specs.Attrs.{Attrs, same_attrs, same_bool, same_color, same_intensity}
 use Rattle.vt_cells.specs.AttrsInternals.{StyleValue, same_style, style_bits, style_of, color_of_parts}
 use Rattle.vt_cells.specs.AttrsInternals.{intensity_bits, color_bits, color_of, IsColorBits}
 use Rattle.vt_cells.specs.AttrsInternals.{attrs_of_bits, attrs_of_word, attrs_word, word_of}
-use Rattle.vt_cells.specs.AttrsInternals.{word_back, IsAttrsWord}
+use Rattle.vt_cells.specs.AttrsInternals.{word_back, same_switches, intensity_of, IsAttrsWord}
 use Rattle.vt_cells.specs.Op.{FitsAttrs, FitsColor}
 use Rattle.vt_cells.specs.declared.color.Color.{Color}
 use Rattle.vt_cells.specs.declared.color.Color.TheVariants.{Idx, Rgb}
@@ -209,3 +209,104 @@ pub attrs_fit : (attrs : Attrs) → attrs_of_word (attrs_word attrs) ≡ attrs �
 attrs_fit attrs back =
     subst FitsAttrs back
     (color_fits (attrs_word attrs / 32 % 67108864), color_fits (attrs_word attrs / 32 / 67108864))
+
+low_bits : (style : StyleValue) → style_bits style % 4 ≡ intensity_bits style.intensity
+low_bits style =
+    by_switches style.intensity style.italic style.underline style.inverse where
+      by_switches : (intensity : Intensity) (italic underline inverse : Bool)
+          → style_bits (record { intensity = intensity; italic = italic; underline = underline; inverse = inverse }) % 4
+          ≡ intensity_bits intensity
+      by_switches Normal true true true = refl
+      by_switches Normal true true false = refl
+      by_switches Normal true false true = refl
+      by_switches Normal true false false = refl
+      by_switches Normal false true true = refl
+      by_switches Normal false true false = refl
+      by_switches Normal false false true = refl
+      by_switches Normal false false false = refl
+      by_switches Bold true true true = refl
+      by_switches Bold true true false = refl
+      by_switches Bold true false true = refl
+      by_switches Bold true false false = refl
+      by_switches Bold false true true = refl
+      by_switches Bold false true false = refl
+      by_switches Bold false false true = refl
+      by_switches Bold false false false = refl
+      by_switches Dim true true true = refl
+      by_switches Dim true true false = refl
+      by_switches Dim true false true = refl
+      by_switches Dim true false false = refl
+      by_switches Dim false true true = refl
+      by_switches Dim false true false = refl
+      by_switches Dim false false true = refl
+      by_switches Dim false false false = refl
+
+-- The low two bits of a packed style are equal exactly if the intensities are equal.
+pub intensity_alike : (m n : ℕ) → IsAttrsWord m → IsAttrsWord n
+    → (m % 32 % 4 == n % 32 % 4)
+    ≡ same_intensity (attrs_of_word m).intensity (attrs_of_word n).intensity
+intensity_alike m n p q =
+    let a = m % 32 in
+    let b = n % 32 in
+    let first : a % 4 ≡ intensity_bits (style_of a).intensity =
+    ap (λ k. k % 4) (sym p.style) ∙ low_bits (style_of a) in
+    let second : b % 4 ≡ intensity_bits (style_of b).intensity =
+    ap (λ k. k % 4) (sym q.style) ∙ low_bits (style_of b) in
+    alike (a % 4 == b % 4) (same_intensity (style_of a).intensity (style_of b).intensity)
+    (λ e. ap (λ k. same_intensity (intensity_of k) (intensity_of (b % 4))) (eqb-true (a % 4) (b % 4) e)
+    ∙ same_intensity-itself (intensity_of (b % 4)))
+    (λ e. rw (first ∙ ap intensity_bits (intensity_of-same _ _ e) ∙ sym second) (itself (b % 4)))
+
+-- The three bits of italics, underline and inverse, as a number.
+switch_number : (italic underline inverse : Bool) → ℕ
+switch_number italic underline inverse =
+    (if italic then 1 else 0) + (if underline then 2 else 0) + (if inverse then 4 else 0)
+
+high_bits : (intensity : Intensity) (italic underline inverse : Bool)
+    → style_bits (record { intensity = intensity; italic = italic; underline = underline; inverse = inverse }) / 4
+    ≡ switch_number italic underline inverse
+unfolding switch_number
+high_bits i true true true = omega (arith, intensity_most i)
+high_bits i true true false = omega (arith, intensity_most i)
+high_bits i true false true = omega (arith, intensity_most i)
+high_bits i true false false = omega (arith, intensity_most i)
+high_bits i false true true = omega (arith, intensity_most i)
+high_bits i false true false = omega (arith, intensity_most i)
+high_bits i false false true = omega (arith, intensity_most i)
+high_bits i false false false = omega (arith, intensity_most i)
+
+-- The upper three bits of a packed style are equal exactly if italics, underline and inverse are.
+pub switches_alike : (m n : ℕ) → IsAttrsWord m → IsAttrsWord n
+    → (m % 32 / 4 == n % 32 / 4) ≡ same_switches (attrs_of_word m) (attrs_of_word n)
+unfolding same_switches
+switches_alike m n p q =
+    let a = m % 32 in
+    let b = n % 32 in
+    let x = style_of a in
+    let y = style_of b in
+    let first : a / 4 ≡ switch_number x.italic x.underline x.inverse =
+    ap (λ k. k / 4) (sym p.style) ∙ high_bits x.intensity x.italic x.underline x.inverse in
+    let second : b / 4 ≡ switch_number y.italic y.underline y.inverse =
+    ap (λ k. k / 4) (sym q.style) ∙ high_bits y.intensity y.italic y.underline y.inverse in
+    alike (a / 4 == b / 4)
+    (same_bool x.italic y.italic && (same_bool x.underline y.underline && same_bool x.inverse y.inverse))
+    (λ e.
+    let same = eqb-true (a / 4) (b / 4) e in
+    let one : a / 4 % 2 ≡ b / 4 % 2 = omega (arith, same) in
+    let two : a / 8 % 2 ≡ b / 8 % 2 = omega (arith, same) in
+    let four : a / 16 % 2 ≡ b / 16 % 2 = omega (arith, same) in
+    rw (
+      one,
+      two,
+      four,
+      same_bool-itself (b / 4 % 2 == 1),
+      same_bool-itself (b / 8 % 2 == 1),
+      same_bool-itself (b / 16 % 2 == 1),
+    ) refl)
+    (λ e.
+    let (italic, rest) = two_parts _ _ e in
+    let (underline, inverse) = two_parts _ _ rest in
+    let equal : switch_number x.italic x.underline x.inverse ≡ switch_number y.italic y.underline y.inverse =
+    λ i. switch_number (bool_of-same x.italic y.italic italic i)
+    (bool_of-same x.underline y.underline underline i) (bool_of-same x.inverse y.inverse inverse i) in
+    rw (first ∙ equal ∙ sym second) (itself (b / 4)))

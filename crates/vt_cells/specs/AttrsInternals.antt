@@ -49,6 +49,11 @@ same_style a b =
     same_intensity a.intensity b.intensity
     && (same_bool a.italic b.italic && (same_bool a.underline b.underline && same_bool a.inverse b.inverse))
 
+-- Italics, underline and inverse are equal in both sets of attributes.
+unfoldable pub same_switches : Attrs → Attrs → Bool
+same_switches a b =
+    same_bool a.italic b.italic && (same_bool a.underline b.underline && same_bool a.inverse b.inverse)
+
 -- The intensity that a number below 4 stands for.
 abbrev pub intensity_of : ℕ → Intensity
 intensity_of zero = Normal

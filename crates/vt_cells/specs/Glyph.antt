@@ -50,7 +50,7 @@ Joins text (mark ∷ marks) whole = (has_room text ≡ true) × Joins (text ++ e
 abbrev pub glyph_columns : Bool → ℕ
 glyph_columns wide = if wide then 2 else 1
 
--- The text is a valid glyph text: a first character that takes columns, followed by combining characters.
+-- The text is a valid glyph text: a first character of nonzero width, followed by combining characters.
 pub record IsGlyphText (text : List ℕ) (wide : Bool) : Type 0 where
   pub first : ℕ
   pub marks : List ℕ

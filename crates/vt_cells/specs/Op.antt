@@ -8,7 +8,7 @@ use Rattle.vt_cells.specs.declared.attrs.Intensity.TheVariants.{Normal, Bold, Di
 use Rattle.vt_cells.specs.declared.color.Color.{Color}
 use Rattle.vt_cells.specs.declared.color.Color.TheVariants.{Default, Idx, Rgb}
 
--- An operation of a redraw.
+-- A drawing operation in a redraw.
 pub data Op : Type 0 where
   -- Hides or shows the cursor (DECTCEM).
   Hide : (hidden : Bool) → Op
@@ -137,7 +137,7 @@ FitsColor Default = Unit {0}
 FitsColor (Idx i) = i < 256
 FitsColor (Rgb r g b) = (r < 256) × ((g < 256) × (b < 256))
 
--- The palette indices and RGB components of the foreground and background colors fit in a byte each.
+-- The palette indices and RGB components of the foreground and background colors each fit in a byte.
 abbrev pub FitsAttrs : Attrs → Type 0
 FitsAttrs attrs = FitsColor attrs.fgcolor × FitsColor attrs.bgcolor
 

@@ -1,8 +1,8 @@
 //! Text attributes of a cell: colors, intensity, italics, underline and inverse.
 
 ghost use Rattle.std.specs.Prelude.{◌≡◌, ◌<◌, if◌then◌else◌};
-ghost use Rattle.vt_cells.specs.Attrs.{default_attrs, is_bold, is_dim, same_attrs, same_color};
-ghost use Rattle.vt_cells.specs.AttrsInternals.{IsAttrsWord, attrs_of_word, attrs_word, same_style};
+ghost use Rattle.vt_cells.specs.Attrs.{default_attrs, is_bold, is_dim, same_attrs, same_color, same_intensity};
+ghost use Rattle.vt_cells.specs.AttrsInternals.{IsAttrsWord, attrs_of_word, attrs_word, same_style, same_switches};
 ghost use Rattle.vt_cells.specs.AttrsInternals.{style_of_attrs};
 ghost use Rattle.vt_cells.specs.AttrsInternals.{intensity_bits, style_bits, style_of};
 
@@ -19,7 +19,7 @@ const UNDERLINE: u64 = 8;
 /// The bit for inverse video in a packed [`Attrs`] word.
 const INVERSE: u64 = 16;
 
-/// The intensity of a character. Bold and dim exclude each other.
+/// The intensity of a character. Bold and dim are mutually exclusive.
 #[derive(Clone, Copy, PartialEq, Eq, Debug, Default)]
 pub enum Intensity {
     /// Neither bold nor dim.
@@ -196,6 +196,24 @@ impl Attrs {
         ensures { result ≡ same_style (style_of_attrs self.now) (style_of_attrs other.now) }
     {
         self.word % 32 == other.word % 32
+    }
+
+    /// Returns whether the intensity equals that of `other`.
+    #[inline]
+    #[tactic(auto, using(crate::proofs::Packing::intensity_alike))]
+    pub(crate) fn has_intensity_of(&self, other: &Attrs) -> bool
+        ensures { result ≡ same_intensity self.now.intensity other.now.intensity }
+    {
+        self.word % 32 % 4 == other.word % 32 % 4
+    }
+
+    /// Returns whether italics, underline and inverse all equal those of `other`.
+    #[inline]
+    #[tactic(auto, using(crate::proofs::Packing::switches_alike))]
+    pub(crate) fn has_switches_of(&self, other: &Attrs) -> bool
+        ensures { result ≡ same_switches self.now other.now }
+    {
+        self.word % 32 / 4 == other.word % 32 / 4
     }
 
     /// Returns the foreground color.

@@ -1,6 +1,6 @@
 //! A buffer that collects short strings before they are written to a sink.
 
-ghost use Rattle.std.specs.Prelude.{◌≡◌, ◌+◌, ◌++◌, ◌<◌, ◌≤◌, [], length, IsErr, OnErr, OnOk};
+ghost use Rattle.std.specs.Prelude.{◌≡◌, ◌+◌, ◌++◌, ◌∷◌, ◌<◌, ◌≤◌, [], length, IsErr, OnErr, OnOk};
 ghost use Rattle.vt_cells.specs.BufferInternals.{buffered_text};
 ghost use Rattle.vt_cells.specs.Sinks.{IsStopped};
 
@@ -9,9 +9,9 @@ use std::marker::Model;
 use std::str;
 
 /// The capacity of a [`Buffer`] in bytes.
-const ROOM: usize = 128;
+const ROOM: usize = 256;
 
-/// A buffer of at most 128 bytes in front of a [`Sink`].
+/// A buffer of at most 256 bytes in front of a [`Sink`].
 ///
 /// Short strings are collected and written together. Call [`Buffer::flush`] at the end: only then
 /// is everything guaranteed to have reached the sink.
@@ -55,11 +55,11 @@ impl Buffer {
     pub fn add<S: Sink>(&mut self, sink: &mut S, text: &str) -> Result<(), S::Error>
         ensures text { OnOk result (buffered_text (S.text sink.new) self.new
             ≡ buffered_text (S.text sink.old) self.old ++ text.now) }
-        ensures gathers { length self.old + length text.now ≤ 128
+        ensures gathers { length self.old + length text.now ≤ 256
             → (self.new ≡ self.old ++ text.now) × (sink.new ≡ sink.old) }
         ensures grows { OnOk result (length (S.text sink.old) ≤ length (S.text sink.new)) }
         ensures err { OnErr result (IsStopped S.refuses (S.text sink.old) (self.old ++ text.now) (S.text sink.new)) }
-        ensures full { IsErr result → 128 < length self.old + length text.now }
+        ensures full { IsErr result → 256 < length self.old + length text.now }
         ensures nonempty { IsErr result → 0 < length text.now }
     {
         if text.len() == 1 && self.len < ROOM {
@@ -107,7 +107,7 @@ impl Buffer {
     /// Returns the number of bytes that still fit in the buffer.
     #[inline(always)]
     pub fn room(&self) -> usize
-        ensures { length self.now + result ≡ 128 }
+        ensures { length self.now + result ≡ 256 }
     {
         ROOM - self.len
     }
@@ -115,7 +115,7 @@ impl Buffer {
     /// Appends `text`, which must fit in the buffer.
     #[inline(always)]
     pub fn push(&mut self, text: &str)
-        requires { length self.old + length text.now ≤ 128 }
+        requires { length self.old + length text.now ≤ 256 }
         ensures { self.new ≡ self.old ++ text.now }
     {
         let end = self.len + text.len();
@@ -126,13 +126,48 @@ impl Buffer {
     /// Appends a one-byte string, which must fit in the buffer. Most glyphs are one byte long.
     #[inline(always)]
     pub fn push_one(&mut self, text: &str)
-        requires room { length self.old + 1 ≤ 128 }
+        requires room { length self.old + 1 ≤ 256 }
         requires one { length text.now ≡ 1 }
         ensures { self.new ≡ self.old ++ text.now }
     {
         let end = self.len + 1;
         copy_one(&mut self.bytes[self.len..end], text.as_bytes());
         self.len = end;
+    }
+
+    /// Writes the buffered bytes to `sink` if fewer than `len` more bytes fit in the buffer.
+    ///
+    /// # Errors
+    ///
+    /// Returns the sink's error. Part of the output may have been written by then.
+    #[inline(always)]
+    #[tactic(auto, using(crate::proofs::Buffers::all_buffered, crate::proofs::Buffers::longer_flushed))]
+    pub fn make_room<S: Sink>(&mut self, sink: &mut S, len: usize) -> Result<(), S::Error>
+        requires { len ≤ 256 }
+        ensures text { OnOk result (buffered_text (S.text sink.new) self.new ≡ buffered_text (S.text sink.old) self.old) }
+        ensures room { OnOk result (length self.new + len ≤ 256) }
+        ensures grows { OnOk result (length (S.text sink.old) ≤ length (S.text sink.new)) }
+        ensures err { OnErr result (S.refuses (S.text sink.old) self.old (S.text sink.new)) }
+        ensures nonempty { IsErr result → 0 < length self.old }
+    {
+        if self.room() >= len {
+            return Ok(());
+        }
+        self.flush(sink)?;
+        Ok(())
+    }
+
+    /// Appends an ASCII character, which must fit in the buffer.
+    #[inline(always)]
+    #[tactic(auto, using(crate::proofs::Buffers::next_byte))]
+    pub fn push_byte(&mut self, byte: u8)
+        requires room { length self.old + 1 ≤ 256 }
+        requires ascii { byte < 128 }
+        ensures { self.new ≡ self.old ++ byte ∷ [] }
+    {
+        let at = self.len;
+        self.bytes[at] = byte;
+        self.len = at + 1;
     }
 
     /// Empties the buffer.
@@ -157,15 +192,16 @@ fn copy_one(to: &mut [u8], from: &[u8])
 
 /// Copies `from` into `to`, which must have the same length.
 ///
-/// A slice of two or three bytes, as for most glyphs outside ASCII, is copied inline rather than by
-/// a call to `memcpy`.
+/// A slice of at most three bytes, as for most glyphs, is copied inline rather than by a call to
+/// `memcpy`.
 #[inline(always)]
-#[tactic(auto, using(crate::proofs::Buffers::two_set, crate::proofs::Buffers::three_set))]
+#[tactic(auto, using(crate::proofs::Buffers::one_set, crate::proofs::Buffers::two_set, crate::proofs::Buffers::three_set))]
 fn copy(to: &mut [u8], from: &[u8])
     requires { length to.old ≡ length from.now }
     ensures { to.new ≡ from.now }
 {
     match from.len() {
+        1 => to[0] = from[0],
         2 => {
             to[0] = from[0];
             to[1] = from[1];

@@ -24,37 +24,6 @@ pub fn same_run(own: &[Cell], others: &[Cell]) -> usize
     count
 }
 
-/// Returns a lower bound on the number of leading cells that equal `cell`.
-///
-/// Cells are compared in groups of four. The comparison stops at the first group in which a cell
-/// differs from `cell` or has more than seven bytes of text.
-pub fn run_of(own: &[Cell], cell: &Cell) -> usize
-    ensures own { result ≤ length own.now }
-    ensures same { (k : ℕ) (d : CellValue) → k < result → slice_index_or own.now k d ≡ cell.now }
-{
-    let len = own.len();
-    let mut count = 0;
-    while len - count >= 4 && four_like(&own[count..count + 4], cell) {
-        count += 4;
-    }
-    count
-}
-
-/// Returns whether each of four cells equals `cell` and has at most seven bytes of text.
-///
-/// The differences are combined into one word so that the compiler can vectorize the comparison.
-#[inline(always)]
-fn four_like(own: &[Cell], cell: &Cell) -> bool
-    requires own { length own.now ≡ 4 }
-    ensures { IsTrue result → (k : ℕ) (d : CellValue) → k < 4 → slice_index_or own.now k d ≡ cell.now }
-{
-    let odd = own[0].odd_bits(cell)
-        | own[1].odd_bits(cell)
-        | own[2].odd_bits(cell)
-        | own[3].odd_bits(cell);
-    odd == 0
-}
-
 /// Returns whether two groups of four cells are equal and no cell has more than seven bytes of
 /// text.
 ///

@@ -7,7 +7,7 @@ use crate::error::Error;
 
 /// A destination that strings are appended to.
 pub trait Sink {
-    /// The error of a write that failed.
+    /// The error that a failed write returns.
     type Error;
 
     ghost text: { Self → List ℕ };

@@ -11,7 +11,7 @@ mod erasing;
 mod input;
 mod lines;
 mod moves;
-mod sequence_text;
+mod sequences;
 mod sgr;
 
 pub use changes::{ChangeAttrs, ClearAttrs};
@@ -23,6 +23,8 @@ pub use input::{
 };
 pub use lines::{DeleteLines, InsertLines};
 pub use moves::{MoveFromTo, MoveRight, MoveTo};
+pub use sequences::SHORT_ROOM;
+pub use sgr::SGR_ROOM;
 
 /// An escape sequence that can be written to a sink.
 pub trait BufWrite {

@@ -7,7 +7,7 @@ use Rattle.std.specs.Vec.{with_items}
 use Rattle.std.proofs.lemmas.Bool.{cases_lt, cases_eq}
 use Rattle.std.proofs.lemmas.Bool.Decides.{nat_tests}
 use Rattle.std.proofs.lemmas.List.{length-take, length-drop, length-replicate, length-map, length-set, set-get_or}
-use Rattle.std.proofs.lemmas.List.{get_or-set_same, get_or-set_other, take-take}
+use Rattle.std.proofs.lemmas.List.{get_or-set_same, get_or-set_other, get_or-take}
 use borrow.Rule.Slice.PartMut.{put_mid}
 use Rattle.vt_cells.specs.Attrs.{Attrs, default_attrs, same_attrs}
 use Rattle.vt_cells.specs.Cell.{CellValue, blank, cell_with_mark, default_blank, glyph, is_default_blank}
@@ -19,22 +19,23 @@ use Rattle.vt_rows.specs.Cells.{at, blanks, cells_after_erase, marked_at, put_ce
 use Rattle.vt_rows.proofs.Columns.{at-blanks, at-past, blanks_is, put_columns}
 use Rattle.vt_rows.proofs.Steps.{at-put_mid, length-put_mid}
 use Rattle.vt_grid.specs.declared.flat.Line.{Line}
+use Rattle.vt_grid.specs.declared.flat.Columns.{Columns}
 use Rattle.vt_grid.specs.declared.flat.Flat.{Flat}
 use Rattle.vt_grid.specs.Flat.{IsBlankFrom, IsFlat, IsStored, cells_at, line_at, no_line}
 use Rattle.vt_grid.specs.Flat.{row_in, rows_in, rows_of, used_columns}
 use Rattle.vt_rows.specs.Row.{RowValue, blank_row, cells_without_end, with_cells}
 use Rattle.vt_grid.specs.PageRows.{PageRowsValue, page_row, with_row_cells}
-use Rattle.vt_grid.proofs.Flats.{IsTable-cells, IsTable-moved, cells_at-put_other, cells_at-put_same, length-cells_at}
-use Rattle.vt_grid.proofs.Flats.{page_rows_of, place_inside, row_found, rows_counted, rows_in-replaced, written}
+use Rattle.vt_grid.proofs.Flats.{IsTable-cells, IsTable-moved, cells_at-put_part, length-cells_at}
+use Rattle.vt_grid.proofs.Flats.{page_rows_of, place_inside, row_found, rows_in-replaced, written_part}
 use Rattle.vt_grid.proofs.Packing.{cell_of_place}
 
 -- A page whose row r has new cells and a new table entry at the same place is stored validly, if the cells of every other
 -- place are unchanged.
-pub IsStored-replaced : (w r : ℕ) (cells now : List CellValue) (line : Line) (lines : List Line) →
+pub IsStored-replaced : (w : Columns) (r : ℕ) (cells now : List CellValue) (line : Line) (lines : List Line) →
     IsStored w cells lines → r < length lines → length now ≡ length cells → line.place ≡ (line_at lines r).place →
-    IsBlankFrom (used_columns w line.used) (cells_at w now (line_at lines r).place) →
-    ((q : ℕ) → q < length lines → q ≢ (line_at lines r).place → cells_at w now q ≡ cells_at w cells q) →
-    IsStored w now (set lines r line)
+    IsBlankFrom (used_columns w.shown line.used) (cells_at w.stored now (line_at lines r).place) →
+    ((q : ℕ) → q < length lines → q ≢ (line_at lines r).place →
+    cells_at w.stored now q ≡ cells_at w.stored cells q) → IsStored w now (set lines r line)
 IsStored-replaced w r cells now line lines t h l p own others =
     let n : length (set lines r line) ≡ length lines = length-set lines r line in
     let here : line_at (set lines r line) r ≡ line = get_or-set_same lines r line no_line h in
@@ -42,34 +43,54 @@ IsStored-replaced w r cells now line lines t h l p own others =
     λ k other. get_or-set_other lines r k line no_line other in
     record {
       table =
-          IsTable-moved w (λ k. k) now lines (set lines r line) n (λ k i. i) (λ j k i m e. e)
+          IsTable-moved w.stored (λ k. k) now lines (set lines r line) n (λ k i. i) (λ j k i m e. e)
           (λ k i. elim (cases_eq k r) [
             | inl e ↦
                 ap (λ (j : ℕ). (line_at (set lines r line) j).place) e
                 ∙ (ap (λ (x : Line). x.place) here ∙ (p ∙ ap (λ (j : ℕ). (line_at lines j).place) (sym e)))
             | inr o ↦ ap (λ (x : Line). x.place) (there k o)
-          ]) (IsTable-cells w cells now lines l t.table);
+          ]) (IsTable-cells w.stored cells now lines l t.table);
+      fits = t.fits;
       blank = λ k i. elim (cases_eq k r) [
         | inl e ↦
-            subst (λ (x : Line). IsBlankFrom (used_columns w x.used) (cells_at w now x.place))
+            subst (λ (x : Line). IsBlankFrom (used_columns w.shown x.used) (cells_at w.stored now x.place))
             (sym (ap (line_at (set lines r line)) e ∙ here))
-            (subst (λ (q : ℕ). IsBlankFrom (used_columns w line.used) (cells_at w now q)) (sym p) own)
+            (subst (λ (q : ℕ). IsBlankFrom (used_columns w.shown line.used) (cells_at w.stored now q)) (sym p) own)
         | inr o ↦
             let inside : k < length lines = omega (arith, n, i) in
             let q = (line_at lines k).place in
             let apart : q ≢ (line_at lines r).place = λ e. o (t.table.distinct k r inside h e) in
-            subst (λ (x : Line). IsBlankFrom (used_columns w x.used) (cells_at w now x.place)) (sym (there k o))
-            (subst (IsBlankFrom (used_columns w (line_at lines k).used))
+            subst (λ (x : Line). IsBlankFrom (used_columns w.shown x.used) (cells_at w.stored now x.place)) (sym (there k o))
+            (subst (IsBlankFrom (used_columns w.shown (line_at lines k).used))
             (sym (others q (t.table.inside k inside) apart)) (t.blank k inside))
       ];
     }
+
+pub used_inside : (width groups : ℕ) → used_columns width groups ≤ width
+used_inside width groups = grind (arith, nat_tests)
+
+-- The cells of place p after its first u cells are the former ones.
+pub blank_after : (w u n p : ℕ) (cells new : List CellValue) → length cells ≡ n * w → p < n → u ≤ w → length new ≡ u →
+    IsBlankFrom u (cells_at w cells p) → IsBlankFrom u (cells_at w (put_mid (p * w) u cells new) p)
+blank_after w u n p cells new e h few l b k i =
+    let fits = place_inside p n w h in
+    let now = put_mid (p * w) u cells new in
+    let size : length now ≡ length cells = length-put_mid (p * w) u cells new l (omega (arith, fits, e, few)) in
+    elim (cases_lt k w) [
+      | inl lt ↦
+          let was = sym (cell_of_place w p k cells default_blank lt) ∙ b k i in
+          cell_of_place w p k now default_blank lt
+          ∙ (at-put_mid (p * w) u (p * w + k) cells new l (omega (arith, fits, e, few))
+          ∙ grind (arith, nat_tests, i, was))
+      | inr ge ↦ at-past (cells_at w now p) k (omega (arith, ge, length-cells_at w n p now (size ∙ e) h))
+    ]
 
 -- The page of `row_changed` is stored validly, with all columns of the row in use.
 pub flat_changed : (r a b : ℕ) (flat edited : Flat) (xs new : List CellValue) (flag : Bool) →
     IsFlat flat → r < length flat.lines.items →
     edited.cells ≡ with_items flat.cells (put_mid a (b - a) xs new) → xs ≡ flat.cells.items →
-    a ≡ (line_at flat.lines.items r).place * flat.width → b ≡ a + flat.width → b ≤ length flat.cells.items →
-    length new ≡ length (take (b - a) (drop a xs)) → edited.width ≡ flat.width →
+    a ≡ (line_at flat.lines.items r).place * flat.columns.stored → b ≡ a + flat.columns.shown → b ≤ length flat.cells.items →
+    length new ≡ length (take (b - a) (drop a xs)) → edited.columns ≡ flat.columns →
     edited.lines.items
     ≡ set flat.lines.items r (record (line_at flat.lines.items r) { used = 255; wrapped = flag }) → IsFlat edited
 flat_changed r a b flat edited xs new flag t inside e was i j m size w f =
@@ -77,36 +98,34 @@ flat_changed r a b flat edited xs new flag t inside e was i j m size w f =
     let cells = flat.cells.items in
     let p = (line_at lines r).place in
     let n = length lines in
-    let l : length new ≡ flat.width =
-    size ∙ omega (arith, length-take (b - a) (drop a xs), length-drop a xs, ap length was, j, m) in
-    let now = written flat.width n p a (b - a) flat.cells
-    edited.cells xs new e was t.table.filled (t.table.inside r inside) i (omega (arith, j)) l in
-    let fits = place_inside p n flat.width (t.table.inside r inside) in
-    subst (λ (x : ℕ × (List CellValue × List Line)). IsStored x.0 x.1.0 x.1.1) (λ z. (sym w z, (sym now z, sym f z)))
-    (IsStored-replaced flat.width r cells (put_mid (p * flat.width) flat.width cells new) _ lines t inside
-    (length-put_mid (p * flat.width) flat.width cells new l (omega (arith, fits, t.table.filled))) refl
-    (λ k h. ap (λ (ys : List CellValue). at ys k)
-    (cells_at-put_same flat.width n p cells new t.table.filled (t.table.inside r inside) l)
-    ∙ at-past new k (omega (arith, l, h)))
-    (λ q h other. cells_at-put_other flat.width n p q cells new t.table.filled (t.table.inside r inside) h other l))
+    let v = flat.columns.stored in
+    let u = flat.columns.shown in
+    let h = t.table.inside r inside in
+    let l : length new ≡ u = size ∙ omega (arith, length-take (b - a) (drop a xs), length-drop a xs, ap length was, j, m) in
+    let now = written_part v u n p a (b - a) flat.cells
+    edited.cells xs new e was t.table.filled h i (omega (arith, j)) t.fits l in
+    let fits = place_inside p n v h in
+    subst (λ (x : Columns × (List CellValue × List Line)). IsStored x.0 x.1.0 x.1.1) (λ z. (sym w z, (sym now z, sym f z)))
+    (IsStored-replaced flat.columns r cells (put_mid (p * v) u cells new) _ lines t inside
+    (length-put_mid (p * v) u cells new l (omega (arith, fits, t.table.filled, t.fits))) refl
+    (blank_after v u n p cells new t.table.filled h t.fits l
+    (λ k k_in. t.blank r inside k (omega (arith, k_in, used_inside u (line_at lines r).used))))
+    (λ q q_in other. cells_at-put_part v u n p q cells new t.table.filled h q_in other t.fits l))
 
 -- The page of `row_blanked` is stored validly.
-pub flat_blanked : (r used : ℕ) (attrs : Attrs) (flat edited : Flat) → IsFlat flat → r < length flat.lines.items →
-    cells_at flat.width edited.cells.items (line_at flat.lines.items r).place ≡ blanks attrs flat.width →
+pub flat_blanked : (r used : ℕ) (flat edited : Flat) → IsFlat flat → r < length flat.lines.items →
+    IsBlankFrom (used_columns flat.columns.shown used)
+    (cells_at flat.columns.stored edited.cells.items (line_at flat.lines.items r).place) →
     ((q : ℕ) → q < length flat.lines.items → q ≢ (line_at flat.lines.items r).place →
-    cells_at flat.width edited.cells.items q ≡ cells_at flat.width flat.cells.items q) →
-    length edited.cells.items ≡ length flat.cells.items → edited.width ≡ flat.width →
+    cells_at flat.columns.stored edited.cells.items q ≡ cells_at flat.columns.stored flat.cells.items q) →
+    length edited.cells.items ≡ length flat.cells.items → edited.columns ≡ flat.columns →
     edited.lines.items ≡ set flat.lines.items r (record (line_at flat.lines.items r) { used = used; wrapped = false }) →
-    IsBlankFrom (used_columns flat.width used) (blanks attrs flat.width) → IsFlat edited
-flat_blanked r used attrs flat edited t inside own others l w f b =
-    subst (λ (x : ℕ × List Line). IsStored x.0 edited.cells.items x.1) (λ z. (sym w z, sym f z))
-    (IsStored-replaced flat.width r flat.cells.items edited.cells.items _ flat.lines.items t inside l refl
-    (subst (IsBlankFrom (used_columns flat.width used)) (sym own) b) others)
+    IsFlat edited
+flat_blanked r used flat edited t inside own others l w f =
+    subst (λ (x : Columns × List Line). IsStored x.0 edited.cells.items x.1) (λ z. (sym w z, sym f z))
+    (IsStored-replaced flat.columns r flat.cells.items edited.cells.items _ flat.lines.items t inside l refl own others)
 
 -- ---- Writing the used columns only
-
-pub used_inside : (width groups : ℕ) → used_columns width groups ≤ width
-used_inside width groups = grind (arith, nat_tests)
 
 -- A column after the larger one of two numbers of used columns is after both.
 pub groups_hold : (width groups reach new k : ℕ) → new ≡ max groups ((min reach 2040 + 7) / 8) →
@@ -127,6 +146,35 @@ groups_hold width groups reach new k e h lt = elim (cases_lt new 255) [
       let i : width ≤ k = subst (λ (b : Bool). (if b then min (8 * new) width else width) ≤ k) t h in
       absurd (omega (arith, i, lt))
 ]
+
+-- The cells of row r after its used columns.
+pub row_blank_from : (r : ℕ) (flat : Flat) → IsFlat flat → r < length flat.lines.items →
+    IsBlankFrom (used_columns flat.columns.shown (line_at flat.lines.items r).used)
+    (row_in flat.columns flat.cells.items (line_at flat.lines.items r)).cells
+row_blank_from r flat t inside k h =
+    let w = flat.columns in
+    let cells = cells_at w.stored flat.cells.items (line_at flat.lines.items r).place in
+    elim (cases_lt k w.shown) [
+      | inl lt ↦ get_or-take w.shown cells k default_blank lt ∙ t.blank r inside k h
+      | inr ge ↦ at-past (take w.shown cells) k (omega (arith, ge, length-take w.shown cells))
+    ]
+
+-- The cells at the place of row r after its new number of used columns.
+pub noted_blank : (r groups reach new : ℕ) (flat : Flat) → IsFlat flat → r < length flat.lines.items →
+    new ≡ max groups ((min reach 2040 + 7) / 8) →
+    IsBlankFrom (max (used_columns flat.columns.shown groups) reach)
+    (row_in flat.columns flat.cells.items (line_at flat.lines.items r)).cells →
+    IsBlankFrom (used_columns flat.columns.shown new)
+    (cells_at flat.columns.stored flat.cells.items (line_at flat.lines.items r).place)
+noted_blank r groups reach new flat t inside e b k h =
+    let w = flat.columns in
+    let line = line_at flat.lines.items r in
+    elim (cases_lt k w.shown) [
+      | inl lt ↦
+          sym (get_or-take w.shown (cells_at w.stored flat.cells.items line.place) k default_blank lt)
+          ∙ b k (groups_hold w.shown groups reach new k e h lt)
+      | inr ge ↦ t.blank r inside k (omega (arith, ge, used_inside w.shown line.used))
+    ]
 
 pub blanked_start : (w u n p : ℕ) (cells : List CellValue) → length cells ≡ n * w → p < n → u ≤ w →
     IsBlankFrom u (cells_at w cells p) →
@@ -150,27 +198,26 @@ blanked_start w u n p cells e h few b =
 
 -- The page after only the number of used columns of row r was set is the same page.
 pub flat_noted : (r used : ℕ) (flag : Bool) (flat edited : Flat) → IsFlat flat → r < length flat.lines.items →
-    edited.cells ≡ flat.cells → edited.width ≡ flat.width →
+    edited.cells ≡ flat.cells → edited.columns ≡ flat.columns →
     edited.lines.items ≡ set flat.lines.items r (record (line_at flat.lines.items r) { used = used; wrapped = flag }) →
     flag ≡ (line_at flat.lines.items r).wrapped →
-    IsBlankFrom (used_columns flat.width used) (cells_at flat.width flat.cells.items (line_at flat.lines.items r).place) →
+    IsBlankFrom (used_columns flat.columns.shown used)
+    (cells_at flat.columns.stored flat.cells.items (line_at flat.lines.items r).place) →
     (page_rows_of edited ≡ page_rows_of flat) × IsFlat edited
 flat_noted r used flag flat edited t h c w f g b =
     let cells = flat.cells.items in
     let lines = flat.lines.items in
-    let n = rows_counted flat.width cells lines in
-    let d = row_in flat.width cells (line_at lines r) in
+    let v = flat.columns in
+    let d = row_in v cells (line_at lines r) in
     let rows : rows_of edited ≡ rows_of flat =
     (λ z. rows_in (w z) (c z).items (f z))
-    ∙ (rows_in-replaced flat.width r used cells cells (cells_at flat.width cells (line_at lines r).place)
-    flag lines t.table h refl (λ q i other. refl)
-    ∙ (ap (λ (x : Bool). set (rows_of flat) r
-    (record { cells = cells_at flat.width cells (line_at lines r).place; wrapped = x })) g
-    ∙ (ap (set (rows_of flat) r) (sym (row_found flat.width r cells lines d h)) ∙ set-get_or (rows_of flat) r d))) in (
-      λ z. record { rows = rows z; width = w z },
-      subst (λ (x : ℕ × (List CellValue × List Line)). IsStored x.0 x.1.0 x.1.1)
+    ∙ (rows_in-replaced v r used cells cells d.cells flag lines t.table h refl (λ q i other. refl)
+    ∙ (ap (λ (x : Bool). set (rows_of flat) r (record { cells = d.cells; wrapped = x })) g
+    ∙ (ap (set (rows_of flat) r) (sym (row_found v r cells lines d h)) ∙ set-get_or (rows_of flat) r d))) in (
+      λ z. record { rows = rows z; width = (w z).shown },
+      subst (λ (x : Columns × (List CellValue × List Line)). IsStored x.0 x.1.0 x.1.1)
           (λ z. (sym w z, ((sym c z).items, sym f z)))
-          (IsStored-replaced flat.width r cells cells _ lines t h refl refl b (λ q i other. refl)),
+          (IsStored-replaced v r cells cells _ lines t h refl refl b (λ q i other. refl)),
     )
 
 -- ---- Edits of a row
@@ -260,11 +307,3 @@ used_without_end (suc n) [] b = refl
 used_without_end (suc n) (x ∷ xs) b =
     let rest : IsBlankFrom n xs = λ k h. b (suc k) (omega arith) in
     (λ z. if is_default_blank x && list_all_used n xs rest z then [] else x ∷ used_without_end n xs rest z)
-
--- The first cells of a place.
-pub place_start : (w u p s : ℕ) (cells xs : List CellValue) → xs ≡ cells → s ≡ p * w → u ≤ w →
-    take (s + u - s) (drop s xs) ≡ take u (cells_at w cells p)
-place_start w u p s cells xs e f few =
-    (λ z. take (f z + u - f z) (drop (f z) (e z)))
-    ∙ (ap (λ (n : ℕ). take n (drop (p * w) cells)) (omega (arith, few))
-    ∙ sym (take-take u (p * w + w - p * w) (drop (p * w) cells) (omega (arith, few))))

@@ -2,13 +2,13 @@
 -- table.
 use Rattle.std.proofs.Common.{◌≡◌, ◌≢◌, ℕ, ◌+◌, ◌*◌, ◌-◌, ◌<◌, ◌≤◌, ◌&&◌, not, Bool, false, List}
 use Rattle.std.proofs.Common.{[], ◌∷◌, ◌++◌, length, take, drop, replicate, map, Vec, Global}
-use Rattle.std.proofs.Common.{get_or, set, inl, inr, sym, ap, subst, ◌∙◌, arith}
+use Rattle.std.proofs.Common.{get_or, set, inl, inr, refl, sym, ap, subst, ◌∙◌, arith}
 use Rattle.std.proofs.lemmas.Bool.{cases_lt, cases_eq}
 use Rattle.std.proofs.lemmas.Bool.Decides.{nat_tests}
 use Rattle.vt_rows.specs.Internals.{rotation_source}
 use Rattle.std.specs.Vec.{with_items}
 use Rattle.std.proofs.lemmas.List.{with_items_is, length-take, length-drop, length-replicate, get_or-take}
-use Rattle.std.proofs.lemmas.List.{get_or-drop, get_or-replicate, get_or_default, ext_get_or, length-map}
+use Rattle.std.proofs.lemmas.List.{get_or-drop, get_or-replicate, get_or_default, ext_get_or, length-map, take-take}
 use Rattle.std.proofs.lemmas.List.{length-set, get_or-map, get_or-set_same, get_or-set_other, map-set}
 use Rattle.std.proofs.lemmas.List.FromFn.{length-map-range_with_len, get_or-map-range_with_len, map-range_with_len_more}
 use Rattle.std.proofs.lemmas.Slice.{between_is, take-put_mid_below, drop-put_mid, between-put_mid}
@@ -21,6 +21,7 @@ use Rattle.vt_rows.proofs.Columns.{at-blanks, blanks_is}
 use Rattle.vt_rows.specs.Row.{RowValue, blank_row}
 use Rattle.vt_grid.specs.Page.{row_or}
 use Rattle.vt_grid.specs.declared.flat.Line.{Line}
+use Rattle.vt_grid.specs.declared.flat.Columns.{Columns}
 use Rattle.vt_grid.specs.declared.flat.Flat.{Flat}
 use Rattle.vt_grid.specs.Flat.{IsBlankFrom, IsFlat, IsStored, IsTable, rows_of, used_columns}
 use Rattle.vt_grid.specs.Flat.{cells_at, row_in, rows_in, no_line, line_at, in_order}
@@ -49,15 +50,21 @@ cells_at-put_part w u n p q cells new e h i other few l =
           (drop-put_mid (p * w) u cells new (q * w) (omega (arith, above, few)) (omega (arith, inside, e)) l)
     ]
 
-pub cells_at-put_other : (w n p q : ℕ) (cells new : List CellValue) → length cells ≡ n * w → p < n →
-    q < n → q ≢ p → length new ≡ w → cells_at w (put_mid (p * w) w cells new) q ≡ cells_at w cells q
-cells_at-put_other w n p q cells new e h i other l = cells_at-put_part w w n p q cells new e h i other (omega arith) l
+-- The first cells of a place.
+pub place_start : (w u p s : ℕ) (cells xs : List CellValue) → xs ≡ cells → s ≡ p * w → u ≤ w →
+    take (s + u - s) (drop s xs) ≡ take u (cells_at w cells p)
+place_start w u p s cells xs e f few =
+    (λ z. take (f z + u - f z) (drop (f z) (e z)))
+    ∙ (ap (λ (n : ℕ). take n (drop (p * w) cells)) (omega (arith, few))
+    ∙ sym (take-take u (p * w + w - p * w) (drop (p * w) cells) (omega (arith, few))))
 
-pub cells_at-put_same : (w n p : ℕ) (cells new : List CellValue) → length cells ≡ n * w →
-    p < n → length new ≡ w → cells_at w (put_mid (p * w) w cells new) p ≡ new
-cells_at-put_same w n p cells new e h l =
+pub cells_at-put_start : (w u n p : ℕ) (cells new : List CellValue) → length cells ≡ n * w → p < n → u ≤ w →
+    length new ≡ u → take u (cells_at w (put_mid (p * w) u cells new) p) ≡ new
+cells_at-put_start w u n p cells new e h few l =
     let inside = place_inside p n w h in
-    between-put_mid (p * w) w cells new (p * w + w) (omega (arith, inside, e)) (omega (arith, l))
+    let now = put_mid (p * w) u cells new in
+    sym (place_start w u p (p * w) now now refl refl few)
+    ∙ between-put_mid (p * w) u cells new (p * w + u) (omega (arith, inside, e, few)) (omega (arith, l))
 
 -- If the first u cells of place p are borrowed and become `new`, the vector of cells has `new` there.
 pub written_part : (w u n p a k : ℕ) (v now : Vec CellValue Global) (xs new : List CellValue) →
@@ -72,25 +79,19 @@ written_part w u n p a k v now xs new e was f h i j few l =
     ap (λ (u : Vec CellValue Global). u.items) (e ∙ (λ t. with_items v (put_mid (i t) (j t) (was t) new)))
     ∙ with_items_is v (put_mid (p * w) u v.items new) (size ∙ sym v.ok.0)
 
-pub written : (w n p a k : ℕ) (v now : Vec CellValue Global) (xs new : List CellValue) →
-    now ≡ with_items v (put_mid a k xs new) → xs ≡ v.items →
-    length v.items ≡ n * w → p < n → a ≡ p * w → k ≡ w → length new ≡ w →
-    now.items ≡ put_mid (p * w) w v.items new
-written w n p a k v now xs new e was f h i j l = written_part w w n p a k v now xs new e was f h i j (omega arith) l
-
 -- ---- Rows
 
-pub rows_counted : (w : ℕ) (cells : List CellValue) (lines : List Line) → length (rows_in w cells lines) ≡ length lines
+pub rows_counted : (w : Columns) (cells : List CellValue) (lines : List Line) → length (rows_in w cells lines) ≡ length lines
 unfolding rows_in
 rows_counted w cells lines = length-map lines (row_in w cells)
 
-pub row_found : (w r : ℕ) (cells : List CellValue) (lines : List Line) (d : RowValue) →
+pub row_found : (w : Columns) (r : ℕ) (cells : List CellValue) (lines : List Line) (d : RowValue) →
     r < length lines → get_or (rows_in w cells lines) r d ≡ row_in w cells (line_at lines r)
 unfolding rows_in
 row_found w r cells lines d h = get_or-map (row_in w cells) lines r no_line d h
 
 -- If each entry of a table stands for the row at its index in a list, the rows of the table are that list.
-pub rows_in_by : (w : ℕ) (cells : List CellValue) (lines : List Line) (rows : List RowValue) (d : RowValue) →
+pub rows_in_by : (w : Columns) (cells : List CellValue) (lines : List Line) (rows : List RowValue) (d : RowValue) →
     length rows ≡ length lines →
     ((k : ℕ) → k < length lines → row_in w cells (line_at lines k) ≡ get_or rows k d) → rows_in w cells lines ≡ rows
 rows_in_by w cells lines rows d e f =
@@ -100,9 +101,11 @@ rows_in_by w cells lines rows d e f =
 
 -- Giving row r new cells, a new number of used columns and a new flag replaces only that row, if the cells of every
 -- other place are unchanged.
-pub rows_in-replaced : (w r used : ℕ) (cells now new : List CellValue) (flag : Bool) (lines : List Line) →
-    IsTable w cells lines → r < length lines → cells_at w now (line_at lines r).place ≡ new →
-    ((q : ℕ) → q < length lines → q ≢ (line_at lines r).place → cells_at w now q ≡ cells_at w cells q) →
+pub rows_in-replaced : (w : Columns) (r used : ℕ) (cells now new : List CellValue) (flag : Bool) (lines : List Line) →
+    IsTable w.stored cells lines → r < length lines →
+    take w.shown (cells_at w.stored now (line_at lines r).place) ≡ new →
+    ((q : ℕ) → q < length lines → q ≢ (line_at lines r).place →
+    cells_at w.stored now q ≡ cells_at w.stored cells q) →
     rows_in w now (set lines r (record (line_at lines r) { used = used; wrapped = flag }))
     ≡ set (rows_in w cells lines) r (record { cells = new; wrapped = flag })
 rows_in-replaced w r used cells now new flag lines t h own others =
@@ -129,23 +132,24 @@ rows_in-replaced w r used cells now new flag lines t h own others =
             get_or-set_other (rows_in w cells lines) r k row row other,
             row_found w k cells lines row k_in,
           )
-          (ap (λ (xs : List CellValue). record { cells = xs; wrapped = (line_at lines k).wrapped })
+          (ap (λ (xs : List CellValue). record { cells = take w.shown xs; wrapped = (line_at lines k).wrapped })
           (others (line_at lines k).place (t.inside k k_in) apart))
     ])
 
-pub rows_in-edited : (w r used : ℕ) (cells new : List CellValue) (flag : Bool) (lines : List Line) →
-    IsTable w cells lines → r < length lines → length new ≡ w →
-    rows_in w (put_mid ((line_at lines r).place * w) w cells new)
+pub rows_in-edited : (w : Columns) (r used : ℕ) (cells new : List CellValue) (flag : Bool) (lines : List Line) →
+    IsTable w.stored cells lines → w.shown ≤ w.stored → r < length lines → length new ≡ w.shown →
+    rows_in w (put_mid ((line_at lines r).place * w.stored) w.shown cells new)
     (set lines r (record (line_at lines r) { used = used; wrapped = flag }))
     ≡ set (rows_in w cells lines) r (record { cells = new; wrapped = flag })
-rows_in-edited w r used cells new flag lines t h l =
+rows_in-edited w r used cells new flag lines t few h l =
     let p = (line_at lines r).place in
-    rows_in-replaced w r used cells (put_mid (p * w) w cells new) new flag lines t h
-    (cells_at-put_same w (length lines) p cells new t.filled (t.inside r h) l)
-    (λ q i other. cells_at-put_other w (length lines) p q cells new t.filled (t.inside r h) i other l)
+    rows_in-replaced w r used cells (put_mid (p * w.stored) w.shown cells new) new flag lines t h
+    (cells_at-put_start w.stored w.shown (length lines) p cells new t.filled (t.inside r h) few l)
+    (λ q i other.
+    cells_at-put_part w.stored w.shown (length lines) p q cells new t.filled (t.inside r h) i other few l)
 
 -- Setting the wrapped flag in the table entry of row r sets the flag of that row only.
-pub rows_in-flagged : (w r : ℕ) (cells : List CellValue) (flag : Bool) (lines : List Line) → r < length lines →
+pub rows_in-flagged : (w : Columns) (r : ℕ) (cells : List CellValue) (flag : Bool) (lines : List Line) → r < length lines →
     rows_in w cells (set lines r (record (line_at lines r) { wrapped = flag }))
     ≡ set (rows_in w cells lines) r
     (record (get_or (rows_in w cells lines) r (row_in w cells no_line)) { wrapped = flag })
@@ -193,20 +197,22 @@ IsTable-turned w from to n cells lines now h i e f t =
     IsTable-moved w (rotation_source from to n) cells lines now e (λ k l. turn_inside from to n k (length lines) h i l)
     (λ j k l m same. turn_once from to n j k h same) (λ k l. ap (λ (x : Line). x.place) (f k)) t
 
-IsStored-turned : (w from to n : ℕ) (cells : List CellValue) (lines now : List Line) →
+IsStored-turned : (w : Columns) (from to n : ℕ) (cells : List CellValue) (lines now : List Line) →
     from + n ≤ to → to ≤ length lines → length now ≡ length lines →
     ((k : ℕ) → line_at now k ≡ line_at lines (rotation_source from to n k)) → IsStored w cells lines → IsStored w cells now
 IsStored-turned w from to n cells lines now h i e f t =
     let inside : (r : ℕ) → r < length now → rotation_source from to n r < length lines =
     λ r l. turn_inside from to n r (length lines) h i (omega (arith, e, l)) in
     record {
-      table = IsTable-turned w from to n cells lines now h i e f t.table;
+      table = IsTable-turned w.stored from to n cells lines now h i e f t.table;
+      fits = t.fits;
       blank =
-          λ r l. subst (λ (x : Line). IsBlankFrom (used_columns w x.used) (cells_at w cells x.place)) (sym (f r))
+          λ r l. subst
+          (λ (x : Line). IsBlankFrom (used_columns w.shown x.used) (cells_at w.stored cells x.place)) (sym (f r))
           (t.blank _ (inside r l));
     }
 
-pub rows_in-turned : (w from to n : ℕ) (cells : List CellValue) (lines now : List Line) →
+pub rows_in-turned : (w : Columns) (from to n : ℕ) (cells : List CellValue) (lines now : List Line) →
     from + n ≤ to → to ≤ length lines → length now ≡ length lines →
     ((k : ℕ) → line_at now k ≡ line_at lines (rotation_source from to n k)) → (k : ℕ) (d : RowValue) →
     k < length lines → get_or (rows_in w cells now) k d ≡ get_or (rows_in w cells lines) (rotation_source from to n k) d
@@ -259,31 +265,48 @@ cells_at-blanks w n p attrs h =
     ∙ get_or-replicate (n * w) (p * w + k) (blank attrs) default_blank (omega (arith, inside))))
 
 -- The table in which row k is at place k and no column is used is valid for a page of default blanks.
-IsStored-in_order : (w n : ℕ) → IsStored w (blanks default_attrs (n * w)) (in_order n)
-IsStored-in_order w n =
+IsStored-in_order : (w : Columns) (n : ℕ) → w.shown ≤ w.stored →
+    IsStored w (blanks default_attrs (n * w.stored)) (in_order n)
+IsStored-in_order w n few =
     let l = length-in_order n in
     let line : (r : ℕ) → r < length (in_order n) → line_at (in_order n) r ≡ record { place = r; used = 0; wrapped = false } =
     λ r h. line_in_order n r (omega (arith, l, h)) in
     record {
-      table = IsTable-in_order w n default_attrs;
+      table = IsTable-in_order w.stored n default_attrs;
+      fits = few;
       blank =
           λ r h. subst
-          (λ (x : Line). IsBlankFrom (used_columns w x.used) (cells_at w (blanks default_attrs (n * w)) x.place))
+          (λ (x : Line). IsBlankFrom (used_columns w.shown x.used)
+          (cells_at w.stored (blanks default_attrs (n * w.stored)) x.place))
           (sym (line r h))
-          (λ k i. ap (λ (xs : List CellValue). at xs k) (cells_at-blanks w n r default_attrs (omega (arith, l, h)))
-          ∙ at-blanks w k);
+          (λ k i.
+          ap (λ (xs : List CellValue). at xs k) (cells_at-blanks w.stored n r default_attrs (omega (arith, l, h)))
+          ∙ at-blanks w.stored k);
     }
 
-pub rows_in_order : (w n : ℕ) (attrs : Attrs) →
-    rows_in w (blanks attrs (n * w)) (in_order n) ≡ replicate n (blank_row attrs w)
-rows_in_order w n attrs =
+-- The first cells of a list of blanks.
+pub blanks-start : (u w : ℕ) (attrs : Attrs) → u ≤ w → take u (blanks attrs w) ≡ blanks attrs u
+blanks-start u w attrs few =
+    blanks_is attrs u (take u (blanks attrs w))
+    (omega (arith, length-take u (blanks attrs w), length-replicate w (blank attrs), few))
+    (λ k i.
+    get_or-take u (blanks attrs w) k default_blank i
+    ∙ get_or-replicate w k (blank attrs) default_blank (omega (arith, few, i)))
+
+pub rows_in_order : (w : Columns) (n : ℕ) (attrs : Attrs) → w.shown ≤ w.stored →
+    rows_in w (blanks attrs (n * w.stored)) (in_order n) ≡ replicate n (blank_row attrs w.shown)
+rows_in_order w n attrs few =
     let l = length-in_order n in
-    let d = blank_row attrs w in
-    rows_in_by w (blanks attrs (n * w)) (in_order n) (replicate n d) d (length-replicate n d ∙ sym l) (λ k h.
+    let d = blank_row attrs w.shown in
+    let all = blanks attrs (n * w.stored) in
+    rows_in_by w all (in_order n) (replicate n d) d (length-replicate n d ∙ sym l) (λ k h.
     let i : k < n = omega (arith, l) in
-    ap (row_in w (blanks attrs (n * w))) (line_in_order n k i)
-    ∙ (ap (λ (cells : List CellValue). record { cells = cells; wrapped = false }) (cells_at-blanks w n k attrs i)
-    ∙ sym (get_or-replicate n k d d i)))
+    ap (row_in w all) (line_in_order n k i)
+    ∙ (ap (λ (cells : List CellValue). record { cells = take w.shown cells; wrapped = false })
+    (cells_at-blanks w.stored n k attrs i)
+    ∙ (ap (λ (cells : List CellValue). record { cells = cells; wrapped = false })
+    (blanks-start w.shown w.stored attrs few)
+    ∙ sym (get_or-replicate n k d d i))))
 
 pub length-cells_at : (w n p : ℕ) (cells : List CellValue) →
     length cells ≡ n * w → p < n → length (cells_at w cells p) ≡ w
@@ -294,45 +317,51 @@ length-cells_at w n p cells e h =
 -- ---- Edits of a row
 
 abbrev pub page_rows_of : Flat → PageRowsValue
-page_rows_of flat = record { rows = rows_of flat; width = flat.width }
+page_rows_of flat = record { rows = rows_of flat; width = flat.columns.shown }
 
 -- Each row has the page's width.
 pub columns_counted : (flat : Flat) (r : ℕ) → IsFlat flat → r < length (rows_of flat) →
-    length (page_row (page_rows_of flat) r).cells ≡ flat.width
+    length (page_row (page_rows_of flat) r).cells ≡ flat.columns.shown
 columns_counted flat r t h =
-    let w = flat.width in
+    let w = flat.columns in
     let cells = flat.cells.items in
     let lines = flat.lines.items in
     let i : r < length lines = omega (arith, h, rows_counted w cells lines) in
-    ap (λ (row : RowValue). length row.cells) (row_found w r cells lines (blank_row default_attrs w) i)
-    ∙ length-cells_at w (length lines) (line_at lines r).place cells t.table.filled (t.table.inside r i)
+    let p = (line_at lines r).place in
+    ap (λ (row : RowValue). length row.cells) (row_found w r cells lines (blank_row default_attrs w.shown) i)
+    ∙ omega (
+      arith,
+      length-take w.shown (cells_at w.stored cells p),
+      length-cells_at w.stored (length lines) p cells t.table.filled (t.table.inside r i),
+      t.fits,
+    )
 
 -- If the cells of row r are borrowed and become `new`, and its flag is set, the page is the one with that row replaced.
 pub row_changed : (r used a b : ℕ) (flat edited : Flat) (xs new : List CellValue) (flag : Bool) →
     IsFlat flat → r < length flat.lines.items →
     edited.cells ≡ with_items flat.cells (put_mid a (b - a) xs new) → xs ≡ flat.cells.items →
-    a ≡ (line_at flat.lines.items r).place * flat.width → b ≡ a + flat.width → b ≤ length flat.cells.items →
-    length new ≡ length (take (b - a) (drop a xs)) → edited.width ≡ flat.width →
+    a ≡ (line_at flat.lines.items r).place * flat.columns.stored → b ≡ a + flat.columns.shown → b ≤ length flat.cells.items →
+    length new ≡ length (take (b - a) (drop a xs)) → edited.columns ≡ flat.columns →
     edited.lines.items ≡ set flat.lines.items r (record (line_at flat.lines.items r) { used = used; wrapped = flag }) →
     page_rows_of edited ≡ with_page_row r (record { cells = new; wrapped = flag }) (page_rows_of flat)
 row_changed r used a b flat edited xs new flag t inside e was i j m size w f =
     let lines = flat.lines.items in
-    let l : length new ≡ flat.width =
+    let l : length new ≡ flat.columns.shown =
     size ∙ omega (arith, length-take (b - a) (drop a xs), length-drop a xs, ap length was, j, m) in
-    let cells = written flat.width (length lines) (line_at lines r).place a (b - a) flat.cells
-    edited.cells xs new e was t.table.filled (t.table.inside r inside) i (omega (arith, j)) l in
+    let cells = written_part flat.columns.stored flat.columns.shown (length lines) (line_at lines r).place a (b - a)
+    flat.cells edited.cells xs new e was t.table.filled (t.table.inside r inside) i (omega (arith, j)) t.fits l in
     let rows : rows_of edited ≡ set (rows_of flat) r (record { cells = new; wrapped = flag }) =
-    (λ z. rows_in (w z) (cells z) (f z)) ∙ rows_in-edited flat.width r used flat.cells.items new flag lines t.table inside l in
-    λ z. record { rows = rows z; width = w z }
+    (λ z. rows_in (w z) (cells z) (f z)) ∙ rows_in-edited flat.columns r used flat.cells.items new flag lines t.table t.fits inside l in
+    λ z. record { rows = rows z; width = (w z).shown }
 
 -- If the cells of row r are replaced by a print or an erase, the page is the one with those cells in that row.
 pub row_printed : (r used a b : ℕ) (flat edited : Flat) (xs new : List CellValue) (was_flag flag : Bool) →
     IsFlat flat → r < length flat.lines.items →
     edited.cells ≡ with_items flat.cells (put_mid a (b - a) xs new) → xs ≡ flat.cells.items →
-    a ≡ (line_at flat.lines.items r).place * flat.width → b ≡ a + flat.width → b ≤ length flat.cells.items →
-    length new ≡ length (take (b - a) (drop a xs)) → edited.width ≡ flat.width →
+    a ≡ (line_at flat.lines.items r).place * flat.columns.stored → b ≡ a + flat.columns.shown → b ≤ length flat.cells.items →
+    length new ≡ length (take (b - a) (drop a xs)) → edited.columns ≡ flat.columns →
     edited.lines.items ≡ set flat.lines.items r (record (line_at flat.lines.items r) { used = used; wrapped = flag }) →
-    was_flag ≡ (row_or flat.width (rows_of flat) r).wrapped → flag ≡ (was_flag && not (ends_blank new)) →
+    was_flag ≡ (row_or flat.columns.shown (rows_of flat) r).wrapped → flag ≡ (was_flag && not (ends_blank new)) →
     page_rows_of edited ≡ with_row_cells r new (page_rows_of flat)
 row_printed r used a b flat edited xs new was_flag flag t inside e was i j m size w f g k =
     row_changed r used a b flat edited xs new flag t inside e was i j m size w f
@@ -341,64 +370,66 @@ row_printed r used a b flat edited xs new was_flag flag t inside e was i j m siz
 
 -- If the cells of row r become blanks and its flag is cleared, the page is the one with a blank row r.
 pub row_blanked : (r used : ℕ) (attrs : Attrs) (flat edited : Flat) → IsFlat flat → r < length (rows_of flat) →
-    cells_at flat.width edited.cells.items (line_at flat.lines.items r).place ≡ blanks attrs flat.width →
+    take flat.columns.shown (cells_at flat.columns.stored edited.cells.items (line_at flat.lines.items r).place)
+    ≡ blanks attrs flat.columns.shown →
     ((q : ℕ) → q < length flat.lines.items → q ≢ (line_at flat.lines.items r).place →
-    cells_at flat.width edited.cells.items q ≡ cells_at flat.width flat.cells.items q) →
-    edited.width ≡ flat.width →
+    cells_at flat.columns.stored edited.cells.items q ≡ cells_at flat.columns.stored flat.cells.items q) →
+    edited.columns ≡ flat.columns →
     edited.lines.items ≡ set flat.lines.items r (record (line_at flat.lines.items r) { used = used; wrapped = false }) →
-    page_rows_of edited ≡ with_page_row r (blank_row attrs flat.width) (page_rows_of flat)
+    page_rows_of edited ≡ with_page_row r (blank_row attrs flat.columns.shown) (page_rows_of flat)
 row_blanked r used attrs flat edited t h own others w f =
     let inside : r < length flat.lines.items =
-    omega (arith, h, rows_counted flat.width flat.cells.items flat.lines.items) in
-    let rows : rows_of edited ≡ set (rows_of flat) r (blank_row attrs flat.width) =
+    omega (arith, h, rows_counted flat.columns flat.cells.items flat.lines.items) in
+    let rows : rows_of edited ≡ set (rows_of flat) r (blank_row attrs flat.columns.shown) =
     (λ z. rows_in (w z) edited.cells.items (f z))
-    ∙ rows_in-replaced flat.width r used flat.cells.items edited.cells.items
-    (blanks attrs flat.width) false flat.lines.items t.table inside own others in
-    λ z. record { rows = rows z; width = w z }
+    ∙ rows_in-replaced flat.columns r used flat.cells.items edited.cells.items
+    (blanks attrs flat.columns.shown) false flat.lines.items t.table inside own others in
+    λ z. record { rows = rows z; width = (w z).shown }
 
 -- Setting the wrapped flag in the table entry of row r gives the page with that flag set.
 pub row_flagged : (r : ℕ) (flag : Bool) (flat edited : Flat) →
-    r < length flat.lines.items → edited.cells ≡ flat.cells → edited.width ≡ flat.width →
+    r < length flat.lines.items → edited.cells ≡ flat.cells → edited.columns ≡ flat.columns →
     edited.lines.items ≡ set flat.lines.items r (record (line_at flat.lines.items r) { wrapped = flag }) →
     page_rows_of edited ≡ with_page_row r (record (page_row (page_rows_of flat) r) { wrapped = flag }) (page_rows_of flat)
 row_flagged r flag flat edited h c w f =
-    let n = rows_counted flat.width flat.cells.items flat.lines.items in
-    let d = row_in flat.width flat.cells.items no_line in
+    let n = rows_counted flat.columns flat.cells.items flat.lines.items in
+    let d = row_in flat.columns flat.cells.items no_line in
     let rows : rows_of edited ≡ set (rows_of flat) r (record (page_row (page_rows_of flat) r) { wrapped = flag }) =
-    (λ z. rows_in (w z) (c z).items (f z)) ∙ (rows_in-flagged flat.width r flat.cells.items flag flat.lines.items h
+    (λ z. rows_in (w z) (c z).items (f z)) ∙ (rows_in-flagged flat.columns r flat.cells.items flag flat.lines.items h
     ∙ ap (λ (row : RowValue). set (rows_of flat) r (record row { wrapped = flag }))
-    (get_or_default (rows_of flat) r d (blank_row default_attrs flat.width) (omega (arith, n)))) in
-    λ z. record { rows = rows z; width = w z }
+    (get_or_default (rows_of flat) r d (blank_row default_attrs flat.columns.shown) (omega (arith, n)))) in
+    λ z. record { rows = rows z; width = (w z).shown }
 
 -- ---- The whole table
 
 pub flat_turned : (from to n : ℕ) (flat turned : Flat) → IsFlat flat → from + n ≤ to → to ≤ length (rows_of flat) →
-    turned.cells ≡ flat.cells → turned.width ≡ flat.width → length turned.lines.items ≡ length flat.lines.items →
+    turned.cells ≡ flat.cells → turned.columns ≡ flat.columns → length turned.lines.items ≡ length flat.lines.items →
     ((k : ℕ) → line_at turned.lines.items k ≡ line_at flat.lines.items (rotation_source from to n k)) → IsFlat turned
 flat_turned from to n flat turned t h i c w e f =
-    let all = rows_counted flat.width flat.cells.items flat.lines.items in
-    subst (λ (x : ℕ × List CellValue). IsStored x.0 x.1 turned.lines.items) (λ z. (sym w z, (sym c z).items))
-    (IsStored-turned flat.width from to n flat.cells.items
+    let all = rows_counted flat.columns flat.cells.items flat.lines.items in
+    subst (λ (x : Columns × List CellValue). IsStored x.0 x.1 turned.lines.items) (λ z. (sym w z, (sym c z).items))
+    (IsStored-turned flat.columns from to n flat.cells.items
     flat.lines.items turned.lines.items h (omega (arith, i, all)) e f t)
 
 pub rows_turned : (from to n : ℕ) (flat turned : Flat) → from + n ≤ to → to ≤ length (rows_of flat) →
-    turned.cells ≡ flat.cells → turned.width ≡ flat.width → length turned.lines.items ≡ length flat.lines.items →
+    turned.cells ≡ flat.cells → turned.columns ≡ flat.columns → length turned.lines.items ≡ length flat.lines.items →
     ((k : ℕ) → line_at turned.lines.items k ≡ line_at flat.lines.items (rotation_source from to n k)) →
     (k : ℕ) (d : RowValue) → k < length (rows_of flat) →
     get_or (rows_of turned) k d ≡ get_or (rows_of flat) (rotation_source from to n k) d
 rows_turned from to n flat turned h i c w e f k d l =
-    let all = rows_counted flat.width flat.cells.items flat.lines.items in
-    ap (λ (x : ℕ × List CellValue). get_or (rows_in x.0 x.1 turned.lines.items) k d) (λ z. (w z, (c z).items))
-    ∙ rows_in-turned flat.width from to n flat.cells.items flat.lines.items
+    let all = rows_counted flat.columns flat.cells.items flat.lines.items in
+    ap (λ (x : Columns × List CellValue). get_or (rows_in x.0 x.1 turned.lines.items) k d) (λ z. (w z, (c z).items))
+    ∙ rows_in-turned flat.columns from to n flat.cells.items flat.lines.items
     turned.lines.items h (omega (arith, i, all)) e f k d (omega (arith, l, all))
 
 -- ---- A new page
 
 pub fresh_flat : (rows width : ℕ) (flat : Flat) → flat.cells.items ≡ blanks default_attrs (rows * width) →
-    flat.lines.items ≡ in_order rows → flat.width ≡ width → (page_rows_of flat ≡ blank_page_rows rows width) × IsFlat flat
-fresh_flat rows width flat c l w = (
-  (λ z. record { rows = rows_in (w z) (c z) (l z); width = w z })
-      ∙ (λ z. record { rows = rows_in_order width rows default_attrs z; width = width }),
-  subst (λ (x : ℕ × (List CellValue × List Line)). IsStored x.0 x.1.0 x.1.1)
-      (λ z. (sym w z, (sym c z, sym l z))) (IsStored-in_order width rows),
-)
+    flat.lines.items ≡ in_order rows → flat.columns ≡ record { shown = width; stored = width } → (page_rows_of flat ≡ blank_page_rows rows width) × IsFlat flat
+fresh_flat rows width flat c l w =
+    let columns : Columns = record { shown = width; stored = width } in (
+      (λ z. record { rows = rows_in (w z) (c z) (l z); width = (w z).shown })
+          ∙ (λ z. record { rows = rows_in_order columns rows default_attrs (omega arith) z; width = width }),
+      subst (λ (x : Columns × (List CellValue × List Line)). IsStored x.0 x.1.0 x.1.1)
+          (λ z. (sym w z, (sym c z, sym l z))) (IsStored-in_order columns rows (omega arith)),
+    )

@@ -16,6 +16,7 @@ use Rattle.vt_rows.specs.Row.{RowValue, IsRow, blank_row, resized_row}
 use Rattle.vt_rows.proofs.Columns.{at-blanks, blanks_is}
 use Rattle.vt_rows.proofs.Moves.{resized_row-same}
 use Rattle.vt_rows.proofs.Rows.{IsRow-blank_row}
+use Rattle.vt_grid.specs.declared.flat.Columns.{Columns}
 use Rattle.vt_grid.specs.declared.flat.Flat.{Flat}
 use Rattle.vt_grid.specs.declared.flat.Line.{Line}
 use Rattle.vt_grid.specs.Flat.{IsBlankFrom, IsFlat, IsStored, IsTable, cells_at, line_at, lines_from, no_line}
@@ -28,16 +29,16 @@ use Rattle.vt_grid.specs.PageRows.{PageRowsValue, with_blank_rows}
 use Rattle.vt_grid.specs.Resize.{out_of_view, page_resized, returning_count, row_resized, rows_resized}
 use Rattle.vt_grid.specs.Resize.{scrollback_resized, taken_back, window}
 use Rattle.vt_grid.specs.Shifts.{unflagged}
-use Rattle.vt_grid.proofs.Flats.{length-cells_at, page_rows_of, place_inside, rows_counted, row_found, rows_in_by}
+use Rattle.vt_grid.proofs.Flats.{blanks-start, length-cells_at, page_rows_of, place_inside, rows_counted, row_found, rows_in_by}
 use Rattle.vt_grid.proofs.Packing.{cell_of_place, cells_at_by}
 use Rattle.vt_grid.proofs.Resizing.{above_by_steps, page_by_steps, page_page_resized, passes, picks, settled, sized_resized}
 
 -- The storage with the same cells and the same table.
 pub same_flat : (flat new : Flat) → IsFlat flat → new.cells.items ≡ flat.cells.items →
-    new.lines.items ≡ flat.lines.items → new.width ≡ flat.width → (page_rows_of new ≡ page_rows_of flat) × IsFlat new
+    new.lines.items ≡ flat.lines.items → new.columns ≡ flat.columns → (page_rows_of new ≡ page_rows_of flat) × IsFlat new
 same_flat flat new t c l w = (
-  λ z. record { rows = rows_in (w z) (c z) (l z); width = w z },
-  subst (λ (x : ℕ × (List CellValue × List Line)). IsStored x.0 x.1.0 x.1.1) (λ z. (sym w z, (sym c z, sym l z))) t,
+  λ z. record { rows = rows_in (w z) (c z) (l z); width = (w z).shown },
+  subst (λ (x : Columns × (List CellValue × List Line)). IsStored x.0 x.1.0 x.1.1) (λ z. (sym w z, (sym c z, sym l z))) t,
 )
 
 -- ---- Rows appended
@@ -112,106 +113,114 @@ IsTable-appended w rows cells lines t h =
 rows_before : (n k w : ℕ) → n ≤ k → n * w ≤ k * w
 rows_before n k w h = grind (arith, h)
 
-rows_in-appended : (w rows : ℕ) (cells : List CellValue) (lines : List Line) → IsTable w cells lines →
+-- The cells of the former rows.
+cells_before : (w rows : ℕ) (cells : List CellValue) (lines : List Line) → IsTable w cells lines →
+    length lines ≤ rows → (k : ℕ) → k < length lines →
+    cells_at w (cells ++ blanks default_attrs (rows * w - length cells)) (line_at lines k).place
+    ≡ cells_at w cells (line_at lines k).place
+cells_before w rows cells lines t h k lt =
+    let more = blanks default_attrs (rows * w - length cells) in
+    let p = (line_at lines k).place in
+    let q = t.inside k lt in
+    let fits = place_inside p (length lines) w q in
+    cells_at_by w rows (length lines) p p (cells ++ more) cells (length-cells w rows cells lines t h) t.filled
+    (omega (arith, q, h)) q (λ j o.
+    get_or_append_left cells more default_blank (p * w + j) (omega (arith, fits, t.filled, o)))
+
+-- The cells of the appended rows.
+cells_after : (w rows : ℕ) (cells : List CellValue) (lines : List Line) → IsTable w cells lines →
+    length lines ≤ rows → (k : ℕ) → length lines ≤ k → k < rows →
+    cells_at w (cells ++ blanks default_attrs (rows * w - length cells)) k ≡ blanks default_attrs w
+cells_after w rows cells lines t h k ge inside =
+    let more = blanks default_attrs (rows * w - length cells) in
+    let fits = place_inside k rows w inside in
+    let before = rows_before (length lines) k w ge in
+    blanks_is default_attrs w (cells_at w (cells ++ more) k)
+    (length-cells_at w rows k (cells ++ more) (length-cells w rows cells lines t h) inside) (λ j o.
+    cell_of_place w k j (cells ++ more) default_blank o
+    ∙ (get_or-append_right cells more (length cells) (k * w + j) default_blank refl
+    (omega (arith, before, t.filled))
+    ∙ get_or-replicate (rows * w - length cells) (k * w + j - length cells) default_blank default_blank
+    (omega (arith, before, t.filled, fits, o))))
+
+rows_in-appended : (w : Columns) (rows : ℕ) (cells : List CellValue) (lines : List Line) → IsStored w cells lines →
     length lines ≤ rows →
-    rows_in w (cells ++ blanks default_attrs (rows * w - length cells))
+    rows_in w (cells ++ blanks default_attrs (rows * w.stored - length cells))
     (lines ++ lines_from (length lines) (rows - length lines))
-    ≡ rows_in w cells lines ++ replicate (rows - length lines) (blank_row default_attrs w)
+    ≡ rows_in w cells lines ++ replicate (rows - length lines) (blank_row default_attrs w.shown)
 rows_in-appended w rows cells lines t h =
     let n = length lines in
     let l = length-lines rows lines h in
     let m = rows_counted w cells lines in
-    let d = blank_row default_attrs w in
+    let d = blank_row default_attrs w.shown in
     let more = replicate (rows - n) d in
-    let all = cells ++ blanks default_attrs (rows * w - length cells) in
-    let size = length-cells w rows cells lines t h in
+    let all = cells ++ blanks default_attrs (rows * w.stored - length cells) in
     rows_in_by w all (lines ++ lines_from n (rows - n)) (rows_in w cells lines ++ more) d
     (omega (arith, length-append (rows_in w cells lines) more, length-replicate (rows - n) d, m, l, h)) (λ k i.
     let inside : k < rows = omega (arith, i, l) in
     elim (cases_lt k n) [
       | inl lt ↦
-          let p = (line_at lines k).place in
-          let q = t.inside k lt in
-          let fits = place_inside p n w q in
-          let same = cells_at_by w rows n p p all cells size t.filled (omega (arith, q, h)) q (λ j o.
-          get_or_append_left cells (blanks default_attrs (rows * w - length cells)) default_blank (p * w + j)
-          (omega (arith, fits, t.filled, o))) in
           ap (row_in w all) (line_before rows k lines lt)
-          ∙ (ap (λ (xs : List CellValue). record { cells = xs; wrapped = (line_at lines k).wrapped }) same
+          ∙ (ap (λ (xs : List CellValue). record { cells = take w.shown xs; wrapped = (line_at lines k).wrapped })
+          (cells_before w.stored rows cells lines t.table h k lt)
           ∙ sym (get_or_append_left (rows_in w cells lines) more d k (omega (arith, m, lt))
           ∙ row_found w k cells lines d lt))
       | inr ge ↦
-          let fits = place_inside k rows w inside in
-          let before = rows_before (length lines) k w ge in
-          let cut = blanks default_attrs (rows * w - length cells) in
-          let blank_cells = blanks_is default_attrs w (cells_at w all k) (length-cells_at w rows k all size inside)
-          (λ j o.
-          cell_of_place w k j all default_blank o
-          ∙ (get_or-append_right cells cut (length cells) (k * w + j) default_blank refl
-          (omega (arith, before, t.filled))
-          ∙ get_or-replicate (rows * w - length cells) (k * w + j - length cells) default_blank default_blank
-          (omega (arith, before, t.filled, fits, o)))) in
           ap (row_in w all) (line_after rows k lines ge inside)
-          ∙ (ap (λ (xs : List CellValue). record { cells = xs; wrapped = false }) blank_cells
+          ∙ (ap (λ (xs : List CellValue). record { cells = xs; wrapped = false })
+          (ap (take w.shown) (cells_after w.stored rows cells lines t.table h k ge inside)
+          ∙ blanks-start w.shown w.stored default_attrs t.fits)
           ∙ sym (get_or-append_right (rows_in w cells lines) more (length (rows_in w cells lines)) k d refl
           (omega (arith, m, ge))
           ∙ get_or-replicate (rows - n) (k - length (rows_in w cells lines)) d d (omega (arith, m, ge, inside))))
     ])
 
-IsStored-appended : (w rows : ℕ) (cells : List CellValue) (lines : List Line) → IsStored w cells lines →
+IsStored-appended : (w : Columns) (rows : ℕ) (cells : List CellValue) (lines : List Line) → IsStored w cells lines →
     length lines ≤ rows →
-    IsStored w (cells ++ blanks default_attrs (rows * w - length cells))
+    IsStored w (cells ++ blanks default_attrs (rows * w.stored - length cells))
     (lines ++ lines_from (length lines) (rows - length lines))
 IsStored-appended w rows cells lines t h =
     let n = length lines in
     let l = length-lines rows lines h in
-    let m = rows_counted w cells lines in
-    let d = blank_row default_attrs w in
-    let more = replicate (rows - n) d in
-    let all = cells ++ blanks default_attrs (rows * w - length cells) in
+    let all = cells ++ blanks default_attrs (rows * w.stored - length cells) in
     let table = lines ++ lines_from n (rows - n) in
-    let row : (k : ℕ) → k < length table →
-    row_in w all (line_at table k) ≡ get_or (rows_in w cells lines ++ more) k d = λ k i.
-    sym (row_found w k all table d i)
-    ∙ ap (λ (xs : List RowValue). get_or xs k d) (rows_in-appended w rows cells lines t.table h) in
     record {
-      table = IsTable-appended w rows cells lines t.table h;
+      table = IsTable-appended w.stored rows cells lines t.table h;
+      fits = t.fits;
       blank = λ k i. elim (cases_lt k n) [
         | inl lt ↦
-            let same : cells_at w all (line_at table k).place ≡ cells_at w cells (line_at lines k).place =
-            ap (λ (x : RowValue). x.cells) (row k i
-            ∙ (get_or_append_left (rows_in w cells lines) more d k (omega (arith, m, lt)) ∙ row_found w k cells lines d lt)) in
-            subst (λ (x : ℕ × List CellValue). IsBlankFrom (used_columns w x.0) x.1)
-            (λ z. ((sym (line_before rows k lines lt) z).used, sym same z)) (t.blank k lt)
+            let line = line_before rows k lines lt in
+            let same = ap (λ (x : Line). cells_at w.stored all x.place) line
+            ∙ cells_before w.stored rows cells lines t.table h k lt in
+            subst (λ (x : ℕ × List CellValue). IsBlankFrom (used_columns w.shown x.0) x.1)
+            (λ z. ((sym line z).used, sym same z)) (t.blank k lt)
         | inr ge ↦
-            let same : cells_at w all (line_at table k).place ≡ blanks default_attrs w =
-            ap (λ (x : RowValue). x.cells) (row k i
-            ∙ (get_or-append_right (rows_in w cells lines) more (length (rows_in w cells lines)) k d refl
-            (omega (arith, m, ge))
-            ∙ get_or-replicate (rows - n) (k - length (rows_in w cells lines)) d d (omega (arith, m, ge, i, l)))) in
-            λ j o. ap (λ (xs : List CellValue). at xs j) same ∙ at-blanks w j
+            let inside : k < rows = omega (arith, l, i) in
+            let same = ap (λ (x : Line). cells_at w.stored all x.place) (line_after rows k lines ge inside)
+            ∙ cells_after w.stored rows cells lines t.table h k ge inside in
+            λ j o. ap (λ (xs : List CellValue). at xs j) same ∙ at-blanks w.stored j
       ];
     }
 
 -- The page after default blank rows were appended.
 pub appended_flat : (rows : ℕ) (flat new : Flat) → IsFlat flat → length flat.lines.items ≤ rows →
-    new.cells.items ≡ flat.cells.items ++ blanks default_attrs (rows * flat.width - length flat.cells.items) →
+    new.cells.items ≡ flat.cells.items ++ blanks default_attrs (rows * flat.columns.stored - length flat.cells.items) →
     new.lines.items
     ≡ flat.lines.items ++ lines_from (length flat.lines.items) (rows - length flat.lines.items) →
-    new.width ≡ flat.width → (page_rows_of new ≡ with_blank_rows rows (page_rows_of flat)) × IsFlat new
+    new.columns ≡ flat.columns → (page_rows_of new ≡ with_blank_rows rows (page_rows_of flat)) × IsFlat new
 appended_flat rows flat new t h c l w =
     let cells = flat.cells.items in
     let lines = flat.lines.items in
-    let n = rows_counted flat.width cells lines in (
-      (λ z. record { rows = rows_in (w z) (c z) (l z); width = w z })
-          ∙ ((λ z. record { rows = rows_in-appended flat.width rows cells lines t.table h z; width = flat.width })
+    let n = rows_counted flat.columns cells lines in (
+      (λ z. record { rows = rows_in (w z) (c z) (l z); width = (w z).shown })
+          ∙ ((λ z. record { rows = rows_in-appended flat.columns rows cells lines t h z; width = flat.columns.shown })
           ∙ (λ z. record {
-            rows = rows_in flat.width cells lines
-                ++ replicate (rows - sym n z) (blank_row default_attrs flat.width);
-            width = flat.width;
+            rows = rows_in flat.columns cells lines
+                ++ replicate (rows - sym n z) (blank_row default_attrs flat.columns.shown);
+            width = flat.columns.shown;
           })),
-      subst (λ (x : ℕ × (List CellValue × List Line)). IsStored x.0 x.1.0 x.1.1)
-          (λ z. (sym w z, (sym c z, sym l z))) (IsStored-appended flat.width rows cells lines t h),
+      subst (λ (x : Columns × (List CellValue × List Line)). IsStored x.0 x.1.0 x.1.1)
+          (λ z. (sym w z, (sym c z, sym l z))) (IsStored-appended flat.columns rows cells lines t h),
     )
 
 -- ---- Rows brought back to the top

@@ -26,4 +26,5 @@ pub mod Scrolling
 pub mod Moving
 pub mod Resizing
 pub mod Heights
+pub mod Widths
 pub mod ResizeExamples

@@ -9,8 +9,8 @@ use Rattle.std.proofs.lemmas.List.{get_or_default, get_or-set_same, get_or-set_o
 use Rattle.std.proofs.lemmas.List.FromFn.{map-range_with_len_more}
 use Rattle.std.specs.List.{CopiedTo, SameBelow, SameFrom}
 use Rattle.vt_cells.specs.Cell.{CellValue, default_blank}
-use Rattle.vt_rows.specs.Row.{RowValue}
 use Rattle.vt_grid.specs.declared.flat.Line.{Line}
+use Rattle.vt_grid.specs.declared.flat.Columns.{Columns}
 use Rattle.vt_grid.specs.declared.flat.Flat.{Flat}
 use Rattle.vt_grid.specs.Flat.{IsBlankFrom, IsFlat, IsStored, IsTable, cells_at, line_at, lines_from, no_line, row_in}
 use Rattle.vt_grid.specs.Flat.{used_columns}
@@ -249,36 +249,58 @@ IsTable-traded w row other cells after lines now h i l t table =
     (λ k m. swapped_inside row other k (length lines) h i m) (λ j k m o same. swapped_once row other j k same)
     (λ k m. places_traded row other lines now t k) (IsTable-cells w cells after lines l table)
 
-pub rows_in-traded : (w row other count : ℕ) (cells after : List CellValue) (lines now : List Line) →
+-- Each row except the other one keeps its number of used columns and its wrapped flag.
+entry_traded : (row other : ℕ) (lines now : List Line) → HasTraded row other lines now → (k : ℕ) → k ≢ other →
+    record (line_at now k) { place = 0 } ≡ record (line_at lines k) { place = 0 }
+entry_traded row other lines now t k apart = elim (cases_eq k row) [
+  | inl e ↦
+      ap (λ (j : ℕ). record (line_at now j) { place = 0 }) e
+      ∙ (ap (λ (x : Line). record x { place = 0 }) t.moved
+      ∙ ap (λ (j : ℕ). record (line_at lines j) { place = 0 }) (sym e))
+  | inr o ↦ ap (λ (x : Line). record x { place = 0 }) (t.rest k o apart)
+]
+
+-- Each row except the other one keeps its cells.
+cells_traded : (w row other count : ℕ) (cells after : List CellValue) (lines now : List Line) →
     row < length lines → other < length lines → length after ≡ length cells → count ≡ w →
     CopiedTo cells after ((line_at lines row).place * w) ((line_at lines other).place * w) count →
     SameBelow cells after ((line_at lines other).place * w) →
     SameFrom cells after ((line_at lines other).place * w + count) →
     HasTraded row other lines now → IsTable w cells lines → (k : ℕ) → k < length lines → k ≢ other →
-    row_in w after (line_at now k) ≡ row_in w cells (line_at lines k)
-rows_in-traded w row other count cells after lines now h i l c there below above t table k m apart =
+    cells_at w after (line_at now k).place ≡ cells_at w cells (line_at lines k).place
+cells_traded w row other count cells after lines now h i l c there below above t table k m apart =
     let n = length lines in
     let p = (line_at lines row).place in
     let q = (line_at lines other).place in
-    let moved = copied_there w n p q count cells after table.filled l (table.inside row h) (table.inside other i) c there in
     elim (cases_eq k row) [
       | inl e ↦
-          ap (row_in w after) (ap (line_at now) e ∙ t.moved)
-          ∙ (ap (λ (xs : List CellValue). record { cells = xs; wrapped = (line_at lines row).wrapped }) moved
-          ∙ ap (λ (j : ℕ). row_in w cells (line_at lines j)) (sym e))
+          ap (λ (x : Line). cells_at w after x.place) (ap (line_at now) e ∙ t.moved)
+          ∙ (copied_there w n p q count cells after table.filled l (table.inside row h) (table.inside other i) c there
+          ∙ ap (λ (j : ℕ). cells_at w cells (line_at lines j).place) (sym e))
       | inr o ↦
           let far : (line_at lines k).place ≢ q = λ same. apart (table.distinct k other m i same) in
-          let still = copied_elsewhere w n q (line_at lines k).place count cells after table.filled l
-          (table.inside other i) (table.inside k m) far c below above in
-          ap (row_in w after) (t.rest k o apart)
-          ∙ ap (λ (xs : List CellValue). record { cells = xs; wrapped = (line_at lines k).wrapped }) still
+          ap (λ (x : Line). cells_at w after x.place) (t.rest k o apart)
+          ∙ copied_elsewhere w n q (line_at lines k).place count cells after table.filled l
+          (table.inside other i) (table.inside k m) far c below above
     ]
 
-pub IsStored-traded : (w row other count : ℕ) (cells after : List CellValue) (lines now : List Line) →
-    row < length lines → other < length lines → row ≢ other → length after ≡ length cells → count ≡ w →
-    CopiedTo cells after ((line_at lines row).place * w) ((line_at lines other).place * w) count →
-    SameBelow cells after ((line_at lines other).place * w) →
-    SameFrom cells after ((line_at lines other).place * w + count) →
+pub rows_in-traded : (w : Columns) (row other count : ℕ) (cells after : List CellValue) (lines now : List Line) →
+    row < length lines → other < length lines → length after ≡ length cells → count ≡ w.stored →
+    CopiedTo cells after ((line_at lines row).place * w.stored) ((line_at lines other).place * w.stored) count →
+    SameBelow cells after ((line_at lines other).place * w.stored) →
+    SameFrom cells after ((line_at lines other).place * w.stored + count) →
+    HasTraded row other lines now → IsTable w.stored cells lines → (k : ℕ) → k < length lines → k ≢ other →
+    row_in w after (line_at now k) ≡ row_in w cells (line_at lines k)
+rows_in-traded w row other count cells after lines now h i l c there below above t table k m apart =
+    let same = cells_traded w.stored row other count cells after lines now h i l c there below above t table k m apart in
+    let entry = entry_traded row other lines now t k apart in
+    λ z. record { cells = take w.shown (same z); wrapped = (entry z).wrapped }
+
+pub IsStored-traded : (w : Columns) (row other count : ℕ) (cells after : List CellValue) (lines now : List Line) →
+    row < length lines → other < length lines → row ≢ other → length after ≡ length cells → count ≡ w.stored →
+    CopiedTo cells after ((line_at lines row).place * w.stored) ((line_at lines other).place * w.stored) count →
+    SameBelow cells after ((line_at lines other).place * w.stored) →
+    SameFrom cells after ((line_at lines other).place * w.stored + count) →
     HasTraded row other lines now → IsStored w cells lines → IsStored w after now
 IsStored-traded w row other count cells after lines now h i apart l c there below above t stored =
     let table = stored.table in
@@ -286,43 +308,39 @@ IsStored-traded w row other count cells after lines now h i apart l c there belo
     let source : ℕ → ℕ = λ k. if nat_eq k other then row else k in
     let from : (k : ℕ) → k < length now →
     (source k < length lines) × (((line_at now k).used ≡ (line_at lines (source k)).used)
-    × (cells_at w after (line_at now k).place ≡ cells_at w cells (line_at lines (source k)).place)) =
+    × (cells_at w.stored after (line_at now k).place ≡ cells_at w.stored cells (line_at lines (source k)).place)) =
     λ k m. elim (cases_eq k other) [
       | inl e ↦
           let s : source k ≡ row = grind (arith, nat_tests, e) in
           let far : (line_at lines row).place ≢ q = λ same. apart (table.distinct row other h i same) in
-          let still = copied_elsewhere w (length lines) q (line_at lines row).place count cells after table.filled l
+          let still = copied_elsewhere w.stored (length lines) q (line_at lines row).place count cells after table.filled l
           (table.inside other i) (table.inside row h) far c below above in
           let line = ap (line_at now) e ∙ t.freed in (
             omega (arith, s, h),
             (
               ap (λ (x : Line). x.used) line ∙ ap (λ (j : ℕ). (line_at lines j).used) (sym s),
-              ap (λ (x : Line). cells_at w after x.place) line
-                  ∙ (still ∙ ap (λ (j : ℕ). cells_at w cells (line_at lines j).place) (sym s)),
+              ap (λ (x : Line). cells_at w.stored after x.place) line
+                  ∙ (still ∙ ap (λ (j : ℕ). cells_at w.stored cells (line_at lines j).place) (sym s)),
             ),
           )
       | inr o ↦
           let s : source k ≡ k = grind (arith, nat_tests, o) in
           let inside : k < length lines = omega (arith, t.len, m) in
-          let same = rows_in-traded w row other count cells after lines now h i l c there below above t table k inside o in
-          let used : (line_at now k).used ≡ (line_at lines k).used = elim (cases_eq k row) [
-            | inl e ↦
-                ap (λ (j : ℕ). (line_at now j).used) e
-                ∙ (ap (λ (x : Line). x.used) t.moved ∙ ap (λ (j : ℕ). (line_at lines j).used) (sym e))
-            | inr p ↦ ap (λ (x : Line). x.used) (t.rest k p o)
-          ] in (
+          let same = cells_traded w.stored row other count cells after lines now h i l c there below above t table k inside o in
+          let entry = entry_traded row other lines now t k o in (
             omega (arith, s, inside),
             (
-              used ∙ ap (λ (j : ℕ). (line_at lines j).used) (sym s),
-              ap (λ (x : RowValue). x.cells) same ∙ ap (λ (j : ℕ). cells_at w cells (line_at lines j).place) (sym s),
+              ap (λ (x : Line). x.used) entry ∙ ap (λ (j : ℕ). (line_at lines j).used) (sym s),
+              same ∙ ap (λ (j : ℕ). cells_at w.stored cells (line_at lines j).place) (sym s),
             ),
           )
     ] in
     record {
-      table = IsTable-traded w row other cells after lines now h i l t table;
+      table = IsTable-traded w.stored row other cells after lines now h i l t table;
+      fits = stored.fits;
       blank =
           λ k m. let f = from k m in
-          subst (λ (x : ℕ × List CellValue). IsBlankFrom (used_columns w x.0) x.1) (λ z. (sym f.1.0 z, sym f.1.1 z))
+          subst (λ (x : ℕ × List CellValue). IsBlankFrom (used_columns w.shown x.0) x.1) (λ z. (sym f.1.0 z, sym f.1.1 z))
           (stored.blank (source k) f.0);
     }
 
@@ -333,10 +351,10 @@ IsStored-traded w row other count cells after lines now h i apart l c there belo
 pub record PackedTo (rows row free : ℕ) (first flat : Flat) : Type 0 where
   pub table : IsFlat flat
   pub len : length flat.lines.items ≡ length first.lines.items
-  pub width : flat.width ≡ first.width
+  pub columns : flat.columns ≡ first.columns
   pub kept : (k : ℕ) → k < rows →
-      row_in first.width flat.cells.items (line_at flat.lines.items k)
-      ≡ row_in first.width first.cells.items (line_at first.lines.items k)
+      row_in first.columns flat.cells.items (line_at flat.lines.items k)
+      ≡ row_in first.columns first.cells.items (line_at first.lines.items k)
   pub packed : (k : ℕ) → k < row → (line_at flat.lines.items k).place < rows
   pub after : rows ≤ free
   pub later : (k : ℕ) → rows ≤ k → k < free → rows ≤ (line_at flat.lines.items k).place
@@ -345,7 +363,7 @@ pub packed_none : (rows : ℕ) (flat : Flat) → IsFlat flat → PackedTo rows 0
 packed_none rows flat t = record {
   table = t;
   len = refl;
-  width = refl;
+  columns = refl;
   kept = λ k h. refl;
   packed = λ k h. absurd (omega arith);
   after = omega arith;
@@ -357,7 +375,7 @@ pub packed_same : (rows row free : ℕ) (first flat : Flat) → (line_at flat.li
 packed_same rows row free first flat h p = record {
   table = p.table;
   len = p.len;
-  width = p.width;
+  columns = p.columns;
   kept = p.kept;
   packed = λ k i. elim (cases_eq k row) [
     | inl e ↦ subst (λ (j : ℕ). (line_at flat.lines.items j).place < rows) (sym e) h
@@ -370,22 +388,22 @@ packed_same rows row free first flat h p = record {
 pub packed_traded : (rows row free other : ℕ) (first flat new : Flat) → row < rows → rows ≤ length first.lines.items →
     free ≤ other → (line_at flat.lines.items other).place < rows →
     ((k : ℕ) → rows ≤ k → k < other → rows ≤ (line_at flat.lines.items k).place) → IsFlat new →
-    length new.lines.items ≡ length flat.lines.items → new.width ≡ flat.width →
+    length new.lines.items ≡ length flat.lines.items → new.columns ≡ flat.columns →
     line_at new.lines.items row
     ≡ record (line_at flat.lines.items row) { place = (line_at flat.lines.items other).place } →
     ((k : ℕ) → k ≢ row → k ≢ other → line_at new.lines.items k ≡ line_at flat.lines.items k) →
     ((k : ℕ) → k < length flat.lines.items → k ≢ other →
-    row_in flat.width new.cells.items (line_at new.lines.items k)
-    ≡ row_in flat.width flat.cells.items (line_at flat.lines.items k)) →
+    row_in flat.columns new.cells.items (line_at new.lines.items k)
+    ≡ row_in flat.columns flat.cells.items (line_at flat.lines.items k)) →
     PackedTo rows row free first flat → PackedTo rows (row + 1) other first new
 packed_traded rows row free other first flat new h all on found later t l w moved rest same p = record {
   table = t;
   len = l ∙ p.len;
-  width = w ∙ p.width;
+  columns = w ∙ p.columns;
   kept = λ k i.
       let apart : k ≢ other = λ e. absurd (omega (arith, p.after, on, i, e)) in
-      subst (λ (v : ℕ). row_in v new.cells.items (line_at new.lines.items k)
-      ≡ row_in v flat.cells.items (line_at flat.lines.items k)) p.width (same k (omega (arith, p.len, i, all)) apart)
+      subst (λ (v : Columns). row_in v new.cells.items (line_at new.lines.items k)
+      ≡ row_in v flat.cells.items (line_at flat.lines.items k)) p.columns (same k (omega (arith, p.len, i, all)) apart)
       ∙ p.kept k i;
   packed = λ k i. elim (cases_eq k row) [
     | inl e ↦
@@ -431,31 +449,40 @@ IsTable-cut w rows cells lines h packed t =
           ∙ (same ∙ ap (λ (x : Line). x.place) (line_taken rows s lines b)));
     }
 
-pub rows_in-cut : (w rows : ℕ) (cells : List CellValue) (lines : List Line) → rows ≤ length lines →
+cells_cut : (w rows : ℕ) (cells : List CellValue) (lines : List Line) → rows ≤ length lines →
     IsPacked rows lines → IsTable w cells lines → (k : ℕ) → k < rows →
-    row_in w (take (rows * w) cells) (line_at (take rows lines) k) ≡ row_in w cells (line_at lines k)
-rows_in-cut w rows cells lines h packed t k i =
+    cells_at w (take (rows * w) cells) (line_at lines k).place ≡ cells_at w cells (line_at lines k).place
+cells_cut w rows cells lines h packed t k i =
     let p = (line_at lines k).place in
     let many : rows * w ≤ length lines * w = grind (arith, h) in
     let l : length (take (rows * w) cells) ≡ rows * w = omega (arith, length-take (rows * w) cells, t.filled, many) in
     let inside = place_inside p rows w (packed k i) in
-    let same = cells_at_by w rows (length lines) p p (take (rows * w) cells) cells l t.filled (packed k i)
-    (t.inside k (omega arith)) (λ j m. get_or-take (rows * w) cells (p * w + j) default_blank (omega (arith, inside))) in
-    ap (row_in w (take (rows * w) cells)) (line_taken rows k lines i)
-    ∙ ap (λ (xs : List CellValue). record { cells = xs; wrapped = (line_at lines k).wrapped }) same
+    cells_at_by w rows (length lines) p p (take (rows * w) cells) cells l t.filled (packed k i)
+    (t.inside k (omega arith)) (λ j m. get_or-take (rows * w) cells (p * w + j) default_blank (omega (arith, inside)))
 
-pub IsStored-cut : (w rows : ℕ) (cells : List CellValue) (lines : List Line) → rows ≤ length lines →
-    IsPacked rows lines → IsStored w cells lines → IsStored w (take (rows * w) cells) (take rows lines)
+pub rows_in-cut : (w : Columns) (rows : ℕ) (cells : List CellValue) (lines : List Line) → rows ≤ length lines →
+    IsPacked rows lines → IsTable w.stored cells lines → (k : ℕ) → k < rows →
+    row_in w (take (rows * w.stored) cells) (line_at (take rows lines) k) ≡ row_in w cells (line_at lines k)
+rows_in-cut w rows cells lines h packed t k i =
+    ap (row_in w (take (rows * w.stored) cells)) (line_taken rows k lines i)
+    ∙ ap (λ (xs : List CellValue). record { cells = take w.shown xs; wrapped = (line_at lines k).wrapped })
+    (cells_cut w.stored rows cells lines h packed t k i)
+
+pub IsStored-cut : (w : Columns) (rows : ℕ) (cells : List CellValue) (lines : List Line) → rows ≤ length lines →
+    IsPacked rows lines → IsStored w cells lines → IsStored w (take (rows * w.stored) cells) (take rows lines)
 IsStored-cut w rows cells lines h packed t =
     let l : length (take rows lines) ≡ rows = omega (arith, length-take rows lines) in
     let inside : (k : ℕ) → k < length (take rows lines) → k < rows = λ k i. omega (arith, l, i) in
+    let all = take (rows * w.stored) cells in
     record {
-      table = IsTable-cut w rows cells lines h packed t.table;
+      table = IsTable-cut w.stored rows cells lines h packed t.table;
+      fits = t.fits;
       blank =
           λ k i. let line = line_taken rows k lines (inside k i) in
-          let same = ap (λ (x : RowValue). x.cells) (rows_in-cut w rows cells lines h packed t.table k (inside k i)) in
-          subst (λ (x : ℕ × List CellValue). IsBlankFrom (used_columns w x.0) x.1) (λ z. ((sym line z).used, sym same z))
-          (t.blank k (omega (arith, inside k i, h)));
+          let same = ap (λ (x : Line). cells_at w.stored all x.place) line
+          ∙ cells_cut w.stored rows cells lines h packed t.table k (inside k i) in
+          subst (λ (x : ℕ × List CellValue). IsBlankFrom (used_columns w.shown x.0) x.1)
+          (λ z. ((sym line z).used, sym same z)) (t.blank k (omega (arith, inside k i, h)));
     }
 
 -- ---- Rows added at the end

@@ -7,7 +7,8 @@ use Rattle.vt_cells.specs.Cell.{CellValue, glyph, right_half, default_blank}
 use Rattle.vt_rows.specs.Cells.{put_cells}
 use Rattle.vt_rows.specs.Row.{RowValue}
 use Rattle.vt_grid.specs.Page.{Page, blank_page, moved_rows}
-use Rattle.vt_grid.specs.Moves.{moved_to, moved_right, line_feed}
+use Rattle.vt_grid.specs.Moves.{moved, line_feed}
+use Rattle.vt_grid.specs.declared.grid.moves.CursorMove.TheVariants.{Right, To}
 use Rattle.vt_grid.specs.Erasing.{erased_chars, erased_rest, erased_below}
 use Rattle.vt_grid.specs.Printing.{glyph_put, room_made, wrapped_page, made_wide, made_narrow, page_after_wrap, printed_by}
 
@@ -68,18 +69,18 @@ unfolding room_made wrapped_page line_feed put_cells moved_rows
 wraps_single = refl
 
 -- A wide character overwrites the first cell of another.
-wide_over_half : wide_letter 2 (moved_to 0 0 (wide_letter 1 (moved_to 0 1 (blank_page 1 4))))
+wide_over_half : wide_letter 2 (moved (To 0 0) (wide_letter 1 (moved (To 0 1) (blank_page 1 4))))
     ≡ shown (row (w 2 ∷ right_half ∷ default_blank ∷ default_blank ∷ []) false ∷ []) 0 2 4 (blank_page 1 4)
 unfolding room_made wrapped_page line_feed put_cells moved_rows
 wide_over_half = refl
 
 -- A letter overwrites a continuation cell, and then the first cell of a wide glyph.
-over_right : letter 4 (moved_to 0 1 (letter 3 (letter 2 (wide_letter 1 (blank_page 1 5)))))
+over_right : letter 4 (moved (To 0 1) (letter 3 (letter 2 (wide_letter 1 (blank_page 1 5)))))
     ≡ shown (row (default_blank ∷ n 4 ∷ n 2 ∷ n 3 ∷ default_blank ∷ []) false ∷ []) 0 2 5 (blank_page 1 5)
 unfolding room_made wrapped_page line_feed put_cells moved_rows
 over_right = refl
 
-over_left : letter 4 (moved_to 0 0 (letter 3 (letter 2 (wide_letter 1 (blank_page 1 5)))))
+over_left : letter 4 (moved (To 0 0) (letter 3 (letter 2 (wide_letter 1 (blank_page 1 5)))))
     ≡ shown (row (n 4 ∷ n 0x20 ∷ n 2 ∷ n 3 ∷ default_blank ∷ []) false ∷ []) 0 1 5 (blank_page 1 5)
 unfolding room_made wrapped_page line_feed put_cells moved_rows
 over_left = refl
@@ -95,7 +96,7 @@ unfolding room_made wrapped_page line_feed put_cells moved_rows made_wide
 heart_in_place = refl
 
 -- U+FE0F after a heart moves it to the next row if no column is left.
-heart_carried : page_after_wrap 0xFE0F default_attrs (letter 9 (moved_to 1 1 (letter 1 (blank_page 2 2))))
+heart_carried : page_after_wrap 0xFE0F default_attrs (letter 9 (moved (To 1 1) (letter 1 (blank_page 2 2))))
     ≡ shown (row (default_blank ∷ default_blank ∷ []) false ∷ row (heart ∷ right_half ∷ []) false ∷ [])
     1 2 2 (blank_page 2 2)
 unfolding room_made wrapped_page line_feed put_cells moved_rows page_after_wrap
@@ -113,21 +114,21 @@ pending : erased_rest default_attrs (letter 2 (letter 1 (blank_page 1 2))) ≡ l
 unfolding room_made wrapped_page line_feed put_cells moved_rows erased_rest
 pending = refl
 
-pending_right : moved_right 1 (letter 2 (letter 1 (blank_page 1 2)))
+pending_right : moved (Right 1) (letter 2 (letter 1 (blank_page 1 2)))
     ≡ shown (row (n 1 ∷ n 2 ∷ []) false ∷ []) 0 1 2 (blank_page 1 2)
 unfolding room_made wrapped_page line_feed put_cells moved_rows
 pending_right = refl
 
 -- ED 0 erases the rows below the cursor, and the cursor's row from the cursor on; if a wrap is pending, that row stays
 -- as it is.
-erases_below : erased_below default_attrs (moved_to 0 1 (letter 3 (letter 2 (letter 1 (blank_page 2 2)))))
+erases_below : erased_below default_attrs (moved (To 0 1) (letter 3 (letter 2 (letter 1 (blank_page 2 2)))))
     ≡ shown (row (n 1 ∷ default_blank ∷ []) false ∷ row (default_blank ∷ default_blank ∷ []) false ∷ [])
     0 1 2 (blank_page 2 2)
 unfolding room_made wrapped_page line_feed put_cells moved_rows erased_rest erased_below
 erases_below = refl
 
 -- Erasing one cell of a wide glyph makes the other one a blank.
-erases_half : erased_chars 1 default_attrs (moved_to 0 1 (letter 2 (wide_letter 1 (blank_page 1 4))))
+erases_half : erased_chars 1 default_attrs (moved (To 0 1) (letter 2 (wide_letter 1 (blank_page 1 4))))
     ≡ shown (row (default_blank ∷ default_blank ∷ n 2 ∷ default_blank ∷ []) false ∷ []) 0 1 4 (blank_page 1 4)
 unfolding room_made wrapped_page line_feed put_cells moved_rows erased_chars
 erases_half = refl

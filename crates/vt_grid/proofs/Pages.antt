@@ -17,7 +17,6 @@ use Rattle.vt_rows.specs.Row.{RowValue, IsRow, blank_row, with_cells}
 use Rattle.vt_rows.proofs.Rows.{IsRow-blank_row, IsRow-erased}
 use Rattle.vt_grid.specs.Page.{Page, IsPage, row_or, row_at, cursor_row, with_row}
 use Rattle.vt_grid.specs.Page.{blank_page, moved_rows, up_source, rows_up, scrolled_up}
-use Rattle.vt_grid.specs.Moves.{carriage_return, moved_left, moved_right, moved_to, target_row}
 use Rattle.vt_grid.specs.Moves.{at_bottom, line_feed, cursor_saved, cursor_restored}
 use Rattle.vt_grid.specs.Erasing.{erased_columns, erased_chars, erased_rest, blanked_below, erased_below}
 use Rattle.vt_grid.specs.Printing.{with_cursor_cells}
@@ -61,12 +60,6 @@ page_of_rows rows page e sound last p = record {
   last = rw e last;
 }
 
-pub page_carriage_return : (page : Page) → IsPage page → IsPage (carriage_return page)
-page_carriage_return page p = page_at page.row 0 page p.cursor_row (omega arith) p
-
-pub page_moved_left : (n : ℕ) (page : Page) → IsPage page → IsPage (moved_left n page)
-page_moved_left n page p = page_at page.row (page.column - n) page p.cursor_row (omega (arith, p.cursor_column)) p
-
 pub page_cursor_saved : (page : Page) → IsPage page → IsPage (cursor_saved page)
 page_cursor_saved page p = record {
   has_columns = p.has_columns;
@@ -96,19 +89,6 @@ page_cursor_restored page p = record {
   rows = p.rows;
   last = p.last;
 }
-
-pub page_moved_right : (n : ℕ) (page : Page) → IsPage page → IsPage (moved_right n page)
-page_moved_right n page p = page_at page.row (min (page.column + n) (page.width - 1)) page p.cursor_row (omega arith) p
-
-target_in : (origin : Bool) (r top bottom height : ℕ) → bottom < height →
-    (if origin then min (top + r) bottom else min r (height - 1)) < height
-target_in true r top bottom height h = omega arith
-target_in false r top bottom height h = omega arith
-
-pub page_moved_to : (r c : ℕ) (page : Page) → IsPage page → IsPage (moved_to r c page)
-page_moved_to r c page p =
-    page_at (target_row r page) (min c (page.width - 1)) page
-    (target_in page.origin r page.top page.bottom (length page.rows) p.region_end) (omega arith) p
 
 -- ---- One row
 

@@ -1,55 +1,55 @@
--- Cursor movement that respects the scroll region, and setting the region, leave a valid page.
-use Rattle.std.proofs.Common.{◌≡◌, ℕ, ◌+◌, ◌-◌, ◌*◌, ◌/◌, ◌<◌, ◌≤◌, ◌⊎◌, nat_lt, min}
-use Rattle.std.proofs.Common.{max, Bool, true, false, length, refl, inl, inr, arith}
+-- Movements of the cursor, and setting the region and origin mode, leave a valid page.
+use Rattle.std.proofs.Common.{◌≡◌, ℕ, ◌+◌, ◌-◌, ◌<◌, ◌≤◌, ◌⊎◌, nat_lt, min}
+use Rattle.std.proofs.Common.{Bool, true, false, length, refl, inl, inr, arith}
 use Rattle.std.specs.Prelude.{if◌then◌else◌}
 use Rattle.std.proofs.lemmas.Bool.{ltb-true}
 use Rattle.std.proofs.lemmas.Bool.Decides.{nat_tests}
 use Rattle.vt_grid.specs.Page.{Page, IsPage}
-use Rattle.vt_grid.specs.Regions.{in_region, last_row, moved_up, moved_down, next_line, previous_line}
-use Rattle.vt_grid.specs.Regions.{moved_to_column, moved_to_row, page_after_tab, region_set, origin_set}
-use Rattle.vt_grid.proofs.Pages.{page_at, page_if, page_carriage_return, page_moved_to}
+use Rattle.vt_grid.specs.Moves.{lower_edge, moved, origin_set, position_after, target_row, upper_edge}
+use Rattle.vt_grid.specs.Regions.{in_region, last_row, region_set}
+use Rattle.vt_grid.specs.declared.grid.moves.CursorMove.{CursorMove}
+use Rattle.vt_grid.specs.declared.grid.moves.CursorMove.TheVariants.{Return, To}
+use Rattle.vt_grid.proofs.Pages.{page_at, page_if}
 
 -- ---- The cursor
 
-up_inside : (b : Bool) (row n top height : ℕ) → (b ≡ true → top ≤ row) →
-    row < height → max (row - n) (if b then top else 0) < height
-up_inside true row n top height h lt = let above = h refl in omega arith
-up_inside false row n top height h lt = omega arith
+upper_at : (page : Page) → upper_edge page ≤ page.row
+unfolding upper_edge
+upper_at page = by_region (in_region page) refl where
+  by_region : (b : Bool) → in_region page ≡ b → (if b then page.top else 0) ≤ page.row
+  by_region true e = grind (arith, nat_tests)
+  by_region false e = omega arith
 
-down_inside : (b : Bool) (row n bottom height : ℕ) → bottom < height →
-    row < height → min (row + n) (if b then bottom else height - 1) < height
-down_inside true row n bottom height h lt = omega arith
-down_inside false row n bottom height h lt = omega arith
+lower_at : (page : Page) → page.row < length page.rows → page.bottom < length page.rows →
+    lower_edge page < length page.rows
+unfolding lower_edge
+lower_at page row bottom = by_region (in_region page) where
+  by_region : (b : Bool) → (if b then page.bottom else last_row page) < length page.rows
+  by_region true = bottom
+  by_region false = omega (arith, row)
 
-pub page_moved_up : (n : ℕ) (page : Page) → IsPage page → IsPage (moved_up n page)
-unfolding moved_up
-page_moved_up n page p =
-    let above : in_region page ≡ true → page.top ≤ page.row = λ t. grind (arith, nat_tests) in
-    page_at (max (page.row - n) (if in_region page then page.top else 0)) page.column page
-    (up_inside (in_region page) page.row n page.top (length page.rows) above p.cursor_row) p.cursor_column p
+target_at : (r : ℕ) (page : Page) → page.row < length page.rows → page.bottom < length page.rows →
+    target_row r page < length page.rows
+target_at r page row bottom = by_origin page.origin where
+  by_origin : (b : Bool) → (if b then min (page.top + r) page.bottom else min r (last_row page)) < length page.rows
+  by_origin true = omega (arith, bottom)
+  by_origin false = omega (arith, row)
 
-pub page_moved_down : (n : ℕ) (page : Page) → IsPage page → IsPage (moved_down n page)
-unfolding moved_down
-page_moved_down n page p =
-    page_at (min (page.row + n) (if in_region page then page.bottom else last_row page)) page.column page
-    (down_inside (in_region page) page.row n page.bottom (length page.rows) p.region_end p.cursor_row) p.cursor_column p
+-- Every movement stays on the page.
+pub moved_row : (move : CursorMove) (page : Page) → page.row < length page.rows → page.bottom < length page.rows →
+    (position_after move page).0 < length page.rows
+moved_row (To r c) page row bottom = target_at r page row bottom
+moved_row move page row bottom = omega (arith, row, upper_at page, lower_at page row bottom)
 
-pub page_next_line : (n : ℕ) (page : Page) → IsPage page → IsPage (next_line n page)
-page_next_line n page p = page_carriage_return (moved_down n page) (page_moved_down n page p)
+moved_column : (move : CursorMove) (page : Page) → page.column ≤ page.width →
+    (position_after move page).1 ≤ page.width
+moved_column Return page column = omega arith
+moved_column move page column = omega (arith, column)
 
-pub page_previous_line : (n : ℕ) (page : Page) → IsPage page → IsPage (previous_line n page)
-page_previous_line n page p = page_carriage_return (moved_up n page) (page_moved_up n page p)
-
-pub page_moved_to_column : (c : ℕ) (page : Page) → IsPage page → IsPage (moved_to_column c page)
-page_moved_to_column c page p = page_at page.row (min c (page.width - 1)) page p.cursor_row (omega arith) p
-
-pub page_moved_to_row : (r : ℕ) (page : Page) → IsPage page → IsPage (moved_to_row r page)
-page_moved_to_row r page p =
-    let h = p.cursor_row in page_at (min r (last_row page)) page.column page (omega arith) p.cursor_column p
-
-pub page_tabbed : (page : Page) → IsPage page → IsPage (page_after_tab page)
-page_tabbed page p =
-    page_at page.row (min ((page.column / 8 + 1) * 8) (page.width - 1)) page p.cursor_row (omega arith) p
+pub page_moved : (move : CursorMove) (page : Page) → IsPage page → IsPage (moved move page)
+page_moved move page p =
+    page_at (position_after move page).0 (position_after move page).1 page
+    (moved_row move page p.cursor_row p.region_end) (moved_column move page p.cursor_column) p
 
 -- ---- The region and origin mode
 
@@ -99,4 +99,4 @@ page_origin on page p = record {
 }
 
 pub page_origin_set : (on : Bool) (page : Page) → IsPage page → IsPage (origin_set on page)
-page_origin_set on page p = page_moved_to 0 0 (record page { origin = on }) (page_origin on page p)
+page_origin_set on page p = page_moved (To 0 0) (record page { origin = on }) (page_origin on page p)

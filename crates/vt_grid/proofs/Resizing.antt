@@ -96,7 +96,7 @@ window_above v h down up above rows k l i z j =
     ∙ get_or_append_left above rows (blank_row default_attrs v) (length above + k - up) (omega arith))
 
 -- A row of the window after those that come back is a row of the page.
-window_own : (v h down up : ℕ) (above rows : List RowValue) (k : ℕ) → k < h → up ≤ k →
+pub window_own : (v h down up : ℕ) (above rows : List RowValue) (k : ℕ) → k < h → up ≤ k →
     row_or v (window v h down up above rows) k ≡ row_or v rows (down + (k - up))
 window_own v h down up above rows k l i =
     window_there v h down up above rows k l (omega arith)

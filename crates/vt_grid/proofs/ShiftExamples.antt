@@ -5,8 +5,9 @@ use Rattle.vt_cells.specs.Cell.{CellValue, glyph, right_half, default_blank}
 use Rattle.vt_rows.specs.Cells.{put_cells, cells_after_move, cells_after_insert, cells_after_delete}
 use Rattle.vt_rows.specs.Row.{RowValue}
 use Rattle.vt_grid.specs.Page.{Page, blank_page, moved_rows}
-use Rattle.vt_grid.specs.Moves.{moved_to}
-use Rattle.vt_grid.specs.Regions.{moved_up, moved_down, page_after_tab, region_set, origin_set}
+use Rattle.vt_grid.specs.Moves.{lower_edge, moved, origin_set, upper_edge}
+use Rattle.vt_grid.specs.Regions.{region_set}
+use Rattle.vt_grid.specs.declared.grid.moves.CursorMove.TheVariants.{Up, Down, Tab, To}
 use Rattle.vt_grid.specs.Shifts.{scrolled_down, reverse_index, lines_inserted}
 use Rattle.vt_grid.specs.Shifts.{lines_deleted, chars_inserted, chars_deleted}
 use Rattle.vt_grid.specs.Erasing.{erased_chars, erased_start, erased_above}
@@ -105,7 +106,7 @@ pending_inserted = refl
 -- ---- The cursor and the region
 
 -- In origin mode the cursor stays in the region.
-stays_in_region : moved_to 3 3 (origin_set true (region_set 1 2 (blank_page 4 4)))
+stays_in_region : moved (To 3 3) (origin_set true (region_set 1 2 (blank_page 4 4)))
     ≡ record (blank_page 4 4) { row = 2; column = 3; top = 1; bottom = 2; origin = true }
 unfolding region_set
 stays_in_region = refl
@@ -119,25 +120,25 @@ region_to_end : region_set 2 9 (blank_page 4 4) ≡ record (blank_page 4 4) { ro
 unfolding region_set
 region_to_end = refl
 
-up_within : moved_up 9 (record (region_set 1 2 (blank_page 4 4)) { row = 2; column = 4 })
+up_within : moved (Up 9) (record (region_set 1 2 (blank_page 4 4)) { row = 2; column = 4 })
     ≡ record (blank_page 4 4) { row = 1; column = 4; top = 1; bottom = 2 }
-unfolding moved_up region_set
+unfolding upper_edge region_set
 up_within = refl
 
-up_from_below : moved_up 9 (record (region_set 1 2 (blank_page 4 4)) { row = 3 })
+up_from_below : moved (Up 9) (record (region_set 1 2 (blank_page 4 4)) { row = 3 })
     ≡ record (blank_page 4 4) { row = 0; top = 1; bottom = 2 }
-unfolding moved_up region_set
+unfolding upper_edge region_set
 up_from_below = refl
 
-down_from_above : moved_down 9 (record (region_set 1 2 (blank_page 4 4)) { row = 0 })
+down_from_above : moved (Down 9) (record (region_set 1 2 (blank_page 4 4)) { row = 0 })
     ≡ record (blank_page 4 4) { row = 3; top = 1; bottom = 2 }
-unfolding moved_down region_set
+unfolding lower_edge region_set
 down_from_above = refl
 
-tab : page_after_tab (record (blank_page 1 20) { column = 8 }) ≡ record (blank_page 1 20) { column = 16 }
+tab : moved Tab (record (blank_page 1 20) { column = 8 }) ≡ record (blank_page 1 20) { column = 16 }
 tab = refl
 
-tab_last : page_after_tab (record (blank_page 1 20) { column = 20 }) ≡ record (blank_page 1 20) { column = 19 }
+tab_last : moved Tab (record (blank_page 1 20) { column = 20 }) ≡ record (blank_page 1 20) { column = 19 }
 tab_last = refl
 
 -- ---- Erasing

@@ -5,6 +5,7 @@ use Rattle.std.specs.Prelude.{if◌then◌else◌}
 use Rattle.vt_cells.specs.Attrs.{default_attrs, Attrs}
 use Rattle.vt_rows.specs.Row.{RowValue, blank_row}
 use Rattle.vt_rows.specs.Internals.{rotation_source}
+use Rattle.vt_grid.specs.declared.flat.Columns.{Columns}
 use Rattle.vt_grid.specs.declared.flat.Flat.{Flat}
 use Rattle.vt_grid.specs.Flat.{rows_of, line_at}
 use Rattle.vt_grid.specs.Page.{rows_up, moved_rows}
@@ -18,60 +19,60 @@ pub counted_turned : (flat turned : Flat) → length turned.lines.items ≡ leng
 counted_turned flat turned e = omega (
   arith,
   e,
-  rows_counted flat.width flat.cells.items flat.lines.items,
-  rows_counted turned.width turned.cells.items turned.lines.items,
+  rows_counted flat.columns flat.cells.items flat.lines.items,
+  rows_counted turned.columns turned.cells.items turned.lines.items,
 )
 
 -- After rows are cleared, each row is a blank row of the page's width or the row after the rotation.
 cleared_by : (from to : ℕ) (flat turned : Flat) (attrs : Attrs) (cleared : PageRowsValue) →
-    turned.width ≡ flat.width → length turned.lines.items ≡ length flat.lines.items → attrs ≡ default_attrs →
+    turned.columns ≡ flat.columns → length turned.lines.items ≡ length flat.lines.items → attrs ≡ default_attrs →
     ((k : ℕ) (d : RowValue) → k < length (rows_of turned) →
     get_or cleared.rows k d
-    ≡ (if nat_le from k && nat_lt k to then blank_row attrs turned.width else get_or (rows_of turned) k d)) →
+    ≡ (if nat_le from k && nat_lt k to then blank_row attrs turned.columns.shown else get_or (rows_of turned) k d)) →
     (k : ℕ) (d : RowValue) → k < length (rows_of flat) →
     get_or cleared.rows k d
-    ≡ (if nat_le from k && nat_lt k to then blank_row default_attrs flat.width else get_or (rows_of turned) k d)
+    ≡ (if nat_le from k && nat_lt k to then blank_row default_attrs flat.columns.shown else get_or (rows_of turned) k d)
 cleared_by from to flat turned attrs cleared w e a f k d h =
     f k d (omega (arith, h, counted_turned flat turned e))
-    ∙ (λ z. if nat_le from k && nat_lt k to then blank_row (a z) (w z) else get_or (rows_of turned) k d)
+    ∙ (λ z. if nat_le from k && nat_lt k to then blank_row (a z) (w z).shown else get_or (rows_of turned) k d)
 
 pub turned_up : (top bottom count n : ℕ) (flat turned : Flat) (attrs : Attrs) (cleared : PageRowsValue) →
     n ≡ min count (bottom + 1 - top) → top ≤ bottom → bottom < length (rows_of flat) →
-    turned.cells ≡ flat.cells → turned.width ≡ flat.width → length turned.lines.items ≡ length flat.lines.items →
+    turned.cells ≡ flat.cells → turned.columns ≡ flat.columns → length turned.lines.items ≡ length flat.lines.items →
     ((k : ℕ) → line_at turned.lines.items k ≡ line_at flat.lines.items (rotation_source top (bottom + 1) n k)) →
-    attrs ≡ default_attrs → length cleared.rows ≡ length (rows_of turned) → cleared.width ≡ turned.width →
+    attrs ≡ default_attrs → length cleared.rows ≡ length (rows_of turned) → cleared.width ≡ turned.columns.shown →
     ((k : ℕ) (d : RowValue) → k < length (rows_of turned) →
     get_or cleared.rows k d
     ≡ (if nat_le (bottom + 1 - n) k && nat_lt k (bottom + 1)
-    then blank_row attrs turned.width else get_or (rows_of turned) k d)) →
-    cleared ≡ record { rows = rows_up flat.width top bottom count (rows_of flat); width = flat.width }
+    then blank_row attrs turned.columns.shown else get_or (rows_of turned) k d)) →
+    cleared ≡ record { rows = rows_up flat.columns.shown top bottom count (rows_of flat); width = flat.columns.shown }
 turned_up top bottom count n flat turned attrs cleared m o i c w e f a l v g =
-    let rows = scrolled_is flat.width top bottom count n (rows_of flat)
+    let rows = scrolled_is flat.columns.shown top bottom count n (rows_of flat)
     (rows_of turned) cleared.rows m o i (l ∙ counted_turned flat turned e)
     (rows_turned top (bottom + 1) n flat turned (omega arith) (omega arith) c w e f)
     (cleared_by (bottom + 1 - n) (bottom + 1) flat turned attrs cleared w e a g) in
-    λ z. record { rows = rows z; width = (v ∙ w) z }
+    λ z. record { rows = rows z; width = (v ∙ ap (λ (x : Columns). x.shown) w) z }
 
 pub turned_down : (top bottom count n : ℕ) (flat turned : Flat) (attrs : Attrs) (cleared : PageRowsValue) →
     n ≡ min count (bottom + 1 - top) → top ≤ bottom → bottom < length (rows_of flat) →
-    turned.cells ≡ flat.cells → turned.width ≡ flat.width → length turned.lines.items ≡ length flat.lines.items →
+    turned.cells ≡ flat.cells → turned.columns ≡ flat.columns → length turned.lines.items ≡ length flat.lines.items →
     ((k : ℕ) →
     line_at turned.lines.items k ≡ line_at flat.lines.items (rotation_source top (bottom + 1) (bottom + 1 - top - n) k)) →
-    attrs ≡ default_attrs → length cleared.rows ≡ length (rows_of turned) → cleared.width ≡ turned.width →
+    attrs ≡ default_attrs → length cleared.rows ≡ length (rows_of turned) → cleared.width ≡ turned.columns.shown →
     ((k : ℕ) (d : RowValue) → k < length (rows_of turned) →
     get_or cleared.rows k d
-    ≡ (if nat_le top k && nat_lt k (top + n) then blank_row attrs turned.width else get_or (rows_of turned) k d)) →
+    ≡ (if nat_le top k && nat_lt k (top + n) then blank_row attrs turned.columns.shown else get_or (rows_of turned) k d)) →
     cleared
     ≡ record {
-      rows = moved_rows flat.width (down_source (length (rows_of flat)) top bottom count) (rows_of flat);
-      width = flat.width;
+      rows = moved_rows flat.columns.shown (down_source (length (rows_of flat)) top bottom count) (rows_of flat);
+      width = flat.columns.shown;
     }
 turned_down top bottom count n flat turned attrs cleared m o i c w e f a l v g =
-    let rows = scrolled_down_is flat.width top bottom count n (rows_of flat)
+    let rows = scrolled_down_is flat.columns.shown top bottom count n (rows_of flat)
     (rows_of turned) cleared.rows m o i (l ∙ counted_turned flat turned e)
     (rows_turned top (bottom + 1) (bottom + 1 - top - n) flat turned (omega arith) (omega arith) c w e f)
     (cleared_by top (top + n) flat turned attrs cleared w e a g) in
-    λ z. record { rows = rows z; width = (v ∙ w) z }
+    λ z. record { rows = rows z; width = (v ∙ ap (λ (x : Columns). x.shown) w) z }
 
 -- ---- Rows made blank
 

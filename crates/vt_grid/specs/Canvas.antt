@@ -5,8 +5,8 @@ use Rattle.vt_cells.specs.Attrs.{default_attrs, changed_attrs, Attrs}
 use Rattle.vt_cells.specs.Op.{Op, Hide, ClearAttrs, MoveTo, MoveRight, NextRow, LineFeed, Backspace}
 use Rattle.vt_cells.specs.Op.{EraseBelow, EraseRest, EraseChars, SaveCursor, RestoreCursor, ChangeAttrs, Print}
 use Rattle.vt_grid.specs.Page.{Page}
-use Rattle.vt_grid.specs.Moves.{carriage_return, moved_left, moved_right, moved_to}
-use Rattle.vt_grid.specs.Moves.{line_feed, feeds_out, cursor_saved, cursor_restored}
+use Rattle.vt_grid.specs.Moves.{moved, line_feed, feeds_out, cursor_saved, cursor_restored}
+use Rattle.vt_grid.specs.declared.grid.moves.CursorMove.TheVariants.{Return, Right, Left, To}
 use Rattle.vt_grid.specs.Erasing.{erased_below, erased_rest, erased_chars}
 use Rattle.vt_grid.specs.Printing.{page_after_print, pushes}
 
@@ -42,12 +42,12 @@ canvas_after_line_feed canvas = if feeds_out canvas.page then None else Some (re
 abbrev pub canvas_after_op : Op → Canvas → Option Canvas
 canvas_after_op (Hide hidden) canvas = Some (record canvas { hidden = hidden })
 canvas_after_op ClearAttrs canvas = Some (record canvas { attrs = default_attrs })
-canvas_after_op (MoveTo row col) canvas = Some (record canvas { page = moved_to row col canvas.page })
+canvas_after_op (MoveTo row col) canvas = Some (record canvas { page = moved (To row col) canvas.page })
 canvas_after_op (MoveRight zero) canvas = Some canvas
-canvas_after_op (MoveRight (suc n)) canvas = Some (record canvas { page = moved_right (suc n) canvas.page })
-canvas_after_op NextRow canvas = canvas_after_line_feed (record canvas { page = carriage_return canvas.page })
+canvas_after_op (MoveRight (suc n)) canvas = Some (record canvas { page = moved (Right (suc n)) canvas.page })
+canvas_after_op NextRow canvas = canvas_after_line_feed (record canvas { page = moved Return canvas.page })
 canvas_after_op LineFeed canvas = canvas_after_line_feed canvas
-canvas_after_op Backspace canvas = Some (record canvas { page = moved_left 1 canvas.page })
+canvas_after_op Backspace canvas = Some (record canvas { page = moved (Left 1) canvas.page })
 canvas_after_op EraseBelow canvas = Some (record canvas { page = erased_below canvas.attrs canvas.page })
 canvas_after_op EraseRest canvas = Some (record canvas { page = erased_rest canvas.attrs canvas.page })
 canvas_after_op (EraseChars zero) canvas = Some canvas

@@ -1,11 +1,11 @@
 -- How the fields of a grid represent its value; for its model and private contracts only.
-use Rattle.std.specs.Prelude.{◌≡◌, ℕ, ◌+◌, ◌-◌, ◌<◌, ◌&&◌, nat_le, nat_lt, Bool, true, false, List}
+use Rattle.std.specs.Prelude.{◌≡◌, ℕ, ◌+◌, ◌-◌, ◌<◌, ◌&&◌, ◌++◌, nat_le, nat_lt, Bool, true, false, List}
 use Rattle.std.specs.Prelude.{[], length, slice_index_or, Some, zero, if◌then◌else◌}
 use Rattle.std.specs.Char.{encode_utf8}
-use Rattle.vt_cells.specs.Attrs.{Attrs}
+use Rattle.vt_cells.specs.Attrs.{Attrs, default_attrs}
 use Rattle.vt_cells.specs.declared.pos.Pos.{Pos}
 use Rattle.vt_cells.specs.Cell.{CellValue, is_wide, is_blank, is_right_half, cell_made_wide, IsCell}
-use Rattle.vt_rows.specs.Cells.{at}
+use Rattle.vt_rows.specs.Cells.{at, blanks, cells_after_resize}
 use Rattle.vt_rows.specs.Row.{RowValue, blank_row, resized_row}
 use Rattle.vt_grid.specs.Page.{Page, IsPage, cursor_row}
 use Rattle.vt_grid.specs.Printing.{lacks_room, carries, glyph_put, room_made}
@@ -67,6 +67,10 @@ wide_printed c attrs page =
 -- The rows that scroll off when a combining character is printed.
 abbrev pub mark_out : ℕ → Attrs → Page → List RowValue
 mark_out mark attrs page = if carries mark page then fed_out (left_by (Some zero) attrs page) else []
+
+-- The cells of a row that is truncated to the given width, with default blanks in the place of the others.
+abbrev pub cells_cut : ℕ → List CellValue → List CellValue
+cells_cut width cells = cells_after_resize width cells ++ blanks default_attrs (length cells - width)
 
 -- Row `k` of a formerly blank page after the newest `up` scrollback rows were moved into its first rows.
 abbrev pub given_back : (up : ℕ) → (above : List RowValue) →

@@ -1,6 +1,6 @@
 pub mod Page
-pub mod Moves
 pub mod Regions
+pub mod Moves
 pub mod Shifts
 pub mod Scrollback
 pub mod Spare

@@ -1,29 +1,48 @@
--- Cursor movement (ECMA-48: CUF, CUP, CR and LF, with the VT510's scroll region and origin mode).
-use Rattle.std.specs.Prelude.{ℕ, ◌+◌, ◌-◌, ◌==◌, nat_lt, Bool, false, length, min, if◌then◌else◌}
+-- Cursor movement (ECMA-48, with the VT510's scroll region and origin mode).
+use Rattle.std.specs.Prelude.{ℕ, ◌+◌, ◌-◌, ◌*◌, ◌/◌, ◌==◌, nat_lt, Bool, false, length, min, max, if◌then◌else◌}
 use Rattle.vt_grid.specs.Page.{Page, scrolled_up}
+use Rattle.vt_grid.specs.Regions.{in_region, last_row}
+use Rattle.vt_grid.specs.declared.grid.moves.CursorMove.{CursorMove}
+use Rattle.vt_grid.specs.declared.grid.moves.CursorMove.TheVariants.{Return, Up, Down, Right, Left, NextLine}
+use Rattle.vt_grid.specs.declared.grid.moves.CursorMove.TheVariants.{PreviousLine, Tab, To, ToColumn, ToRow}
 
--- The page after the cursor moves to the first column (CR).
-abbrev pub carriage_return : Page → Page
-carriage_return page = record page { column = 0 }
+-- The topmost row that CUU reaches: the top of the scroll region if the cursor is in the region, and the first row
+-- otherwise.
+unfoldable pub upper_edge : Page → ℕ
+upper_edge page = if in_region page then page.top else 0
 
--- The page after the cursor moves left by the given number of columns, but not beyond the first column (CUB, BS).
-abbrev pub moved_left : ℕ → Page → Page
-moved_left n page = record page { column = page.column - n }
-
--- The page after the cursor moves right by the given number of columns, but not beyond the last column; a pending wrap
--- is canceled (CUF).
-abbrev pub moved_right : ℕ → Page → Page
-moved_right n page = record page { column = min (page.column + n) (page.width - 1) }
+-- The bottommost row that CUD reaches: the bottom of the scroll region if the cursor is in the region, and the last row
+-- otherwise.
+unfoldable pub lower_edge : Page → ℕ
+lower_edge page = if in_region page then page.bottom else last_row page
 
 -- The page row that a 0-based CUP row addresses, clamped to the last row. In origin mode, the CUP row counts from the
 -- top of the scroll region, and the result is clamped to the region's bottom.
 abbrev pub target_row : ℕ → Page → ℕ
-target_row r page = if page.origin then min (page.top + r) page.bottom else min r (length page.rows - 1)
+target_row r page = if page.origin then min (page.top + r) page.bottom else min r (last_row page)
 
--- The page after the cursor moves to a 0-based row, interpreted by `target_row`, and a 0-based column, clamped to the
--- last column (CUP).
-abbrev pub moved_to : ℕ → ℕ → Page → Page
-moved_to r c page = record page { row = target_row r page; column = min c (page.width - 1) }
+-- The row and column to which a movement takes the cursor (CR, CUU, CUD, CUF, CUB and BS, CNL, CPL, HT, CUP, CHA, VPA).
+-- A column equal to the page's width means that a wrap is pending.
+abbrev pub position_after : CursorMove → Page → ℕ × ℕ
+position_after Return page = (page.row, 0)
+position_after (Up n) page = (max (page.row - n) (upper_edge page), page.column)
+position_after (Down n) page = (min (page.row + n) (lower_edge page), page.column)
+position_after (Right n) page = (page.row, min (page.column + n) (page.width - 1))
+position_after (Left n) page = (page.row, page.column - n)
+position_after (NextLine n) page = (min (page.row + n) (lower_edge page), 0)
+position_after (PreviousLine n) page = (max (page.row - n) (upper_edge page), 0)
+position_after Tab page = (page.row, min ((page.column / 8 + 1) * 8) (page.width - 1))
+position_after (To r c) page = (target_row r page, min c (page.width - 1))
+position_after (ToColumn c) page = (page.row, min c (page.width - 1))
+position_after (ToRow r) page = (min r (last_row page), page.column)
+
+-- The page after a movement of the cursor.
+abbrev pub moved : CursorMove → Page → Page
+moved move page = record page { row = (position_after move page).0; column = (position_after move page).1 }
+
+-- The page after origin mode is set or reset, which also moves the cursor to its home position (DECOM).
+abbrev pub origin_set : Bool → Page → Page
+origin_set on page = moved (To 0 0) (record page { origin = on })
 
 -- The cursor is at the bottom of the scroll region, where a line feed scrolls.
 abbrev pub at_bottom : Page → Bool

@@ -1,8 +1,8 @@
 -- The rows of a page without its cursor: edits of single rows, and moves of rows.
-use Rattle.std.specs.Prelude.{◌≡◌, ℕ, ◌-◌, ◌≤◌, List, ◌++◌, length, slice_set, replicate, All, Bool, Option, Some, None}
+use Rattle.std.specs.Prelude.{◌≡◌, ℕ, ◌-◌, ◌≤◌, List, ◌++◌, length, map, slice_set, replicate, All, Bool, Option, Some, None}
 use Rattle.vt_cells.specs.Attrs.{default_attrs}
 use Rattle.vt_cells.specs.Cell.{CellValue}
-use Rattle.vt_rows.specs.Row.{RowValue, IsRow, blank_row, with_cells}
+use Rattle.vt_rows.specs.Row.{RowValue, IsRow, blank_row, resized_row, with_cells}
 use Rattle.vt_grid.specs.Page.{row_or, rows_up}
 use Rattle.vt_grid.specs.Shifts.{rows_down}
 
@@ -58,3 +58,7 @@ abbrev pub with_blank_rows : (height : ℕ) → PageRowsValue → PageRowsValue
 with_blank_rows height page_rows = record page_rows {
   rows = page_rows.rows ++ replicate (height - length page_rows.rows) (blank_row default_attrs page_rows.width);
 }
+
+-- The rows of a page, each truncated or extended to the given width.
+abbrev pub with_width : ℕ → PageRowsValue → PageRowsValue
+with_width width page_rows = record { rows = map (resized_row width) page_rows.rows; width = width }

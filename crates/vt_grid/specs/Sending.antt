@@ -1,5 +1,5 @@
 -- The effects of calls that scroll rows off the top of a page.
-use Rattle.std.specs.Prelude.{◌≡◌, ℕ, List, IsErr, OnErr, OnOk, take}
+use Rattle.std.specs.Prelude.{◌≡◌, ℕ, Bool, List, IsErr, IsTrue, OnErr, OnOk, false, length, take}
 use Rattle.std.specs.List.{FoldsTo}
 use Rattle.std.specs.declared.result.Result.{Result}
 use Rattle.vt_cells.specs.Refusals.{OnlyOutOfMemory}
@@ -53,3 +53,10 @@ pub record AddsRows (height : ℕ) (before : Page) (was : Scrollback) (after : P
   pub above : OnOk result (kept ≡ scrollback_resized height before was)
   pub err : OnErr result ((after ≡ before) × (kept ≡ was))
   pub memory : OnlyOutOfMemory result
+
+-- The page is resized to the given width, or, if its rows have no room in their places, nothing is changed.
+pub record SetsColumns (width : ℕ) (before : Page) (was : Scrollback) (after : Page) (kept : Scrollback)
+    (result : Bool) : Type 0 where
+  pub page : IsTrue result → after ≡ page_resized (length before.rows) width was before
+  pub above : IsTrue result → kept ≡ scrollback_resized (length before.rows) before was
+  pub undone : result ≡ false → (after ≡ before) × (kept ≡ was)

@@ -2,7 +2,7 @@
 //! its place in the vector.
 
 ghost use Rattle.std.specs.Prelude.{◌≡◌, ◌≢◌, ◌+◌, ◌*◌, ◌<◌, ◌≤◌, ℕ, IfOk};
-ghost use Rattle.std.specs.Prelude.{false, length, slice_set};
+ghost use Rattle.std.specs.Prelude.{false, length, slice_set, take};
 ghost use Rattle.std.specs.List.{slice_range};
 ghost use Rattle.vt_cells.specs.Attrs.{default_attrs};
 ghost use Rattle.vt_cells.specs.Refusals.{OnlyOutOfMemory};
@@ -26,14 +26,24 @@ pub const WHOLE_ROW: u8 = 255;
 /// continues on the next row), and the number of used columns in groups of eight, 255 for the whole
 /// row.
 ///
-/// All cells after the used columns are default blanks, so a row that becomes blank is written up
-/// to this column only. An entry takes four bytes, which the compiler moves with vector
-/// instructions when the table is rotated.
+/// All cells after the used columns are default blanks, so blanking a row writes only its used
+/// columns. An entry takes four bytes, which the compiler moves with vector instructions when the
+/// table is rotated.
 #[derive(Clone, Copy, Debug)]
 pub struct Line {
     pub(crate) place: u16,
     pub(crate) used: u8,
     pub(crate) wrapped: bool,
+}
+
+/// The number of columns of a page, and the number of cells that are stored for each row.
+///
+/// A place can have more cells than its row has columns. The additional cells are default blanks, so
+/// that a page becomes wider, up to its places, without moving a cell.
+#[derive(Clone, Copy, Debug)]
+pub struct Columns {
+    pub(crate) shown: u16,
+    pub(crate) stored: u16,
 }
 
 /// The rows of a page as one vector of cells, ordered by place, and a table with the place and the
@@ -42,11 +52,11 @@ pub struct Line {
 pub struct Flat {
     pub(crate) cells: Vec<Cell>,
     pub(crate) lines: Vec<Line>,
-    pub(crate) width: u16,
+    pub(crate) columns: Columns,
 }
 
 impl Flat {
-    ghost use Rattle.vt_grid.specs.Flat.{IsFlat, cells_at, in_order, rows_of};
+    ghost use Rattle.vt_grid.specs.Flat.{IsBlankFrom, IsFlat, cells_at, in_order, rows_of};
     ghost use Rattle.vt_grid.specs.Page.{row_or};
 
     /// Creates rows of default blanks, with row `k` at place `k`.
@@ -57,14 +67,17 @@ impl Flat {
     pub fn new(alloc: Global, size: Size) -> Result<Flat, Error>
         ensures cells { IfOk result (λ flat. flat.cells.items ≡ blanks default_attrs (size.rows * size.cols)) }
         ensures lines { IfOk result (λ flat. flat.lines.items ≡ in_order size.rows) }
-        ensures width { IfOk result (λ flat. flat.width ≡ size.cols) }
+        ensures columns { IfOk result (λ flat. flat.columns ≡ record { shown = size.cols; stored = size.cols }) }
         ensures memory { OnlyOutOfMemory result }
     {
         let cells = blank_cells(alloc, usize::from(size.rows) * usize::from(size.cols))?;
         Ok(Flat {
             cells,
             lines: Flat::lines_in_order(alloc, size.rows)?,
-            width: size.cols,
+            columns: Columns {
+                shown: size.cols,
+                stored: size.cols,
+            },
         })
     }
 
@@ -76,7 +89,7 @@ impl Flat {
     pub fn try_clone(&self, alloc: Global) -> Result<Flat, Error>
         ensures cells { IfOk result (λ flat. flat.cells.items ≡ self.now.cells.items) }
         ensures lines { IfOk result (λ flat. flat.lines.items ≡ self.now.lines.items) }
-        ensures width { IfOk result (λ flat. flat.width ≡ self.now.width) }
+        ensures columns { IfOk result (λ flat. flat.columns ≡ self.now.columns) }
         ensures memory { OnlyOutOfMemory result }
     {
         let cells = copied(alloc, &self.cells)?;
@@ -84,7 +97,7 @@ impl Flat {
         Ok(Flat {
             cells,
             lines,
-            width: self.width,
+            columns: self.columns,
         })
     }
 
@@ -95,15 +108,15 @@ impl Flat {
     pub fn part(&self, row: usize) -> (usize, usize)
         requires flat { IsFlat self.now }
         requires inside { row < length (rows_of self.now) }
-        ensures start { result.0 ≡ (line_at self.now.lines.items row).place * self.now.width }
-        ensures end { result.1 ≡ result.0 + self.now.width }
+        ensures start { result.0 ≡ (line_at self.now.lines.items row).place * self.now.columns.stored }
+        ensures end { result.1 ≡ result.0 + self.now.columns.shown }
         ensures inside { result.1 ≤ length self.now.cells.items }
         ensures line { row < length self.now.lines.items }
         ensures row { slice_range self.now.cells.items result.0 result.1
-            ≡ (row_or self.now.width (rows_of self.now) row).cells }
+            ≡ (row_or self.now.columns.shown (rows_of self.now) row).cells }
     {
-        let start = usize::from(self.lines[row].place) * usize::from(self.width);
-        (start, start + usize::from(self.width))
+        let start = usize::from(self.lines[row].place) * usize::from(self.columns.stored);
+        (start, start + usize::from(self.columns.shown))
     }
 
     /// Returns whether a row is wrapped.
@@ -111,7 +124,7 @@ impl Flat {
     #[inline]
     pub fn wrapped(&self, row: usize) -> bool
         requires { row < length (rows_of self.now) }
-        ensures { result ≡ (row_or self.now.width (rows_of self.now) row).wrapped }
+        ensures { result ≡ (row_or self.now.columns.shown (rows_of self.now) row).wrapped }
     {
         self.lines[row].wrapped
     }
@@ -121,7 +134,7 @@ impl Flat {
     pub fn wrap(&mut self, row: usize, wrapped: bool)
         requires { row < length self.old.lines.items }
         ensures cells { self.new.cells ≡ self.old.cells }
-        ensures width { self.new.width ≡ self.old.width }
+        ensures columns { self.new.columns ≡ self.old.columns }
         ensures lines { self.new.lines.items
             ≡ slice_set self.old.lines.items row (record (line_at self.old.lines.items row) { wrapped = wrapped }) }
     {
@@ -135,7 +148,7 @@ impl Flat {
         requires in_order { from + count ≤ to }
         requires inside { to ≤ length (rows_of self.old) }
         ensures cells { self.new.cells ≡ self.old.cells }
-        ensures width { self.new.width ≡ self.old.width }
+        ensures columns { self.new.columns ≡ self.old.columns }
         ensures len { length self.new.lines.items ≡ length self.old.lines.items }
         ensures lines { (k : ℕ) →
             line_at self.new.lines.items k ≡ line_at self.old.lines.items (rotation_source from to count k) }
@@ -144,41 +157,44 @@ impl Flat {
     }
 
     /// Turns a row into default blanks and clears its wrapped flag. Only the used columns are
-    /// written. The cells at all other places are unchanged.
+    /// written. The cells of all other rows are unchanged.
     #[tactic(auto, using(crate::proofs::Flats::rows_counted))]
     pub fn blank(&mut self, row: usize)
         requires flat { IsFlat self.old }
         requires inside { row < length (rows_of self.old) }
-        ensures own { cells_at self.old.width self.new.cells.items (line_at self.old.lines.items row).place
-            ≡ blanks default_attrs self.old.width }
+        ensures own { cells_at self.old.columns.stored self.new.cells.items (line_at self.old.lines.items row).place
+            ≡ blanks default_attrs self.old.columns.stored }
         ensures others { (place : ℕ) → place < length self.old.lines.items →
             place ≢ (line_at self.old.lines.items row).place →
-            cells_at self.old.width self.new.cells.items place ≡ cells_at self.old.width self.old.cells.items place }
+            cells_at self.old.columns.stored self.new.cells.items place ≡ cells_at self.old.columns.stored self.old.cells.items place }
         ensures len { length self.new.cells.items ≡ length self.old.cells.items }
-        ensures width { self.new.width ≡ self.old.width }
+        ensures columns { self.new.columns ≡ self.old.columns }
         ensures lines { self.new.lines.items
             ≡ slice_set self.old.lines.items row
             (record (line_at self.old.lines.items row) { used = 0; wrapped = false }) }
     {
         let (start, _end) = self.part(row);
-        let used = used_columns(self.lines[row].used, self.width);
+        let used = used_columns(self.lines[row].used, self.columns.shown);
         cells::clear(&mut self.cells[start..start + used], Attrs::new());
         self.set_entry(row, 0, false);
     }
 
     /// Turns all cells of a row into blanks with attributes `attrs`, and clears the row's wrapped
-    /// flag. The cells at all other places are unchanged.
+    /// flag. The cells of all other rows are unchanged.
     #[tactic(auto, using(crate::proofs::Flats::rows_counted))]
     pub fn fill(&mut self, row: usize, attrs: Attrs)
         requires flat { IsFlat self.old }
         requires inside { row < length (rows_of self.old) }
-        ensures own { cells_at self.old.width self.new.cells.items (line_at self.old.lines.items row).place
-            ≡ blanks attrs self.old.width }
+        ensures own { take self.old.columns.shown
+            (cells_at self.old.columns.stored self.new.cells.items (line_at self.old.lines.items row).place)
+            ≡ blanks attrs self.old.columns.shown }
+        ensures after { IsBlankFrom self.old.columns.shown
+            (cells_at self.old.columns.stored self.new.cells.items (line_at self.old.lines.items row).place) }
         ensures others { (place : ℕ) → place < length self.old.lines.items →
             place ≢ (line_at self.old.lines.items row).place →
-            cells_at self.old.width self.new.cells.items place ≡ cells_at self.old.width self.old.cells.items place }
+            cells_at self.old.columns.stored self.new.cells.items place ≡ cells_at self.old.columns.stored self.old.cells.items place }
         ensures len { length self.new.cells.items ≡ length self.old.cells.items }
-        ensures width { self.new.width ≡ self.old.width }
+        ensures columns { self.new.columns ≡ self.old.columns }
         ensures lines { self.new.lines.items
             ≡ slice_set self.old.lines.items row
             (record (line_at self.old.lines.items row) { used = 255; wrapped = false }) }
@@ -193,7 +209,7 @@ impl Flat {
     pub fn set_entry(&mut self, row: usize, used: u8, wrapped: bool)
         requires { row < length self.old.lines.items }
         ensures cells { self.new.cells ≡ self.old.cells }
-        ensures width { self.new.width ≡ self.old.width }
+        ensures columns { self.new.columns ≡ self.old.columns }
         ensures lines { self.new.lines.items
             ≡ slice_set self.old.lines.items row
             (record (line_at self.old.lines.items row) { used = used; wrapped = wrapped }) }

@@ -4,8 +4,9 @@ ghost use Rattle.std.specs.Prelude.{◌≡◌, ◌<◌, IfOk, length};
 ghost use Rattle.vt_cells.specs.Refusals.{OnlyOutOfMemory};
 ghost use Rattle.vt_grid.specs.Page.{blank_page, row_at};
 
+mod columns;
 mod erasing;
-mod moves;
+pub mod moves;
 mod printing;
 mod resizing;
 mod scrolling;

@@ -11,6 +11,7 @@ pub mod size;
 
 pub use flat::Flat;
 pub use grid::Grid;
+pub use grid::moves::CursorMove;
 pub use page_rows::PageRows;
 pub use page_step::PageStep;
 pub use scrollback::Scrollback;

@@ -18,6 +18,7 @@ ghost use Rattle.vt_grid.specs.PageRows.{with_page_row, with_page_row_flag, with
 mod columns;
 mod resizing;
 mod texts;
+mod widths;
 
 use crate::flat::{Flat, WHOLE_ROW};
 use crate::page_rows::columns::erased_reach;
@@ -44,7 +45,7 @@ impl Model for PageRows {
 
     ghost Value = { PageRowsValue };
 
-    ghost view = { λ s. record { rows = rows_of s.flat; width = s.flat.width } };
+    ghost view = { λ s. record { rows = rows_of s.flat; width = s.flat.columns.shown } };
 
     ghost invariant = { λ s. IsFlat s.flat };
 }
@@ -85,7 +86,7 @@ impl PageRows {
     {
         Size {
             rows: self.flat.lines.len() as u16,
-            cols: self.flat.width,
+            cols: self.flat.columns.shown,
         }
     }
 
@@ -160,7 +161,7 @@ impl PageRows {
     }
 
     /// Calls `edit` with the cells of a row and returns its result. Clears the row's wrapped flag
-    /// if the edited row ends with a blank. All columns then count as used.
+    /// if the edited row ends with a blank. Marks all columns of the row as used.
     #[inline(always)]
     fn edit_row<R, F: FnOnce(&mut [Cell]) -> R>(&mut self, row: u16, edit: F) -> R
         requires inside { row < length self.old.rows }
@@ -179,8 +180,8 @@ impl PageRows {
         edited
     }
 
-    /// Calls `edit` with the cells of a row, and sets the row's wrapped flag to `is_wrapped`. All
-    /// columns then count as used.
+    /// Calls `edit` with the cells of a row, and sets the row's wrapped flag to `is_wrapped`.
+    /// Marks all columns of the row as used.
     #[inline(always)]
     fn edit_row_and_flag<F: FnOnce(&mut [Cell])>(&mut self, row: usize, is_wrapped: bool, edit: F)
         requires inside { row < length self.old.rows }

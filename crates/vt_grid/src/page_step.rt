@@ -4,59 +4,18 @@ ghost use Rattle.std.specs.Prelude.{◌≡◌};
 ghost use Rattle.vt_grid.specs.PageStep.{page_after};
 
 use crate::grid::Grid;
+use crate::grid::moves::CursorMove;
 use vt_cells::Attrs;
 
 /// A change to a page that does not scroll rows off the top. Rows and columns are counted from 0.
 #[derive(Clone, Copy, PartialEq, Eq, Debug)]
 pub enum PageStep {
-    /// Moves the cursor to the first column (CR).
-    CarriageReturn,
+    /// Moves the cursor.
+    Move(CursorMove),
 
     /// Moves the cursor up by one row, keeping its column (RI). If the cursor is in the top row of
     /// the scroll region or of the page, the region scrolls down instead.
     ReverseIndex,
-
-    /// Moves the cursor up by a number of rows, keeping its column (CUU). The cursor stops at the
-    /// top of the scroll region if it starts inside the region, and at the first row otherwise.
-    MoveUp(u16),
-
-    /// Moves the cursor down by a number of rows, keeping its column (CUD). The cursor stops at the
-    /// bottom of the scroll region if it starts inside the region, and at the last row otherwise.
-    MoveDown(u16),
-
-    /// Moves the cursor right by a number of columns, stopping at the last column (CUF).
-    MoveRight(u16),
-
-    /// Moves the cursor left by a number of columns, stopping at the first column (BS, CUB).
-    MoveLeft(u16),
-
-    /// Moves the cursor to the first column, and down by a number of rows as [`PageStep::MoveDown`]
-    /// does (CNL).
-    NextLine(u16),
-
-    /// Moves the cursor to the first column, and up by a number of rows as [`PageStep::MoveUp`]
-    /// does (CPL).
-    PreviousLine(u16),
-
-    /// Moves the cursor right to the next column that is a multiple of 8, stopping at the last
-    /// column (HT).
-    Tab,
-
-    /// Moves the cursor to a row and column, each limited to the last one (CUP, HVP). In origin
-    /// mode, the row is relative to the top of the scroll region and limited to the region.
-    MoveTo {
-        /// The row.
-        row: u16,
-
-        /// The column.
-        col: u16,
-    },
-
-    /// Moves the cursor to a column, limited to the last one (CHA, HPA).
-    MoveToColumn(u16),
-
-    /// Moves the cursor to a row, limited to the last one (VPA).
-    MoveToRow(u16),
 
     /// Sets the scroll region and moves the cursor to its home position (DECSTBM). If the region
     /// would have fewer than two rows, it becomes the whole page.
@@ -95,12 +54,12 @@ pub enum PageStep {
     /// If a wrap is pending, nothing is erased.
     EraseChars(u16),
 
-    /// Inserts a number of default blanks at the cursor (ICH). Cells that move past the last column
+    /// Inserts this many default blanks at the cursor (ICH). Cells that move past the last column
     /// are lost.
     InsertChars(u16),
 
-    /// Deletes a number of columns, starting at the cursor, and fills the end of the row with
-    /// default blanks (DCH).
+    /// Deletes this many columns of the cursor's row, starting at the cursor, and fills the end of
+    /// the row with default blanks (DCH).
     DeleteChars(u16),
 
     /// Inserts a number of default blank rows at the cursor's row (IL). Rows pushed past the bottom
@@ -123,18 +82,8 @@ impl Grid {
         ensures { self.new ≡ page_after attrs step self.old }
     {
         match step {
-            PageStep::CarriageReturn => self.cr(),
+            PageStep::Move(cursor_move) => self.move_cursor(cursor_move),
             PageStep::ReverseIndex => self.reverse_index(),
-            PageStep::MoveUp(count) => self.row_dec_clamp(count),
-            PageStep::MoveDown(count) => self.row_inc_clamp(count),
-            PageStep::MoveRight(count) => self.col_inc_clamp(count),
-            PageStep::MoveLeft(count) => self.col_dec(count),
-            PageStep::NextLine(count) => self.next_line(count),
-            PageStep::PreviousLine(count) => self.previous_line(count),
-            PageStep::Tab => self.col_tab(),
-            PageStep::MoveTo { row, col } => self.move_to(row, col),
-            PageStep::MoveToColumn(col) => self.col_set(col),
-            PageStep::MoveToRow(row) => self.row_set(row),
             PageStep::SetRegion { top, bottom } => self.set_scroll_region(top, bottom),
             PageStep::UseOrigin(on) => self.set_origin_mode(on),
             PageStep::EraseBelow => self.erase_all_forward(attrs),

@@ -29,11 +29,11 @@ use std::mem;
 use vt_cells::Error;
 use vt_rows::{Leaving, Row, RowContents};
 
-/// The newest rows that scrolled off the top of a page, limited to the capacity, and the offset,
-/// which is the number of rows by which the display is scrolled back.
+/// The newest rows that scrolled off the top of a page, up to the capacity, and the offset, which
+/// is the number of rows by which the display is scrolled back.
 ///
 /// With an offset of `n`, the display consists of the newest `n` scrollback rows followed by the
-/// rows of the page, limited to the height of the page.
+/// rows of the page, cut off at the height of the page.
 #[derive(Debug, Drop)]
 pub struct Scrollback {
     alloc: Global,
@@ -127,7 +127,7 @@ impl Scrollback {
     /// the page.
     ///
     /// Rows in excess of the capacity are reported, oldest first. If the offset is not 0, it grows
-    /// by `count`, limited to the number of rows kept, so that the displayed rows stay in place as
+    /// by `count`, clamped to the number of rows kept, so that the displayed rows stay in place as
     /// long as they are kept. Displayed rows that are narrower than the page are extended to its
     /// width.
     ///
@@ -276,7 +276,7 @@ impl Scrollback {
         narrow_rows(&self.rows, first, size) + below.min(end).saturating_sub(len)
     }
 
-    /// Sets the offset to `n`, limited to the number of rows kept. Rows that a screen of the given
+    /// Sets the offset to `n`, clamped to the number of rows kept. Rows that a screen of the given
     /// size displays at the new offset are extended to its width if they are narrower.
     ///
     /// No memory is allocated if no row needs to be extended.
@@ -300,7 +300,8 @@ impl Scrollback {
 
     /// Sets the offset to 0, so that no scrollback row is displayed.
     pub fn leave_view(&mut self)
-        ensures { self.new ≡ out_of_view self.old }
+        ensures value { self.new ≡ out_of_view self.old }
+        ensures sound { IsScrollback self.old }
     {
         self.offset = 0;
     }
@@ -471,7 +472,7 @@ fn grow_in_view(rows: &mut VecDeque<Row>, offset: usize, size: Size, mut spare: 
 }
 
 /// Replaces a row that has fewer than `columns` columns with a spare row into which its cells are
-/// moved. A wider row is unchanged.
+/// moved. Any other row is unchanged.
 fn grow_row(row: &mut Row, columns: usize, spare: &mut Vec<Row>)
     requires sound { IsRow (length row.old.cells) row.old }
     requires spare { AreSpare columns (row.old ∷ []) spare.old.items }

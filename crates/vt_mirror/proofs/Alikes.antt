@@ -1,4 +1,4 @@
--- Screens that display the same content have the same differences.
+-- Screens that display the same content have the same diffs.
 use Rattle.std.proofs.Common.{◌≤◌, ℕ, List, length, ap, subst, sym, ◌∙◌}
 use Rattle.vt_cells.specs.Op.{bytes_of_all}
 use Rattle.vt_grid.specs.Page.{Page, SameSize}

@@ -1,25 +1,28 @@
 -- A viewer recovers: it displays the screen of its last update if that screen was steady, whatever came before.
-use Rattle.std.proofs.Common.{◌≡◌, ℕ, false, List, [], ◌∷◌, Option, Some, None, refl, sym, ap, subst, ◌∙◌}
+use Rattle.std.proofs.Common.{◌≡◌, ℕ, true, false, List, [], ◌∷◌, Option, Some, None, refl, sym, ap, subst, ◌∙◌}
 use Rattle.std.specs.Prelude.{Result, Ok, Err, IfSome, string_bytes}
+use Rattle.std.proofs.lemmas.Bool.{false≢true}
 use Rattle.std.specs.List.{FoldsTo}
 use Rattle.vt_cells.specs.declared.error.Error.{Error}
+use Rattle.vt_grid.specs.Page.{SameSize}
 use Rattle.vt_redraw.specs.Picture.{SamePictureSize}
 use Rattle.vt_redraw.specs.Steady.{IsSteady}
 use Rattle.vt_scan.specs.Automaton.{State, start}
 use Rattle.vt_scan.specs.Run.{run}
 use Rattle.vt_scan.specs.Scanner.{StandsFor}
-use Rattle.vt_screen.specs.Again.{KeepsPlain, LeavesPlain}
+use Rattle.vt_screen.specs.Again.{LeavesPlain}
 use Rattle.vt_screen.specs.Run.{CallRelation}
 use Rattle.vt_screen.specs.Screen.{IsScreen, ScreenValue}
-use Rattle.vt_screen.specs.Shown.{IsPlain, IsReader, IsReaderOf, KeepsRest, Redraws, display}
+use Rattle.vt_screen.specs.Shown.{IsPlain, IsReader, IsReaderOf, KeepsRest, Redraws, RedrawsFrom, display}
 use Rattle.vt_screen.proofs.NoCallbacks.{reported_events}
+use Rattle.vt_screen.proofs.RepeatedDiffs.{repeated_leaves, repeated_redraws}
 use Rattle.vt_screen.proofs.Viewing.{same_shown}
 use Rattle.vt100.specs.Parser.{ParserValue, Ran, stage}
 use Rattle.vt100.specs.Pieces.{IsPlainParser}
 use Rattle.vt100.proofs.Pieces.{ran_read}
 use Rattle.vt100.proofs.Running.{ran_joined}
-use Rattle.vt_mirror.specs.Calls.{Asks, GivesUpdate, IsFull, IsUpdate, Kind, Scrolling, Scrolls}
-use Rattle.vt_mirror.specs.Healing.{GoesAny, IsTakenFine, ReadsFine, SeesAny, ShowsSteady, TakesFine, WatchesAny}
+use Rattle.vt_mirror.specs.Calls.{Asks, Drawn, GivesUpdate, IsFull, IsUpdate, Kind, Repeating, Scrolling}
+use Rattle.vt_mirror.specs.Healing.{GoesAny, IsTakenFine, ReadsFine, SeesAny, ShowsSteady, TakesFine, WatchesAny, may_move}
 use Rattle.vt_mirror.specs.Viewers.{note_of}
 use Rattle.vt_mirror.specs.Watching.{Ask, IsFresh, IsLeft, IsNew, Join, Leave, MirrorCall, MirrorDoes, Process, SetSize}
 use Rattle.vt_mirror.specs.Watching.{TakesSize, Watching}
@@ -48,13 +51,13 @@ plain_after does p q text stands leaves ran fine =
     }
 
 heals_by : {S : Type 0} (does : CallRelation S) (self : ScreenValue) (Reader : ScreenValue → Type 0) (text : List ℕ)
-    (p q : ParserValue S) → KeepsPlain text → Redraws (display self) Reader KeepsRest text → IsPlainParser p →
+    (p q : ParserValue S) → LeavesPlain text p.screen → Redraws (display self) Reader KeepsRest text → IsPlainParser p →
     Reader p.screen → ReadsFine does text p q → Heals self q
-heals_by {S} does self Reader text p q keeps r plain reader t =
+heals_by {S} does self Reader text p q leaves r plain reader t =
     let ran : Ran does p text q = subst (λ (b : List ℕ). Ran does p b q) t.whole (ran_joined does p q t.chunks t.ran) in
     record {
       sound = t.sound;
-      plain = plain_after does p q text plain.scanner (keeps p.screen plain.screen) ran t.works;
+      plain = plain_after does p q text plain.scanner leaves ran t.works;
       shows = λ steady.
           let reads = r.quiet steady p.screen reader in
           ap display (ran_read does p q text start _ plain.scanner reads.1 ran t.works).screen
@@ -62,14 +65,15 @@ heals_by {S} does self Reader text p q keeps r plain reader t =
     }
 
 heals_diff : {S : Type 0} (does : CallRelation S) (self prev : ScreenValue) (text : List ℕ) (p q : ParserValue S)
-    → Scrolls self prev text → IsScreen p.screen → IsPlainParser p → display p.screen ≡ display prev
+    → LeavesPlain text p.screen → SameSize self.page prev.page → RedrawsFrom prev self text
+    → IsScreen p.screen → IsPlainParser p → display p.screen ≡ display prev
     → ReadsFine does text p q → Heals self q
-heals_diff does self prev text p q is sound plain shows t =
-    heals_by does self (IsReaderOf (display self) (display prev)) text p q is.diff.again is.diff.redraws plain (record {
+heals_diff does self prev text p q leaves size redraws sound plain shows t =
+    heals_by does self (IsReaderOf (display self) (display prev)) text p q leaves redraws plain (record {
       is = record {
         sound = sound;
         plain = plain.screen;
-        size = subst (SamePictureSize (display self)) (sym shows) (same_shown self prev is.diff.size);
+        size = subst (SamePictureSize (display self)) (sym shows) (same_shown self prev size);
       };
       shows = shows;
     }) t
@@ -79,7 +83,7 @@ heals_full : {S : Type 0} (does : CallRelation S) (self : ScreenValue) (rows col
     → TakesSize rows cols p sized → ReadsFine does text sized q → Heals self q
 heals_full does self rows cols text p sized q full sound plain takes t =
     let s = takes_size self rows cols text p sized full takes sound plain in
-    heals_by does self (IsReader (display self)) text sized q full.again full.redraws s.plain
+    heals_by does self (IsReader (display self)) text sized q (full.again sized.screen s.plain.screen) full.redraws s.plain
     (record {
       sound = s.sound;
       plain = s.plain.screen;
@@ -89,18 +93,30 @@ heals_full does self rows cols text p sized q full sound plain takes t =
     t
 
 -- Reading an update makes the viewer recover, if it displays the recorded screen whenever that is steady.
-heals_update : {S : Type 0} (does : CallRelation S) (self : ScreenValue) (noted : Option ScreenValue)
-    (update : Update) (p q : ParserValue S)
+heals_update : {S : Type 0} (does : CallRelation S) (kind : Kind) (self : ScreenValue) (noted : Option ScreenValue)
+    (update : Update) (p q : ParserValue S) → may_move kind ≡ true
     → ((prev : ScreenValue) → noted ≡ Some prev → IsSteady (display prev) → display p.screen ≡ display prev)
-    → IsUpdate Scrolling self noted update → IsScreen p.screen → IsPlainParser p → TakesFine does update p q
+    → IsUpdate kind self noted update → IsScreen p.screen → IsPlainParser p → TakesFine does update p q
     → Heals self q
-heals_update does self (Some prev) (Diff text) p q shows is sound plain t =
-    heals_diff does self prev (string_bytes text) p q is sound plain (shows prev refl is.from_steady) t
-heals_update does self (Some prev) (Full rows cols text) p q shows is sound plain t =
-    heals_full does self rows cols (string_bytes text) p t.0 q is.1 sound plain t.1 t.2
-heals_update does self None (Full rows cols text) p q shows is sound plain t =
+heals_update does kind self None (Full rows cols text) p q moves shows is sound plain t =
     heals_full does self rows cols (string_bytes text) p t.0 q is sound plain t.1 t.2
-heals_update does self None (Diff text) p q shows is sound plain t = absurd is
+heals_update does kind self None (Diff text) p q moves shows is sound plain t = absurd is
+heals_update does Drawn self (Some prev) update p q moves shows is sound plain t = absurd (false≢true moves)
+heals_update does Scrolling self (Some prev) (Diff text) p q moves shows is sound plain t =
+    heals_diff does self prev (string_bytes text) p q (is.diff.again p.screen plain.screen) is.diff.size is.diff.redraws
+    sound plain (shows prev refl is.from_steady) t
+heals_update does Scrolling self (Some prev) (Full rows cols text) p q moves shows is sound plain t =
+    heals_full does self rows cols (string_bytes text) p t.0 q is.1 sound plain t.1 t.2
+heals_update does (Repeating false) self (Some prev) update p q moves shows is sound plain t = absurd (false≢true moves)
+heals_update does (Repeating true) self (Some prev) (Diff text) p q moves shows is sound plain t =
+    let short = string_bytes text in
+    let diff = is.is.diff in
+    heals_diff does self prev short p q
+    (repeated_leaves is.plain short p.screen (is.repeats.same p.screen sound) (diff.again p.screen plain.screen))
+    diff.size (repeated_redraws prev self is.plain short is.repeats.same diff.redraws)
+    sound plain (shows prev refl is.is.from_steady) t
+heals_update does (Repeating true) self (Some prev) (Full rows cols text) p q moves shows is sound plain t =
+    heals_full does self rows cols (string_bytes text) p t.0 q is.1 sound plain t.1 t.2
 
 -- ---- one call
 
@@ -130,11 +146,9 @@ holds_own : {S : Type 0} (does : CallRelation S) (kind : Kind) (number : ℕ) (u
 holds_own {S} does kind number update old new t s h =
     let self = old.mirror.parser.screen in
     let noted = note_of old.mirror.viewers number in
-    let is : IsUpdate Scrolling self noted update =
-    subst (λ (k : Kind). IsUpdate k self noted update) s.scrolling t.text in
-    let p = heals_update does self noted update old.viewer new.viewer
+    let p = heals_update does kind self noted update old.viewer new.viewer s.scrolling
     (λ prev e. subst (λ (o : Option ScreenValue). ShowsIfSteady old.viewer o) (h.noted prev e) h.shows)
-    is h.sound h.plain s.takes in
+    t.text h.sound h.plain s.takes in
     record {
       sound = p.sound;
       plain = p.plain;

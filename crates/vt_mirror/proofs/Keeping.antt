@@ -129,7 +129,7 @@ shared_renewed screen old version after renewed (inr new) s =
       old_or_new note (inr (inl is)) = inr (same_some note new.0 (sym is ∙ new.1))
       old_or_new note (inr (inr diff)) = inl (inr (inr diff))
 
--- Copies stay valid when the screen changes, and its copy and the stored differences are dropped.
+-- Copies stay valid when the screen changes, and its copy and the stored diffs are dropped.
 shared_changed : (old : Copies) (diff scrolling : Option Note) (version : ℕ) → diff ≡ None → scrolling ≡ None →
     AreShared old version →
     AreShared (record { notes = old.notes; current = None; diff = diff; scrolling = scrolling }) version
@@ -265,7 +265,7 @@ fresh_kept numbers notes diff scrolling e f no_diff no_scrolling = record {
   numbered = omega arith;
 }
 
--- Copies stay valid if a difference from the screen recorded for a viewer is stored, or nothing changes.
+-- Copies stay valid if a diff from the screen recorded for a viewer is stored, or nothing changes.
 pub shared_diff : (old : Copies) (version viewer : ℕ) (note : Note) (from : Option Note)
     → noted_at old.notes viewer ≡ Some note → (from ≡ old.diff) ⊎ (from ≡ Some note)
     → AreShared old version → AreShared (record old { diff = from }) version
@@ -377,7 +377,7 @@ found_current viewers copies version current viewer note copy e f s noted is sam
   f ∙ ap screen_of is,
 )
 
--- If a viewer's copy has the version of a stored difference, it is a copy of the screen that the difference starts
+-- If a viewer's copy has the version of a stored diff, it is a copy of the screen that the diff starts
 -- from.
 pub found_diff : (viewers : ViewersValue) (copies : Copies) (version : ℕ) (last : Option KeptDiff)
     (seen : Option DiffFrom) (viewer : ℕ) (note : Note) (diff : KeptDiff) (text : List ℕ)
@@ -391,7 +391,7 @@ found_diff viewers copies version last seen viewer note diff text e f s noted is
   f ∙ (ap diff_of is ∙ ap (λ (t : List ℕ). Some (diff.from.screen, t)) (sym bytes)),
 )
 
--- After a difference is stored, the cache's copy is either the old one or the one that the difference starts from.
+-- After a diff is stored, the cache's copy is either the old one or the one that the diff starts from.
 pub from_kept : (old new : DiffCache) (note : Note) (text : List ℕ)
     → (new ≡ old) ⊎ ((diff : KeptDiff) × (new.last ≡ Some diff) × (diff.from ≡ note) × (string_bytes diff.text ≡ text))
     → (from_of new.last ≡ from_of old.last) ⊎ (from_of new.last ≡ Some note)

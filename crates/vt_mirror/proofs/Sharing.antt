@@ -21,7 +21,7 @@ use Rattle.vt_mirror.specs.Sharing.{IsRedraw, IsSharing}
 use Rattle.vt_mirror.specs.Viewers.{note_of}
 use Rattle.vt_mirror.proofs.Noted.{noted_none, noted_parser, own_size}
 
--- ---- the difference of a screen from itself is empty
+-- ---- the diff of a screen from itself is empty
 
 pub unchanged : (self : ScreenValue) → IsScreen self → IsColored self → IsDrawn self self []
 unchanged self is colored =
@@ -145,7 +145,7 @@ sharing_noted parser old new sized current e f g s = record {
   redraw = subst (HasRedraw parser) (sym g) s.redraw;
 }
 
--- Either the stored difference `is` starts from the screen recorded for the viewer, or it is the one stored before.
+-- Either the stored diff `is` starts from the screen recorded for the viewer, or it is the one stored before.
 abbrev Kept : KeptValue → (viewer : ℕ) → (was is : Option DiffFrom) → List ℕ → Type 0
 Kept old viewer was is text =
     (is ≡ was) ⊎ ((screen : ScreenValue) × (note_of old.viewers viewer ≡ Some screen) × (is ≡ Some (screen, text)))

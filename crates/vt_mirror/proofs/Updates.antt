@@ -1,4 +1,4 @@
--- An update is the difference from the screen recorded for a viewer.
+-- An update is the diff from the screen recorded for a viewer.
 use Rattle.std.proofs.Common.{◌≡◌, ◌≤◌, ◌-◌, ℕ, Bool, true, false, List, [], length, Some, None, Option, Result, Ok, Err, ap, sym, subst, ◌∙◌}
 use Rattle.std.specs.Prelude.{IfOk, String, string_bytes}
 use Rattle.std.specs.Global.{Global}
@@ -120,7 +120,7 @@ repeats_update true self (Some prev) (Diff text) (Diff short) is repeats =
 repeats_update false self (Some prev) (Diff text) (Diff short) is repeats =
     record { plain = string_bytes text; is = is; repeats = repeats }
 
--- The runs of a difference are written for a terminal that displays the recorded screen.
+-- The runs of a diff are written for a terminal that displays the recorded screen.
 pub repeats_from : (noted copy : ScreenValue) (width column : ℕ) (plain text : List ℕ) → ShowsAlike noted copy →
     width ≡ copy.page.width → column ≡ copy.page.column → Repeats width (width - column) plain text →
     RepeatsFrom noted plain text

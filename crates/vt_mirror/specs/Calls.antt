@@ -123,16 +123,16 @@ pub record Scrolls (self prev : ScreenValue) (text : List ℕ) : Type 0 where
   pub controls : IsMadeOf shortened_finals shortened_controls text
   pub shorter : length text ≤ length (bytes_of_all (difference (display self) (display prev)))
 
--- The text is a difference without REP.
+-- The text is a diff without REP.
 abbrev pub IsWithoutRepeats : (scroll : Bool) → (self prev : ScreenValue) → (text : List ℕ) → Type 0
 IsWithoutRepeats true self prev text = Scrolls self prev text
 IsWithoutRepeats false self prev text = IsDrawn self prev text
 
--- The text is `plain` in which runs may be written with REP, for a terminal that displays the screen `prev`.
+-- The text is `plain`, except that runs may be written with REP, for a terminal that displays the screen `prev`.
 abbrev pub RepeatsFrom : (prev : ScreenValue) → (plain text : List ℕ) → Type 0
 RepeatsFrom prev plain text = Repeats prev.page.width (prev.page.width - prev.page.column) plain text
 
--- The text is a difference in which runs may be written with REP.
+-- The text is a diff in which runs may be written with REP.
 pub record RepeatsRuns (scroll : Bool) (self prev : ScreenValue) (text : List ℕ) : Type 0 where
   pub plain : List ℕ
   pub is : IsWithoutRepeats scroll self prev plain

@@ -1,6 +1,6 @@
--- A viewer that applies the updates of `Mirror::update_scrolling` to a terminal, with no restriction on what is
+-- A viewer that applies updates in which rows or columns may move first to a terminal, with no restriction on what is
 -- displayed.
-use Rattle.std.specs.Prelude.{◌≡◌, ◌≢◌, ℕ, false, List, Some, None, Ok, Err, IfSome, string_bytes}
+use Rattle.std.specs.Prelude.{◌≡◌, ◌≢◌, ℕ, Bool, false, true, List, Some, None, Ok, Err, IfSome, string_bytes}
 use Rattle.std.specs.List.{FoldsTo}
 use Rattle.vt_redraw.specs.Steady.{IsSteady}
 use Rattle.vt_screen.specs.Run.{CallRelation}
@@ -8,10 +8,16 @@ use Rattle.vt_screen.specs.Screen.{IsScreen}
 use Rattle.vt_screen.specs.Shown.{display}
 use Rattle.vt100.specs.Parser.{ParserValue, Ran, pieces_joined}
 use Rattle.vt100.specs.Pieces.{IsPlainParser}
-use Rattle.vt_mirror.specs.Calls.{Kind, Scrolling}
+use Rattle.vt_mirror.specs.Calls.{Drawn, Kind, Repeating, Scrolling}
 use Rattle.vt_mirror.specs.Watching.{Ask, IsLeft, Join, Leave, MirrorCall, MirrorDoes, Process, SetSize, TakesSize, Watching}
 use Rattle.vt_mirror.specs.declared.update.Update.{Update}
 use Rattle.vt_mirror.specs.declared.update.Update.TheVariants.{Diff, Full}
+
+-- Whether a diff of the given kind may first move rows or columns.
+abbrev pub may_move : Kind → Bool
+may_move Drawn = false
+may_move Scrolling = true
+may_move (Repeating scroll) = scroll
 
 -- A terminal reads `text` through a list of calls to `process` that all return `Ok` and whose bytes concatenate to
 -- `text`.
@@ -29,9 +35,10 @@ TakesFine {S} does (Diff text) old new = ReadsFine does (string_bytes text) old 
 TakesFine {S} does (Full rows cols text) old new =
     (sized : ParserValue S) × TakesSize rows cols old sized × ReadsFine does (string_bytes text) sized new
 
--- A terminal applies an update of `Mirror::update_scrolling`; nothing is assumed about the mirror's screen.
+-- A terminal applies an update from `Mirror::update_scrolling`, or from `Mirror::update_with` with `scroll`; nothing is
+-- assumed about the mirror's screen.
 pub record SeesAny {S : Type 0} (does : CallRelation S) (kind : Kind) (update : Update) (old new : Watching S) : Type 0 where
-  pub scrolling : kind ≡ Scrolling
+  pub scrolling : may_move kind ≡ true
   pub takes : TakesFine does update old.viewer new.viewer
   pub seen : new.seen ≡ Some old.mirror.parser.screen
 

@@ -1,5 +1,5 @@
 -- Auxiliary definitions that are cited only by the contracts of private functions.
-use Rattle.std.specs.Prelude.{◌≡◌, ℕ, ◌*◌, ◌+◌, ◌<◌, ◌≤◌, Bool, false, true, List, ◌∷◌, length, Some, None, string_bytes}
+use Rattle.std.specs.Prelude.{◌≡◌, ℕ, ◌*◌, ◌+◌, ◌<◌, ◌≤◌, Bool, false, true, List, [], ◌∷◌, length, Some, None, string_bytes}
 use Rattle.std.specs.Io.KnownBytes.{Appends, Consumes, IsAtEnd}
 use Rattle.std.specs.List.{AllByRecursion}
 use Rattle.std.specs.declared.option.Option.{Option}
@@ -22,12 +22,17 @@ abbrev pub text_of_update : Update → List ℕ
 text_of_update (Diff text) = string_bytes text
 text_of_update (Full rows cols text) = string_bytes text
 
--- The update `new` is `plain`, in whose difference from the recorded screen runs may be written with REP.
+-- The update `new` is `plain`, except that runs in a diff from the recorded screen may be written with REP.
 abbrev pub RepeatsUpdate : Option ScreenValue → (plain new : Update) → Type 0
 RepeatsUpdate None plain new = new ≡ plain
 RepeatsUpdate (Some prev) (Full rows cols text) new = new ≡ Full rows cols text
 RepeatsUpdate (Some prev) (Diff text) (Full rows cols short) = ⊥
 RepeatsUpdate (Some prev) (Diff text) (Diff short) = RepeatsFrom prev (string_bytes text) (string_bytes short)
+
+-- The update is not a diff with output.
+abbrev pub HasNoDiff : Update → Type 0
+HasNoDiff (Full rows cols text) = Unit {0}
+HasNoDiff (Diff text) = string_bytes text ≡ []
 
 -- The viewer got an update, and the text of the update was written: the output was `written` before and is `grown` now.
 pub record WritesUpdate (old : MirrorValue) (viewer : ℕ) (new : MirrorValue)

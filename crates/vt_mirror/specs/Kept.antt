@@ -94,7 +94,7 @@ pub record AreShared (copies : Copies) (version : ℕ) : Type 0 where
   pub agree : (one other : Note) → IsKept copies one → IsKept copies other →
       AreOfOneVersion one other → one.screen ≡ other.screen
 
--- If a copy of the current screen is kept, it has a version; otherwise, a next version is available.
+-- If a copy of the current screen is kept, it has a version; otherwise, another version number is available.
 abbrev pub HasVersion : Option Note → (version : ℕ) → Type 0
 HasVersion None version = version < greatest
 HasVersion (Some note) version = 0 < note.version

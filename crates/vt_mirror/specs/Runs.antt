@@ -89,7 +89,7 @@ pub record FailsAtFirst (first : ScreenValue) (left rest written grown : Option 
   pub part : AppendsPart written grown (shown_text first)
   pub controls : IsMadeOf drawing_finals drawing_controls (shown_text first)
 
--- The output `written` grew to `grown` by the whole text `earlier` and a prefix of the text `next`.
+-- The output `grown` is `written` followed by all of `earlier` and a prefix of `next`.
 pub record AppendsThenPart (earlier next : List ℕ) (written grown : Option (List ℕ)) : Type 0 where
   pub taken : List ℕ
   pub lost : List ℕ

@@ -41,8 +41,8 @@ pub record AreViewers (viewers : ViewersValue) : Type 0 where
   pub notes : (viewer : ℕ) (screen : ScreenValue) →
       note_of viewers viewer ≡ Some screen → is_viewer viewers viewer ≡ true
 
--- The viewers after a change to the number `viewer`: `is` is true if a viewer has this number now, and `note` is the
--- screen recorded for that viewer. All other numbers are unaffected.
+-- The viewers after a change that affects only the number `viewer`: `is` says whether a viewer now has this number, and
+-- `note` is the screen recorded for that viewer. All other numbers are unaffected.
 pub record Puts (old : ViewersValue) (viewer : ℕ) (is : Bool)
     (note : Option ScreenValue) (new : ViewersValue) : Type 0 where
   pub here : is_viewer new viewer ≡ is

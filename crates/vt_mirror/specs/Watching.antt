@@ -40,7 +40,7 @@ pub record IsFresh (mirror : MirrorValue) : Type 0 where
   pub numbers : mirror.viewers.numbers ≡ []
   pub notes : mirror.viewers.notes ≡ []
 
--- The viewer numbers that the calls to `join` in a list of calls returned, in order.
+-- The viewer numbers returned by the calls to `join` in a list of calls, in order.
 abbrev pub numbers_given : List MirrorCall → List ℕ
 numbers_given [] = []
 numbers_given (Join (Ok viewer) ∷ calls) = viewer ∷ numbers_given calls

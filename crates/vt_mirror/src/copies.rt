@@ -151,8 +151,8 @@ pub(crate) struct Note {
 }
 
 impl Note {
-    /// Returns another shared handle to the note without allocating, or `None`
-    /// if its copy has the maximum number of holders.
+    /// Returns another note that shares the copy of the screen. Nothing is
+    /// allocated. Returns `None` if the copy's reference count is at its maximum.
     pub(crate) fn share(&self) -> Option<Note>
         ensures { IfSome result (λ note. note ≡ self.now) }
     {

@@ -29,9 +29,10 @@ use vt100::Callbacks;
 ///   reading each full update, it was resized to the size of that update with
 ///   `Parser::set_size`. It read all its updates in order, each split into
 ///   arbitrary chunks. Each update may come from
-///   [`update`](crate::Mirror::update) or
-///   [`update_scrolling`](crate::Mirror::update_scrolling). The viewer may have
-///   joined late, may have missed any number of calls, and may have left since.
+///   [`update`](crate::Mirror::update),
+///   [`update_scrolling`](crate::Mirror::update_scrolling) or
+///   [`update_with`](crate::Mirror::update_with). The viewer may have joined
+///   late, may have missed any number of calls, and may have left since.
 /// - `numbers`: no viewer number is returned twice; successful calls to
 ///   [`join`](crate::Mirror::join) return consecutive numbers.
 ///
@@ -49,10 +50,11 @@ pub fn viewers<CB: Callbacks>()
 {}
 
 /// States that a viewer whose updates all come from
-/// [`update_scrolling`](crate::Mirror::update_scrolling) recovers from screens
-/// that are not steady. After any sequence of calls to a fresh
-/// [`Mirror`](crate::Mirror), such a viewer displays the screen as it was at
-/// its last update, if that screen was steady, whatever screens came before.
+/// [`update_scrolling`](crate::Mirror::update_scrolling), or from
+/// [`update_with`](crate::Mirror::update_with) with `scroll`, recovers from
+/// screens that are not steady. After any sequence of calls to a fresh
+/// [`Mirror`](crate::Mirror), such a viewer displays the screen as it was at its
+/// last update, if that screen was steady, whatever screens came before.
 ///
 /// The viewer is a plain terminal even if the screen at its last update was not
 /// steady. The viewer may be any parser that [`viewers`] allows and whose calls

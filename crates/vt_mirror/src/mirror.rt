@@ -4,6 +4,7 @@ ghost use Rattle.std.specs.Prelude.{◌≡◌, IfOk, IsOk, IsTrue, None, OnErr, 
 ghost use Rattle.vt_cells.specs.Refusals.{OnlyOutOfMemory};
 ghost use Rattle.vt_mirror.specs.Calls.{Asks, Drawn, IsFullUpdate, IsUpdate, JoinsMirror, Leaves};
 ghost use Rattle.vt_mirror.specs.Calls.{MirrorProcesses, Resizes, Scrolling};
+ghost use Rattle.vt_mirror.specs.Internals.{HasNoDiff};
 ghost use Rattle.vt_mirror.specs.Mirror.{ShowsFreshScreen, is_current};
 ghost use Rattle.vt_mirror.specs.Sharing.{IsRedraw};
 ghost use Rattle.vt_mirror.specs.Viewers.{Puts, PutsAmong, is_viewer, note_of};
@@ -211,8 +212,8 @@ impl Mirror {
     /// `update` would return, may be much shorter after text has scrolled, and may touch any row.
     /// If the screen at the viewer's last update was not steady, the update is a full update. A
     /// viewer that gets all its updates from this function therefore displays each steady screen,
-    /// whatever came before (`laws::heals`). Each update may come from either `update` or
-    /// `update_scrolling`.
+    /// whatever came before (`laws::heals`). Each update may come from `update`, `update_scrolling`
+    /// or [`update_with`](Mirror::update_with).
     ///
     /// # Errors
     ///
@@ -234,9 +235,9 @@ impl Mirror {
 
     /// Returns whether the viewer is up to date, which means that it has had an update since the
     /// last call to [`process`](Mirror::process) and the last change of size. The next update of
-    /// such a viewer cannot fail and is an empty diff, unless it comes from `update_scrolling` and
-    /// the screen is not steady: then it is a full update. The test allocates nothing and reads no
-    /// cells.
+    /// such a viewer cannot fail and is an empty diff, unless the screen is not steady and rows may
+    /// move first (`update_scrolling`, or `update_with` with `scroll`): then it is a full update.
+    /// The test allocates nothing and reads no cells.
     ///
     /// Returns `false` if there is no viewer whose number is `viewer`. After each call to
     /// `process`, returns `false` for every viewer until that viewer's next update, even if the
@@ -280,6 +281,7 @@ impl Mirror {
         ensures colored { IsColored self.new.parser.screen }
         ensures ok { IfOk result
             (λ update. IsUpdate Drawn self.old.parser.screen (note_of self.old.viewers viewer) update) }
+        ensures idle { is_current self.old viewer ≡ true → IfOk result HasNoDiff }
         ensures memory { OnlyOutOfMemory result }
         ensures never { is_current self.old viewer ≡ true → IsOk result }
     {
@@ -304,7 +306,7 @@ impl Mirror {
     }
 
     /// Returns the diff from the screen recorded for a viewer to the current screen. The diff may
-    /// move rows first. Returns the full redraw instead if no screen is recorded or the recorded
+    /// move rows or columns first. Returns the full redraw instead if no screen is recorded or the recorded
     /// screen is not steady.
     ///
     /// # Errors
@@ -316,6 +318,7 @@ impl Mirror {
         ensures colored { IsColored self.new.parser.screen }
         ensures ok { IfOk result
             (λ update. IsUpdate Scrolling self.old.parser.screen (note_of self.old.viewers viewer) update) }
+        ensures idle { is_current self.old viewer ≡ true → IfOk result HasNoDiff }
         ensures memory { OnlyOutOfMemory result }
         ensures never { is_current self.old viewer ≡ true → IsSteady (display self.old.parser.screen) → IsOk result }
     {

@@ -7,8 +7,8 @@ ghost use Rattle.vt_mirror.specs.Internals.{text_of_update};
 #[derive(PartialEq, Eq, Debug, Drop)]
 pub enum Update {
     /// The escape sequences for a viewer that has read all its previous
-    /// updates, as `Screen::contents_diff` or `Screen::contents_diff_scrolling`
-    /// returns them; empty if nothing changed.
+    /// updates, as `Screen::contents_diff`, `Screen::contents_diff_scrolling`
+    /// or `Screen::contents_diff_with` returns them; empty if nothing changed.
     Diff(String),
 
     /// The escape sequences for any plain terminal with `rows` rows and `cols`

@@ -73,9 +73,9 @@ impl Notes {
     /// Returns the calls noted so far as lines of text, one for each call.
     ///
     /// Each line looks like a call in Rust, with numbers in decimal and bytes in double quotes with
-    /// Rust's escapes. A row that scrolled off is written as `scroll`, followed by its text with
-    /// SGR sequences in hexadecimal (a dot if the text is empty) and by 1 if the row was on the
-    /// alternate page, otherwise 0.
+    /// Rust's escapes. A row that scrolled off is written as `scroll`, followed by two values: its
+    /// text with SGR sequences, encoded in hexadecimal (a dot if the text is empty), and 1 if the
+    /// row was on the alternate page, otherwise 0.
     ///
     /// # Errors
     ///

@@ -12,6 +12,7 @@ use Rattle.vt_cells.specs.Attrs.{Attrs}
 use Rattle.vt_cells.specs.BufferInternals.{buffered_text}
 use Rattle.vt_cells.specs.Cell.{CellValue, blank, glyph, right_half, default_blank, attrs_of, is_blank, is_glyph}
 use Rattle.vt_cells.specs.Cell.{IsCell, is_right_half, is_wide, same_cell, text_of}
+use Rattle.vt_cells.specs.CellInternals.{head_of_cell}
 use Rattle.vt_cells.specs.Glyph.{glyph_columns}
 use Rattle.vt_cells.specs.Op.{Print, bytes_of_all}
 use Rattle.vt_cells.proofs.Glyphs.{IsGlyphText-length}
@@ -191,3 +192,26 @@ alike_settles row col m r c next pen then flag on xs ys old mid new whole first 
     (subst (λ (j : ℕ). Leads new (cells_from row j then on xs ys) mid (cells_from row (col + m) pen flag xs ys)) sum
     (subst (λ (j : ℕ). Leads new (cells_from row next then on xs ys) mid (cells_from row j pen flag xs ys)) columns
     (subst (λ (j : ℕ). Leads new (cells_from j next then on xs ys) mid (cells_from j c pen flag xs ys)) rows second)))
+
+-- A cell that agrees with a blank in everything except the bytes of its text is that blank.
+pub blank_by_head : (x y : CellValue) → IsCell x → is_blank y ≡ true → head_of_cell x ≡ head_of_cell y → x ≡ y
+blank_by_head (blank a) (blank b) cell e h = ap blank (ap (λ head. head.attrs) h)
+blank_by_head (glyph text wide a) (blank b) cell e h =
+    let some = (IsGlyphText-length text wide cell).0 in
+    let none = ap (λ head. head.shape.len) h in
+    absurd (omega (arith, some, none))
+blank_by_head right_half (blank b) cell e h = let half = ap (λ head. head.shape.right_half) h in absurd cc
+blank_by_head x (glyph text wide b) cell e h = absurd cc
+blank_by_head x right_half cell e h = absurd cc
+
+-- One more cell equals the blank.
+pub blank_more : (cells : List CellValue) (end x d : CellValue) (n k : ℕ)
+    → ((j : ℕ) (d : CellValue) → j < n → slice_index_or cells j d ≡ end) → x ≡ slice_index_or cells n x
+    → n < length cells → x ≡ end → k < n + 1 → slice_index_or cells k d ≡ end
+blank_more cells end x d n k before read inside same less = ⊎_elim
+    (λ (low : k < n). before k d low)
+    (λ (high : n ≤ k).
+    let last : k ≡ n = omega (arith, high, less) in
+    ap (λ (j : ℕ). slice_index_or cells j d) last
+    ∙ (get_or_default cells n d x inside ∙ (sym read ∙ same)))
+    (cases_lt k n)

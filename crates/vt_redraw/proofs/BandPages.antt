@@ -8,7 +8,8 @@ use Rattle.std.proofs.lemmas.List.{ext_get_or, get_or_past}
 use Rattle.vt_cells.specs.Attrs.{default_attrs}
 use Rattle.vt_rows.specs.Row.{RowValue, blank_row}
 use Rattle.vt_grid.specs.Page.{Page, IsPlainPage, row_or, moved_rows, rows_up, up_source}
-use Rattle.vt_grid.specs.Moves.{moved_to, target_row}
+use Rattle.vt_grid.specs.Moves.{moved, target_row}
+use Rattle.vt_grid.specs.declared.grid.moves.CursorMove.TheVariants.{To}
 use Rattle.vt_grid.specs.Shifts.{down_source, lines_deleted, lines_inserted, rows_down}
 use Rattle.vt_grid.proofs.Pages.{length-moved_rows, row_or-moved_rows}
 use Rattle.vt_grid.proofs.Shifting.{length-rows_down}
@@ -199,7 +200,7 @@ abbrev pub page_at_row : List RowValue → ℕ → Page → Page
 page_at_row rows row page = record page { rows = rows; row = row; column = 0 }
 
 placed : (r : ℕ) (page : Page) → IsPlainPage page → r < length page.rows →
-    moved_to r 0 page ≡ record page { row = r; column = 0 }
+    moved (To r 0) page ≡ record page { row = r; column = 0 }
 placed r page plain h =
     let row : target_row r page ≡ r = rw plain.origin (omega arith) in
     let column : min 0 (page.width - 1) ≡ 0 = omega arith in
@@ -214,7 +215,7 @@ in_whole r page plain h =
     grind (arith, nat_tests)
 
 pub deleted_is : (r n : ℕ) (page : Page) → IsPlainPage page → r < length page.rows
-    → lines_deleted n (moved_to r 0 page)
+    → lines_deleted n (moved (To r 0) page)
     ≡ page_at_row (rows_up page.width r (length page.rows - 1) n page.rows) r page
 unfolding lines_deleted
 deleted_is r n page plain h =
@@ -224,7 +225,7 @@ deleted_is r n page plain h =
     (ap (λ (b : ℕ). page_at_row (rows_up page.width r b n page.rows) r page) end)
 
 pub inserted_is : (r n : ℕ) (page : Page) → IsPlainPage page → r < length page.rows
-    → lines_inserted n (moved_to r 0 page)
+    → lines_inserted n (moved (To r 0) page)
     ≡ page_at_row (rows_down page.width r (length page.rows - 1) n page.rows) r page
 unfolding lines_inserted
 inserted_is r n page plain h =

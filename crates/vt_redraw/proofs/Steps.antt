@@ -6,7 +6,8 @@ use Rattle.vt_cells.proofs.Same.{attrs_of-same, changed_attrs-new}
 use Rattle.vt_cells.specs.Attrs.{same_attrs, Attrs}
 use Rattle.vt_cells.specs.Op.{Op, MoveTo, MoveRight, NextRow, ChangeAttrs}
 use Rattle.vt_rows.specs.Row.{RowValue}
-use Rattle.vt_grid.specs.Moves.{line_feed, moved_right}
+use Rattle.vt_grid.specs.Moves.{line_feed, moved}
+use Rattle.vt_grid.specs.declared.grid.moves.CursorMove.TheVariants.{Right}
 use Rattle.vt_grid.specs.Canvas.{Canvas, and_then, canvas_after_op, drawn_all}
 use Rattle.vt_redraw.specs.Script.{pen_at, move_ops, attr_ops}
 use Rattle.vt_redraw.specs.declared.pen.Pen.{Pen}
@@ -47,7 +48,7 @@ unfolding line_feed
 next_row_draws base rows pen e f = rw (e, f) refl
 
 some_right : (n : ℕ) (canvas : Canvas) → 0 < n →
-    canvas_after_op (MoveRight n) canvas ≡ Some (record canvas { page = moved_right n canvas.page })
+    canvas_after_op (MoveRight n) canvas ≡ Some (record canvas { page = moved (Right n) canvas.page })
 some_right zero canvas h = absurd (omega arith)
 some_right (suc n) canvas h = refl
 

@@ -1,11 +1,14 @@
 -- The writer's steps for a redraw.
-use Rattle.std.proofs.Common.{◌≡◌, ℕ, sym, ap, arith, eqb-true, true, false, List, [], ◌∷◌, refl, append-nil}
+use Rattle.std.proofs.Common.{◌≡◌, ℕ, sym, ap, arith, eqb-true, true, false, List, [], ◌∷◌, ◌++◌, ◌∙◌, refl, append-nil, append_assoc}
 use Rattle.std.proofs.lemmas.Bool.Decides.{nat_tests}
 use Rattle.std.proofs.lemmas.Bool.{cond_both}
+use Rattle.vt_cells.proofs.Buffers.{gathered_then}
 use Rattle.vt_cells.proofs.Same.{two_parts}
+use Rattle.vt_cells.proofs.Texts.{bytes_of_all-append}
+use Rattle.vt_cells.specs.BufferInternals.{buffered_text}
 use Rattle.vt_cells.specs.Attrs.{same_attrs, Attrs}
 use Rattle.vt_cells.specs.Cell.{CellValue, blank, glyph, right_half, is_blank, attrs_of}
-use Rattle.vt_cells.specs.Op.{Op, ChangeAttrs, bytes_of_all, change_text, cursor_move_ops}
+use Rattle.vt_cells.specs.Op.{Op, ChangeAttrs, bytes_of, bytes_of_all, change_text, cursor_move_ops}
 use Rattle.vt_redraw.specs.Script.{attr_ops, move_ops, is_at, is_blank_of}
 use Rattle.vt_redraw.specs.declared.pen.Pen.{Pen}
 
@@ -51,3 +54,27 @@ pub is_blank_of-other : (attrs : Attrs) (x : CellValue) → is_blank x ≡ false
 is_blank_of-other attrs (blank b) h = cc
 is_blank_of-other attrs (glyph text wide b) h = refl
 is_blank_of-other attrs right_half h = refl
+
+-- ---- one operation at a position
+
+-- Buffering a movement, a change of attributes and an operation buffers the operation at its position.
+pub placed_gathered : (text start b c d e : List ℕ) (moves changes : List Op) (op : Op) →
+    buffered_text text b ≡ start → c ≡ b ++ bytes_of_all moves → d ≡ c ++ bytes_of_all changes → e ≡ d ++ bytes_of op →
+    buffered_text text e ≡ start ++ bytes_of_all (moves ++ (changes ++ op ∷ []))
+placed_gathered text start b c d e moves changes op begin moved changed printed =
+    let m = bytes_of_all moves in
+    let a = bytes_of_all changes in
+    let p = bytes_of op in
+    ap (buffered_text text) printed
+    ∙ (gathered_then text d p
+    ∙ (ap (λ (xs : List ℕ). xs ++ p)
+    (ap (buffered_text text) changed
+    ∙ (gathered_then text c a
+    ∙ ap (λ (xs : List ℕ). xs ++ a)
+    (ap (buffered_text text) moved ∙ (gathered_then text b m ∙ ap (λ (xs : List ℕ). xs ++ m) begin))))
+    ∙ (append_assoc (start ++ m) a p
+    ∙ (append_assoc start m (a ++ p)
+    ∙ ap (λ (xs : List ℕ). start ++ xs)
+    (ap (λ (xs : List ℕ). m ++ (a ++ xs)) (sym (append-nil p))
+    ∙ (ap (λ (xs : List ℕ). m ++ xs) (sym (bytes_of_all-append changes (op ∷ [])))
+    ∙ sym (bytes_of_all-append moves (changes ++ op ∷ []))))))))

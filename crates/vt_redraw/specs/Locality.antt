@@ -43,8 +43,8 @@ abbrev pub placing_row : Option ℕ → ℕ → ℕ
 placing_row None r = r
 placing_row (Some i) r = i
 
--- The cursor of the picture has a wrap pending, and the position is in the last glyph, or in the blank last column, of
--- the row in which that wrap is made pending.
+-- A wrap is pending in the picture, and the position at the given row and column belongs to what a redraw prints to make
+-- that wrap pending: the last glyph of a row, or a blank in its last column.
 abbrev pub MayPlace : Picture → ℕ → ℕ → Type 0
 MayPlace self r c =
     (self.column ≡ self.width)

@@ -11,10 +11,10 @@ use Rattle.vt_redraw.specs.Redraw.{difference}
 use Rattle.vt_redraw.specs.Script.{attr_ops}
 use Rattle.vt_redraw.specs.declared.band.Band.{Band}
 
--- The band is valid for a picture of `height` rows, and at least one row of the band is kept when the band moves.
+-- The band moves and is valid for a picture of `height` rows. If it moves by its whole height, all its rows become blank.
 pub record IsBand (height : ℕ) (band : Band) : Type 0 where
   pub nonempty : 0 < band.count
-  pub rows : band.top + band.count < band.bottom
+  pub rows : band.top + band.count ≤ band.bottom
   pub inside : band.bottom ≤ height
 
 -- The index that row `r` of a band had before the band moved, or `past` if row `r` is blank after the move.

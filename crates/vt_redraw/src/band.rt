@@ -4,7 +4,8 @@ ghost use Rattle.std.specs.Prelude.{◌≡◌, ◌<◌, ℕ, true, unwrap_or};
 ghost use Rattle.vt_redraw.specs.Moved.{IsBand, band_source, last_moved};
 
 /// A band of rows that move up or down within a range of rows. Rows that move
-/// past the end of the range are lost, and blank rows enter at its other end.
+/// past the end of the range are lost, and blank rows enter at its other end. If
+/// the distance is the height of the range, the move erases all its rows.
 #[derive(Clone, Copy, PartialEq, Eq, Debug)]
 pub struct Band {
     /// The first row of the range, counted from 0.
@@ -21,13 +22,13 @@ pub struct Band {
 }
 
 impl Band {
-    /// Returns whether the band moves, lies within a picture of `height` rows,
-    /// and keeps at least one row after the move.
+    /// Returns whether the band moves and lies within a picture of `height`
+    /// rows.
     pub fn is_within(&self, height: u16) -> bool
         ensures { result ≡ true → IsBand height self.now }
     {
         0 < self.count
-            && u32::from(self.top) + u32::from(self.count) < u32::from(self.bottom)
+            && u32::from(self.top) + u32::from(self.count) <= u32::from(self.bottom)
             && self.bottom <= height
     }
 

@@ -3,8 +3,7 @@
 //!
 //! Throughout this module, `prev` is the picture that the terminal displays, and `view` is the
 //! picture that it is to display. Only the first `height` rows are examined. `here` holds the cost
-//! of each of them: the approximate number of bytes that it takes to draw the row if no rows are
-//! moved.
+//! of each of them if no rows are moved (see [`costs`]).
 
 ghost use Rattle.std.specs.Prelude.{◌≡◌, ◌+◌, ◌<◌, ◌≤◌, IfSome, IsSome, length};
 ghost use Rattle.vt_redraw.specs.Moved.{IsBand};
@@ -12,7 +11,9 @@ ghost use Rattle.vt_redraw.specs.Picture.{SamePictureSize};
 ghost use Rattle.vt_redraw.specs.Shifted.{IsMove, IsRowShift};
 
 use crate::band::Band;
+use crate::erasure::likely_erasure;
 use crate::picture_row::PictureRow;
+use crate::row_costs::{Numbers, between, cost, costs, savings, sequences};
 use crate::row_guess::likely_row_shift;
 use crate::row_shift::RowShift;
 use crate::view::View;
@@ -24,10 +25,6 @@ const MOST_ROWS: u16 = 256;
 /// The number of columns at the left edge that are ignored when rows are
 /// compared, because they may hold line numbers.
 const MARGIN: u16 = 8;
-
-/// The approximate number of bytes that it takes to move the cursor within a
-/// row.
-const RUN: i32 = 4;
 
 /// The minimum length, in bytes, of a diff that is examined for moved rows.
 const LEAST_TEXT: usize = 20;
@@ -43,9 +40,6 @@ const LEAST_COST: i32 = 12;
 /// moved.
 const MOST_TRIED: u32 = 6;
 
-/// A number for each examined row.
-type Numbers = [i32; 256];
-
 /// A key for each examined row. Rows are compared only if their keys are equal.
 type Keys = [u32; 256];
 
@@ -56,8 +50,8 @@ struct Shift {
     up: bool,
 }
 
-/// A range of rows of `view`, each of which a shift fills with a row of `prev`, and the approximate
-/// number of bytes that moving these rows saves.
+/// A range of rows of `view` that a shift fills with rows of `prev`, and the approximate number of
+/// bytes that moving these rows saves.
 #[derive(Clone, Copy)]
 struct Stretch {
     gain: i32,
@@ -75,9 +69,10 @@ pub enum Move {
     Columns(RowShift),
 }
 
-/// Returns the move of rows or columns that most likely happened between `prev` and `view`, or
-/// `None` if no move is expected to shorten the output. `text` is the plain diff, which moves
-/// nothing. Only the first 256 rows are examined.
+/// Returns the move of rows or columns that most likely happened between `prev` and `view`. If
+/// none seems to have happened, returns a move that erases rows, or `None` if no move is expected
+/// to shorten the output. `text` is the diff written without a move. Only the first 256 rows are
+/// examined.
 pub fn likely_move(view: &View<'_>, prev: &View<'_>, text: &str) -> Option<Move>
     requires { SamePictureSize view.now prev.now }
     ensures inside { IfSome result (IsMove (length prev.now.rows) prev.now.width) }
@@ -91,10 +86,11 @@ pub fn likely_move(view: &View<'_>, prev: &View<'_>, text: &str) -> Option<Move>
     if let Some(band) = likely_band(view, prev, height, &here) {
         return Some(Move::Rows(band));
     }
-    match first_row_shift(view, prev, height, &here) {
-        None => None,
-        Some(shift) => Some(Move::Columns(shift)),
+    if let Some(shift) = first_row_shift(view, prev, height, &here) {
+        return Some(Move::Columns(shift));
     }
+    let erased = likely_erasure(view, height, &here, prev.pen().attrs)?;
+    Some(Move::Rows(erased))
 }
 
 /// Returns the band of rows that has most likely moved between `prev` and
@@ -138,52 +134,6 @@ fn first_row_shift(
         }
     }
     None
-}
-
-/// Returns, for each row of `view`, the approximate number of bytes that it takes to draw it over
-/// the corresponding row of `prev`.
-fn costs(view: &View<'_>, prev: &View<'_>, height: u16) -> Numbers
-    requires size { SamePictureSize view.now prev.now }
-    requires inside { height ≤ length view.now.rows }
-    requires few { height ≤ 256 }
-{
-    let mut costs = [0; 256];
-    for row in 0..height {
-        costs[usize::from(row)] = cost(&view.row(row), &prev.row(row));
-    }
-    costs
-}
-
-/// Returns the approximate number of bytes that it takes to draw the row
-/// `cells` over the row `over`. Counts one byte for each column that differs,
-/// and [`RUN`] bytes for the cursor movement to each run of such columns.
-fn cost(cells: &PictureRow<'_>, over: &PictureRow<'_>) -> i32 {
-    let cols = cells.cols().min(over.cols());
-    let mut bytes = 0_i32;
-    let mut differed = false;
-    let mut next = same_up_to(cells, over, 0);
-    for col in 0..cols {
-        if col < next {
-            continue;
-        }
-        let differs = *cells.cell(col) != *over.cell(col);
-        if differs {
-            let more = if differed { 1 } else { 1 + RUN };
-            bytes = bytes.saturating_add(more);
-        } else {
-            next = same_up_to(cells, over, col);
-        }
-        differed = differs;
-    }
-    bytes
-}
-
-/// Skips consecutive columns, starting at `col`, in which the cells of the two
-/// rows are equal. Returns the first column that was not skipped; its cells may
-/// still be equal.
-fn same_up_to(cells: &PictureRow<'_>, over: &PictureRow<'_>, col: u16) -> u16 {
-    let same = cells.same_run(over, col);
-    col.saturating_add(u16::try_from(same).unwrap_or(0))
 }
 
 /// Returns, for each row, a key for its text after the margin. Equal rows have
@@ -318,34 +268,6 @@ fn heaviest(votes: &[i32; 512]) -> Option<Shift> {
         }
     }
     shift
-}
-
-/// Returns an array whose element `k` is the number of bytes saved if the first `k` rows of `view`
-/// are drawn over blank rows instead of the rows that the terminal displays.
-fn savings(view: &View<'_>, height: u16, here: &Numbers) -> [i32; 257]
-    requires inside { height ≤ length view.now.rows }
-    requires few { height ≤ 256 }
-{
-    let blank = PictureRow::blank(view.cols());
-    let mut savings = [0; 257];
-    let mut sum = 0_i32;
-    for row in 0..height {
-        let fresh = cost(&view.row(row), &blank);
-        sum = sum
-            .saturating_add(here[usize::from(row)])
-            .saturating_sub(fresh);
-        savings[usize::from(row) + 1] = sum;
-    }
-    savings
-}
-
-/// Returns the number of bytes saved if rows `first..behind` are drawn over blank rows instead of
-/// the rows that the terminal displays. `savings` is the result of [`savings`].
-fn between(savings: &[i32; 257], first: u16, behind: u16) -> i32
-    requires first { first ≤ 256 }
-    requires behind { behind ≤ 256 }
-{
-    savings[usize::from(behind)].saturating_sub(savings[usize::from(first)])
 }
 
 /// Returns the range of rows in which `shift` saves the most bytes, or `None` if it saves no bytes
@@ -484,14 +406,4 @@ impl Stretch {
             }
         }
     }
-}
-
-/// Returns the approximate number of bytes in the escape sequences of a move. If `both` is true,
-/// the sequences delete rows at one end of the band and insert rows at the other end; otherwise,
-/// they do only one of the two. They also reset the terminal's attributes, `attrs`, unless these
-/// are the defaults.
-fn sequences(both: bool, attrs: Attrs) -> i32 {
-    let ends = if both { 15 } else { 6 };
-    let change = if attrs == Attrs::new() { 0 } else { 3 };
-    ends + change
 }

@@ -24,6 +24,10 @@ use crate::picture_row::PictureRow;
 use vt_cells::term::{BufWrite, ClearRowForward, EraseChar};
 use vt_cells::{Attrs, Buffer, Cell, Pos, Sink, cell};
 
+/// The number of bytes that must fit in a buffer before a glyph or a run of blanks
+/// is appended: a cursor movement, an SGR sequence, and the longest text of a cell.
+const RUN_ROOM: usize = 118;
+
 /// Returns the number of columns that a glyph takes.
 #[inline]
 pub fn columns(cell: &Cell) -> u16
@@ -63,8 +67,8 @@ pub fn print_at<S: Sink>(sink: &mut S, pen: &mut Pen, pos: Pos, cell: &Cell) -> 
     write_text(sink, cell.contents())
 }
 
-/// Buffers a glyph at a position. The caller must then update the pen's
-/// position.
+/// Buffers the output that prints a glyph at the position `pos` of the screen. The caller must then
+/// update the pen's position.
 #[inline]
 fn gather_at<S: Sink>(
     sink: &mut S,
@@ -77,9 +81,11 @@ fn gather_at<S: Sink>(
         (S.text sink.old) buffer.old (S.text sink.new) buffer.new (glyph_ops pen.old pos cell.now) }
     ensures pen { OnOk result (pen.new ≡ pen_at pos.row pos.col (attrs_of cell.now)) }
 {
-    pen.move_behind(sink, buffer, pos)?;
-    pen.draw_as(sink, buffer, cell)?;
-    buffer.add(sink, cell.contents())
+    buffer.make_room(sink, RUN_ROOM)?;
+    pen.push_move(buffer, pos);
+    pen.push_attrs(buffer, cell::attrs(cell));
+    buffer.push(cell.contents());
+    Ok(())
 }
 
 /// Buffers a glyph at a position, and moves the pen past it.
@@ -148,27 +154,19 @@ pub fn write_run<S: Sink>(
     write_erase(sink, count, end, over)
 }
 
-/// Buffers the sequence that erases `count` columns (ECH), or the rest of the
-/// row (EL) if the columns extend to its end. `end` is the column after the
+/// Appends to `buffer` the sequence that erases `count` columns (ECH), or the rest
+/// of the row (EL) if the columns extend to its end. `end` is the column after the
 /// erased columns.
 #[tactic(auto, using(crate::proofs::Filling::erase_run_counted))]
-fn gather_erase<S: Sink>(
-    sink: &mut S,
-    buffer: &mut Buffer,
-    count: u16,
-    end: u16,
-    over: &PictureRow<'_>,
-) -> Result<(), S::Error>
-    requires { end ≤ length over.now.cells }
-    ensures text { OnOk result (buffered_text (S.text sink.new) buffer.new
-        ≡ buffered_text (S.text sink.old) buffer.old ++ bytes_of (erase_run count (drop end over.now.cells))) }
-    ensures grows { OnOk result (length (S.text sink.old) ≤ length (S.text sink.new)) }
-    ensures nonempty { RefusedOnlyIfSome result (bytes_of (erase_run count (drop end over.now.cells))) }
+fn push_erase(buffer: &mut Buffer, count: u16, end: u16, over: &PictureRow<'_>)
+    requires inside { end ≤ length over.now.cells }
+    requires room { length buffer.old + 25 ≤ 256 }
+    ensures { buffer.new ≡ buffer.old ++ bytes_of (erase_run count (drop end over.now.cells)) }
 {
     if end == over.cols() {
-        ClearRowForward.add(sink, buffer)
+        ClearRowForward.push(buffer);
     } else {
-        EraseChar { count }.add(sink, buffer)
+        EraseChar { count }.push(buffer);
     }
 }
 
@@ -189,10 +187,11 @@ fn gather_run<S: Sink>(
         (run_ops pen.old pos attrs count over.now) }
     ensures pen { OnOk result (pen.new ≡ pen_at pos.row pos.col attrs) }
 {
-    pen.move_behind(sink, buffer, pos)?;
-    pen.draw_in(sink, buffer, attrs)?;
-    let end = pos.col + count;
-    gather_erase(sink, buffer, count, end, over)
+    buffer.make_room(sink, RUN_ROOM)?;
+    pen.push_move(buffer, pos);
+    pen.push_attrs(buffer, attrs);
+    push_erase(buffer, count, pos.col + count, over);
+    Ok(())
 }
 
 /// Returns whether the terminal's row is still wrapped after printing a glyph
@@ -293,9 +292,6 @@ fn gather_more(
 {
     let bytes = like.contents().len();
     let wide = like.is_wide();
-    if bytes == 1 && !wide {
-        return gather_bytes(buffer, pen, *flag, like, cells, over);
-    }
     let own = cells.own_cells();
     let others = over.own_cells();
     let count = columns(like);
@@ -312,8 +308,7 @@ fn gather_more(
 
 /// Buffers the glyphs after the pen that look like `like`: their attributes,
 /// their width and the length of their text are the same. Stops at a glyph that
-/// needs no output or does not fit in the buffer. Most glyphs between other
-/// colors are alone, so the first one is tested before the call.
+/// needs no output or does not fit in the buffer.
 #[inline]
 fn gather_alike(
     buffer: &mut Buffer,
@@ -335,9 +330,10 @@ fn gather_alike(
     ensures order { pen.old.col ≤ pen.new.col }
     ensures inside { pen.new.col ≤ length over.now.cells }
 {
-    if is_alike(like, cells.own_cells(), over.own_cells(), pen.col) {
-        gather_more(buffer, pen, flag, like, cells, over);
+    if like.contents().len() == 1 && !like.is_wide() {
+        return gather_bytes(buffer, pen, *flag, like, cells, over);
     }
+    gather_more(buffer, pen, flag, like, cells, over);
 }
 
 /// Buffers the glyph at a position and the glyphs after it that look like it.
@@ -389,8 +385,8 @@ fn write_next<S: Sink>(
     Ok(count)
 }
 
-/// Writes the output that the cells of a row need, starting at a column.
-/// Returns early if no cell needs output.
+/// Writes the output that makes the terminal's row `over` display `cells`, starting at `pos`.
+/// Writes nothing if no cell needs output.
 ///
 /// # Errors
 ///

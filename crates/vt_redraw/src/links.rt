@@ -19,8 +19,9 @@ use crate::picture_row::PictureRow;
 use vt_cells::term::{Backspace, BufWrite, EraseChar};
 use vt_cells::{Cell, Pos, Sink, cell};
 
-/// The state of the terminal's lower row after a link: whether that row is itself wrapped, and how
-/// many of its leading cells the link has already written.
+/// The state of a row of the terminal after the link that makes the terminal wrap into it from the
+/// row above: whether the row is itself wrapped, and how many of its leading cells the link has
+/// already written.
 #[derive(Clone, Copy, Debug)]
 pub struct Link {
     /// Whether the terminal's lower row is wrapped.

@@ -77,9 +77,16 @@ pub fn next_other(cells: &PictureRow<'_>, over: &PictureRow<'_>, col: u16) -> u1
 {
     let cols = usize::from(cells.cols());
     let own = cells.own_len();
+    let stored = own.min(over.own_len());
     let same = pass_same(cells, over, col);
-    let both = pass(cells, over, same, own.min(over.own_len()));
+    let both = pass(cells, over, same, stored);
+    if usize::from(both) < stored {
+        return both;
+    }
     let ended = pass_ended(cells, over, both);
     let alone = pass(cells, over, ended, own);
+    if usize::from(alone) < own {
+        return alone;
+    }
     pass(cells, over, alone, cols)
 }

@@ -1,16 +1,13 @@
 //! What the writer knows about the terminal that reads its output.
 
-ghost use Rattle.std.specs.Prelude.{◌≡◌, ◌≤◌, ◌++◌, OnOk, length};
+ghost use Rattle.std.specs.Prelude.{◌≡◌, ◌+◌, ◌≤◌, ◌++◌, OnOk, length};
 ghost use Rattle.vt_cells.specs.Attrs.{default_attrs};
-ghost use Rattle.vt_cells.specs.Cell.{attrs_of};
 ghost use Rattle.vt_cells.specs.Op.{bytes_of_all};
-ghost use Rattle.vt_cells.specs.BufferInternals.{buffered_text};
-ghost use Rattle.vt_redraw.specs.Internals.{AppendsOrStops, GathersOrStops};
-ghost use Rattle.vt_redraw.specs.Refusals.{RefusedOnlyIfSome};
+ghost use Rattle.vt_redraw.specs.Internals.{AppendsOrStops};
 ghost use Rattle.vt_redraw.specs.Script.{attr_ops, move_ops, is_at, pen_at};
 
 use vt_cells::term::{BufWrite, ChangeAttrs, MoveFromTo};
-use vt_cells::{Attrs, Buffer, Cell, Pos, Sink, cell};
+use vt_cells::{Attrs, Buffer, Pos, Sink};
 
 /// The position of the terminal's cursor, and the terminal's attributes.
 ///
@@ -103,118 +100,64 @@ impl Pen {
         Ok(())
     }
 
-    /// Moves the pen to a position, and buffers the cursor movement.
-    ///
-    /// # Errors
-    ///
-    /// Returns the sink's error. Part of the output may have been written by
-    /// then.
+    /// Moves the pen to a position, and appends the cursor movement to `buffer`.
     #[inline]
-    pub fn move_behind<S: Sink>(
-        &mut self,
-        sink: &mut S,
-        buffer: &mut Buffer,
-        to: Pos,
-    ) -> Result<(), S::Error>
-        ensures gathers { GathersOrStops result
-            (S.text sink.old) buffer.old (S.text sink.new) buffer.new (move_ops self.old to.row to.col) }
-        ensures pen { OnOk result (self.new ≡ pen_at to.row to.col self.old.attrs) }
+    pub fn push_move(&mut self, buffer: &mut Buffer, to: Pos)
+        requires { length buffer.old + 25 ≤ 256 }
+        ensures text { buffer.new ≡ buffer.old ++ bytes_of_all (move_ops self.old to.row to.col) }
+        ensures room { length buffer.new ≤ length buffer.old + 25 }
+        ensures pen { self.new ≡ pen_at to.row to.col self.old.attrs }
     {
         if self.is_at(to.row, to.col) {
-            return Ok(());
+            return;
         }
-        self.jump_behind(sink, buffer, to)
+        self.push_jump(buffer, to);
     }
 
-    /// Moves the pen to a different position, and buffers the cursor movement.
+    /// Moves the pen to a different position, and appends the cursor movement to `buffer`.
     #[inline(never)]
     #[tactic(auto, unfolding(crate::specs::Script::move_ops))]
-    fn jump_behind<S: Sink>(
-        &mut self,
-        sink: &mut S,
-        buffer: &mut Buffer,
-        to: Pos,
-    ) -> Result<(), S::Error>
-        ensures gathers { GathersOrStops result
-            (S.text sink.old) buffer.old (S.text sink.new) buffer.new (move_ops self.old to.row to.col) }
-        ensures pen { OnOk result (self.new ≡ pen_at to.row to.col self.old.attrs) }
+    fn push_jump(&mut self, buffer: &mut Buffer, to: Pos)
+        requires { length buffer.old + 25 ≤ 256 }
+        ensures text { buffer.new ≡ buffer.old ++ bytes_of_all (move_ops self.old to.row to.col) }
+        ensures room { length buffer.new ≤ length buffer.old + 25 }
+        ensures pen { self.new ≡ pen_at to.row to.col self.old.attrs }
     {
         let from = Pos {
             row: self.row,
             col: self.col,
         };
-        MoveFromTo { from, to }.add(sink, buffer)?;
+        MoveFromTo { from, to }.push(buffer);
         self.row = to.row;
         self.col = to.col;
-        Ok(())
     }
 
-    /// Changes the pen's attributes to those of a cell, and buffers the change.
-    ///
-    /// # Errors
-    ///
-    /// Returns the sink's error. Part of the output may have been written by
-    /// then.
+    /// Changes the pen's attributes to `new`, and appends the change to `buffer`.
     #[inline]
-    pub fn draw_as<S: Sink>(
-        &mut self,
-        sink: &mut S,
-        buffer: &mut Buffer,
-        cell: &Cell,
-    ) -> Result<(), S::Error>
-        ensures text { OnOk result (buffered_text (S.text sink.new) buffer.new
-            ≡ buffered_text (S.text sink.old) buffer.old ++ bytes_of_all (attr_ops self.old.attrs (attrs_of cell.now))) }
-        ensures pen { OnOk result (self.new ≡ pen_at self.old.row self.old.col (attrs_of cell.now)) }
-        ensures grows { OnOk result (length (S.text sink.old) ≤ length (S.text sink.new)) }
-        ensures nonempty { RefusedOnlyIfSome result (bytes_of_all (attr_ops self.old.attrs (attrs_of cell.now))) }
-    {
-        self.draw_in(sink, buffer, cell::attrs(cell))
-    }
-
-    /// Changes the pen's attributes to `new`, and buffers the change.
-    ///
-    /// # Errors
-    ///
-    /// Returns the sink's error. Part of the output may have been written by
-    /// then.
-    #[inline]
-    pub fn draw_in<S: Sink>(
-        &mut self,
-        sink: &mut S,
-        buffer: &mut Buffer,
-        new: Attrs,
-    ) -> Result<(), S::Error>
-        ensures text { OnOk result (buffered_text (S.text sink.new) buffer.new
-            ≡ buffered_text (S.text sink.old) buffer.old ++ bytes_of_all (attr_ops self.old.attrs new)) }
-        ensures pen { OnOk result (self.new ≡ pen_at self.old.row self.old.col new) }
-        ensures grows { OnOk result (length (S.text sink.old) ≤ length (S.text sink.new)) }
-        ensures nonempty { RefusedOnlyIfSome result (bytes_of_all (attr_ops self.old.attrs new)) }
+    pub fn push_attrs(&mut self, buffer: &mut Buffer, new: Attrs)
+        requires { length buffer.old + 64 ≤ 256 }
+        ensures text { buffer.new ≡ buffer.old ++ bytes_of_all (attr_ops self.old.attrs new) }
+        ensures room { length buffer.new ≤ length buffer.old + 64 }
+        ensures pen { self.new ≡ pen_at self.old.row self.old.col new }
     {
         if self.attrs.is_same(&new) {
-            return Ok(());
+            return;
         }
-        add_change(sink, buffer, self.attrs, new)?;
+        push_change(buffer, self.attrs, new);
         self.attrs = new;
-        Ok(())
     }
 }
 
-/// Buffers the SGR sequence that changes the attributes from `was` to `new`, or
+/// Appends the SGR sequence that changes the attributes from `was` to `new`, or
 /// nothing if they are equal.
 #[inline(never)]
 #[tactic(auto, using(crate::proofs::Writing::change_written))]
-fn add_change<S: Sink>(
-    sink: &mut S,
-    buffer: &mut Buffer,
-    was: Attrs,
-    new: Attrs,
-) -> Result<(), S::Error>
-    ensures text { OnOk result (buffered_text (S.text sink.new) buffer.new
-        ≡ buffered_text (S.text sink.old) buffer.old ++ bytes_of_all (attr_ops was new)) }
-    ensures grows { OnOk result (length (S.text sink.old) ≤ length (S.text sink.new)) }
-    ensures nonempty { RefusedOnlyIfSome result (bytes_of_all (attr_ops was new)) }
+fn push_change(buffer: &mut Buffer, was: Attrs, new: Attrs)
+    requires { length buffer.old + 64 ≤ 256 }
+    ensures text { buffer.new ≡ buffer.old ++ bytes_of_all (attr_ops was new) }
+    ensures room { length buffer.new ≤ length buffer.old + 64 }
 {
-    ChangeAttrs { was, new }.add(sink, buffer)
+    ChangeAttrs { was, new }.push(buffer);
 }
 
 /// Writes the SGR sequence that changes the attributes from `was` to `new`, or

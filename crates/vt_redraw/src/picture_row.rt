@@ -1,22 +1,22 @@
 //! The rows of a picture, borrowed from where they are stored.
 
 ghost use Rattle.std.specs.Prelude.{◌≡◌, ◌+◌, ◌<◌, ◌≤◌, ◌&&◌, ℕ, drop, false};
-ghost use Rattle.std.specs.Prelude.{All, length, not, take, true};
+ghost use Rattle.std.specs.Prelude.{All, length, not, slice_index_or, take, true};
 ghost use Rattle.vt_cells.specs.Attrs.{default_attrs};
-ghost use Rattle.vt_cells.specs.Cell.{is_blank};
+ghost use Rattle.vt_cells.specs.Cell.{CellValue, is_blank};
 ghost use Rattle.vt_rows.specs.Cells.{IsPaired, at, ends_blank, cells_after_resize};
 ghost use Rattle.vt_rows.specs.Row.{RowValue, blank_row};
 ghost use Rattle.vt_redraw.specs.Internals.{cut_row, cell_past_cut, kept_len};
 ghost use Rattle.vt_redraw.specs.Script.{is_blank_of, is_torn, last_column, blank_run};
 
 use std::marker::Model;
-use vt_cells::cell_runs::{run_of, same_run};
+use vt_cells::cell_runs::same_run;
 use vt_cells::{Attrs, Cell, cell};
 use vt_rows::RowContents;
 use vt_rows::capture::cells_of;
 
-/// A row of a picture: the stored cells of a page row or scrollback row,
-/// limited to the columns of the picture, followed by identical blanks.
+/// A row of a picture, as wide as the picture: the stored cells of a page row or
+/// scrollback row, followed by blanks that are all alike.
 ///
 /// No cell is copied. A wide character that the picture's right edge cuts in
 /// two is replaced with a blank.
@@ -182,7 +182,7 @@ impl<'a> PictureRow<'a> {
         if start < other.cells.len() || stop <= start {
             return 0;
         }
-        run_of(&self.cells[start..stop], &other.end)
+        blank_run(&self.cells[start..stop], &other.end)
     }
 
     /// Returns whether the row is wrapped.
@@ -270,6 +270,21 @@ fn end_cell(cells: &[Cell], cols: u16) -> Cell
         return cell::blank(cell::attrs(&cells[cols - 1]));
     }
     cell::default_blank()
+}
+
+/// Returns the number of leading cells that equal the blank `end`. Cells without
+/// text are equal if their heads are, so no text is compared.
+#[inline(always)]
+fn blank_run(cells: &[Cell], end: &Cell) -> usize
+    requires { is_blank end.now ≡ true }
+    ensures own { result ≤ length cells.now }
+    ensures same { (k : ℕ) (d : CellValue) → k < result → slice_index_or cells.now k d ≡ end.now }
+{
+    let mut count = 0;
+    while count < cells.len() && cell::has_head_of(&cells[count], end) {
+        count += 1;
+    }
+    count
 }
 
 /// Returns whether a cell is a blank with attributes `attrs`.

@@ -110,9 +110,9 @@ fn best_shift(
 }
 
 impl Best {
-    /// Considers shifts that have the row, the column and the direction of `start`, with up to
-    /// [`MOST_COUNTS`] different counts. Skips each count for which the first four cells that the
-    /// shift moves do not end up in columns where `cells` has equal cells.
+    /// Considers shifts with the same row, column and direction as `start` and up to
+    /// [`MOST_COUNTS`] different counts. Skips each count unless the first four cells that the
+    /// shift moves end up in columns where `cells` has equal cells.
     fn consider_all(&mut self, cells: &PictureRow<'_>, over: &PictureRow<'_>, start: RowShift) {
         let near = usize::from(start.col);
         let (own, others) = if start.insert {

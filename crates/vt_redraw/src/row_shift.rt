@@ -6,11 +6,11 @@ ghost use Rattle.vt_redraw.specs.Shifted.{IsRowShift, shift_text, shifted_page};
 
 use vt_cells::term::{BufWrite, MoveTo};
 use vt_cells::{Pos, Sink};
-use vt_grid::Grid;
+use vt_grid::{CursorMove, Grid};
 
-/// Columns of a row that move right, because blanks are inserted, or left,
-/// because columns are deleted. Columns that move past the end of the row are
-/// lost, and default blanks enter.
+/// Columns of a row that move right, because blanks are inserted, or left, because columns are
+/// deleted. Columns that move past the end of the row are lost, and default blanks fill the vacated
+/// columns.
 #[derive(Clone, Copy, PartialEq, Eq, Debug)]
 pub struct RowShift {
     /// The row, counted from 0.
@@ -43,8 +43,8 @@ impl RowShift {
         requires { IsRowShift (length grid.old.rows) grid.old.width self.now }
         ensures { grid.new ≡ shifted_page self.now grid.old }
     {
-        grid.row_set(self.row);
-        grid.col_set(self.col);
+        grid.move_cursor(CursorMove::ToRow(self.row));
+        grid.move_cursor(CursorMove::ToColumn(self.col));
         if self.insert {
             grid.insert_cells(self.count);
         } else {

@@ -80,11 +80,11 @@ fn is_steady_row(row: &PictureRow<'_>) -> bool
     are_steady(row.own_cells(), row.cols())
 }
 
-/// Returns whether the text of every cell is too short to contain [`SELECTOR`]
-/// after its first character.
+/// Returns whether the text of every cell is too short to contain [`SELECTOR`] after its first
+/// character.
 ///
-/// The lengths of 16 cells at a time are combined in one number without a
-/// branch, so each cell takes fewer than one and a half instructions.
+/// The lengths of 16 cells at a time are combined into one number without branching, so each cell
+/// takes fewer than one and a half instructions.
 fn are_short(cells: &[Cell]) -> bool
     ensures { IsTrue result → All (λ cell. has_selector cell ≡ false) cells.now }
 {
@@ -182,12 +182,11 @@ fn has_selector(cell: &Cell) -> bool
     false
 }
 
-/// Returns whether the characters of a glyph's text, printed on a blank row of
-/// `cols` columns, reproduce the glyph.
+/// Returns whether the characters of a glyph's text, printed on a blank row of `cols` columns,
+/// reproduce the glyph.
 ///
-/// The printed glyph starts with the width of its first character, and takes
-/// the width of its whole text at each [`SELECTOR`]. A glyph that becomes
-/// narrow leaves a blank after it.
+/// The printed glyph starts with the width of its first character. At each [`SELECTOR`], its width
+/// becomes that of its whole text so far. A glyph that becomes narrow leaves a blank after it.
 fn prints_itself(cell: &Cell, cols: u16) -> bool
     requires glyph { is_glyph cell.now ≡ true }
     requires fits { FitsColumns cols cell.now }

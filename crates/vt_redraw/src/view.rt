@@ -82,8 +82,8 @@ impl<'a> View<'a> {
         }
     }
 
-    /// Creates a view of what a terminal displays after it has displayed a page
-    /// with scrollback above it and has then moved a band of its rows.
+    /// Creates a view of a page with scrollback above it, as a terminal displays it after moving a
+    /// band of the displayed rows.
     pub fn moved(above: &'a Scrollback, grid: &'a Grid, hidden: bool, band: Band) -> View<'a>
         requires above { IsScrollback above.now }
         requires page { IsPage grid.now }

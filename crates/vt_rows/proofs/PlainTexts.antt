@@ -1,103 +1,169 @@
--- The plain text of cells, cell by cell.
-use Rattle.std.proofs.Common.{◌≡◌, ℕ, ◌+◌, ◌-◌, ◌≤◌, Bool, true, false, List, [], ◌∷◌, ◌++◌, drop}
-use Rattle.std.proofs.Common.{length, replicate, take, slice_index_or, refl, sym, ap, ◌∙◌, arith}
-use Rattle.std.specs.Prelude.{if◌then◌else◌}
+-- The plain text of cells.
+use Rattle.std.proofs.Common.{◌≡◌, ℕ, zero, suc, ◌+◌, ◌<◌, ◌≤◌, ◌||◌, Bool, true, false, List, [], ◌∷◌, ◌++◌, drop}
+use Rattle.std.proofs.Common.{length, take, slice_index_or, refl, sym, ap, ◌∙◌, arith, append_assoc}
+use Rattle.std.proofs.Math.Seq.{drop-cons}
 use Rattle.std.specs.List.{flat_map, list_any}
-use Rattle.std.proofs.lemmas.List.{append_assoc, take_rest, replicate_more, replicate-append-replicate}
-use Rattle.vt_cells.specs.Attrs.{default_attrs, Attrs}
-use Rattle.vt_cells.specs.Cell.{CellValue, blank, glyph, right_half, default_blank, is_glyph, is_right_half}
+use Rattle.std.proofs.lemmas.List.{drop-drop}
+use Rattle.vt_cells.specs.BufferInternals.{buffered_text}
+use Rattle.vt_cells.specs.Cell.{CellValue, blank, glyph, right_half, default_blank, is_blank, is_glyph, is_right_half, text_of}
 use Rattle.vt_rows.specs.Basic.{shown_text}
-use Rattle.vt_rows.specs.Cells.{cells_after_cut}
-use Rattle.vt_rows.specs.Internals.{plain_behind}
+use Rattle.vt_rows.specs.Cells.{at, cells_after_cut}
+use Rattle.vt_rows.specs.Internals.{Shows}
 use Rattle.vt_rows.specs.Plain.{up_to_last_glyph}
 
--- If no glyph begins in a list of cells, the list of cells up to the last glyph is empty.
-no_glyph : (cells : List CellValue) → list_any is_glyph cells ≡ false → up_to_last_glyph cells ≡ []
-no_glyph [] e = refl
-no_glyph (x ∷ xs) e = rw e refl
+-- ---- the cells up to the last glyph
 
--- Appending one more space to n spaces gives n + 1 spaces.
-one_more : (n : ℕ) (rest : List ℕ) → replicate n 0x20 ++ (0x20 ∷ rest) ≡ replicate (n + 1) 0x20 ++ rest
-one_more n rest =
-    sym (append_assoc (replicate n 0x20) (0x20 ∷ []) rest) ∙ ap (λ (xs : List ℕ). xs ++ rest) (replicate_more n 0x20)
+no_glyphs : (cells : List CellValue) → ((k : ℕ) → is_glyph (at cells k) ≡ false) → list_any is_glyph cells ≡ false
+no_glyphs [] f = refl
+no_glyphs (x ∷ xs) f = rw (f 0) (no_glyphs xs (λ k. f (suc k)))
 
--- The plain text of cells that follow n columns without a glyph.
-abbrev spread : ℕ → List CellValue → List ℕ
-spread n cells =
-    if list_any is_glyph cells then replicate n 0x20 ++ flat_map shown_text (up_to_last_glyph cells) else []
+some_glyph : (cells : List CellValue) (k : ℕ) → is_glyph (at cells k) ≡ true → list_any is_glyph cells ≡ true
+some_glyph [] k e = cc
+some_glyph (x ∷ xs) zero e = rw e refl
+some_glyph (x ∷ xs) (suc k) e = by_first (is_glyph x) (some_glyph xs k e) where
+  by_first : (b : Bool) → list_any is_glyph xs ≡ true → (b || list_any is_glyph xs) ≡ true
+  by_first true e = refl
+  by_first false e = e
 
--- Without a gap before them, the plain text of cells is the text of each cell up to the last glyph.
-no_gap : (cells : List CellValue) → spread 0 cells ≡ flat_map shown_text (up_to_last_glyph cells)
-no_gap cells = by_any (list_any is_glyph cells) refl where
+-- The first n cells are those up to the last glyph if no later cell is a glyph and cell n - 1, if any, is one.
+pub up_to_is : (cells : List CellValue) (n : ℕ) → n ≤ length cells → ((k : ℕ) → n ≤ k → is_glyph (at cells k) ≡ false) →
+    ((j : ℕ) → n ≡ suc j → is_glyph (at cells j) ≡ true) → take n cells ≡ up_to_last_glyph cells
+up_to_is [] zero h f g = refl
+up_to_is [] (suc n) h f g = absurd (omega arith)
+up_to_is (x ∷ xs) zero h f g = sym (rw (no_glyphs (x ∷ xs) (λ k. f k (omega arith))) refl)
+up_to_is (x ∷ xs) (suc n) h f g =
+    let some : list_any is_glyph (x ∷ xs) ≡ true = some_glyph (x ∷ xs) n (g n refl) in
+    let ih : take n xs ≡ up_to_last_glyph xs =
+    up_to_is xs n (omega arith) (λ k le. f (suc k) (omega arith)) (λ j e. g (suc j) (ap suc e)) in
+    rw some (ap (λ (ys : List CellValue). x ∷ ys) ih)
+
+first_shown : (x : CellValue) (xs : List CellValue) → list_any is_glyph (x ∷ xs) ≡ true →
+    up_to_last_glyph (x ∷ xs) ≡ x ∷ up_to_last_glyph xs
+first_shown x xs e = rw e refl
+
+none_shown : (x : CellValue) (xs : List CellValue) → list_any is_glyph (x ∷ xs) ≡ false →
+    up_to_last_glyph (x ∷ xs) ≡ []
+none_shown x xs e = rw e refl
+
+-- If the cells do not begin with a continuation cell, their text is that of each cell up to the last glyph.
+pub plain_whole : (cells shown : List CellValue) → shown ≡ up_to_last_glyph cells →
+    is_right_half (at shown 0) ≡ false →
+    [] ++ flat_map shown_text shown ≡ flat_map shown_text (up_to_last_glyph (cells_after_cut default_blank cells))
+plain_whole [] shown e f = ap (flat_map shown_text) e
+plain_whole (blank attrs ∷ cells) shown e f = ap (flat_map shown_text) e
+plain_whole (glyph text wide attrs ∷ cells) shown e f = ap (flat_map shown_text) e
+plain_whole (right_half ∷ cells) shown e f = by_any (list_any is_glyph cells) refl where
   by_any : (b : Bool) → list_any is_glyph cells ≡ b →
-      (if b then flat_map shown_text (up_to_last_glyph cells) else []) ≡ flat_map shown_text (up_to_last_glyph cells)
-  by_any true e = refl
-  by_any false e = sym (ap (flat_map shown_text) (no_glyph cells e))
+      flat_map shown_text shown ≡ flat_map shown_text (up_to_last_glyph (default_blank ∷ cells))
+  by_any true any =
+      let first = ap (λ (ys : List CellValue). is_right_half (at ys 0)) (e ∙ first_shown right_half cells any) in
+      absurd cc
+  by_any false any =
+      ap (flat_map shown_text) (e ∙ (none_shown right_half cells any ∙ sym (none_shown default_blank cells any)))
 
-behind_blank : (n : ℕ) (attrs : Attrs) (cells : List CellValue) → spread n (blank attrs ∷ cells) ≡ spread (n + 1) cells
-behind_blank n attrs cells = by_any (list_any is_glyph cells) where
-  by_any : (b : Bool)
-      → (if b then replicate n 0x20 ++ flat_map shown_text (if b then blank attrs ∷ up_to_last_glyph cells else [])
-      else [])
-      ≡ (if b then replicate (n + 1) 0x20 ++ flat_map shown_text (up_to_last_glyph cells) else [])
-  by_any true = one_more n (flat_map shown_text (up_to_last_glyph cells))
-  by_any false = refl
-
-behind_half : (n : ℕ) (cells : List CellValue) → spread n (right_half ∷ cells) ≡ spread n cells
-behind_half n cells = by_any (list_any is_glyph cells) where
-  by_any : (b : Bool)
-      → (if b then replicate n 0x20 ++ flat_map shown_text (if b then right_half ∷ up_to_last_glyph cells else [])
-      else [])
-      ≡ (if b then replicate n 0x20 ++ flat_map shown_text (up_to_last_glyph cells) else [])
-  by_any true = refl
-  by_any false = refl
-
-behind_glyph : (n : ℕ) (text : List ℕ) (wide : Bool) (attrs : Attrs) (cells : List CellValue)
-    → spread n (glyph text wide attrs ∷ cells) ≡ (replicate n 0x20 ++ text) ++ spread 0 cells
-behind_glyph n text wide attrs cells =
-    sym (ap (λ (xs : List ℕ). (replicate n 0x20 ++ text) ++ xs) (no_gap cells)
-    ∙ append_assoc (replicate n 0x20) text (flat_map shown_text (up_to_last_glyph cells)))
-
--- The text of cells that follow n columns without a glyph agrees with its cell-by-cell definition.
-is_spread : (n : ℕ) (cells : List CellValue) → plain_behind n cells ≡ spread n cells
-is_spread n [] = refl
-is_spread n (blank attrs ∷ cells) = is_spread (n + 1) cells ∙ sym (behind_blank n attrs cells)
-is_spread n (glyph text wide attrs ∷ cells) =
-    ap (λ (xs : List ℕ). (replicate n 0x20 ++ text) ++ xs) (is_spread 0 cells)
-    ∙ sym (behind_glyph n text wide attrs cells)
-is_spread n (right_half ∷ cells) = is_spread n cells ∙ sym (behind_half n cells)
-
--- If the first cell is no continuation cell, the plain text of cells is the text of each cell up to the last glyph.
-pub plain_whole : (cells : List CellValue) → is_right_half (slice_index_or cells 0 default_blank) ≡ false →
-    plain_behind 0 cells ≡ flat_map shown_text (up_to_last_glyph (cells_after_cut default_blank cells))
-plain_whole [] e = refl
-plain_whole (blank attrs ∷ cells) e = is_spread 0 (blank attrs ∷ cells) ∙ no_gap (blank attrs ∷ cells)
-plain_whole (glyph text wide attrs ∷ cells) e =
-    is_spread 0 (glyph text wide attrs ∷ cells) ∙ no_gap (glyph text wide attrs ∷ cells)
-plain_whole (right_half ∷ cells) e = cc
-
-plain_opened : (cells : List CellValue) → is_right_half (slice_index_or cells 0 default_blank) ≡ true →
-    plain_behind 1 (drop 1 cells) ≡ flat_map shown_text (up_to_last_glyph (cells_after_cut default_blank cells))
-plain_opened [] e = cc
-plain_opened (blank attrs ∷ cells) e = cc
-plain_opened (glyph text wide attrs ∷ cells) e = cc
-plain_opened (right_half ∷ cells) e =
-    is_spread 1 cells ∙ (sym (behind_blank 0 default_attrs cells) ∙ no_gap (default_blank ∷ cells))
-
-pub plain_cut : (cells : List CellValue) → is_right_half (slice_index_or cells 0 default_blank) ≡ true →
-    plain_behind 1 (take (length cells - 1) (drop 1 cells))
+-- If the cells begin with a continuation cell, it is shown as a space.
+pub plain_cut : (cells shown : List CellValue) → shown ≡ up_to_last_glyph cells →
+    is_right_half (at shown 0) ≡ true →
+    ([] ++ 0x20 ∷ []) ++ flat_map shown_text shown
     ≡ flat_map shown_text (up_to_last_glyph (cells_after_cut default_blank cells))
-plain_cut cells e = ap (plain_behind 1) (take_rest cells 1) ∙ plain_opened cells e
+plain_cut [] shown e f =
+    let first = ap (λ (ys : List CellValue). is_right_half (at ys 0)) e in absurd cc
+plain_cut (blank attrs ∷ cells) shown e f = by_any (list_any is_glyph cells) refl where
+  by_any : (b : Bool) → list_any is_glyph cells ≡ b →
+      ([] ++ 0x20 ∷ []) ++ flat_map shown_text shown
+      ≡ flat_map shown_text (up_to_last_glyph (blank attrs ∷ cells))
+  by_any true any =
+      let first = ap (λ (ys : List CellValue). is_right_half (at ys 0)) (e ∙ first_shown (blank attrs) cells any) in
+      absurd cc
+  by_any false any =
+      let first = ap (λ (ys : List CellValue). is_right_half (at ys 0)) (e ∙ none_shown (blank attrs) cells any) in
+      absurd cc
+plain_cut (glyph text wide attrs ∷ cells) shown e f =
+    let first = ap (λ (ys : List CellValue). is_right_half (at ys 0)) e in absurd cc
+plain_cut (right_half ∷ cells) shown e f = by_any (list_any is_glyph cells) refl where
+  by_any : (b : Bool) → list_any is_glyph cells ≡ b →
+      ([] ++ 0x20 ∷ []) ++ flat_map shown_text shown
+      ≡ flat_map shown_text (up_to_last_glyph (default_blank ∷ cells))
+  by_any true any =
+      ap (λ (ys : List CellValue). 0x20 ∷ flat_map shown_text ys) (e ∙ first_shown right_half cells any)
+      ∙ sym (ap (flat_map shown_text) (first_shown default_blank cells any))
+  by_any false any =
+      let first = ap (λ (ys : List CellValue). is_right_half (at ys 0)) (e ∙ none_shown right_half cells any) in
+      absurd cc
 
--- Writing sixteen of the remaining spaces, and then the others, writes all remaining spaces.
-pub sixteen : (old new : List ℕ) (n : ℕ) → 16 ≤ n → new ≡ old ++ replicate 16 0x20 →
-    new ++ replicate (n - 16) 0x20 ≡ old ++ replicate n 0x20
-sixteen old new n h e =
-    let all : 16 + (n - 16) ≡ n = omega arith in
-    ap (λ (xs : List ℕ). xs ++ replicate (n - 16) 0x20) e
-    ∙ (append_assoc old (replicate 16 0x20) (replicate (n - 16) 0x20)
-    ∙ ap (λ (xs : List ℕ). old ++ xs)
-    (replicate-append-replicate 16 (n - 16) 0x20 ∙ ap (λ (m : ℕ). replicate m 0x20) all))
+-- ---- the text of cells one after the other
+
+-- The text shown for a glyph is its own.
+pub glyph_shown : (x : CellValue) → 0 < length (text_of x) → text_of x ≡ shown_text x
+glyph_shown (blank attrs) h = absurd (omega (arith, h))
+glyph_shown (glyph text wide attrs) h = refl
+glyph_shown right_half h = absurd (omega (arith, h))
+
+-- The text of a cell that has text is shown.
+pub contents_shown : (x : CellValue) → is_glyph x ≡ true → text_of x ≡ shown_text x
+contents_shown (blank attrs) e = cc
+contents_shown (glyph text wide attrs) e = refl
+contents_shown right_half e = cc
+
+-- A cell that is neither a glyph nor a continuation cell is shown as a space.
+pub other_shown : (x : CellValue) → is_glyph x ≡ false → is_right_half x ≡ false → shown_text x ≡ 0x20 ∷ []
+other_shown (blank attrs) e f = refl
+other_shown (glyph text wide attrs) e f = cc
+other_shown right_half e f = cc
+
+pub blank_shown : (x : CellValue) → is_blank x ≡ true → shown_text x ≡ 0x20 ∷ []
+blank_shown (blank attrs) e = refl
+blank_shown (glyph text wide attrs) e = cc
+blank_shown right_half e = cc
+
+pub half_shown : (x : CellValue) → is_right_half x ≡ true → shown_text x ≡ []
+half_shown (blank attrs) e = cc
+half_shown (glyph text wide attrs) e = cc
+half_shown right_half e = refl
+
+-- The text of one more cell.
+pub shows_one : (old mid new : List ℕ) (n : ℕ) (cells : List CellValue) (x : CellValue) → Shows old mid n cells →
+    x ≡ slice_index_or cells n x → n < length cells → new ≡ mid ++ shown_text x → Shows old new (n + 1) cells
+shows_one old mid new n cells x p read inside e =
+    let more : n + 1 ≡ suc n = omega arith in
+    let rest = drop (suc n) cells in
+    record {
+      inside = omega arith;
+      text =
+          ap (λ (k : ℕ). new ++ flat_map shown_text (drop k cells)) more
+          ∙ (ap (λ (xs : List ℕ). xs ++ flat_map shown_text rest) e
+          ∙ (append_assoc mid (shown_text x) (flat_map shown_text rest)
+          ∙ (ap (λ (ys : List CellValue). mid ++ flat_map shown_text ys)
+          (sym (drop-cons cells n x inside ∙ ap (λ (y : CellValue). y ∷ rest) (sym read)))
+          ∙ p.text)));
+    }
+
+pub shows_none : (old : List ℕ) (cells : List CellValue) → Shows old old 0 cells
+shows_none old cells = record { inside = omega arith; text = refl }
+
+-- The text of the following cells.
+pub shows_then : (old mid new : List ℕ) (m n : ℕ) (cells : List CellValue) → Shows old mid m cells →
+    Shows mid new n (drop m cells) → m + n ≤ length cells → Shows old new (m + n) cells
+shows_then old mid new m n cells p q inside =
+    record {
+      inside = inside;
+      text = ap (λ (ys : List CellValue). new ++ flat_map shown_text ys) (sym (drop-drop n m cells)) ∙ (q.text ∙ p.text);
+    }
+
+-- Before the first cell, all of the text remains.
+pub shown_start : (text buffer more : List ℕ) → buffered_text text buffer ++ more ≡ text ++ (buffer ++ more)
+unfolding buffered_text
+shown_start text buffer more = append_assoc text buffer more
+
+-- After the texts of n more cells are buffered, the text of the cells after them remains.
+pub shown_more : (text old new : List ℕ) (m n : ℕ) (cells : List CellValue) → Shows old new n (drop m cells)
+    → buffered_text text new ++ flat_map shown_text (drop (m + n) cells)
+    ≡ buffered_text text old ++ flat_map shown_text (drop m cells)
+shown_more text old new m n cells p =
+    shown_start text new (flat_map shown_text (drop (m + n) cells))
+    ∙ (ap (λ (xs : List ℕ). text ++ xs)
+    (ap (λ (ys : List CellValue). new ++ flat_map shown_text ys) (sym (drop-drop n m cells)) ∙ p.text)
+    ∙ sym (shown_start text old (flat_map shown_text (drop m cells))))
 
 -- The lemmas on the plain text of a row's cells, with a whole or a split wide glyph at the beginning.
 pub ruleset plain_rows = (plain_whole, plain_cut)

@@ -92,8 +92,8 @@ marked_at k mark cells = slice_set cells k (cell_with_mark mark (at cells k))
 abbrev pub widened_at : ℕ → Attrs → List CellValue → List CellValue
 widened_at k attrs cells = put_cells k (blank attrs) (cell_made_wide true (at cells k) ∷ right_half ∷ []) 2 cells
 
--- The cells after the wide glyph at the given column becomes narrow. The glyph's continuation cell becomes a space with
--- the given attributes.
+-- The cells of a row in which the wide glyph at the given column has become narrow. The glyph's continuation cell has
+-- become a space with the given attributes.
 abbrev pub narrowed_at : ℕ → Attrs → List CellValue → List CellValue
 narrowed_at k attrs cells = put_cells k (glyph (0x20 ∷ []) false attrs) (cell_made_wide false (at cells k) ∷ []) 1 cells
 

@@ -1,9 +1,9 @@
 -- The results of the helper functions for edits, and the items that iterators over captures still have to return.
 -- Cited only by their contracts, by the contract of `shifts::turn`, and by proofs.
 use Rattle.std.specs.Prelude.{◌≡◌, ℕ, ◌+◌, ◌-◌, ◌<◌, ◌≤◌, ◌&&◌, nat_le, nat_lt, true, List, [], ◌∷◌, ◌++◌}
-use Rattle.std.specs.Prelude.{length, replicate, slice_set, chars, encode_utf8_all, map, if◌then◌else◌}
+use Rattle.std.specs.Prelude.{length, drop, flat_map, slice_set, chars, encode_utf8_all, map, if◌then◌else◌}
 use Rattle.vt_cells.specs.Attrs.{Attrs}
-use Rattle.vt_cells.specs.Cell.{CellValue, blank, glyph, right_half, is_wide, is_right_half, attrs_of}
+use Rattle.vt_cells.specs.Cell.{CellValue, blank, is_wide, is_right_half, attrs_of}
 use Rattle.vt_cells.specs.Op.{change_text}
 use Rattle.vt_cells.specs.BufferInternals.{buffered_text}
 use Rattle.vt_rows.specs.Basic.{attrs_after, shown_text}
@@ -51,24 +51,10 @@ pub record Gathers (before buffer text after left : List ℕ) : Type 0 where
 abbrev pub cell_text : Attrs → CellValue → List ℕ
 cell_text attrs cell = change_text attrs (attrs_after attrs cell) ++ shown_text cell
 
--- The plain text written for a cell that follows `n` columns whose spaces are not yet written: those spaces and the
--- glyph's text if the cell is a glyph, and nothing otherwise.
-abbrev pub text_behind : ℕ → CellValue → List ℕ
-text_behind n (glyph text wide attrs) = replicate n 0x20 ++ text
-text_behind n _ = []
-
--- The number of columns whose spaces are not yet written after a cell, given their number `n` before the cell: `n + 1`
--- if the cell is a blank, `n` if it is a continuation cell, and 0 if it is a glyph.
-abbrev pub gap_behind : ℕ → CellValue → ℕ
-gap_behind n (blank attrs) = n + 1
-gap_behind n (glyph text wide attrs) = 0
-gap_behind n right_half = n
-
--- The plain text of a list of cells that follow `n` columns without a glyph. The spaces for those columns are written
--- before the next glyph.
-abbrev pub plain_behind : ℕ → List CellValue → List ℕ
-plain_behind n [] = []
-plain_behind n (cell ∷ cells) = text_behind n cell ++ plain_behind (gap_behind n cell) cells
+-- Appending the texts of the first `count` of some cells changes the contents of a buffer from `old` to `new`.
+pub record Shows (old new : List ℕ) (count : ℕ) (cells : List CellValue) : Type 0 where
+  pub inside : count ≤ length cells
+  pub text : new ++ flat_map shown_text (drop count cells) ≡ old ++ flat_map shown_text cells
 
 -- The piece of a capture with the given text at the given byte index, or no piece if the text is empty.
 abbrev pub piece_at : ℕ → List ℕ → List Piece

@@ -13,13 +13,13 @@ begins_stretch c = c == 0x1B
 abbrev pub ends_stretch : ℕ → Bool
 ends_stretch c = c == 0x6D
 
--- Whether a text ends inside an SGR sequence after another character is appended, given whether the text ended inside
--- one before.
+-- Whether a string ends inside an SGR sequence after another character is appended, given whether the string ended
+-- inside one before.
 abbrev pub is_within_after : Bool → ℕ → Bool
 is_within_after true c = not (ends_stretch c)
 is_within_after false c = begins_stretch c
 
--- The byte or character at the given index of a text is in an SGR sequence: there is an ESC at or before this index,
+-- The byte or character at the given index of a string is in an SGR sequence: there is an ESC at or before this index,
 -- and no `m` from that ESC up to but excluding the index.
 abbrev pub IsInStretch : List ℕ → ℕ → Type 0
 IsInStretch text k = (i : ℕ) × (i ≤ k) × (get_or text i 0 ≡ 0x1B) × ((j : ℕ) → i ≤ j → j < k → get_or text j 0 ≢ 0x6D)
@@ -38,16 +38,16 @@ shown_columns_or None = 1
 unfoldable pub shown_columns : ℕ → ℕ
 shown_columns c = shown_columns_or (char_width false c)
 
--- The number of columns that a character adds to a text, given whether the text ends inside an SGR sequence; 0 if the
--- character is part of an SGR sequence.
+-- The number of columns that a character adds to a string, given whether the string ends inside an SGR sequence; 0 if
+-- the character is part of an SGR sequence.
 abbrev pub columns_added : Bool → ℕ → ℕ
 columns_added within c = if within then 0 else if begins_stretch c then 0 else shown_columns c
 
--- The number of columns of a text, given whether the text begins inside an SGR sequence.
+-- The number of columns of a string, given whether the string begins inside an SGR sequence.
 abbrev pub columns_from : Bool → List ℕ → ℕ
 columns_from within [] = 0
 columns_from within (c ∷ text) = columns_added within c + columns_from (is_within_after within c) text
 
--- The number of columns that a text takes; SGR sequences take no columns.
+-- The number of columns that a string takes; SGR sequences take no columns.
 abbrev pub columns_in : List ℕ → ℕ
 columns_in text = columns_from false text

@@ -26,7 +26,7 @@ narrow_glyph attrs c = glyph (encode_utf8 c) false attrs
 abbrev pub glyphs_of : Attrs → List ℕ → List CellValue
 glyphs_of attrs text = map (narrow_glyph attrs) text
 
--- The cells after the narrow glyphs of a text are written, starting at the given column. A continuation cell that loses
--- its wide glyph becomes a space with the attributes of the new glyphs.
+-- The cells that result from writing the narrow glyphs of a text, starting at the given column. A continuation cell
+-- that loses its wide glyph becomes a space with the attributes of the new glyphs.
 abbrev pub put_text : ℕ → List ℕ → Attrs → List CellValue → List CellValue
 put_text c text attrs cells = put_cells c (glyph (0x20 ∷ []) false attrs) (glyphs_of attrs text) (length text) cells

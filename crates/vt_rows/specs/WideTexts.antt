@@ -23,8 +23,8 @@ abbrev pub wide_glyphs_of : Attrs → List ℕ → List CellValue
 wide_glyphs_of attrs [] = []
 wide_glyphs_of attrs (c ∷ text) = wide_glyph attrs c ∷ right_half ∷ wide_glyphs_of attrs text
 
--- The cells after the wide glyphs of a text are written, starting at the given column. A continuation cell that loses
--- its own wide glyph becomes a blank with the attributes of the new glyphs.
+-- The cells that result from writing the wide glyphs of a text, starting at the given column. A continuation cell that
+-- loses its own wide glyph becomes a blank with the attributes of the new glyphs.
 abbrev pub put_wide_text : ℕ → List ℕ → Attrs → List CellValue → List CellValue
 put_wide_text c text attrs cells = put_cells c (blank attrs) (wide_glyphs_of attrs text) (2 * length text) cells
 

@@ -1,13 +1,17 @@
 //! The plain text of the columns of a row.
 
-ghost use Rattle.std.specs.Prelude.{◌≡◌, ◌<◌, ◌≤◌, ◌+◌, ◌++◌, drop, length, replicate, take, IfOk, IsErr, OnErr, OnOk};
-ghost use Rattle.vt_rows.specs.Internals.{Gathers, gap_behind, plain_behind, text_behind};
-ghost use Rattle.vt_rows.specs.Plain.{has_glyph, plain_text};
+ghost use Rattle.std.specs.Prelude.{◌≡◌, ◌<◌, ◌≤◌, ◌+◌, ◌++◌, drop, flat_map, length, take, true, IsTrue, OnErr, OnOk};
+ghost use Rattle.vt_cells.specs.Cell.{is_right_half, text_of};
+ghost use Rattle.vt_rows.specs.Basic.{shown_text};
+ghost use Rattle.vt_rows.specs.Cells.{at};
+ghost use Rattle.vt_rows.specs.Internals.{Shows};
+ghost use Rattle.vt_rows.specs.Plain.{has_glyph, plain_text, up_to_last_glyph};
 
-use vt_cells::{Buffer, Cell, Sink};
+use crate::trimming::trimmed_len;
+use vt_cells::{Buffer, Cell, Sink, cell};
 
-/// A string of 16 spaces, the most that are written at once.
-const SPACES: &str = "                ";
+/// The length of the longest text of a cell, in bytes.
+const LONGEST: usize = 29;
 
 /// Writes the plain text of columns `start..stop`, without attributes. Columns past the end of the
 /// row are ignored.
@@ -32,11 +36,12 @@ pub fn write_contents<S: Sink>(
     ensures nonempty { OnErr result (0 < length (plain_text start stop cells.now)) }
 {
     let columns = columns_between(cells, start, stop);
-    if !columns.is_empty() && columns[0].is_wide_continuation() {
-        write_behind(sink, &columns[1..], 1)
-    } else {
-        write_behind(sink, columns, 0)
+    let shown = &columns[..text_end(columns)];
+    let mut buffer = Buffer::new();
+    if begins_cut(shown) {
+        buffer.push_byte(b' ');
     }
+    write_shown(sink, &mut buffer, shown)
 }
 
 /// Returns whether a glyph begins in columns `start..stop`.
@@ -62,77 +67,122 @@ fn columns_between(cells: &[Cell], start: usize, stop: usize) -> &[Cell]
     &left[start.min(left.len())..]
 }
 
-/// Writes the plain text of `cells`, which follow `gap` columns without a glyph.
-#[tactic(auto, using(vt_cells::proofs::Buffers::nothing_gathered))]
-fn write_behind<S: Sink>(sink: &mut S, cells: &[Cell], gap: usize) -> Result<(), S::Error>
-    requires { gap + length cells.now ≤ 18446744073709551615 }
-    ensures text { OnOk result (S.text sink.new ≡ S.text sink.old ++ plain_behind gap cells.now) }
-    ensures nonempty { OnErr result (0 < length (plain_behind gap cells.now)) }
+/// Returns the number of cells up to and including the last glyph.
+fn text_end(cells: &[Cell]) -> usize
+    ensures inside { result ≤ length cells.now }
+    ensures value { take result cells.now ≡ up_to_last_glyph cells.now }
 {
-    let mut buffer = Buffer::new();
-    let mut gap = gap;
-    for cell in cells {
-        gap = add_cell(sink, &mut buffer, cell, gap)?;
+    let mut len = trimmed_len(cells);
+    while len > 0 && !cells[len - 1].has_contents() {
+        len -= 1;
+    }
+    len
+}
+
+/// Returns whether the first cell is a continuation cell.
+fn begins_cut(cells: &[Cell]) -> bool
+    ensures { result ≡ is_right_half (at cells.now 0) }
+{
+    !cells.is_empty() && cells[0].is_wide_continuation()
+}
+
+/// Writes the buffered bytes and then the text of `cells`: a space for each blank, and nothing for
+/// a continuation cell.
+///
+/// Most cells belong to runs of letters, of wide characters or of blanks, which have a loop each.
+#[inline(always)]
+fn write_shown<S: Sink>(sink: &mut S, buffer: &mut Buffer, cells: &[Cell]) -> Result<(), S::Error>
+    ensures text { OnOk result
+        (S.text sink.new ≡ S.text sink.old ++ (buffer.old ++ flat_map shown_text cells.now)) }
+    ensures nonempty { OnErr result (0 < length (buffer.old ++ flat_map shown_text cells.now)) }
+{
+    let mut count = 0;
+    while count < cells.len() {
+        buffer.make_room(sink, LONGEST)?;
+        count += push_runs(buffer, &cells[count..]);
     }
     buffer.flush(sink)?;
     Ok(())
 }
 
-/// If the cell is a glyph, appends `gap` spaces and the text of the cell. `gap` is the number of
-/// columns without a glyph directly before the cell. Returns the number of columns without a glyph
-/// directly before the next cell.
+/// Appends the texts of the first cell, which must fit in the buffer, and of runs of cells after
+/// it, as many as fit. Returns the number of cells.
 #[inline(always)]
-fn add_cell<S: Sink>(
-    sink: &mut S,
-    buffer: &mut Buffer,
-    cell: &Cell,
-    gap: usize,
-) -> Result<usize, S::Error>
-    requires { gap + 1 ≤ 18446744073709551615 }
-    ensures added { OnOk result
-        (Gathers (S.text sink.old) buffer.old (text_behind gap cell.now) (S.text sink.new) buffer.new) }
-    ensures gap { IfOk result (λ new. new ≡ gap_behind gap cell.now) }
-    ensures nonempty { OnErr result (0 < length (text_behind gap cell.now)) }
+fn push_runs(buffer: &mut Buffer, cells: &[Cell]) -> usize
+    requires room { length buffer.old + 29 ≤ 256 }
+    requires nonempty { 0 < length cells.now }
+    ensures shows { Shows buffer.old buffer.new result cells.now }
+    ensures nonempty { 0 < result }
+{
+    push_cell(buffer, &cells[0]);
+    let letters = 1 + push_letters(buffer, &cells[1..]);
+    let pairs = letters + push_pairs(buffer, &cells[letters..]);
+    pairs + push_spaces(buffer, &cells[pairs..])
+}
+
+/// Appends the text of a cell, which must fit in the buffer.
+#[inline(always)]
+fn push_cell(buffer: &mut Buffer, cell: &Cell)
+    requires { length buffer.old + 29 ≤ 256 }
+    ensures { buffer.new ≡ buffer.old ++ shown_text cell.now }
 {
     if cell.has_contents() {
-        add_spaces(sink, buffer, gap)?;
-        buffer.add(sink, cell.contents())?;
-        Ok(0)
-    } else if cell.is_wide_continuation() {
-        Ok(gap)
-    } else {
-        Ok(gap + 1)
+        buffer.push(cell.contents());
+    } else if !cell.is_wide_continuation() {
+        buffer.push_byte(b' ');
     }
 }
 
-/// Appends `count` spaces. The most common count, 0, is handled inline.
+/// Appends the texts of leading cells whose text is one byte long, as many as fit. Returns their
+/// number.
 #[inline(always)]
-fn add_spaces<S: Sink>(sink: &mut S, buffer: &mut Buffer, count: usize) -> Result<(), S::Error>
-    ensures added { OnOk result
-        (Gathers (S.text sink.old) buffer.old (replicate count 0x20) (S.text sink.new) buffer.new) }
-    ensures nonempty { IsErr result → 0 < count }
+fn push_letters(buffer: &mut Buffer, cells: &[Cell]) -> usize
+    ensures { Shows buffer.old buffer.new result cells.now }
 {
-    if count == 0 {
-        return Ok(());
+    let stop = cells.len().min(buffer.room());
+    let mut count = 0;
+    while count < stop && cells[count].contents().len() == 1 {
+        buffer.push_one(cells[count].contents());
+        count += 1;
     }
-    add_gap(sink, buffer, count)
+    count
 }
 
-/// Appends `count` spaces, up to 16 at a time.
-#[inline(never)]
-fn add_gap<S: Sink>(sink: &mut S, buffer: &mut Buffer, count: usize) -> Result<(), S::Error>
-    ensures added { OnOk result
-        (Gathers (S.text sink.old) buffer.old (replicate count 0x20) (S.text sink.new) buffer.new) }
-    ensures nonempty { IsErr result → 0 < count }
+/// Appends the texts of leading wide characters of three bytes, as many as fit. Returns the number
+/// of their cells.
+#[inline(always)]
+fn push_pairs(buffer: &mut Buffer, cells: &[Cell]) -> usize
+    ensures { Shows buffer.old buffer.new result cells.now }
 {
-    let mut left = count;
-    while left >= SPACES.len() {
-        buffer.add(sink, SPACES)?;
-        left -= SPACES.len();
+    let stop = cells.len().min(buffer.room() / 2);
+    let mut count = 0;
+    while count + 1 < stop && is_pair(&cells[count], &cells[count + 1]) {
+        buffer.push(cells[count].contents());
+        count += 2;
     }
-    while left > 0 {
-        buffer.add(sink, " ")?;
-        left -= 1;
+    count
+}
+
+/// Returns whether the first of two cells has a text of three bytes and the second is a
+/// continuation cell.
+#[inline(always)]
+fn is_pair(cell: &Cell, next: &Cell) -> bool
+    ensures text { IsTrue result → length (text_of cell.now) ≡ 3 }
+    ensures half { IsTrue result → is_right_half next.now ≡ true }
+{
+    cell.contents().len() == 3 && next.is_wide_continuation()
+}
+
+/// Appends a space for each leading blank, as many as fit. Returns the number of blanks.
+#[inline(always)]
+fn push_spaces(buffer: &mut Buffer, cells: &[Cell]) -> usize
+    ensures { Shows buffer.old buffer.new result cells.now }
+{
+    let stop = cells.len().min(buffer.room());
+    let mut count = 0;
+    while count < stop && cell::is_blank(&cells[count]) {
+        buffer.push_byte(b' ');
+        count += 1;
     }
-    Ok(())
+    count
 }

@@ -52,7 +52,7 @@ pub fn delete(cells: &mut [Cell], column: usize, count: usize)
     cells::clear(&mut cells[len - count..len], Attrs::new());
 }
 
-/// Moves the cells from `start` on to the right by `count` columns. Cells that are pushed past the
+/// Shifts the cells at and after `start` right by `count` columns. Cells that are pushed past the
 /// end of the row are lost, and the cells of the gap are left for the caller to overwrite.
 ///
 /// The cells are rotated only if `count` is 1: a rotation by one column moves the other cells as
@@ -72,8 +72,8 @@ fn open_gap(cells: &mut [Cell], start: usize, count: usize)
     cells.copy_within(start..len - count, start + count);
 }
 
-/// Moves the cells that follow the `count` columns at `column` to the left by `count` columns. The
-/// last `count` cells of the row are left for the caller to overwrite.
+/// Shifts the cells after the `count` columns at `column` left by `count` columns. The last `count`
+/// cells of the row are left for the caller to overwrite.
 ///
 /// As in [`open_gap`], the cells are rotated only if `count` is 1, because only a rotation by one
 /// column is fast.

@@ -58,7 +58,7 @@ abbrev pub parts_of : List ℕ → List (List ℕ)
 parts_of text = take 16 (slice_split (λ b. b == 0x3B) text)
 
 -- The events issued when a byte ends a collected sequence. The ending determines them: no event; the byte itself, as a
--- character or a control; the complete sequence; or the complete command, possibly followed by the byte as a control.
+-- character or a control; the complete sequence; or the complete command, possibly followed by the last byte as a control character.
 abbrev pub events_at_end : ending.Ending → List ℕ → ℕ → List Event
 events_at_end ends.Nothing text b = []
 events_at_end ends.Character text b = Character b ∷ []

@@ -51,8 +51,8 @@ abbrev pub unfinished_command : Kind → List ℕ → List ℕ
 unfinished_command OscString text = text
 unfinished_command _ text = []
 
--- The automaton's event that an event of the scanner stands for. The lists in the automaton's event are taken from the
--- data that the scanner holds.
+-- The event of the automaton that corresponds to an event of the scanner. Its lists are taken from the data that the
+-- scanner holds.
 abbrev pub event_of : ScannerValue → event.Event → automaton.Event
 event_of held (given.Character c) = automaton.Character c
 event_of held (given.Executed b) = automaton.Executed b

@@ -28,7 +28,7 @@ use vt_cells::Error;
 /// A parser that reads terminal output byte by byte and returns events.
 ///
 /// It follows Paul Williams' parser for ANSI terminals, with UTF-8 as in Table 3-7 of the Unicode
-/// Standard. For a control sequence it returns the first 32 numbers, each limited to 65535. Of a
+/// Standard. For a control sequence it returns the first 32 numbers, each clamped to 65535. Of a
 /// sequence's private marker and intermediate bytes, it returns the first two. For an operating
 /// system command it returns the first 16 parts. Memory is allocated only for the text of such a
 /// command.
@@ -123,7 +123,7 @@ impl Scanner {
     }
 
     /// Returns the private marker and the intermediates of the sequence that the last event
-    /// reported, limited to the first two bytes.
+    /// reported. Returns only the first two bytes if there are more.
     #[inline]
     pub fn intermediates(&self) -> &[u8]
         ensures { result.now ≡ self.now.intermediates }
@@ -156,9 +156,9 @@ impl Scanner {
         }
     }
 
-    /// Frees the memory that holds the last operating system command if it takes more than 4096
-    /// bytes, unless another operating system command is incomplete. After memory is freed, `parts`
-    /// returns one empty part.
+    /// Frees the buffer that holds the last operating system command if the buffer's capacity
+    /// exceeds 4096 bytes, unless another operating system command is incomplete. After the buffer
+    /// is freed, `parts` returns one empty part.
     ///
     /// Call this method once the command's event has been handled. Otherwise the memory is kept for
     /// later commands.

@@ -42,8 +42,7 @@ pub fn part_len(bytes: &[u8]) -> usize
 /// Returns the number of leading bytes before the first CAN, SUB or ESC, the bytes that can end an
 /// ignored control string.
 ///
-/// EM (0x19), which lies between CAN and SUB, also stops the quick search; the search is then
-/// continued.
+/// The fast search also stops at EM (0x19), which lies between CAN and SUB; it is then resumed.
 #[inline]
 pub fn unended_len(bytes: &[u8]) -> usize
     ensures inside { result ≤ length bytes.now }
@@ -72,8 +71,8 @@ pub fn escapes_len(bytes: &[u8]) -> usize
     len
 }
 
-/// Returns the number of leading bytes before the first byte in the range from `low` to
-/// `low + width`, which continues at 0 after 0xFF.
+/// Returns the number of leading bytes before the first byte in the range from `low` to `low +
+/// width`, which wraps around from 0xFF to 0.
 #[inline(always)]
 fn len_before(bytes: &[u8], low: u8, width: u8) -> usize
     ensures inside { result ≤ length bytes.now }
@@ -105,8 +104,8 @@ fn lanes_in_range(lanes: u8x16, low: u8, width: u8) -> u64
         .to_bitmask()
 }
 
-/// Returns whether `byte` is in the range from `low` to `low + width`, which continues at 0 after
-/// 0xFF.
+/// Returns whether `byte` is in the range from `low` to `low + width`, which wraps around from 0xFF
+/// to 0.
 #[inline(always)]
 fn is_in_range(byte: u8, low: u8, width: u8) -> bool
     ensures { result ≡ is_in_range low width byte }

@@ -12,7 +12,7 @@ ghost use Rattle.vt_scan.specs.Texts.{IsParameterText};
 use crate::groups::{Groups, MAX_NUMBERS};
 use std::marker::Model;
 
-/// The parameters of a control sequence: its first 32 numbers, each limited to 65535, arranged in
+/// The parameters of a control sequence: its first 32 numbers, each clamped to 65535, arranged in
 /// groups (ECMA-48, section 5.4.2).
 #[derive(Drop)]
 pub struct Parameters {
@@ -298,7 +298,7 @@ fn is_digit_byte(byte: u8) -> bool
     byte >= 0x30 && byte <= 0x39
 }
 
-/// Returns `number` with the decimal digit `digit` appended, limited to 65535.
+/// Returns `number` with the decimal digit `digit` appended, clamped to 65535.
 #[inline]
 fn with_digit(number: u16, digit: u8) -> u16
     ensures { result ≡ min 65535 (10 * number + digit) }

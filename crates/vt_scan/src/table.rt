@@ -85,22 +85,23 @@ pub enum Ending {
     /// No event.
     Nothing,
 
-    /// The byte itself as a character.
+    /// The byte itself is reported as a character.
     Character,
 
-    /// The byte itself as a control character.
+    /// The byte itself is executed as a control character.
     Executed,
 
-    /// An escape sequence.
+    /// The escape sequence that the byte ends is reported.
     EscDispatch,
 
-    /// A control sequence.
+    /// The control sequence that the byte ends is reported.
     CsiDispatch,
 
-    /// An operating system command.
+    /// The operating system command that the byte ends is reported.
     OscDispatch,
 
-    /// An operating system command, followed by the byte as a control character.
+    /// The operating system command that the byte ends is reported, and then the byte itself is
+    /// executed as a control character.
     OscDispatchAndExecuted,
 }
 

@@ -7,7 +7,8 @@ use Rattle.vt_cells.specs.Op.{bytes_of_all, csi}
 use Rattle.vt_grid.specs.Canvas.{and_then}
 use Rattle.vt_grid.specs.declared.page_step.PageStep.TheVariants.{SetRegion, UseOrigin}
 use Rattle.vt_grid.specs.Page.{IsPage, Page, SameSize}
-use Rattle.vt_grid.specs.Regions.{last_row, origin_set, region_set}
+use Rattle.vt_grid.specs.Moves.{origin_set}
+use Rattle.vt_grid.specs.Regions.{last_row, region_set}
 use Rattle.vt_grid.proofs.Regions.{page_origin_set, page_region_set}
 use Rattle.vt_redraw.specs.Picture.{Picture, SamePictureSize}
 use Rattle.vt_redraw.specs.Redraw.{redraw}

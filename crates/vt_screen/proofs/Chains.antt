@@ -1,4 +1,4 @@
--- A redraw and the differences after it, read by a plain terminal, display the last screen.
+-- A redraw and the diffs after it, read by a plain terminal, display the last screen.
 use Rattle.std.proofs.Common.{◌≡◌, ℕ, List, [], ◌∷◌, ◌++◌, length, refl, ap, subst, ◌∙◌}
 use Rattle.std.specs.Prelude.{map}
 use Rattle.std.specs.List.{AllByRecursion}

@@ -14,7 +14,8 @@ use Rattle.vt_cells.specs.declared.pos.Pos.{Pos}
 use Rattle.vt_cells.proofs.Widths.{columns_of-ascii, columns_of-le}
 use Rattle.vt_grid.specs.Canvas.{and_then}
 use Rattle.vt_grid.specs.Erasing.{erased_columns, erased_rest}
-use Rattle.vt_grid.specs.Moves.{carriage_return, moved_right, moved_to, target_row}
+use Rattle.vt_grid.specs.Moves.{moved, target_row}
+use Rattle.vt_grid.specs.declared.grid.moves.CursorMove.TheVariants.{Return, Right, To}
 use Rattle.vt_grid.specs.Page.{Page}
 use Rattle.vt_grid.specs.Printing.{glyph_put, lacks_room, page_after_print, pushes, room_made}
 use Rattle.vt_grid.specs.declared.page_step.PageStep.TheVariants as page
@@ -58,7 +59,7 @@ use Rattle.vt_screen.proofs.Readback.{erased_chars_read}
 
 -- ---- characters
 
-drawn_ascii : (c : ℕ) → IsAsciiCharacter c → IsDrawn c
+pub drawn_ascii : (c : ℕ) → IsAsciiCharacter c → IsDrawn c
 drawn_ascii c (low, high) = record {
   scalar = grind (arith, nat_tests);
   shown = λ e. let met : Some 1 ≡ None = sym (columns_of-ascii c low high) ∙ e in absurd cc;
@@ -76,7 +77,7 @@ ascii_encoded (c ∷ cs) h =
     ap (λ (xs : List ℕ). xs ++ encode_utf8_all cs) (encode_ascii c (omega arith))
     ∙ ap (λ (xs : List ℕ). c ∷ xs) (ascii_encoded cs h.1)
 
-ascii_text : (cs : List ℕ) → AllByRecursion IsAsciiCharacter cs → IsDrawnText cs
+pub ascii_text : (cs : List ℕ) → AllByRecursion IsAsciiCharacter cs → IsDrawnText cs
 ascii_text cs h = record { characters = cs; spelled = ascii_encoded cs h; printable = all_drawn cs h }
 
 other_text : (c : ℕ) (bytes : List ℕ) → IsDrawn c → bytes ≡ encode_utf8 c → IsDrawnText bytes
@@ -86,16 +87,16 @@ other_text c bytes is e = record { characters = c ∷ []; spelled = encoded (enc
     encoded [] = refl
     encoded (x ∷ xs) = ap (λ (ys : List ℕ). x ∷ ys) (encoded xs)
 
-text_tame : (text : List ℕ) → IsDrawnText text → IsTame text
+pub text_tame : (text : List ℕ) → IsDrawnText text → IsTame text
 text_tame text is reader screen h = op_goes (Print text) false reader screen is tt h
 
 -- The cursor has moved right in its row.
-record HasMoved (n : ℕ) (after screen : ScreenValue) : Type 0 where
-  row : after.page.row ≡ screen.page.row
-  column : after.page.column ≡ screen.page.column + n
-  width : after.page.width ≡ screen.page.width
+pub record HasMoved (n : ℕ) (after screen : ScreenValue) : Type 0 where
+  pub row : after.page.row ≡ screen.page.row
+  pub column : after.page.column ≡ screen.page.column + n
+  pub width : after.page.width ≡ screen.page.width
 
-wide_put : (c : ℕ) (attrs : Attrs) (p : Page) → columns_of c ≡ Some 2 → p.column + 2 ≤ p.width →
+pub wide_put : (c : ℕ) (attrs : Attrs) (p : Page) → columns_of c ≡ Some 2 → p.column + 2 ≤ p.width →
     page_after_print c attrs p ≡ glyph_put (encode_utf8 c) true attrs p
 unfolding room_made
 wide_put c attrs p two h =
@@ -103,7 +104,7 @@ wide_put c attrs p two h =
     let room : lacks_room 2 p ≡ false = grind (arith, nat_tests) in
     printed_wide c attrs p two ∙ rw (wide, room) refl
 
-printed_moves : (c n : ℕ) (screen : ScreenValue) → columns_of c ≡ Some (suc n) → suc n ≤ 2 →
+pub printed_moves : (c n : ℕ) (screen : ScreenValue) → columns_of c ≡ Some (suc n) → suc n ≤ 2 →
     screen.page.column + suc n ≤ screen.page.width →
     (pushes c screen.page ≡ false) × HasMoved (suc n) (display_after (steps.Print c) screen) screen
 printed_moves c zero screen one few room =
@@ -129,12 +130,12 @@ printed_moves c (suc zero) screen two few room =
 printed_moves c (suc (suc n)) screen e few room = absurd (omega arith)
 
 -- The rest of the output is read after its first part.
-rest_read : (a b : List ℕ) (screen next after : ScreenValue) → ReadsTo a screen next → ReadsTo (a ++ b) screen after →
+pub rest_read : (a b : List ℕ) (screen next after : ScreenValue) → ReadsTo a screen next → ReadsTo (a ++ b) screen after →
     ReadsTo b next after
 rest_read a b screen next after first both =
     sym (ap (and_then (λ (u : Terminal). terminal_after u b)) first) ∙ (sym (reads_append (terminal start screen) a b) ∙ both)
 
-same_screen : (a b : ScreenValue) (x : List ℕ) (screen : ScreenValue) → ReadsTo x screen a → ReadsTo x screen b → a ≡ b
+pub same_screen : (a b : ScreenValue) (x : List ℕ) (screen : ScreenValue) → ReadsTo x screen a → ReadsTo x screen b → a ≡ b
 same_screen a b x screen one two =
     let e : Some (terminal start a) ≡ Some (terminal start b) = sym one ∙ two in
     let f : terminal start a ≡ terminal start b = cc in ap (λ (t : Terminal). t.screen) f
@@ -305,7 +306,7 @@ handled_read groups wanted (n ∷ ns) screen h =
     by_reading (Set setting) other rest = rest (record screen { attrs = attrs_after_setting setting screen.attrs })
     by_reading Unhandled other rest = absurd (other refl)
 
-sgr_read : (text : List ℕ) (screen : ScreenValue) → IsSgrText 32 Any text →
+pub sgr_read : (text : List ℕ) (screen : ScreenValue) → IsSgrText 32 Any text →
     (attrs : Attrs) × ReadsTo (csi text 0x6D) screen (record screen { attrs = attrs })
 unfolding counted_step scrolling_steps other_steps
 sgr_read text screen is =
@@ -355,7 +356,7 @@ place_leads rows cols known to low narrow row col = record {
 }
   where
     placed : (screen : ScreenValue) → IsPlainSized rows cols screen →
-        moved_to to.row to.col screen.page ≡ record screen.page { row = to.row; column = to.col }
+        moved (To to.row to.col) screen.page ≡ record screen.page { row = to.row; column = to.col }
     placed screen sized =
         let tall = sized.height in
         let wide = sized.width in
@@ -368,14 +369,14 @@ pub right_leads : (rows cols n : ℕ) (from to : Pos) → 0 < n → n < 2 ^ 16 �
     to.col ≡ min (from.col + n) (cols - 1) → LeadsTo rows cols (Some from) to (bytes_of (MoveRight n))
 right_leads rows cols n from to some small row col = record {
   reads = λ screen sized at. right_read n screen some small
-      ∙ ap (λ (p : Page). Some (terminal start (with_page p screen))) (moved screen sized at);
+      ∙ ap (λ (p : Page). Some (terminal start (with_page p screen))) (advanced screen sized at);
   keeps = tame_keeps (bytes_of (MoveRight n)) (right_tame n small);
   made = made_counted shortened_finals shortened_controls n 0x43 (inr (inr (inr (inr (inr (inr (inl refl)))))));
 }
   where
-    moved : (screen : ScreenValue) → IsPlainSized rows cols screen → IsAtPos from screen →
-        moved_right n screen.page ≡ record screen.page { row = to.row; column = to.col }
-    moved screen sized at =
+    advanced : (screen : ScreenValue) → IsPlainSized rows cols screen → IsAtPos from screen →
+        moved (Right n) screen.page ≡ record screen.page { row = to.row; column = to.col }
+    advanced screen sized at =
         let r : screen.page.row ≡ to.row = at.row ∙ sym row in
         let c : min (screen.page.column + n) (screen.page.width - 1) ≡ to.col =
         ap (λ x. min (x + n) (screen.page.width - 1)) at.column ∙ (ap (λ w. min (from.col + n) (w - 1)) sized.width ∙ sym col) in
@@ -396,7 +397,7 @@ next_row_leads rows cols from to row col low = record {
         let tall = sized.height in
         let here = at.row in
         let whole = sized.plain.page.whole.1 in
-        let middle : ScreenValue = with_page (carriage_return screen.page) screen in
+        let middle : ScreenValue = with_page (moved Return screen.page) screen in
         let r : screen.page.row + 1 ≡ to.row = omega (arith, here, row) in
         reads_then (terminal start screen) (terminal start middle) (terminal start (down 1 middle)) (0x0D ∷ []) (0x0A ∷ [])
         (return_read screen) (feed_read middle whole (omega (arith, r, low, tall)))

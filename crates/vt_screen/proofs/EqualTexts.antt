@@ -1,4 +1,4 @@
--- Redraws distinguish displays: equal output comes from equal pictures, and a difference is empty only between equal
+-- Redraws distinguish displays: equal output comes from equal pictures, and a diff is empty only between equal
 -- pictures.
 use Rattle.std.proofs.Common.{◌≡◌, ℕ, List, [], Some, refl, sym, ap, ◌∙◌}
 use Rattle.vt_cells.specs.Op.{bytes_of_all}
@@ -55,7 +55,7 @@ redraws_tell a b is colored steady other colored_other steady_other size e =
     (shown_is b other) plain (record { width = refl; height = refl })) in
     one_picture x y (bytes_of_all (redraw x)) (bytes_of_all (redraw y)) reader one two e size refl
 
--- If the difference between two screens is empty, both screens display the same content.
+-- If the diff between two screens is empty, both screens display the same content.
 pub difference_tells : (a b : ScreenValue) → IsScreen a → IsColored a → IsSteady (display a) → IsScreen b → IsColored b →
     SamePictureSize (display a) (display b) → bytes_of_all (difference (display a) (display b)) ≡ [] → display a ≡ display b
 difference_tells a b is colored steady other colored_other size e =
@@ -73,6 +73,6 @@ difference_tells a b is colored steady other colored_other size e =
     } in
     one_picture x y (bytes_of_all (difference x y)) [] reader one two e size refl
 
--- The difference between equal pictures is empty.
+-- The diff between equal pictures is empty.
 pub difference_none : (a b : Picture) → a ≡ b → bytes_of_all (difference a b) ≡ []
 difference_none a b e = ap (λ (x : Picture). bytes_of_all (difference x b)) e ∙ ap bytes_of_all (difference_self b)

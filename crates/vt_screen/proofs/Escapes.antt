@@ -11,13 +11,15 @@ use Rattle.std.proofs.lemmas.Str.{encode_ascii, encodes-append}
 use Rattle.vt_cells.specs.Op.{csi, semicolon_list}
 use Rattle.vt_screen.specs.MadeOf.{Piece, IsCharacter, Characters, Numbered, Control, piece_text, IsOneOf, IsPiece}
 use Rattle.vt_screen.specs.MadeOf.{IsMadeOf, drawing_controls, drawing_finals, escapes, input_controls}
-use Rattle.vt_screen.specs.MadeOf.{plain_controls, reset_controls, scrolling_finals, state_controls}
-use Rattle.vt_screen.specs.Escapes.{BeginsWith, EscapesOnly, HasOnlyEscapes, is_graphic}
+use Rattle.vt_screen.specs.MadeOf.{plain_controls, reset_controls, scrolling_finals, shortened_controls, shortened_finals}
+use Rattle.vt_screen.specs.MadeOf.{state_controls}
+use Rattle.vt_screen.specs.Escapes.{BeginsWith, EscapesOnly, HasOnlyControls, HasOnlyEscapes, is_graphic, moving_controls}
+use Rattle.vt_screen.specs.Escapes.{usual_controls}
 
-abbrev is_low : ℕ → Bool
+abbrev pub is_low : ℕ → Bool
 is_low b = nat_le 0x20 b && nat_lt b 0x7F
 
-visible_low : (b : ℕ) → 0x20 ≤ b → b < 0x7F → is_low b ≡ true
+pub visible_low : (b : ℕ) → 0x20 ≤ b → b < 0x7F → is_low b ≡ true
 visible_low b h k = grind (arith, nat_tests, h, k)
 
 abbrev AllLow : List ℕ → Type 0
@@ -58,20 +60,22 @@ begins_append : (nexts xs ys : List ℕ) → BeginsWith nexts xs → BeginsWith 
 begins_append nexts [] ys is = absurd is
 begins_append nexts (x ∷ xs) ys is = is
 
-only_append : (nexts xs ys : List ℕ) → EscapesOnly nexts xs → EscapesOnly nexts ys → EscapesOnly nexts (xs ++ ys)
-only_append nexts [] ys h k = k
-only_append nexts (x ∷ xs) ys h k =
-    (h.0, ((λ e. begins_append nexts xs ys (h.1.0 e)), only_append nexts xs ys h.1.1 k))
+only_append : (controls nexts xs ys : List ℕ) → EscapesOnly controls nexts xs → EscapesOnly controls nexts ys →
+    EscapesOnly controls nexts (xs ++ ys)
+only_append controls nexts [] ys h k = k
+only_append controls nexts (x ∷ xs) ys h k =
+    (h.0, ((λ e. begins_append nexts xs ys (h.1.0 e)), only_append controls nexts xs ys h.1.1 k))
 
-graphic_apart : (c : ℕ) → is_graphic c ≡ true → c ≡ 0x1B → ⊥
+pub graphic_apart : (c : ℕ) → is_graphic c ≡ true → c ≡ 0x1B → ⊥
 graphic_apart c h e = true≢false (sym h ∙ ap is_graphic e)
 
-low_graphic : (c : ℕ) → is_low c ≡ true → is_graphic c ≡ true
+pub low_graphic : (c : ℕ) → is_low c ≡ true → is_graphic c ≡ true
 low_graphic c h = rw h refl
 
-only_graphic : (nexts cs : List ℕ) → AllByRecursion (λ c. is_graphic c ≡ true) cs → EscapesOnly nexts cs
-only_graphic nexts [] h = tt
-only_graphic nexts (c ∷ cs) h = (inl h.0, ((λ e. absurd (graphic_apart c h.0 e)), only_graphic nexts cs h.1))
+only_graphic : (controls nexts cs : List ℕ) → AllByRecursion (λ c. is_graphic c ≡ true) cs → EscapesOnly controls nexts cs
+only_graphic controls nexts [] h = tt
+only_graphic controls nexts (c ∷ cs) h =
+    (inl h.0, ((λ e. absurd (graphic_apart c h.0 e)), only_graphic controls nexts cs h.1))
 
 all_graphic : (cs : List ℕ) → AllLow cs → AllByRecursion (λ c. is_graphic c ≡ true) cs
 all_graphic [] h = tt
@@ -98,14 +102,29 @@ unfolding encode_utf8
 escapes_escape nexts bs is h = record {
   characters = 0x1B ∷ bs;
   spelled = ap (λ (rest : List ℕ). 0x1B ∷ rest) (encodes_low bs h);
-  only = (inr (inr (inr (inr (inl refl)))), ((λ e. is), only_graphic nexts bs (all_graphic bs h)));
+  only = (inr (inr (inr (inr (inl refl)))), ((λ e. is), only_graphic usual_controls nexts bs (all_graphic bs h)));
 }
 
-escapes_append : (nexts xs ys : List ℕ) → HasOnlyEscapes nexts xs → HasOnlyEscapes nexts ys → HasOnlyEscapes nexts (xs ++ ys)
-escapes_append nexts xs ys p q = record {
+pub escapes_append : (controls nexts xs ys : List ℕ) → HasOnlyControls controls nexts xs → HasOnlyControls controls nexts ys →
+    HasOnlyControls controls nexts (xs ++ ys)
+escapes_append controls nexts xs ys p q = record {
   characters = p.characters ++ q.characters;
   spelled = ap₂ (λ (a b : List ℕ). a ++ b) p.spelled q.spelled ∙ sym (encodes-append p.characters q.characters);
-  only = only_append nexts p.characters q.characters p.only q.only;
+  only = only_append controls nexts p.characters q.characters p.only q.only;
+}
+
+only_more : (nexts cs : List ℕ) → EscapesOnly usual_controls nexts cs → EscapesOnly moving_controls nexts cs
+only_more nexts [] h = tt
+only_more nexts (c ∷ cs) h = (more h.0, (h.1.0, only_more nexts cs h.1.1)) where
+  more : (is_graphic c ≡ true) ⊎ IsOneOf c usual_controls → (is_graphic c ≡ true) ⊎ IsOneOf c moving_controls
+  more (inl is) = inl is
+  more (inr is) = inr (inr is)
+
+escapes_more : (nexts text : List ℕ) → HasOnlyEscapes nexts text → HasOnlyControls moving_controls nexts text
+escapes_more nexts text h = record {
+  characters = h.characters;
+  spelled = h.spelled;
+  only = only_more nexts h.characters h.only;
 }
 
 -- The bytes begin with one of `nexts`, and all of them are printable ASCII, so they may follow ESC.
@@ -135,32 +154,41 @@ either x (z ∷ xs) ys (inr is) = further (either x xs ys is) where
   further (inl one) = inl (inr one)
   further (inr one) = inr one
 
-pieces_only : (nexts finals : List ℕ) (controls : List (List ℕ)) →
+pieces_only : (usual nexts finals : List ℕ) (controls : List (List ℕ)) →
+    ((bytes : List ℕ) → HasOnlyEscapes nexts bytes → HasOnlyControls usual nexts bytes) →
     ((f : ℕ) → IsOneOf f finals → (is_low f ≡ true) × IsOneOf 0x5B nexts) →
-    ((bytes : List ℕ) → IsOneOf bytes controls → HasOnlyEscapes nexts bytes) →
+    ((bytes : List ℕ) → IsOneOf bytes controls → HasOnlyControls usual nexts bytes) →
     (pieces : List Piece) → AllByRecursion (IsPiece finals controls) pieces →
-    HasOnlyEscapes nexts (flat_map piece_text pieces)
-pieces_only nexts finals controls f c [] are = record { characters = []; spelled = refl; only = tt }
-pieces_only nexts finals controls f c (Characters cs ∷ pieces) are =
-    escapes_append nexts (encode_utf8_all cs) (flat_map piece_text pieces)
-    (record { characters = cs; spelled = refl; only = only_graphic nexts cs (characters_graphic cs are.0) })
-    (pieces_only nexts finals controls f c pieces are.1)
-pieces_only nexts finals controls f c (Numbered numbers final ∷ pieces) are =
-    escapes_append nexts (csi (semicolon_list numbers) final) (flat_map piece_text pieces)
-    (escapes_escape nexts (0x5B ∷ (semicolon_list numbers ++ final ∷ [])) (f final are.0).1
-    (refl, visible_append (semicolon_list numbers) (final ∷ []) (joined_visible numbers) ((f final are.0).0, tt)))
-    (pieces_only nexts finals controls f c pieces are.1)
-pieces_only nexts finals controls f c (Control bytes ∷ pieces) are =
-    escapes_append nexts bytes (flat_map piece_text pieces) (c bytes are.0)
-    (pieces_only nexts finals controls f c pieces are.1)
+    HasOnlyControls usual nexts (flat_map piece_text pieces)
+pieces_only usual nexts finals controls more f c [] are = record { characters = []; spelled = refl; only = tt }
+pieces_only usual nexts finals controls more f c (Characters cs ∷ pieces) are =
+    escapes_append usual nexts (encode_utf8_all cs) (flat_map piece_text pieces)
+    (record { characters = cs; spelled = refl; only = only_graphic usual nexts cs (characters_graphic cs are.0) })
+    (pieces_only usual nexts finals controls more f c pieces are.1)
+pieces_only usual nexts finals controls more f c (Numbered numbers final ∷ pieces) are =
+    escapes_append usual nexts (csi (semicolon_list numbers) final) (flat_map piece_text pieces)
+    (more (csi (semicolon_list numbers) final) (escapes_escape nexts (0x5B ∷ (semicolon_list numbers ++ final ∷ []))
+    (f final are.0).1
+    (refl, visible_append (semicolon_list numbers) (final ∷ []) (joined_visible numbers) ((f final are.0).0, tt))))
+    (pieces_only usual nexts finals controls more f c pieces are.1)
+pieces_only usual nexts finals controls more f c (Control bytes ∷ pieces) are =
+    escapes_append usual nexts bytes (flat_map piece_text pieces) (c bytes are.0)
+    (pieces_only usual nexts finals controls more f c pieces are.1)
+
+made_of : (usual nexts finals : List ℕ) (controls : List (List ℕ)) →
+    ((bytes : List ℕ) → HasOnlyEscapes nexts bytes → HasOnlyControls usual nexts bytes) →
+    ((f : ℕ) → IsOneOf f finals → (is_low f ≡ true) × IsOneOf 0x5B nexts) →
+    ((bytes : List ℕ) → IsOneOf bytes controls → HasOnlyControls usual nexts bytes) →
+    (text : List ℕ) → IsMadeOf finals controls text → HasOnlyControls usual nexts text
+made_of usual nexts finals controls more f c text made =
+    subst (HasOnlyControls usual nexts) (sym made.spelled)
+    (pieces_only usual nexts finals controls more f c made.pieces made.are_pieces)
 
 pub made_only : (nexts finals : List ℕ) (controls : List (List ℕ)) →
     ((f : ℕ) → IsOneOf f finals → (is_low f ≡ true) × IsOneOf 0x5B nexts) →
     ((bytes : List ℕ) → IsOneOf bytes controls → HasOnlyEscapes nexts bytes) →
     (text : List ℕ) → IsMadeOf finals controls text → HasOnlyEscapes nexts text
-made_only nexts finals controls f c text made =
-    subst (HasOnlyEscapes nexts) (sym made.spelled)
-    (pieces_only nexts finals controls f c made.pieces made.are_pieces)
+made_only nexts finals controls f c text made = made_of usual_controls nexts finals controls (λ _ h. h) f c text made
 
 -- ---- the output of screens
 
@@ -229,6 +257,37 @@ pub scrolling_only : (text : List ℕ) → IsMadeOf scrolling_finals drawing_con
 scrolling_only text made =
     made_only drawing_nexts scrolling_finals drawing_controls
     (one_visible scrolling_finals scrolling_low drawing_nexts (inl refl)) (drawing_only drawing_nexts ((inr (inl refl), refl), ((inr (inr (inl refl)), refl), ((inl refl, refl), ((inl refl, refl), ((inl refl, refl), ((inl refl, refl), tt))))))) text made
+
+-- In output with shortened cursor movements, HT may occur, too.
+shortened_only : (bytes : List ℕ) → IsOneOf bytes shortened_controls → HasOnlyControls moving_controls drawing_nexts bytes
+unfolding encode_utf8
+shortened_only bytes (inl e) =
+    subst (HasOnlyControls moving_controls drawing_nexts) (sym e) (record {
+      characters = 0x0D ∷ [];
+      spelled = refl;
+      only = (inr (inr (inr (inr (inl refl)))), ((λ k. absurd (apart 0x0D refl k)), tt));
+    })
+shortened_only bytes (inr (inl e)) =
+    subst (HasOnlyControls moving_controls drawing_nexts) (sym e) (record {
+      characters = 0x09 ∷ [];
+      spelled = refl;
+      only = (inr (inl refl), ((λ k. absurd (apart 0x09 refl k)), tt));
+    })
+shortened_only bytes (inr (inr is)) = escapes_more drawing_nexts bytes (drawing_only drawing_nexts ((inr (inl refl), refl), ((inr (inr (inl refl)), refl), ((inl refl, refl), ((inl refl, refl), ((inl refl, refl), ((inl refl, refl), tt)))))) bytes is)
+
+pub shortened_moves_only : (text : List ℕ) → IsMadeOf shortened_finals shortened_controls text →
+    HasOnlyControls moving_controls drawing_nexts text
+shortened_moves_only text made =
+    made_of moving_controls drawing_nexts shortened_finals shortened_controls (escapes_more drawing_nexts)
+    (one_visible shortened_finals (refl, scrolling_low) drawing_nexts (inl refl)) shortened_only text made
+
+-- A control sequence with one number contains only ESC and `[` before printable ASCII.
+pub escapes_number : (n final : ℕ) → is_low final ≡ true →
+    HasOnlyControls moving_controls drawing_nexts (csi (decimal n) final)
+escapes_number n final low =
+    escapes_more drawing_nexts (csi (decimal n) final)
+    (escapes_escape drawing_nexts (0x5B ∷ (decimal n ++ final ∷ [])) (inl refl)
+    (refl, visible_append (decimal n) (final ∷ []) (decimal_visible n) (low, tt)))
 
 pub drawn_only : (text : List ℕ) → IsMadeOf drawing_finals drawing_controls text → HasOnlyEscapes drawing_nexts text
 drawn_only text made =

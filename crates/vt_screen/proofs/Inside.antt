@@ -1,5 +1,5 @@
 -- Steps keep the size of a screen, and its cursors on the page.
-use Rattle.std.proofs.Common.{◌≡◌, ℕ, zero, suc, ◌+◌, ◌-◌, ◌<◌, ◌==◌, ◌&&◌, nat_lt, min, max, not}
+use Rattle.std.proofs.Common.{◌≡◌, ℕ, zero, suc, ◌+◌, ◌-◌, ◌<◌, ◌==◌, ◌&&◌, nat_lt, min, not}
 use Rattle.std.proofs.Common.{Bool, true, false, List, length, refl, ◌∙◌, arith, drop, replicate}
 use Rattle.std.specs.Prelude.{◌||◌, if◌then◌else◌, Option, Some, None}
 use Rattle.std.specs.Char.{encode_utf8}
@@ -11,10 +11,11 @@ use Rattle.vt_cells.specs.Glyph.{columns_of, is_selector, is_wide_text}
 use Rattle.vt_rows.specs.Cells.{at, ends_blank, cells_after_erase, widened_at}
 use Rattle.vt_rows.specs.Row.{blank_row}
 use Rattle.vt_grid.specs.Page.{Page, IsPage, SameSize, cursor_row, scrolled_up}
-use Rattle.vt_grid.specs.Moves.{moved_to, target_row}
-use Rattle.vt_grid.specs.Moves.{at_bottom, line_feed, cursor_saved, cursor_restored}
-use Rattle.vt_grid.specs.Regions.{in_region, last_row, moved_up, moved_down, next_line, previous_line}
-use Rattle.vt_grid.specs.Regions.{moved_to_row, region_set, origin_set}
+use Rattle.vt_grid.specs.Moves.{at_bottom, cursor_restored, cursor_saved, line_feed, moved, origin_set}
+use Rattle.vt_grid.specs.Regions.{in_region, last_row, region_set}
+use Rattle.vt_grid.specs.declared.grid.moves.CursorMove.{CursorMove}
+use Rattle.vt_grid.specs.declared.grid.moves.CursorMove.TheVariants.{To}
+use Rattle.vt_grid.proofs.Regions.{moved_row}
 use Rattle.vt_grid.specs.Shifts.{rows_down, scrolled_down, reverse_index, lines_inserted}
 use Rattle.vt_grid.specs.Shifts.{lines_deleted, chars_inserted, chars_deleted}
 use Rattle.vt_grid.specs.Erasing.{erased_columns, erased_chars, erased_rest, erased_below, erased_start}
@@ -70,42 +71,9 @@ inside_if false x y i j = j
 
 -- ---- cursor movement
 
-target_inside : (r : ℕ) (page : Page) → IsInside page → target_row r page < length page.rows
-target_inside r page i = by_origin page.origin where
-  by_origin : (b : Bool) →
-      (if b then min (page.top + r) page.bottom else min r (length page.rows - 1)) < length page.rows
-  by_origin true = omega (arith, i.bottom)
-  by_origin false = omega (arith, i.row)
-
-pub inside_moved_to : (r c : ℕ) (page : Page) → IsInside page → IsInside (moved_to r c page)
-inside_moved_to r c page i = record { row = target_inside r page i; saved_row = i.saved_row; bottom = i.bottom }
-
-pub inside_moved_up : (n : ℕ) (page : Page) → IsInside page → IsInside (moved_up n page)
-unfolding moved_up
-inside_moved_up n page i =
-    record { row = by_region (in_region page) refl; saved_row = i.saved_row; bottom = i.bottom } where
-      by_region : (b : Bool) → in_region page ≡ b → max (page.row - n) (if b then page.top else 0) < length page.rows
-      by_region true e = grind (arith, nat_tests, i.row, i.bottom)
-      by_region false e = omega (arith, i.row)
-
-pub inside_moved_down : (n : ℕ) (page : Page) → IsInside page → IsInside (moved_down n page)
-unfolding moved_down
-inside_moved_down n page i =
-    record { row = by_region (in_region page); saved_row = i.saved_row; bottom = i.bottom } where
-      by_region : (b : Bool) → min (page.row + n) (if b then page.bottom else last_row page) < length page.rows
-      by_region true = omega (arith, i.bottom)
-      by_region false = omega (arith, i.row)
-
-pub inside_next_line : (n : ℕ) (page : Page) → IsInside page → IsInside (next_line n page)
-inside_next_line n page i =
-    let d = inside_moved_down n page i in record { row = d.row; saved_row = d.saved_row; bottom = d.bottom }
-
-pub inside_previous_line : (n : ℕ) (page : Page) → IsInside page → IsInside (previous_line n page)
-inside_previous_line n page i =
-    let u = inside_moved_up n page i in record { row = u.row; saved_row = u.saved_row; bottom = u.bottom }
-
-pub inside_moved_to_row : (r : ℕ) (page : Page) → IsInside page → IsInside (moved_to_row r page)
-inside_moved_to_row r page i = record { row = omega (arith, i.row); saved_row = i.saved_row; bottom = i.bottom }
+pub inside_moved : (move : CursorMove) (page : Page) → IsInside page → IsInside (moved move page)
+inside_moved move page i =
+    record { row = moved_row move page i.row i.bottom; saved_row = i.saved_row; bottom = i.bottom }
 
 pub inside_region_set : (top bottom : ℕ) (page : Page) → IsInside page → IsInside (region_set top bottom page)
 unfolding region_set
@@ -122,7 +90,7 @@ inside_region_set top bottom page i = by_order (nat_lt top low) refl where
 
 pub inside_origin_set : (on : Bool) (page : Page) → IsInside page → IsInside (origin_set on page)
 inside_origin_set on page i =
-    inside_moved_to 0 0 (record page { origin = on })
+    inside_moved (To 0 0) (record page { origin = on })
     (record { row = i.row; saved_row = i.saved_row; bottom = i.bottom })
 
 pub inside_cursor_saved : (page : Page) → IsInside page → IsInside (cursor_saved page)

@@ -43,6 +43,10 @@ pub mod MadeOf
 pub mod MadePlain
 pub mod Escapes
 pub mod CaptureTexts
+pub mod Tracked
+pub mod GapsRead
+pub mod Instead
+pub mod KnownSteps
 pub mod TrailingBlanks
 pub mod TrailingBlanksScrollback
 pub mod Streaming
@@ -63,6 +67,7 @@ mod ShiftedAgain
 mod ShiftedViews
 pub mod NoCallbacks
 pub mod RepeatRooms
+pub mod RepeatSteps
 pub mod Repeated
 pub mod RepeatTokens
 mod NoRepeats

@@ -1,4 +1,4 @@
--- A plain terminal that reads a scrolling difference is plain again, whatever the difference draws.
+-- A plain terminal that reads a scrolling diff is plain again, whatever the diff draws.
 use Rattle.std.proofs.Common.{ℕ, zero, suc, ◌-◌, ◌<◌, ◌^◌, ◌==◌, inl, inr, Bool, true, false}
 use Rattle.std.proofs.Common.{List, [], ◌∷◌, ◌++◌, length, refl, sym, subst, arith}
 use Rattle.std.specs.Prelude.{if◌then◌else◌}

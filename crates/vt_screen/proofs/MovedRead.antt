@@ -1,4 +1,4 @@
--- Reading a band's move, and the difference after it, on a plain terminal.
+-- Reading a band's move, and the diff after it, on a plain terminal.
 use Rattle.std.proofs.Common.{◌≡◌, inl, inr, ℕ, zero, suc, ◌+◌, ◌-◌, ◌<◌, ◌≤◌, ◌==◌, ◌^◌, Bool, true, false, List, []}
 use Rattle.std.proofs.Common.{◌∷◌, ◌++◌, length, Option, Some, None, refl, sym, ap, subst, ◌∙◌, arith}
 use Rattle.std.specs.Prelude.{IfSome, if◌then◌else◌}
@@ -9,7 +9,8 @@ use Rattle.vt_cells.proofs.Same.{changed_attrs-new}
 use Rattle.vt_rows.specs.Row.{RowValue}
 use Rattle.vt_grid.specs.Page.{Page, IsPage, IsPlainPage, SameSize, row_or, rows_up, up_source}
 use Rattle.vt_grid.specs.Shifts.{rows_down}
-use Rattle.vt_grid.specs.Moves.{moved_to}
+use Rattle.vt_grid.specs.Moves.{moved}
+use Rattle.vt_grid.specs.declared.grid.moves.CursorMove.TheVariants.{To}
 use Rattle.vt_grid.specs.declared.page_step.PageStep.TheVariants.{DeleteLines, InsertLines}
 use Rattle.vt_grid.proofs.Pages.{length-moved_rows, page_at, page_of_rows}
 use Rattle.vt_redraw.specs.Moved.{IsBand, IsScrolling, band_text, down_text, last_moved, picture_after_move}
@@ -60,7 +61,7 @@ lines_deleted_read : (r n : ℕ) (screen : ScreenValue) → IsPlainPage screen.p
     (at_row (rows_up screen.page.width r (length screen.page.rows - 1) n screen.page.rows) r screen)
 lines_deleted_read r zero screen plain inside low some short = absurd (omega arith)
 lines_deleted_read r (suc n) screen plain inside low some short =
-    let middle = with_page (moved_to r 0 screen.page) screen in
+    let middle = with_page (moved (To r 0) screen.page) screen in
     reads_then (terminal start screen) (terminal start middle)
     (terminal start (display_after (OnPage (DeleteLines (suc n))) middle))
     (bytes_of (MoveTo r 0)) (counted (suc n) 0x4D)
@@ -74,7 +75,7 @@ lines_inserted_read : (r n : ℕ) (screen : ScreenValue) → IsPlainPage screen.
     (at_row (rows_down screen.page.width r (length screen.page.rows - 1) n screen.page.rows) r screen)
 lines_inserted_read r zero screen plain inside low some short = absurd (omega arith)
 lines_inserted_read r (suc n) screen plain inside low some short =
-    let middle = with_page (moved_to r 0 screen.page) screen in
+    let middle = with_page (moved (To r 0) screen.page) screen in
     reads_then (terminal start screen) (terminal start middle)
     (terminal start (display_after (OnPage (InsertLines (suc n))) middle))
     (bytes_of (MoveTo r 0)) (counted (suc n) 0x4C)
@@ -305,7 +306,7 @@ scrolling_read self prev reader band is colored steady r inside =
     (moved_becomes self reader band is colored steady r.is
     (subst (λ (p : Picture). IsBand (length p.rows) band) (sym e) inside))
 
--- The preconditions on the two screens of a difference.
+-- The preconditions on the two screens of a diff.
 pub record AreDiffed (self prev : ScreenValue) : Type 0 where
   pub sound : IsScreen self
   pub colored : IsColored self
@@ -343,7 +344,7 @@ some_band true false height band u e = rw (u, e) (λ empty. cc)
 some_band false true height band u e = rw (u, e) (λ empty. cc)
 some_band false false height band u e = rw (u, e) (λ empty. cc)
 
--- If a scrolling difference is empty, both screens display the same content.
+-- If a scrolling diff is empty, both screens display the same content.
 pub scrolling_tells : (self prev : ScreenValue) (text : List ℕ) → AreDiffed self prev → IsSteady (display self) →
     IsScrolling (display self) (display prev) text → text ≡ [] → display self ≡ display prev
 scrolling_tells self prev text d steady (inl told) empty =
@@ -359,7 +360,7 @@ no_length : (xs : List ℕ) → length xs ≤ 0 → xs ≡ []
 no_length [] h = refl
 no_length (x ∷ xs) h = absurd (omega arith)
 
--- A scrolling difference between equal pictures is empty, because it is never longer than the ordinary difference.
+-- A scrolling diff between equal pictures is empty, because it is never longer than the ordinary diff.
 pub shorter_none : (a b : Picture) (text : List ℕ) → length text ≤ length (bytes_of_all (difference a b)) → a ≡ b →
     text ≡ []
 shorter_none a b text shorter e =

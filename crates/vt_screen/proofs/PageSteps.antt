@@ -4,27 +4,19 @@ use Rattle.std.proofs.Common.{ℕ, refl}
 use Rattle.vt_cells.specs.Attrs.{Attrs}
 use Rattle.vt_cells.specs.Cell.{CellValue}
 use Rattle.vt_grid.specs.Page.{Page, IsPage, SameSize}
-use Rattle.vt_grid.specs.Regions.{moved_up, moved_down}
 use Rattle.vt_grid.specs.PageStep.{page_after}
 use Rattle.vt_grid.specs.declared.page_step.PageStep.{PageStep}
-use Rattle.vt_grid.specs.declared.page_step.PageStep.TheVariants.{CarriageReturn, ReverseIndex, MoveUp, MoveDown}
-use Rattle.vt_grid.specs.declared.page_step.PageStep.TheVariants.{MoveRight, MoveLeft, NextLine, PreviousLine, Tab}
-use Rattle.vt_grid.specs.declared.page_step.PageStep.TheVariants.{MoveTo, MoveToColumn, MoveToRow, SetRegion, UseOrigin}
+use Rattle.vt_grid.specs.declared.page_step.PageStep.TheVariants.{Move, ReverseIndex, SetRegion, UseOrigin}
 use Rattle.vt_grid.specs.declared.page_step.PageStep.TheVariants.{EraseBelow, EraseAbove, ErasePage, EraseRest}
 use Rattle.vt_grid.specs.declared.page_step.PageStep.TheVariants.{EraseStart, EraseRow, EraseChars, InsertChars}
 use Rattle.vt_grid.specs.declared.page_step.PageStep.TheVariants.{DeleteChars, InsertLines, DeleteLines, ScrollDown}
-use Rattle.vt_grid.proofs.Pages.{page_carriage_return, page_moved_left, page_moved_right, page_moved_to}
 use Rattle.vt_grid.proofs.Pages.{page_erased_chars, page_erased_rest, page_erased_below}
-use Rattle.vt_grid.proofs.Regions.{page_moved_up, page_moved_down, page_next_line, page_previous_line}
-use Rattle.vt_grid.proofs.Regions.{page_moved_to_column, page_moved_to_row, page_tabbed, page_region_set}
-use Rattle.vt_grid.proofs.Regions.{page_origin_set}
+use Rattle.vt_grid.proofs.Regions.{page_moved, page_origin_set, page_region_set}
 use Rattle.vt_grid.proofs.Shifting.{page_scrolled_down, page_reverse_index, page_lines_inserted, page_lines_deleted}
 use Rattle.vt_grid.proofs.Shifting.{page_chars_inserted, page_chars_deleted}
 use Rattle.vt_grid.proofs.Blanking.{page_erased_start, page_erased_row, page_erased_above, page_erased_page}
-use Rattle.vt_screen.proofs.Inside.{IsInside, same_erased_above, inside_reverse_index}
-use Rattle.vt_screen.proofs.Inside.{inside_moved_up, inside_moved_down}
-use Rattle.vt_screen.proofs.Inside.{inside_next_line, inside_previous_line, inside_moved_to}
-use Rattle.vt_screen.proofs.Inside.{inside_moved_to_row, inside_region_set, inside_origin_set}
+use Rattle.vt_screen.proofs.Inside.{IsInside, same_erased_above, inside_moved, inside_reverse_index}
+use Rattle.vt_screen.proofs.Inside.{inside_region_set, inside_origin_set}
 use Rattle.vt_screen.proofs.Inside.{inside_erased_below, inside_erased_above, inside_erased_page, inside_erased_rest}
 use Rattle.vt_screen.proofs.Inside.{inside_erased_start, inside_erased_row, inside_erased_chars, inside_chars_inserted}
 use Rattle.vt_screen.proofs.Inside.{inside_chars_deleted, inside_lines_inserted, inside_lines_deleted}
@@ -42,7 +34,6 @@ use Rattle.vt_screen.proofs.StableMoves.{stable_reverse_index, stable_scrolled_d
 
 pub same_page_after : (attrs : Attrs) (step : PageStep) (page : Page) → IsInside page
     → SameSize (page_after attrs step page) page
-unfolding moved_up moved_down
 same_page_after attrs ReverseIndex page i = same_reverse_index page
 same_page_after attrs (SetRegion top bottom) page i = same_region_set top bottom page
 same_page_after attrs EraseBelow page i = same_erased_below attrs page
@@ -61,13 +52,8 @@ same_page_after attrs step page i = record { width = refl; height = refl }
 
 pub inside_page_after : (attrs : Attrs) (step : PageStep) (page : Page) → IsInside page
     → IsInside (page_after attrs step page)
+inside_page_after attrs (Move move) page i = inside_moved move page i
 inside_page_after attrs ReverseIndex page i = inside_reverse_index page i
-inside_page_after attrs (MoveUp count) page i = inside_moved_up count page i
-inside_page_after attrs (MoveDown count) page i = inside_moved_down count page i
-inside_page_after attrs (NextLine count) page i = inside_next_line count page i
-inside_page_after attrs (PreviousLine count) page i = inside_previous_line count page i
-inside_page_after attrs (MoveTo row col) page i = inside_moved_to row col page i
-inside_page_after attrs (MoveToRow row) page i = inside_moved_to_row row page i
 inside_page_after attrs (SetRegion top bottom) page i = inside_region_set top bottom page i
 inside_page_after attrs (UseOrigin on) page i = inside_origin_set on page i
 inside_page_after attrs EraseBelow page i = inside_erased_below attrs page i
@@ -82,22 +68,11 @@ inside_page_after attrs (DeleteChars count) page i = inside_chars_deleted count 
 inside_page_after attrs (InsertLines count) page i = inside_lines_inserted count page i
 inside_page_after attrs (DeleteLines count) page i = inside_lines_deleted count page i
 inside_page_after attrs (ScrollDown count) page i = inside_scrolled_down count page i
-inside_page_after attrs step page i = record { row = i.row; saved_row = i.saved_row; bottom = i.bottom }
 
 pub page_page_after : (attrs : Attrs) (step : PageStep) (page : Page) → IsPage page
     → IsPage (page_after attrs step page)
-page_page_after attrs CarriageReturn page p = page_carriage_return page p
+page_page_after attrs (Move move) page p = page_moved move page p
 page_page_after attrs ReverseIndex page p = page_reverse_index page p
-page_page_after attrs (MoveUp count) page p = page_moved_up count page p
-page_page_after attrs (MoveDown count) page p = page_moved_down count page p
-page_page_after attrs (MoveRight count) page p = page_moved_right count page p
-page_page_after attrs (MoveLeft count) page p = page_moved_left count page p
-page_page_after attrs (NextLine count) page p = page_next_line count page p
-page_page_after attrs (PreviousLine count) page p = page_previous_line count page p
-page_page_after attrs Tab page p = page_tabbed page p
-page_page_after attrs (MoveTo row col) page p = page_moved_to row col page p
-page_page_after attrs (MoveToColumn col) page p = page_moved_to_column col page p
-page_page_after attrs (MoveToRow row) page p = page_moved_to_row row page p
 page_page_after attrs (SetRegion top bottom) page p = page_region_set top bottom page p
 page_page_after attrs (UseOrigin on) page p = page_origin_set on page p
 page_page_after attrs EraseBelow page p = page_erased_below attrs page p
@@ -116,7 +91,6 @@ page_page_after attrs (ScrollDown count) page p = page_scrolled_down count page 
 pub stable_page_after : {P : CellValue → Type 0} {F : Attrs → Type 0} {Q : ℕ → Type 0} → IsStable P F Q
     → (attrs : Attrs) (step : PageStep) (page : Page) → F attrs → EachRow P page.rows
     → EachRow P (page_after attrs step page).rows
-unfolding moved_up moved_down
 stable_page_after rule attrs ReverseIndex page h all = stable_reverse_index rule page all
 stable_page_after rule attrs (SetRegion top bottom) page h all = stable_region_set rule top bottom page all
 stable_page_after rule attrs EraseBelow page h all = stable_erased_below rule attrs page h all

@@ -1,4 +1,4 @@
--- A plain terminal that reads a redraw or a difference is plain again, whatever the output draws.
+-- A plain terminal that reads a redraw or a diff is plain again, whatever the output draws.
 use Rattle.std.proofs.Common.{◌≡◌, ℕ, zero, suc, Bool, true, false}
 use Rattle.std.proofs.Common.{List, [], ◌∷◌, ◌++◌, Some, length, refl, sym, ap, subst, ◌∙◌, arith}
 use Rattle.std.specs.Prelude.{if◌then◌else◌, encode_utf8_all}
@@ -9,9 +9,10 @@ use Rattle.vt_cells.specs.Op.{Op, Hide, ClearAttrs, MoveTo, MoveRight, NextRow, 
 use Rattle.vt_cells.specs.Op.{EraseRest, EraseChars, SaveCursor, RestoreCursor, ChangeAttrs, Print, bytes_of}
 use Rattle.vt_cells.specs.Op.{bytes_of_all}
 use Rattle.vt_grid.specs.Canvas.{Canvas, canvas_after_op}
-use Rattle.vt_grid.specs.Moves.{carriage_return, moved_left, moved_right, moved_to, cursor_saved, cursor_restored}
+use Rattle.vt_grid.specs.Moves.{moved, cursor_saved, cursor_restored}
 use Rattle.vt_grid.specs.Erasing.{erased_below, erased_rest, erased_chars}
 use Rattle.vt_grid.specs.Page.{IsWhole, SameSize}
+use Rattle.vt_grid.specs.declared.grid.moves.CursorMove.TheVariants.{Return, Right, Left, To}
 use Rattle.vt_grid.specs.declared.page_step.PageStep.TheVariants as page
 use Rattle.vt_grid.specs.Scrollback.{Scrollback, kept_after, grown_in_view, no_scrollback, scrollback_after_push}
 use Rattle.vt_rows.specs.Row.{RowValue}
@@ -263,9 +264,9 @@ pub return_goes : (saved : Bool) (reader screen : ScreenValue) → Holds saved r
     Goes saved reader screen (0x0D ∷ [])
 unfolding control_steps
 return_goes saved reader screen h =
-    goes_event saved reader screen (0x0D ∷ []) (Executed 0x0D) (OnPage page.CarriageReturn)
+    goes_event saved reader screen (0x0D ∷ []) (Executed 0x0D) (OnPage (page.Move Return))
     (read_control 0x0D (omega arith) (λ e. cc)) refl tt
-    (held saved reader screen (with_page (carriage_return screen.page) screen)
+    (held saved reader screen (with_page (moved Return screen.page) screen)
     (record { top = refl; bottom = refl; origin = refl; saved_origin = refl })
     (record { other = refl; is_alternate = refl; modes = refl; size = record { width = refl; height = refl } })
     h.offset h)
@@ -293,7 +294,7 @@ op_goes ClearAttrs saved reader screen f a h =
     (framed screen.page) (same_itself screen.page) h
 op_goes (MoveTo row col) saved reader screen f a h =
     drawn_goes (MoveTo row col) saved reader screen
-    (record (canvas_of screen) { page = moved_to row col screen.page }) f refl
+    (record (canvas_of screen) { page = moved (To row col) screen.page }) f refl
     (record { top = refl; bottom = refl; origin = refl; saved_origin = refl })
     (record { width = refl; height = refl }) h
 op_goes (MoveRight zero) saved reader screen f a h =
@@ -301,7 +302,7 @@ op_goes (MoveRight zero) saved reader screen f a h =
     (same_itself screen.page) h
 op_goes (MoveRight (suc n)) saved reader screen f a h =
     drawn_goes (MoveRight (suc n)) saved reader screen
-    (record (canvas_of screen) { page = moved_right (suc n) screen.page }) f refl
+    (record (canvas_of screen) { page = moved (Right (suc n)) screen.page }) f refl
     (record { top = refl; bottom = refl; origin = refl; saved_origin = refl })
     (record { width = refl; height = refl }) h
 op_goes NextRow saved reader screen f a h =
@@ -310,7 +311,7 @@ op_goes NextRow saved reader screen f a h =
     (feed_goes saved reader (screen_in start screen (0x0D ∷ [])) first.holds)
 op_goes LineFeed saved reader screen f a h = feed_goes saved reader screen h
 op_goes Backspace saved reader screen f a h =
-    drawn_goes Backspace saved reader screen (record (canvas_of screen) { page = moved_left 1 screen.page }) f refl
+    drawn_goes Backspace saved reader screen (record (canvas_of screen) { page = moved (Left 1) screen.page }) f refl
     (record { top = refl; bottom = refl; origin = refl; saved_origin = refl })
     (record { width = refl; height = refl }) h
 op_goes EraseBelow saved reader screen f a h =

@@ -17,7 +17,8 @@ use Rattle.vt_cells.specs.Op.{EraseRest, EraseChars, SaveCursor, RestoreCursor, 
 use Rattle.vt_cells.specs.Op.{place, semicolon_list, change_numbers, change_text, FitsAttrs, bytes_of, bytes_of_all}
 use Rattle.vt_grid.specs.Canvas.{Canvas, and_then, canvas_after_op, drawn_all, drawn_text, canvas_after_line_feed}
 use Rattle.vt_redraw.specs.Fits.{Fits, IsDrawn}
-use Rattle.vt_grid.specs.Moves.{carriage_return, line_feed, feeds_out}
+use Rattle.vt_grid.specs.Moves.{moved, line_feed, feeds_out}
+use Rattle.vt_grid.specs.declared.grid.moves.CursorMove.TheVariants.{Return, Right, Left, To}
 use Rattle.vt_grid.specs.Printing.{pushes}
 use Rattle.vt_grid.specs.declared.page_step.PageStep.{PageStep}
 use Rattle.vt_grid.specs.declared.page_step.PageStep.TheVariants as page
@@ -118,9 +119,9 @@ counted_read (suc n) final step screen h is_final means =
 
 pub moved_right_read : (n : ℕ) (screen : ScreenValue) → suc n < 2 ^ 16 →
     terminal_after (terminal start screen) (counted (suc n) 0x43)
-    ≡ Some (terminal start (display_after (OnPage (page.MoveRight (suc n))) screen))
+    ≡ Some (terminal start (display_after (OnPage (page.Move (Right (suc n)))) screen))
 unfolding counted_step
-moved_right_read n screen h = counted_read n 0x43 page.MoveRight screen h (omega arith, omega arith) (λ groups. refl)
+moved_right_read n screen h = counted_read n 0x43 (λ (k : ℕ). page.Move (Right k)) screen h (omega arith, omega arith) (λ groups. refl)
 
 pub erased_chars_read : (n : ℕ) (screen : ScreenValue) → suc n < 2 ^ 16 →
     terminal_after (terminal start screen) (counted (suc n) 0x58)
@@ -134,16 +135,16 @@ ordinal_read n = let t : ((n + 1) == 0) ≡ false = grind (arith, nat_tests) in 
 
 placed : (row col : ℕ) (screen : ScreenValue) →
     quiet_steps (unmarked_steps (((row + 1) ∷ []) ∷ ((col + 1) ∷ []) ∷ []) 0x48 (seen_of screen)) screen
-    ≡ Some (display_after (OnPage (page.MoveTo row col)) screen)
+    ≡ Some (display_after (OnPage (page.Move (To row col))) screen)
 unfolding counted_step scrolling_steps other_steps
 placed row col screen =
-    ap (λ (r : ℕ). Some (display_after (OnPage (page.MoveTo r ((if (col + 1) == 0 then 1 else col + 1) - 1))) screen))
+    ap (λ (r : ℕ). Some (display_after (OnPage (page.Move (To r ((if (col + 1) == 0 then 1 else col + 1) - 1)))) screen))
     (ordinal_read row)
-    ∙ ap (λ (c : ℕ). Some (display_after (OnPage (page.MoveTo row c)) screen)) (ordinal_read col)
+    ∙ ap (λ (c : ℕ). Some (display_after (OnPage (page.Move (To row c))) screen)) (ordinal_read col)
 
 place_read : (row col : ℕ) (screen : ScreenValue) →
     quiet_steps (unmarked_steps (place_groups row col) 0x48 (seen_of screen)) screen
-    ≡ Some (display_after (OnPage (page.MoveTo row col)) screen)
+    ≡ Some (display_after (OnPage (page.Move (To row col))) screen)
 unfolding counted_step scrolling_steps other_steps
 place_read zero zero screen = refl
 place_read zero (suc col) screen = placed zero (suc col) screen
@@ -151,9 +152,9 @@ place_read (suc row) col screen = placed (suc row) col screen
 
 pub moved_to_read : (row col : ℕ) (screen : ScreenValue) → row < 65535 → col < 65535
     → terminal_after (terminal start screen) (csi (place row col) 0x48)
-    ≡ Some (terminal start (display_after (OnPage (page.MoveTo row col)) screen))
+    ≡ Some (terminal start (display_after (OnPage (page.Move (To row col))) screen))
 moved_to_read row col screen low narrow =
-    csi_read (place row col) 0x48 (place_groups row col) screen (display_after (OnPage (page.MoveTo row col)) screen)
+    csi_read (place row col) 0x48 (place_groups row col) screen (display_after (OnPage (page.Move (To row col))) screen)
     (place_is_parameter row col low narrow) (omega arith, omega arith)
     (place_groups_are row col low narrow) (place_read row col screen)
 
@@ -231,12 +232,12 @@ fed_read screen d h =
 
 pub returned_read : (screen : ScreenValue) (rest : List ℕ) →
     terminal_after (terminal start screen) (0x0D ∷ rest)
-    ≡ terminal_after (terminal start (with_page (carriage_return screen.page) screen)) rest
+    ≡ terminal_after (terminal start (with_page (moved Return screen.page) screen)) rest
 unfolding read_byte fresh_step class_of control_steps
 returned_read screen rest = refl
 
 pub left_read : (screen : ScreenValue) →
-    terminal_after (terminal start screen) (0x08 ∷ []) ≡ Some (terminal start (display_after (OnPage (page.MoveLeft 1)) screen))
+    terminal_after (terminal start screen) (0x08 ∷ []) ≡ Some (terminal start (display_after (OnPage (page.Move (Left 1))) screen))
 unfolding read_byte fresh_step class_of control_steps
 left_read screen = refl
 
@@ -320,19 +321,19 @@ reads_op (Hide hidden) screen d f h =
 reads_op ClearAttrs screen d f h =
     known (bytes_of ClearAttrs) screen (record (canvas_of screen) { attrs = default_attrs }) d h (cleared_read screen)
 reads_op (MoveTo row col) screen d (low, narrow) h =
-    known (bytes_of (MoveTo row col)) screen (canvas_of (display_after (OnPage (page.MoveTo row col)) screen))
+    known (bytes_of (MoveTo row col)) screen (canvas_of (display_after (OnPage (page.Move (To row col))) screen))
     d h (moved_to_read row col screen low narrow)
 reads_op (MoveRight zero) screen d f h = known [] screen (canvas_of screen) d h refl
 reads_op (MoveRight (suc n)) screen d f h =
     known (bytes_of (MoveRight (suc n))) screen
-    (canvas_of (display_after (OnPage (page.MoveRight (suc n))) screen)) d h (moved_right_read n screen f)
+    (canvas_of (display_after (OnPage (page.Move (Right (suc n)))) screen)) d h (moved_right_read n screen f)
 reads_op NextRow screen d f h =
-    let next : ScreenValue = with_page (carriage_return screen.page) screen in
+    let next : ScreenValue = with_page (moved Return screen.page) screen in
     (screen.last, returned_read screen (0x0A ∷ []) ∙ fed_read next d h)
 reads_op LineFeed screen d f h = (screen.last, fed_read screen d h)
 reads_op Backspace screen d f h =
     known (bytes_of Backspace) screen
-    (canvas_of (display_after (OnPage (page.MoveLeft 1)) screen)) d h (left_read screen)
+    (canvas_of (display_after (OnPage (page.Move (Left 1))) screen)) d h (left_read screen)
 reads_op EraseBelow screen d f h =
     known (bytes_of EraseBelow) screen
     (canvas_of (display_after (OnPage page.EraseBelow) screen)) d h (erased_below_read screen)

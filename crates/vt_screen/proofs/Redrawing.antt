@@ -1,4 +1,4 @@
--- A plain terminal that reads a redraw or a difference displays the screen.
+-- A plain terminal that reads a redraw or a diff displays the screen.
 use Rattle.std.proofs.Common.{◌≡◌, ℕ, List, Option, Some, sym, ap, subst, ◌∙◌}
 use Rattle.std.specs.List.{AllByRecursion}
 use Rattle.vt_cells.specs.Op.{Op, bytes_of_all}

@@ -1,18 +1,29 @@
 -- The beginning of bytes that are a control or a sequence.
-use Rattle.std.proofs.Common.{◌≡◌, ◌⊎◌, inl, inr, true, false, ℕ, zero, suc, ◌+◌, ◌-◌, ◌<◌, ◌≤◌, List, [], ◌∷◌, ◌++◌, drop, get_or, length}
-use Rattle.std.proofs.Common.{take, replicate, refl, sym, ap, ap₂, subst, ◌∙◌, arith}
-use Rattle.std.proofs.Common.{length-drop, take-add}
-use Rattle.std.proofs.lemmas.List.{take_more}
+use Rattle.std.proofs.Common.{◌≡◌, ◌⊎◌, inl, inr, true, false, ℕ, zero, suc, ◌+◌, ◌-◌, ◌*◌, ◌<◌, ◌≤◌, List, [], ◌∷◌, ◌++◌, drop, get_or, length}
+use Rattle.std.proofs.Common.{take, sym, ap, ap₂, subst, ◌∙◌, arith, append_assoc}
+use Rattle.std.proofs.Common.{length-append, length-drop, take-add}
+use Rattle.std.proofs.lemmas.List.{get_or-drop, length-take, length-take-le, take-append-drop, take_more}
+use Rattle.std.proofs.Math.Seq.{take-append_seam}
+use Rattle.std.specs.Str.Pattern.{FindsCharPrefix}
+use Rattle.std.proofs.lemmas.Bool.{cases_lt}
+use Rattle.std.proofs.lemmas.Bool.Decides.{nat_tests}
+use Rattle.std.proofs.lemmas.Fmt.{length-decimal-le}
+use Rattle.std.proofs.lemmas.Str.{encode_ascii, len_utf8_bounds, length-encode}
+use Rattle.std.specs.Char.{encode_utf8}
+use Rattle.std.specs.List.{AllByRecursion}
 use Rattle.vt_cells.specs.Op.{Hide, bytes_of, csi}
+use Rattle.vt_cells.proofs.Widths.{columns_of-ascii}
 use Rattle.vt_scan.specs.Internals.{Opens}
-use Rattle.std.specs.Prelude.{IfSome, Option, Some, None, codes}
+use Rattle.std.specs.Prelude.{Some, None, codes, decimal}
 use Rattle.vt_scan.specs.Texts.{IsParameterText}
 use Rattle.vt_screen.specs.MadeOf.{IsOneOf}
-use Rattle.vt_screen.specs.RepeatInternals.{BeginsWithVisibility, Finds, IsLongRun, KeepsRoom, Skips, SkipsByte}
+use Rattle.vt_screen.specs.RepeatInternals.{BeginsRun, BeginsWithVisibility, Finds, IsFinalAt, KeepsRoom, Skips}
+use Rattle.vt_screen.specs.Repeating.{IsNarrow, copies, repeat_text}
+use Rattle.vt_screen.specs.ShortMoves.{IsAsciiCharacter}
 use Rattle.vt_screen.specs.declared.repeats.Skipped.{Skipped}
-use Rattle.vt_screen.proofs.Repeated.{keeps_then, repeat_shorter}
+use Rattle.vt_screen.proofs.RepeatSteps.{keeps_then}
 use Rattle.vt_screen.proofs.RepeatRooms.{keeps_attributes, keeps_deleted, keeps_down, keeps_erased_chars, keeps_inserted}
-use Rattle.vt_screen.proofs.RepeatRooms.{keeps_left, keeps_lines_deleted, keeps_lines_inserted, keeps_page_erased}
+use Rattle.vt_screen.proofs.RepeatRooms.{keeps_left, keeps_lines_deleted, keeps_lines_inserted, keeps_narrow, keeps_nothing, keeps_page_erased}
 use Rattle.vt_screen.proofs.RepeatRooms.{keeps_row, keeps_row_erased, keeps_up, keeps_visibility}
 
 one_taken : (bytes : List ℕ) (b : ℕ) → 0 < length bytes → get_or bytes 0 0 ≡ b → take 1 bytes ≡ b ∷ []
@@ -75,18 +86,6 @@ skips_sequence width room after bytes count opens h keeps = record {
   keeps = subst (KeepsRoom width room after) (sym (sequence_taken bytes count opens h)) keeps;
 }
 
--- A byte of a character that is skipped.
-pub skips_byte : (width room : ℕ) (bytes : List ℕ) (b : ℕ) (o : Option Skipped) → 0 < length bytes → get_or bytes 0 0 ≡ b →
-    IfSome o (SkipsByte room b) → IfSome o (Skips width room bytes)
-skips_byte width room bytes b None h e is = tt
-skips_byte width room bytes b (Some skipped) h e is =
-    let one = is.one in record {
-      progress = omega (arith, one);
-      inside = omega (arith, one, h);
-      keeps = subst (λ (n : ℕ). KeepsRoom width room skipped.room (take n bytes)) (sym is.one)
-          (subst (KeepsRoom width room skipped.room) (sym (one_taken bytes b h e)) (is.keeps width));
-    }
-
 -- A control sequence that leaves the cursor in its column or moves it left.
 pub keeps_final : (width room : ℕ) (text : List ℕ) (final : ℕ) → IsParameterText text →
     IsOneOf final (codes "mJKXABDd@PLM") → KeepsRoom width room room (csi text final)
@@ -111,36 +110,177 @@ keeps_final width room text final is one = by_final one where
       use_final 0x4D e (keeps_lines_deleted width room text is)
   by_final (inr (inr (inr (inr (inr (inr (inr (inr (inr (inr (inr (inr none)))))))))))) = absurd none
 
-first_dropped : (at : ℕ) (bytes : List ℕ) → get_or (drop at bytes) 0 0 ≡ get_or bytes at 0
-first_dropped zero bytes = refl
-first_dropped (suc at) [] = refl
-first_dropped (suc at) (x ∷ bytes) = first_dropped at bytes
+-- One parameter byte more.
+pub parameter_more : (last : ℕ) (bytes : List ℕ) → 2 ≤ last → last < length bytes → 0x30 ≤ get_or bytes last 0 →
+    get_or bytes last 0 ≤ 0x3B → IsParameterText (take (last - 2) (drop 2 bytes)) →
+    IsParameterText (take (last + 1 - 2) (drop 2 bytes))
+parameter_more last bytes past inside low high is =
+    let size = length-drop 2 bytes in
+    let more : last + 1 - 2 ≡ last - 2 + 1 = omega (arith, past) in
+    let back : 2 + (last - 2) ≡ last = omega (arith, past) in
+    let here : get_or (drop 2 bytes) (last - 2) 0 ≡ get_or bytes last 0 =
+    get_or-drop 2 bytes (last - 2) 0 ∙ ap (λ (k : ℕ). get_or bytes k 0) back in
+    subst (λ (n : ℕ). IsParameterText (take n (drop 2 bytes))) (sym more)
+    (subst IsParameterText (sym (take_more (drop 2 bytes) (last - 2) 0 (omega (arith, size, inside, past))))
+    (parameter_end (take (last - 2) (drop 2 bytes)) (get_or (drop 2 bytes) (last - 2) 0) is
+    (subst (λ (b : ℕ). 0x30 ≤ b) (sym here) low) (subst (λ (b : ℕ). b ≤ 0x3B) (sym here) high)))
+  where
+    parameter_end : (xs : List ℕ) (b : ℕ) → IsParameterText xs → 0x30 ≤ b → b ≤ 0x3B → IsParameterText (xs ++ b ∷ [])
+    parameter_end [] b is low high = (low, high, tt)
+    parameter_end (x ∷ xs) b is low high = (is.0, is.1, parameter_end xs b is.2 low high)
 
--- A run that begins after bytes whose room is known.
-pub finds_run : (width room left at len : ℕ) (bytes rest : List ℕ) → rest ≡ drop at bytes → at < length bytes →
-    left < 65536 → KeepsRoom width room left (take at bytes) → IsLongRun left rest len →
-    Finds width room bytes (record { start = at; count = len - 1; room = left - len })
-finds_run width room left at len bytes rest e inside fits keeps is =
-    let some = is.fewest in
-    let most = is.most in
-    let here = is.inside in
-    let length_is : length rest ≡ length bytes - at = ap length e ∙ length-drop at bytes in
-    let one_more : suc (len - 1) ≡ len = omega (arith, some) in
-    let first : get_or rest 0 0 ≡ get_or bytes at 0 =
-    ap (λ (xs : List ℕ). get_or xs 0 0) e ∙ first_dropped at bytes in record {
-      inside = omega (arith, here, length_is, one_more, inside);
-      keeps = subst (λ (k : ℕ). KeepsRoom width room k (take at bytes))
-          (let all : left ≡ suc (len - 1) + (left - len) = omega (arith, some, most) in all) keeps;
-      low = subst (λ (b : ℕ). 0x20 ≤ b) first is.low;
-      high = subst (λ (b : ℕ). b < 0x7F) first is.high;
-      run =
-          ap (λ (n : ℕ). take n (drop at bytes)) one_more
-          ∙ ap (take len) (sym e)
-          ∙ is.equal
-          ∙ ap₂ (λ (n b : ℕ). replicate n b) (sym one_more) first;
-      shorter = repeat_shorter (len - 1) (omega (arith, some)) (omega (arith, most, fits));
-      fits = omega (arith, most, fits);
+-- A control sequence that is skipped and leaves the cursor in its column or moves it left.
+pub skips_final : (width room : ℕ) (bytes : List ℕ) (last : ℕ) → Opens bytes → IsFinalAt bytes last →
+    IsOneOf (get_or bytes last 0) (codes "mJKXABDd@PLM") → Skips width room bytes (record { len = last + 1; room = room })
+skips_final width room bytes last opens is one =
+    let past = is.past in
+    let inside = is.inside in
+    let back : 2 + (last - 2) ≡ last = omega (arith, past) in
+    subst (λ (k : ℕ). Skips width room bytes (record { len = k + 1; room = room })) back
+    (skips_sequence width room room bytes (last - 2) opens (omega (arith, past, inside))
+    (subst (λ (k : ℕ). KeepsRoom width room room (csi (take (last - 2) (drop 2 bytes)) (get_or bytes k 0))) (sym back)
+    (keeps_final width room (take (last - 2) (drop 2 bytes)) (get_or bytes last 0) is.parameters one)))
+
+-- ---- characters that are skipped
+
+pub ascii_narrow : (c : ℕ) → IsAsciiCharacter c → IsNarrow c
+ascii_narrow c (low, high) = record {
+  drawn = record {
+    scalar = grind (arith, nat_tests);
+    shown = λ e. let met : Some 1 ≡ None = sym (columns_of-ascii c low high) ∙ e in absurd cc;
+    reported = λ e. absurd (omega (arith, high, e));
+  };
+  columns = columns_of-ascii c low high;
+}
+
+ascii_keeps : (width room b : ℕ) → IsAsciiCharacter b → KeepsRoom width room (room - 1) (b ∷ [])
+ascii_keeps width room b is =
+    let high = is.1 in
+    subst (KeepsRoom width room (room - 1)) (encode_ascii b (omega arith)) (keeps_narrow width room b (ascii_narrow b is))
+
+ascii_all : (width room : ℕ) (text : List ℕ) → AllByRecursion IsAsciiCharacter text →
+    KeepsRoom width room (room - length text) text
+ascii_all width room [] is =
+    let same : room - 0 ≡ room = omega arith in
+    subst (λ (k : ℕ). KeepsRoom width room k []) (sym same) (keeps_nothing width room)
+ascii_all width room (b ∷ text) is =
+    let fewer : room - 1 - length text ≡ room - suc (length text) = omega arith in
+    subst (λ (k : ℕ). KeepsRoom width room k (b ∷ text)) fewer
+    (keeps_then width room (room - 1) (room - 1 - length text) (b ∷ []) text (ascii_keeps width room b is.0)
+    (ascii_all width (room - 1) text is.1))
+
+-- Printable ASCII characters that are skipped.
+pub skips_ascii : (width room after more : ℕ) (bytes : List ℕ) → 0 < length bytes → IsAsciiCharacter (get_or bytes 0 0) →
+    more ≤ length (drop 1 bytes) → AllByRecursion IsAsciiCharacter (take more (drop 1 bytes)) → after ≡ room - (1 + more) →
+    Skips width room bytes (record { len = 1 + more; room = after })
+skips_ascii width room after more [] some first inside all e = absurd (omega (arith, some))
+skips_ascii width room after more (b ∷ bytes) some first inside all e =
+    let long = length-take-le more bytes inside in
+    let one : 1 + more ≡ suc more = omega arith in
+    let left : room - suc (length (take more bytes)) ≡ after = omega (arith, long, e) in record {
+      progress = omega arith;
+      inside = omega (arith, inside);
+      keeps = subst (λ (n : ℕ). KeepsRoom width room after (take n (b ∷ bytes))) (sym one)
+          (subst (λ (k : ℕ). KeepsRoom width room k (b ∷ take more bytes)) left
+          (ascii_all width room (b ∷ take more bytes) (first, all)));
     }
+
+-- A character that is skipped.
+pub skips_character : (width room after len c : ℕ) (text : List ℕ) → length (encode_utf8 c) ≡ len →
+    take (length (encode_utf8 c)) text ≡ encode_utf8 c → KeepsRoom width room after (encode_utf8 c) →
+    Skips width room text (record { len = len; room = after })
+skips_character width room after len c text long e keeps =
+    let some = len_utf8_bounds c in
+    let size = length-encode c in
+    let taken = ap length e in
+    let within = length-take (length (encode_utf8 c)) text in record {
+      progress = omega (arith, some, size, long);
+      inside = omega (arith, taken, within, long);
+      keeps = subst (KeepsRoom width room after) (sym (ap (λ (n : ℕ). take n text) (sym long) ∙ e)) keeps;
+    }
+
+-- ---- runs
+
+copies_long : (k n c : ℕ) → k ≤ length (encode_utf8 c) → n * k ≤ length (copies n c)
+copies_long k zero c h = omega arith
+copies_long k (suc n) c h =
+    let rest = copies_long k n c h in
+    let both = length-append (encode_utf8 c) (copies n c) in
+    omega (arith, rest, both, h)
+
+repeat_length : (n : ℕ) → length (repeat_text n) ≡ 2 + (length (decimal n) + 1)
+repeat_length n = let h = length-append (decimal n) (0x62 ∷ []) in omega (arith, h)
+
+-- REP is shorter than the characters if there are enough of them.
+pub repeat_shorter : (n k c : ℕ) → k ≤ length (encode_utf8 c) → ((5 ≤ n) × (1 ≤ k)) ⊎ (((3 ≤ n) × (2 ≤ k)) ⊎ ((2 ≤ n) × (3 ≤ k))) →
+    n < 65536 → length (repeat_text n) < length (copies n c)
+repeat_shorter n k c long many high = by_size (cases_lt n 10) (cases_lt n 100) where
+  whole : length (repeat_text n) ≡ 2 + (length (decimal n) + 1)
+  whole = repeat_length n
+
+  one : 1 ≤ length (encode_utf8 c)
+  one = let some = len_utf8_bounds c in let e = length-encode c in omega (arith, some, e)
+
+  ones : n * 1 ≤ length (copies n c)
+  ones = copies_long 1 n c one
+
+  few : length (decimal n) ≤ 1 →
+      ((5 ≤ n) × (1 ≤ k)) ⊎ (((3 ≤ n) × (2 ≤ k)) ⊎ ((2 ≤ n) × (3 ≤ k))) → length (repeat_text n) < length (copies n c)
+  few d (inl h) = let m = h.0 in omega (arith, whole, d, ones, m)
+  few d (inr (inl h)) =
+      let m = h.0 in
+      let l = h.1 in
+      let twos = copies_long 2 n c (omega (arith, long, l)) in omega (arith, whole, d, twos, m)
+  few d (inr (inr h)) =
+      let m = h.0 in
+      let l = h.1 in
+      let threes = copies_long 3 n c (omega (arith, long, l)) in omega (arith, whole, d, threes, m)
+
+  by_size : (n < 10) ⊎ (10 ≤ n) → (n < 100) ⊎ (100 ≤ n) → length (repeat_text n) < length (copies n c)
+  by_size (inl less) h = few (length-decimal-le 1 n (omega arith) (omega arith) (omega arith)) many
+  by_size (inr some) (inl less) =
+      let d = length-decimal-le 2 n (omega arith) (omega arith) (omega arith) in omega (arith, whole, d, ones)
+  by_size (inr some) (inr more) =
+      let d = length-decimal-le 5 n (omega arith) (omega arith) (omega arith) in omega (arith, whole, d, ones)
+
+-- One copy more of a character.
+pub copies_more : (n c : ℕ) (rest : List ℕ) → copies n c ++ (encode_utf8 c ++ rest) ≡ copies (suc n) c ++ rest
+copies_more zero c rest = sym (append_assoc (encode_utf8 c) [] rest)
+copies_more (suc n) c rest =
+    append_assoc (encode_utf8 c) (copies n c) (encode_utf8 c ++ rest)
+    ∙ ap (λ (t : List ℕ). encode_utf8 c ++ t) (copies_more n c rest)
+    ∙ sym (append_assoc (encode_utf8 c) (copies (suc n) c) rest)
+
+-- The text after a character at its beginning.
+pub stripped : (c : ℕ) (text tail : List ℕ) → (n : ℕ) × FindsCharPrefix c text (Some n) × (tail ≡ drop n text)
+    × (length tail + n ≡ length text) → text ≡ encode_utf8 c ++ tail
+stripped c text tail (n, at, e, long) = at.split ∙ ap (λ (t : List ℕ). encode_utf8 c ++ t) (sym e)
+
+-- A run that begins after text whose room is known.
+pub finds_run : (width room left at count after : ℕ) (text rest first front back : List ℕ) → rest ≡ drop at text →
+    KeepsRoom width room left (take at text) → BeginsRun left rest first count after back → front ≡ take (at + length first) text →
+    Finds width room text front count after back
+finds_run width room left at count after text rest first front back e keeps is whole = record {
+  before = take at text;
+  character = is.character;
+  narrow = is.narrow;
+  whole = sym (take-append-drop at text) ∙ ap (λ (t : List ℕ). take at text ++ t) (sym e ∙ is.whole);
+  first =
+      whole
+      ∙ take-add at (length first) text
+      ∙ ap (λ (t : List ℕ). take at text ++ t) (ap (take (length first)) (sym e ∙ is.whole) ∙ begins)
+      ∙ ap (λ (t : List ℕ). take at text ++ t) is.first;
+  keeps = subst (λ (k : ℕ). KeepsRoom width room k (take at text)) (sym is.room_is) keeps;
+  shorter = is.shorter;
+  fits = is.fits;
+  utf8 = is.utf8;
+}
+  where
+    begins : take (length first) (copies (suc count) is.character ++ back) ≡ first
+    begins =
+        ap (take (length first)) (append_assoc (encode_utf8 is.character) (copies count is.character) back)
+        ∙ ap (λ (t : List ℕ). take (length first) (t ++ (copies count is.character ++ back))) (sym is.first)
+        ∙ take-append_seam first (copies count is.character ++ back)
 
 -- A skipped part after bytes whose room is known.
 pub skipped_more : (width room left at : ℕ) (bytes rest : List ℕ) (skipped : Skipped) → rest ≡ drop at bytes →

@@ -1,6 +1,7 @@
 -- A diff in which runs are written with REP promises what the diff without REP promises.
 use Rattle.std.proofs.Common.{◌≡◌, ℕ, ◌-◌, ◌≤◌, Bool, true, false, List, [], ◌∷◌, ◌++◌, length, refl, sym, ap, subst}
 use Rattle.std.proofs.Common.{◌∙◌, arith, length-append}
+use Rattle.std.specs.Char.{encode_utf8}
 use Rattle.std.specs.List.{AllByRecursion, flat_map}
 use Rattle.vt_redraw.specs.Picture.{Picture}
 use Rattle.vt_scan.specs.Automaton.{start}
@@ -14,7 +15,7 @@ use Rattle.vt_screen.specs.Screen.{IsScreen, ScreenValue}
 use Rattle.vt_screen.specs.Shown.{IsPlain, IsReaderOf, IsSameIfEmpty, IsReadBy, Makes, ReadsTo, RedrawsFrom, display, display_change}
 use Rattle.vt_screen.specs.Steps.{Step as Action}
 use Rattle.vt_screen.proofs.NoRepeats.{made_none}
-use Rattle.vt_screen.proofs.Repeated.{rows_none}
+use Rattle.vt_screen.proofs.RepeatSteps.{rows_none}
 
 -- ---- reading
 
@@ -116,8 +117,9 @@ runs_nothing (run ∷ runs) rest plain text full short empty =
     let a = ap length (sym short ∙ empty) in
     let b = length-append (short_text run ++ flat_map short_text runs) rest in
     let c = length-append (short_text run) (flat_map short_text runs) in
-    let d = length-append run.before (run.byte ∷ repeat_text run.count) in
-    absurd (omega (arith, a, b, c, d))
+    let d = length-append run.before (encode_utf8 run.character ++ repeat_text run.count) in
+    let e = length-append (encode_utf8 run.character) (repeat_text run.count) in
+    absurd (omega (arith, a, b, c, d, e))
 
 pub diff_empty : (repeat scroll : Bool) (was new : ScreenValue) (plain text : List ℕ) → IsPlainDiff scroll was new plain →
     MayRepeat repeat was plain text → IsSameIfEmpty was new text

@@ -253,3 +253,74 @@ nothing_in_place rows None before after z h n =
     subst IsNothing (sym (n refl ∙ z)) (record { capacity = refl; rows = refl; offset = refl })
 nothing_in_place rows (Some p) before after z h n =
     subst IsNothing (sym (h ∙ ap (scrollback_resized rows p) z)) (nothing_resized rows p)
+
+-- ---- both pages, if only their width changes
+
+pub other_width : (page : Page) (o : Option Page) → IfSome o (IsOther page) → IfSome o (λ p. p.width ≡ page.width)
+other_width page None k = tt
+other_width page (Some p) k = k.same.width
+
+-- The other page, resized at its own height.
+pub other_columns : (rows cols : ℕ) (page : Page) (o : Option Page) → rows ≡ length page.rows → IfSome o (IsOther page) →
+    option_map (λ p. page_resized (length p.rows) cols (no_scrollback 0) p) o
+    ≡ option_map (page_resized rows cols (no_scrollback 0)) o
+other_columns rows cols page None h k = refl
+other_columns rows cols page (Some p) h k =
+    ap (λ (i : ℕ). Some (page_resized i cols (no_scrollback 0) p)) (k.same.height ∙ sym h)
+
+pub nothing_columns : (o : Option Page) (before after : Scrollback) → before ≡ no_scrollback 0 →
+    IfSome o (λ page. after ≡ scrollback_resized (length page.rows) page before) → (o ≡ None → after ≡ before) →
+    IsNothing after
+nothing_columns None before after z h n =
+    subst IsNothing (sym (n refl ∙ z)) (record { capacity = refl; rows = refl; offset = refl })
+nothing_columns (Some p) before after z h n =
+    subst IsNothing (sym (h ∙ ap (scrollback_resized (length p.rows) p) z)) (nothing_resized (length p.rows) p)
+
+pub kept_columns : (rows cols : ℕ) (page new : Page) (last : Option ℕ)
+    (aside : Aside) (o : Option Page) (above idle : Scrollback) → rows ≡ length page.rows
+    → 0 < rows → rows < 2 ^ 16 → 0 < cols → cols < 2 ^ 16 → aside.is_alternate ≡ false
+    → new ≡ page_resized (length page.rows) cols aside.active page
+    → above ≡ scrollback_resized (length page.rows) page aside.active
+    → o ≡ option_map (page_resized rows cols (no_scrollback 0)) aside.other → IsNothing idle → IsKept page last aside
+    → IsKept new last (record { other = o; is_alternate = aside.is_alternate; active = above; idle = idle })
+kept_columns rows cols page new last aside o above idle h a b c d main n m k nothing kept =
+    let there : new ≡ page_resized rows cols aside.active page =
+    n ∙ ap (λ (i : ℕ). page_resized i cols aside.active page) (sym h) in
+    let beyond : above ≡ scrollback_resized rows page aside.active =
+    m ∙ ap (λ (i : ℕ). scrollback_resized i page aside.active) (sym h) in
+    rw (there, beyond, k) (kept_resized rows cols page last aside idle a b c d main nothing kept)
+
+-- Replacing the scrollback of the inactive alternate page, which keeps nothing.
+pub kept_idle : (page : Page) (last : Option ℕ) (o : Option Page) (b : Bool) (active old idle : Scrollback) →
+    b ≡ false → IsNothing idle →
+    IsKept page last (record { other = o; is_alternate = b; active = active; idle = old }) →
+    IsKept page last (record { other = o; is_alternate = b; active = active; idle = idle })
+kept_idle page last o true active old idle e n k = absurd (false≢true (sym e))
+kept_idle page last o false active old idle e n k = record {
+  sound = k.sound;
+  colored = k.colored;
+  printable = k.printable;
+  other = k.other;
+  entered = k.entered;
+  nothing = n;
+  above = k.above;
+}
+
+-- The view of a screen with both pages resized to another width in place.
+pub view_columns : (rows cols : ℕ) (v now : ScreenValue) (active idle above after : Scrollback) (new : Page)
+    (o : Option Page) → v ≡ now → v.scrollback ≡ main_scrollback v.is_alternate active idle →
+    now.is_alternate ≡ false → rows ≡ length v.page.rows →
+    new ≡ page_resized (length v.page.rows) cols active v.page →
+    above ≡ scrollback_resized (length v.page.rows) v.page active →
+    o ≡ option_map (page_resized rows cols (no_scrollback 0)) v.other →
+    record v { page = new; other = o; scrollback = main_scrollback v.is_alternate above after }
+    ≡ pages_resized rows cols now
+view_columns rows cols v now active idle above after new o same w main h n m k =
+    let not_alternate : v.is_alternate ≡ false = ap (λ (x : ScreenValue). x.is_alternate) same ∙ main in
+    let whole : active ≡ v.scrollback = above_main v.is_alternate active idle v.scrollback w not_alternate in
+    let page : new ≡ page_resized rows cols v.scrollback v.page =
+    n ∙ (λ z. page_resized (sym h z) cols (whole z) v.page) in
+    let scrollback : main_scrollback v.is_alternate above after ≡ scrollback_resized rows v.page v.scrollback =
+    ap (λ (b : Bool). main_scrollback b above after) not_alternate
+    ∙ (m ∙ (λ z. scrollback_resized (sym h z) v.page (whole z))) in
+    (λ z. record v { page = page z; other = k z; scrollback = scrollback z }) ∙ ap (pages_resized rows cols) same

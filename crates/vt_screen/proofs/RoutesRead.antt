@@ -5,9 +5,10 @@ use Rattle.std.proofs.Common.{decimal, replicate, if◌then◌else◌}
 use Rattle.std.proofs.lemmas.Bool.Decides.{nat_tests}
 use Rattle.vt_cells.specs.Op.{MoveRight, LineFeed, Backspace, counted, csi}
 use Rattle.vt_cells.specs.declared.pos.Pos.{Pos}
-use Rattle.vt_grid.specs.Moves.{carriage_return, feeds_out, line_feed, moved_right}
+use Rattle.vt_grid.specs.Moves.{feeds_out, line_feed, moved}
 use Rattle.vt_grid.specs.Page.{Page}
-use Rattle.vt_grid.specs.declared.page_step.PageStep.TheVariants as page
+use Rattle.vt_grid.specs.declared.grid.moves.CursorMove.TheVariants.{Return, Right, Tab, ToColumn}
+use Rattle.vt_grid.specs.declared.page_step.PageStep.TheVariants.{Move}
 use Rattle.vt_scan.specs.Automaton.{start, fresh_step}
 use Rattle.vt_scan.specs.Table.{class_of}
 use Rattle.vt_scan.proofs.Written.{decimal_groups, decimal_is_parameter}
@@ -64,14 +65,14 @@ stay width col = record {
 
 -- ---- tabs
 
-tab_read : (screen : ScreenValue) → ReadsTo (0x09 ∷ []) screen (display_after (OnPage page.Tab) screen)
+tab_read : (screen : ScreenValue) → ReadsTo (0x09 ∷ []) screen (display_after (OnPage (Move Tab)) screen)
 unfolding read_byte fresh_step class_of control_steps
 tab_read screen = refl
 
 tab_tame : IsTame (0x09 ∷ [])
 tab_tame reader screen h =
-    goes_read false reader screen (display_after (OnPage page.Tab) screen) (0x09 ∷ []) (tab_read screen)
-    (held false reader screen (display_after (OnPage page.Tab) screen)
+    goes_read false reader screen (display_after (OnPage (Move Tab)) screen) (0x09 ∷ []) (tab_read screen)
+    (held false reader screen (display_after (OnPage (Move Tab)) screen)
     (record { top = refl; bottom = refl; origin = refl; saved_origin = refl })
     (record { other = refl; is_alternate = refl; modes = refl; size = record { width = refl; height = refl } })
     h.offset h)
@@ -113,7 +114,7 @@ pub right_tame : (n : ℕ) → n < 2 ^ 16 → IsTame (counted n 0x43)
 right_tame n small reader screen h = op_goes (MoveRight n) false reader screen small tt h
 
 pub right_read : (n : ℕ) (screen : ScreenValue) → 0 < n → n < 2 ^ 16 →
-    ReadsTo (counted n 0x43) screen (record screen { page = moved_right n screen.page })
+    ReadsTo (counted n 0x43) screen (record screen { page = moved (Right n) screen.page })
 right_read zero screen some small = absurd (omega arith)
 right_read (suc n) screen some small = moved_right_read n screen small
 
@@ -128,16 +129,16 @@ right width n col some small = record {
 
 column_quiet : (target : ℕ) (screen : ScreenValue) →
     quiet_steps (unmarked_steps (((target + 1) ∷ []) ∷ []) 0x47 (seen_of screen)) screen
-    ≡ Some (display_after (OnPage (page.MoveToColumn target)) screen)
+    ≡ Some (display_after (OnPage (Move (ToColumn target))) screen)
 unfolding counted_step
 column_quiet target screen =
-    ap (λ (c : ℕ). Some (display_after (OnPage (page.MoveToColumn c)) screen)) (ordinal_read target)
+    ap (λ (c : ℕ). Some (display_after (OnPage (Move (ToColumn c))) screen)) (ordinal_read target)
 
 column_read : (target : ℕ) (screen : ScreenValue) → target < 65535 →
-    ReadsTo (csi (decimal (target + 1)) 0x47) screen (display_after (OnPage (page.MoveToColumn target)) screen)
+    ReadsTo (csi (decimal (target + 1)) 0x47) screen (display_after (OnPage (Move (ToColumn target))) screen)
 column_read target screen small =
     csi_read (decimal (target + 1)) 0x47 (((target + 1) ∷ []) ∷ []) screen
-    (display_after (OnPage (page.MoveToColumn target)) screen)
+    (display_after (OnPage (Move (ToColumn target))) screen)
     (decimal_is_parameter (target + 1) (omega arith)) (omega arith, omega arith)
     (decimal_groups (target + 1) (omega arith)) (column_quiet target screen)
 
@@ -147,9 +148,9 @@ column width target col small = record {
   reads = λ screen w e. column_read target screen small
       ∙ ap (λ k. Some (terminal start (record screen { page = record screen.page { column = min target (k - 1) } }))) w;
   tame = λ reader screen h.
-      goes_read false reader screen (display_after (OnPage (page.MoveToColumn target)) screen)
+      goes_read false reader screen (display_after (OnPage (Move (ToColumn target))) screen)
       (csi (decimal (target + 1)) 0x47) (column_read target screen small)
-      (held false reader screen (display_after (OnPage (page.MoveToColumn target)) screen)
+      (held false reader screen (display_after (OnPage (Move (ToColumn target))) screen)
       (record { top = refl; bottom = refl; origin = refl; saved_origin = refl })
       (record { other = refl; is_alternate = refl; modes = refl; size = record { width = refl; height = refl } })
       h.offset h);
@@ -165,7 +166,7 @@ last_moves width (last.Column target) col is = column width target col is
 
 -- ---- the carriage return
 
-pub return_read : (screen : ScreenValue) → ReadsTo (0x0D ∷ []) screen (with_page (carriage_return screen.page) screen)
+pub return_read : (screen : ScreenValue) → ReadsTo (0x0D ∷ []) screen (with_page (moved Return screen.page) screen)
 return_read screen = returned_read screen []
 
 return_if : (width : ℕ) (returns : Bool) (col : ℕ) →

@@ -96,7 +96,7 @@ row_there picture r c stood reader at =
     let e = at.row in
     omega arith
 
--- ---- the output of a difference
+-- ---- the output of a diff
 
 changed_read : (picture prev : Picture) (r start_ stop : ℕ) (reader : ScreenValue) → IsPicture picture →
     IsColoredPicture picture → IsSteady picture → r < length picture.rows → start_ ≤ stop → stop ≤ picture.width →
@@ -322,7 +322,7 @@ linked_shows picture r is colors steady low on =
           (reads reader at) h (λ last. plain_wrapped picture r row pen reader last at.is);
     }
 
--- ---- the difference of a whole row leaves it not wrapped if the row isn't wrapped
+-- ---- the diff of a whole row leaves it not wrapped if the row isn't wrapped
 
 pub changed_off : (picture prev : Picture) (r : ℕ) → IsPicture picture →
     IsColoredPicture picture → IsSteady picture → IsPicture prev → SamePictureSize picture prev →

@@ -1,4 +1,4 @@
--- A plain terminal that reads a difference that shifts columns is plain again, whatever the difference draws.
+-- A plain terminal that reads a diff that shifts columns is plain again, whatever the diff draws.
 use Rattle.std.proofs.Common.{ℕ, zero, suc, ◌<◌, ◌^◌, inl, inr, Bool, true, false}
 use Rattle.std.proofs.Common.{List, [], ◌∷◌, ◌++◌, length, refl, sym, subst, arith}
 use Rattle.std.specs.List.{AllByRecursion}

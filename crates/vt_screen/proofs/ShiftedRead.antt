@@ -1,4 +1,4 @@
--- Shifts of columns, and the difference after them, read by a plain terminal.
+-- Shifts of columns, and the diff after them, read by a plain terminal.
 use Rattle.std.proofs.Common.{◌≡◌, inl, inr, ℕ, zero, suc, ◌-◌, ◌<◌, ◌^◌, Bool, true, false, List, []}
 use Rattle.std.proofs.Common.{◌∷◌, ◌++◌, length, Some, refl, sym, ap, subst, ◌∙◌, arith}
 use Rattle.std.specs.Prelude.{min, if◌then◌else◌}
@@ -6,7 +6,8 @@ use Rattle.std.specs.List.{AllByRecursion}
 use Rattle.vt_cells.specs.Attrs.{default_attrs}
 use Rattle.vt_cells.specs.Op.{FitsAttrs, MoveTo, bytes_of, bytes_of_all, counted}
 use Rattle.vt_grid.specs.Page.{Page, IsPage, IsPlainPage}
-use Rattle.vt_grid.specs.Moves.{moved_to, target_row}
+use Rattle.vt_grid.specs.Moves.{moved, target_row}
+use Rattle.vt_grid.specs.declared.grid.moves.CursorMove.TheVariants.{To}
 use Rattle.vt_grid.specs.declared.page_step.PageStep.TheVariants.{DeleteChars, InsertChars}
 use Rattle.vt_grid.specs.Shifts.{chars_deleted, chars_inserted}
 use Rattle.vt_redraw.specs.Picture.{IsPicture, Picture, SamePictureSize, picture_of}
@@ -47,7 +48,7 @@ unfolding counted_step
 deleted_chars_read n screen h = counted_read n 0x50 DeleteChars screen h (omega arith, omega arith) (λ groups. refl)
 
 placed : (r c : ℕ) (page : Page) → IsPlainPage page → r < length page.rows → c < page.width →
-    moved_to r c page ≡ record page { row = r; column = c }
+    moved (To r c) page ≡ record page { row = r; column = c }
 placed r c page plain h k =
     let row : target_row r page ≡ r = rw plain.origin (omega arith) in
     let column : min c (page.width - 1) ≡ c = omega arith in
@@ -67,7 +68,7 @@ part_read true (suc n) r c screen is plain inside =
     let b = inside.columns in
     let wide = is.columns in
     let tall = is.height in
-    let middle = with_page (moved_to r c screen.page) screen in
+    let middle = with_page (moved (To r c) screen.page) screen in
     reads_then (terminal start screen) (terminal start middle)
     (terminal start (display_after (OnPage (InsertChars (suc n))) middle))
     (bytes_of (MoveTo r c)) (counted (suc n) 0x40)
@@ -79,7 +80,7 @@ part_read false (suc n) r c screen is plain inside =
     let b = inside.columns in
     let wide = is.columns in
     let tall = is.height in
-    let middle = with_page (moved_to r c screen.page) screen in
+    let middle = with_page (moved (To r c) screen.page) screen in
     reads_then (terminal start screen) (terminal start middle)
     (terminal start (display_after (OnPage (DeleteChars (suc n))) middle))
     (bytes_of (MoveTo r c)) (counted (suc n) 0x50)
@@ -184,7 +185,7 @@ moving_redraws self prev text d (inr it) =
 some_place : (r c : ℕ) → bytes_of (MoveTo r c) ≡ [] → ⊥
 some_place r c empty = cc
 
--- A difference that may move rows or columns is empty only between screens that display the same.
+-- A diff that may move rows or columns is empty only between screens that display the same.
 pub moving_tells : (self prev : ScreenValue) (text : List ℕ) → AreDiffed self prev → IsSteady (display self) →
     IsMoving (display self) (display prev) text → text ≡ [] → display self ≡ display prev
 moving_tells self prev text d steady (inl told) empty = scrolling_tells self prev text d steady told empty

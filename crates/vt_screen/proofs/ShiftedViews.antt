@@ -47,7 +47,7 @@ shifted_view prev first start text before after is own e shifts =
     ∙ (ap (λ (page : Page). shifted_all all (picture_of (canvas_with page prev))) e
     ∙ ap (λ (p : Picture). shifted_all all (in_default_attrs p)) (sym (own_shown prev is own))))
 
--- The change of attributes, the shifts and the difference after them make up the whole output.
+-- The change of attributes, the shifts and the diff after them make up the whole output.
 pub shifting_written : (self prev : ScreenValue) (first : RowShift) (start changed shifted done : List ℕ)
     (before after : Page) (picture : Picture) → before ≡ prev.page
     → changed ≡ start ++ bytes_of_all (attr_ops (display prev).attrs default_attrs)

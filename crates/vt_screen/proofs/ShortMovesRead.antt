@@ -1,23 +1,26 @@
--- Reading a scrolling difference whose cursor movements were shortened.
-use Rattle.std.proofs.Common.{◌≡◌, ℕ, ◌<◌, ◌≤◌, Bool, true, false, nat_lt, List, length, Option, Some, None, refl, sym, ap, subst, ◌∙◌, arith, inl, inr}
+-- Reading a scrolling diff whose cursor movements were shortened.
+use Rattle.std.proofs.Common.{◌≡◌, ℕ, ◌<◌, ◌≤◌, Bool, true, false, nat_lt, List, length, Some, None, refl, sym, ap, subst, ◌∙◌, arith, inl, inr}
 use Rattle.std.specs.Prelude.{if◌then◌else◌}
 use Rattle.std.proofs.lemmas.Bool.Decides.{nat_tests}
-use Rattle.vt_cells.specs.declared.pos.Pos.{Pos}
+use Rattle.vt_cells.specs.Attrs.{default_attrs}
+use Rattle.vt_cells.proofs.Same.{attrs_of-same}
 use Rattle.vt_redraw.specs.Picture.{Picture}
 use Rattle.vt_redraw.specs.Shifted.{IsMoving}
 use Rattle.vt_scan.specs.Automaton.{start}
 use Rattle.vt_screen.specs.Again.{KeepsPlain}
+use Rattle.vt_screen.specs.Gaps.{IsShortVersion, ReplacesWhole, Tracks, known_at_start, picture_cell}
 use Rattle.vt_screen.specs.MadeOf.{IsMadeOf, drawing_controls, scrolling_finals, shortened_controls, shortened_finals}
 use Rattle.vt_screen.specs.Reading.{terminal, terminal_after}
 use Rattle.vt_screen.specs.Screen.{IsColored, IsScreen, ScreenValue}
-use Rattle.vt_screen.specs.ShortMoves.{IsAt, IsPlainSized, IsShortMoving, IsShortVersion, Replaces, known_cursor}
+use Rattle.vt_screen.specs.ShortMoves.{IsAt, IsShortMoving, known_cursor}
+use Rattle.vt_screen.specs.declared.short_moves.known.Known.{Known}
 use Rattle.vt_screen.specs.Shown.{IsReaderOf, IsSameIfEmpty, RedrawsFrom, display}
 use Rattle.vt_screen.proofs.ContentTexts.{none_refused}
 use Rattle.vt_screen.proofs.MadeOf.{made_more, moving_made}
 use Rattle.vt_screen.proofs.MovedRead.{AreDiffed}
 use Rattle.vt_screen.proofs.ShiftedAgain.{moving_keeps}
 use Rattle.vt_screen.proofs.ShiftedRead.{moving_redraws, moving_tells}
-use Rattle.vt_screen.proofs.Shown.{shown_height}
+use Rattle.vt_screen.proofs.Shown.{plain_shown, shown_height}
 
 -- A terminal that displays what a screen displays has its cursor where that screen has it.
 reader_at : (self prev : Picture) (screen reader : ScreenValue) → prev ≡ display screen → IsReaderOf self prev reader →
@@ -38,12 +41,21 @@ reader_at self prev screen reader e is = by_wrap (nat_lt screen.page.column scre
         }
     by_wrap false outside = tt
 
-reader_sized : (self : Picture) (prev reader : ScreenValue) → IsReaderOf self (display prev) reader →
-    IsPlainSized (length prev.page.rows) prev.page.width reader
-reader_sized self prev reader is = record {
-  plain = is.is.plain;
-  height = sym (shown_height reader) ∙ (ap (λ (p : Picture). length p.rows) is.shows ∙ shown_height prev);
-  width = ap (λ (p : Picture). p.width) is.shows;
+reader_tracked : (self : Picture) (prev reader : ScreenValue) → IsReaderOf self (display prev) reader →
+    Tracks (length (display prev).rows) (display prev).width (picture_cell (display prev)) (known_at_start prev) reader
+reader_tracked self prev reader is = record {
+  sized = record {
+    plain = is.is.plain;
+    height = sym (shown_height reader) ∙ ap (λ (p : Picture). length p.rows) is.shows;
+    width = ap (λ (p : Picture). p.width) is.shows;
+  };
+  at = reader_at self (display prev) prev reader refl is;
+  kept = record {
+    page = is.is.sound.page;
+    glyphs = λ r c from narrow.
+        ap (λ (p : Picture). picture_cell p r c) (sym (plain_shown reader is.is.sound is.is.plain) ∙ is.shows);
+    attrs = λ e. ap (λ (p : Picture). p.attrs) is.shows ∙ attrs_of-same prev.attrs default_attrs e;
+  };
 }
 
 pub version_same : (self : Picture) (prev : ScreenValue) (old text : List ℕ) → IsShortVersion prev old text →
@@ -51,11 +63,11 @@ pub version_same : (self : Picture) (prev : ScreenValue) (old text : List ℕ) �
     terminal_after (terminal start reader) text ≡ terminal_after (terminal start reader) old
 version_same self prev old text (inl e) reader is = ap (terminal_after (terminal start reader)) e
 version_same self prev old text (inr r) reader is =
-    r.1.same reader (reader_sized self prev reader is) (reader_at self (display prev) prev reader refl is)
+    r.1.stands.same reader (reader_tracked self prev reader is)
 
 pub version_shorter : (prev : ScreenValue) (old text : List ℕ) → IsShortVersion prev old text → length text ≤ length old
 version_shorter prev old text (inl e) = let same : length text ≡ length old = ap (λ (xs : List ℕ). length xs) e in omega (arith, same)
-version_shorter prev old text (inr r) = r.1.shorter
+version_shorter prev old text (inr r) = r.1.stands.shorter
 
 pub version_moving : (self : Picture) (prev : ScreenValue) (old text : List ℕ) → IsMoving self (display prev) old →
     IsShortVersion prev old text → IsShortMoving self (display prev) text
@@ -90,22 +102,21 @@ version_made self prev old text is colored other moving (inl e) =
     subst (IsMadeOf shortened_finals shortened_controls) (sym e)
     (made_more scrolling_finals shortened_finals drawing_controls shortened_controls (λ x one. inr one)
     (λ x one. inr (inr one)) old (moving_made self prev old is colored other moving))
-version_made self prev old text is colored other moving (inr r) = r.1.made
+version_made self prev old text is colored other moving (inr r) = r.1.stands.made
 
 pub version_keeps : (self prev : ScreenValue) (old text : List ℕ) → IsScreen self → IsColored self → IsScreen prev →
     IsColored prev → IsMoving (display self) (display prev) old → IsShortVersion prev old text → KeepsPlain text
 version_keeps self prev old text is colored sound other moving (inl e) =
     subst KeepsPlain (sym e) (moving_keeps self prev old is colored sound other moving)
-version_keeps self prev old text is colored sound other moving (inr r) = r.1.keeps
+version_keeps self prev old text is colored sound other moving (inr r) = r.1.stands.keeps
 
-pub version_short : (prev : ScreenValue) (rows cols : ℕ) (at : Option Pos) (old whole text : List ℕ)
-    → Replaces rows cols at None whole text → rows ≡ length prev.page.rows → cols ≡ prev.page.width
-    → at ≡ known_cursor prev → whole ≡ old → 0 < length text → IsShortVersion prev old text
-version_short prev rows cols at old whole text r tall wide known same some =
+pub version_short : (prev : ScreenValue) (picture : Picture) (start : Known) (old whole text : List ℕ)
+    → ReplacesWhole (length picture.rows) picture.width (picture_cell picture) start whole text
+    → picture ≡ display prev → start ≡ known_at_start prev → whole ≡ old → 0 < length text → IsShortVersion prev old text
+version_short prev picture start old whole text stands same known e some =
     inr (
       some,
-      subst (λ h. Replaces h prev.page.width (known_cursor prev) None old text) tall
-          (subst (λ w. Replaces rows w (known_cursor prev) None old text) wide
-          (subst (λ (k : Option Pos). Replaces rows cols k None old text) known
-          (subst (λ (xs : List ℕ). Replaces rows cols at None xs text) same r))),
+      subst (λ (p : Picture). ReplacesWhole (length p.rows) p.width (picture_cell p) (known_at_start prev) old text) same
+          (subst (λ (k : Known). ReplacesWhole (length picture.rows) picture.width (picture_cell picture) k old text) known
+          (subst (λ (xs : List ℕ). ReplacesWhole (length picture.rows) picture.width (picture_cell picture) start xs text) e stands)),
     )

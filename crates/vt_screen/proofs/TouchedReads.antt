@@ -16,8 +16,8 @@ use Rattle.vt_cells.specs.Op.{place, semicolon_list, change_numbers, change_text
 use Rattle.vt_grid.specs.Canvas.{Canvas, and_then, canvas_after_op, drawn_all, drawn_char, drawn_text, canvas_after_line_feed}
 use Rattle.vt_grid.specs.Page.{Page}
 use Rattle.vt_grid.specs.Erasing.{erased_below, erased_rest, erased_chars}
-use Rattle.vt_grid.specs.Moves.{at_bottom, carriage_return, cursor_restored, cursor_saved}
-use Rattle.vt_grid.specs.Moves.{feeds_out, line_feed, moved_left, moved_right, moved_to}
+use Rattle.vt_grid.specs.Moves.{at_bottom, cursor_restored, cursor_saved, feeds_out, line_feed, moved}
+use Rattle.vt_grid.specs.declared.grid.moves.CursorMove.TheVariants.{Return, Right, Left, To}
 use Rattle.vt_grid.specs.Printing.{page_after_print, pushes, wraps}
 use Rattle.vt_grid.specs.declared.page_step.PageStep.TheVariants as page
 use Rattle.vt_redraw.specs.Fits.{Fits, IsDrawn}
@@ -294,7 +294,7 @@ unfolding fresh_step class_of control_steps
 returned_touches M screen = event_touches M (0x0D ∷ []) (Executed 0x0D) screen refl refl (tt, λ next e. tt)
 
 returned_reads : (screen : ScreenValue) →
-    terminal_after (terminal start screen) (0x0D ∷ []) ≡ Some (terminal start (with_page (carriage_return screen.page) screen))
+    terminal_after (terminal start screen) (0x0D ∷ []) ≡ Some (terminal start (with_page (moved Return screen.page) screen))
 unfolding read_byte fresh_step class_of control_steps
 returned_reads screen = refl
 
@@ -330,7 +330,7 @@ op_touches M (MoveRight zero) screen d f top h p = tt
 op_touches M (MoveRight (suc n)) screen d f top h p =
     counted_touches M n 0x43 screen f (omega arith, omega arith) (λ groups e. right_touches M groups screen)
 op_touches M NextRow screen d f top h p =
-    let next : ScreenValue = with_page (carriage_return screen.page) screen in
+    let next : ScreenValue = with_page (moved Return screen.page) screen in
     touches_then M (terminal start screen) (terminal start next) (0x0D ∷ []) (0x0A ∷ [])
     (returned_touches M screen) (returned_reads screen) (line_touches M next d top h)
 op_touches M LineFeed screen d f top h p = line_touches M screen d top h
@@ -380,13 +380,13 @@ fed_top canvas d h = by_case (feeds_out canvas.page) h where
 op_top : (op : Op) (canvas d : Canvas) → canvas_after_op op canvas ≡ Some d → d.page.top ≡ canvas.page.top
 op_top (Hide hidden) canvas d h = same_top (record canvas { hidden = hidden }) d canvas h refl
 op_top ClearAttrs canvas d h = same_top (record canvas { attrs = default_attrs }) d canvas h refl
-op_top (MoveTo row col) canvas d h = same_top (record canvas { page = moved_to row col canvas.page }) d canvas h refl
+op_top (MoveTo row col) canvas d h = same_top (record canvas { page = moved (To row col) canvas.page }) d canvas h refl
 op_top (MoveRight zero) canvas d h = same_top canvas d canvas h refl
 op_top (MoveRight (suc n)) canvas d h =
-    same_top (record canvas { page = moved_right (suc n) canvas.page }) d canvas h refl
-op_top NextRow canvas d h = fed_top (record canvas { page = carriage_return canvas.page }) d h
+    same_top (record canvas { page = moved (Right (suc n)) canvas.page }) d canvas h refl
+op_top NextRow canvas d h = fed_top (record canvas { page = moved Return canvas.page }) d h
 op_top LineFeed canvas d h = fed_top canvas d h
-op_top Backspace canvas d h = same_top (record canvas { page = moved_left 1 canvas.page }) d canvas h refl
+op_top Backspace canvas d h = same_top (record canvas { page = moved (Left 1) canvas.page }) d canvas h refl
 op_top EraseBelow canvas d h =
     same_top (record canvas { page = erased_below canvas.attrs canvas.page })
     d canvas h (top_below canvas.attrs canvas.page)

@@ -1,4 +1,4 @@
--- The positions that are touched by reading a difference or the output for the cursor.
+-- The positions that are touched by reading a diff or the output for the cursor.
 use Rattle.std.proofs.Common.{◌≡◌, ℕ, List, sym, ap, subst, ◌∙◌}
 use Rattle.vt_cells.specs.Op.{bytes_of_all}
 use Rattle.vt_redraw.specs.Locality.{IsLocal, MayPlace}

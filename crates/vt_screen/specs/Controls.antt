@@ -9,10 +9,10 @@ use Rattle.vt_cells.specs.declared.modes.MouseProtocolEncoding.{MouseProtocolEnc
 use Rattle.vt_cells.specs.declared.modes.MouseProtocolEncoding.TheVariants as encoding
 use Rattle.vt_cells.specs.declared.modes.CursorStyle.{CursorStyle}
 use Rattle.vt_cells.specs.declared.modes.CursorStyle.TheVariants as style
+use Rattle.vt_grid.specs.declared.grid.moves.CursorMove.TheVariants.{Return, Up, Down, Right, Left, NextLine}
+use Rattle.vt_grid.specs.declared.grid.moves.CursorMove.TheVariants.{PreviousLine, Tab, To, ToColumn, ToRow}
 use Rattle.vt_grid.specs.declared.page_step.PageStep.{PageStep}
-use Rattle.vt_grid.specs.declared.page_step.PageStep.TheVariants.{CarriageReturn, ReverseIndex, MoveUp, MoveDown}
-use Rattle.vt_grid.specs.declared.page_step.PageStep.TheVariants.{MoveRight, MoveLeft, NextLine, PreviousLine, Tab}
-use Rattle.vt_grid.specs.declared.page_step.PageStep.TheVariants.{MoveTo, MoveToColumn, MoveToRow, SetRegion, UseOrigin}
+use Rattle.vt_grid.specs.declared.page_step.PageStep.TheVariants.{Move, ReverseIndex, SetRegion, UseOrigin}
 use Rattle.vt_grid.specs.declared.page_step.PageStep.TheVariants.{EraseBelow, EraseAbove, ErasePage, EraseRest}
 use Rattle.vt_grid.specs.declared.page_step.PageStep.TheVariants.{EraseStart, EraseRow, EraseChars, InsertChars}
 use Rattle.vt_grid.specs.declared.page_step.PageStep.TheVariants.{DeleteChars, InsertLines, DeleteLines, ScrollDown}
@@ -72,10 +72,10 @@ character_steps c =
 unfoldable pub control_steps : ℕ → List Step
 control_steps b =
     if b == 0x07 then CallBack AudibleBell ∷ []
-    else if b == 0x08 then OnPage (MoveLeft 1) ∷ []
-    else if b == 0x09 then OnPage Tab ∷ []
+    else if b == 0x08 then OnPage (Move (Left 1)) ∷ []
+    else if b == 0x09 then OnPage (Move Tab) ∷ []
     else if nat_le 0x0A b && nat_le b 0x0C then LineFeed ∷ []
-    else if b == 0x0D then OnPage CarriageReturn ∷ []
+    else if b == 0x0D then OnPage (Move Return) ∷ []
     else if (b == 0x0E) || (b == 0x0F) then []
     else CallBack (UnhandledControl b) ∷ []
 
@@ -146,26 +146,26 @@ repeated n None = []
 unfoldable pub counted_step : ℕ → ℕ → Option PageStep
 counted_step b n =
     if b == 0x40 then Some (InsertChars n)
-    else if b == 0x41 then Some (MoveUp n)
-    else if b == 0x42 then Some (MoveDown n)
-    else if b == 0x43 then Some (MoveRight n)
-    else if b == 0x44 then Some (MoveLeft n)
-    else if b == 0x45 then Some (NextLine n)
-    else if b == 0x46 then Some (PreviousLine n)
-    else if (b == 0x47) || (b == 0x60) then Some (MoveToColumn (n - 1))
+    else if b == 0x41 then Some (Move (Up n))
+    else if b == 0x42 then Some (Move (Down n))
+    else if b == 0x43 then Some (Move (Right n))
+    else if b == 0x44 then Some (Move (Left n))
+    else if b == 0x45 then Some (Move (NextLine n))
+    else if b == 0x46 then Some (Move (PreviousLine n))
+    else if (b == 0x47) || (b == 0x60) then Some (Move (ToColumn (n - 1)))
     else if b == 0x4C then Some (InsertLines n)
     else if b == 0x4D then Some (DeleteLines n)
     else if b == 0x50 then Some (DeleteChars n)
     else if b == 0x54 then Some (ScrollDown n)
     else if b == 0x58 then Some (EraseChars n)
-    else if b == 0x64 then Some (MoveToRow (n - 1))
+    else if b == 0x64 then Some (Move (ToRow (n - 1)))
     else None
 
 -- The steps of CUP, HVP, ED, EL, SGR, DECSTBM and xterm's window manipulation; any other control sequence is reported
 -- as unhandled. Rows and columns in the sequences are 1-based.
 unfoldable pub other_steps : List (List ℕ) → ℕ → Seen → List Step
 other_steps groups b seen =
-    if (b == 0x48) || (b == 0x66) then OnPage (MoveTo (number_or 1 0 groups - 1) (number_or 1 1 groups - 1)) ∷ []
+    if (b == 0x48) || (b == 0x66) then OnPage (Move (To (number_or 1 0 groups - 1) (number_or 1 1 groups - 1))) ∷ []
     else if b == 0x4A then page_erasing (UnhandledCsi None None groups b) (number_at 0 groups)
     else if b == 0x4B then row_erasing (UnhandledCsi None None groups b) (number_at 0 groups)
     else if b == 0x6D then sgr_steps groups

@@ -6,7 +6,8 @@ use Rattle.vt_screen.specs.MadeOf.{IsMadeOf}
 use Rattle.vt_screen.specs.Screen.{ScreenValue}
 use Rattle.vt_screen.specs.Shown.{IsSameIfEmpty, RedrawsFrom, display, display_change}
 
--- The output is a diff without REP, with all that the clauses of `contents_diff` and `contents_diff_scrolling` say of both.
+-- The output is a diff without REP, and has all the properties that the clauses of both `contents_diff` and
+-- `contents_diff_scrolling` state.
 pub record IsPlainDiff (scroll : Bool) (was new : ScreenValue) (text : List ℕ) : Type 0 where
   pub diff : IsDiff scroll was new text
   pub controls : IsMadeOf (diff_finals scroll) (diff_controls scroll) text

@@ -8,7 +8,7 @@ use Rattle.vt_screen.specs.ShortMoves.{IsShortMoving}
 use Rattle.vt_screen.specs.Shown.{IsPlain, IsReaderOf, display, display_change}
 use Rattle.vt_screen.specs.declared.diff_options.DiffOptions.{DiffOptions}
 
--- The output is the plain diff or, if rows and columns may move first, a diff that may move them.
+-- The output is the ordinary diff or, if rows and columns may move first, a diff that may move them.
 abbrev pub IsDiff : (scroll : Bool) → (was new : ScreenValue) → List ℕ → Type 0
 IsDiff true was new text = IsShortMoving (display new) (display was) text
 IsDiff false was new text = text ≡ display_change was new
@@ -23,21 +23,22 @@ abbrev pub diff_controls : (scroll : Bool) → List (List ℕ)
 diff_controls true = shortened_controls
 diff_controls false = drawing_controls
 
--- The output `text` is `plain`, in which runs may be written with REP if `repeat` allows it. A terminal that displays the
--- screen `was` has `width` columns, and its cursor is in the same column.
+-- The output `text` is `plain`; if `repeat` is true, runs in it may be written with REP. The terminal has the width and
+-- the cursor column of the screen `was`.
 abbrev pub MayRepeat : (repeat : Bool) → (was : ScreenValue) → (plain text : List ℕ) → Type 0
 MayRepeat true was plain text = Repeats was.page.width (was.page.width - was.page.column) plain text
 MayRepeat false was plain text = text ≡ plain
 
--- The output is a diff with the given options: a diff without REP, which contains only drawing sequences, and in which
--- then runs may be written with REP.
+-- The output is a diff with the given options. It is made from a diff without REP, which contains only drawing
+-- sequences, by writing runs with REP if the options allow it.
 pub record IsDiffWith (options : DiffOptions) (was new : ScreenValue) (text : List ℕ) : Type 0 where
   pub plain : List ℕ
   pub diff : IsDiff options.scroll was new plain
   pub controls : IsMadeOf (diff_finals options.scroll) (diff_controls options.scroll) plain
   pub repeats : MayRepeat options.repeat was plain text
 
--- A plain terminal that displays the screen `was` repeats each character only within its row.
+-- While a plain terminal that displays the screen `was` reads the output, each REP repeats its character only within
+-- the cursor's row.
 abbrev pub RepeatsOnlyInRows : (was new : ScreenValue) → List ℕ → Type 0
 RepeatsOnlyInRows was new text =
     (reader : ScreenValue) → IsReaderOf (display new) (display was) reader → RepeatsInRows text reader

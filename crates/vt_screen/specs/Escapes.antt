@@ -1,4 +1,4 @@
--- Output whose only control characters are BS, LF, CR and ESC, and the characters that may follow each ESC.
+-- Output whose only control characters are BS, LF, CR, ESC and possibly HT, and the characters that may follow each ESC.
 use Rattle.std.specs.Prelude.{◌≡◌, ◌⊎◌, ◌&&◌, ◌||◌, nat_le, nat_lt, ℕ, Bool, true, List, [], ◌∷◌, encode_utf8_all, ⊤}
 use Rattle.vt_screen.specs.MadeOf.{IsOneOf}
 
@@ -10,16 +10,29 @@ abbrev pub BeginsWith : List ℕ → List ℕ → Type 0
 BeginsWith nexts [] = ⊥
 BeginsWith nexts (c ∷ rest) = IsOneOf c nexts
 
--- Each character is graphic or one of BS, LF, CR and ESC, and each ESC is followed by one of `nexts`.
-abbrev pub EscapesOnly : (nexts : List ℕ) → List ℕ → Type 0
-EscapesOnly nexts [] = ⊤
-EscapesOnly nexts (c ∷ rest) =
-    ((is_graphic c ≡ true) ⊎ IsOneOf c (0x08 ∷ 0x0A ∷ 0x0D ∷ 0x1B ∷ []))
-    × ((c ≡ 0x1B → BeginsWith nexts rest) × EscapesOnly nexts rest)
+-- The control characters BS, LF, CR and ESC.
+abbrev pub usual_controls : List ℕ
+usual_controls = 0x08 ∷ 0x0A ∷ 0x0D ∷ 0x1B ∷ []
 
--- The text is the UTF-8 encoding of characters. The only control characters among them are BS, LF, CR, and ESC
--- followed by one of `nexts`.
-pub record HasOnlyEscapes (nexts : List ℕ) (text : List ℕ) : Type 0 where
+-- The control characters HT, BS, LF, CR and ESC.
+abbrev pub moving_controls : List ℕ
+moving_controls = 0x09 ∷ usual_controls
+
+-- Each character is graphic or one of `controls`, and each ESC is followed by one of `nexts`.
+abbrev pub EscapesOnly : (controls nexts : List ℕ) → List ℕ → Type 0
+EscapesOnly controls nexts [] = ⊤
+EscapesOnly controls nexts (c ∷ rest) =
+    ((is_graphic c ≡ true) ⊎ IsOneOf c controls)
+    × ((c ≡ 0x1B → BeginsWith nexts rest) × EscapesOnly controls nexts rest)
+
+-- The text is the UTF-8 encoding of a list of characters. The only control characters among them are those in `controls`,
+-- and each ESC is followed by one of `nexts`.
+pub record HasOnlyControls (controls nexts : List ℕ) (text : List ℕ) : Type 0 where
   pub characters : List ℕ
   pub spelled : text ≡ encode_utf8_all characters
-  pub only : EscapesOnly nexts characters
+  pub only : EscapesOnly controls nexts characters
+
+-- The text is the UTF-8 encoding of a list of characters. The only control characters among them are BS, LF, CR and
+-- ESC, and each ESC is followed by one of `nexts`.
+abbrev pub HasOnlyEscapes : (nexts : List ℕ) → List ℕ → Type 0
+HasOnlyEscapes nexts text = HasOnlyControls usual_controls nexts text

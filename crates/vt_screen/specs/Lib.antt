@@ -33,3 +33,4 @@ pub mod RepeatInternals
 pub mod Diffs
 pub mod DiffInternals
 pub mod ShortMoves
+pub mod Gaps

@@ -49,7 +49,7 @@ abbrev pub drawing_finals : List ℕ
 drawing_finals = codes "HCXm"
 
 -- The fixed sequences that may occur in drawing output: CR LF, LF, BS, DECSC, DECRC, DECTCEM to show or hide the
--- cursor, and ED and EL without a number. ED 3 is therefore excluded, with which xterm erases its saved lines.
+-- cursor, and ED and EL without a number. This excludes ED 3, with which xterm erases its saved lines.
 abbrev pub drawing_controls : List (List ℕ)
 drawing_controls =
     (0x0D ∷ 0x0A ∷ []) ∷ (0x0A ∷ []) ∷ (0x08 ∷ [])

@@ -25,11 +25,11 @@ same_mouse_encoding encoding.Utf8 encoding.Utf8 = true
 same_mouse_encoding encoding.Sgr encoding.Sgr = true
 same_mouse_encoding _ _ = false
 
--- The first mouse mode after the second one is reset: `None` if the two are equal, otherwise unchanged.
+-- The mouse mode after `mode` is reset: `None` if `mode` is the active mode `was`, otherwise `was`.
 abbrev pub mouse_mode_without : MouseProtocolMode → MouseProtocolMode → MouseProtocolMode
 mouse_mode_without was mode = if same_mouse_mode was mode then mouse.None else was
 
--- The first mouse encoding after the second one is reset: the default if the two are equal, otherwise unchanged.
+-- The mouse encoding after `form` is reset: the default if `form` is the active encoding `was`, otherwise `was`.
 abbrev pub mouse_encoding_without : MouseProtocolEncoding → MouseProtocolEncoding → MouseProtocolEncoding
 mouse_encoding_without was form = if same_mouse_encoding was form then encoding.Default else was
 

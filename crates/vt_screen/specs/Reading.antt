@@ -34,7 +34,7 @@ quiet_events [] screen = Some screen
 quiet_events (event ∷ events) screen =
     and_then (quiet_events events) (quiet_steps (steps_of event (seen_of screen)) screen)
 
--- Whether a transition may allocate, because it collects a byte of an operating system command.
+-- Whether a transition may allocate. Only a transition that collects a byte of an operating system command may.
 abbrev pub grows : Transition → Bool
 grows (Collect OscString) = true
 grows _ = false

@@ -1,9 +1,12 @@
--- Output in which runs of one character are written with REP, which repeats the last printed character (ECMA-48,
+-- Output in which runs of the same character are written with REP, which repeats the last printed character (ECMA-48,
 -- 8.3.103), and its effect on the terminals that read it.
-use Rattle.std.specs.Prelude.{◌≡◌, ◌⊎◌, ℕ, suc, ◌+◌, ◌<◌, ◌≤◌, ◌==◌, List, [], ◌∷◌, ◌++◌, decimal, length}
-use Rattle.std.specs.Prelude.{replicate, if◌then◌else◌}
+use Rattle.std.specs.Prelude.{◌≡◌, ◌⊎◌, ℕ, suc, ◌+◌, ◌<◌, ◌≤◌, ◌==◌, List, [], ◌∷◌, ◌++◌, Some, decimal, length}
+use Rattle.std.specs.Prelude.{encode_utf8_all, replicate, if◌then◌else◌}
+use Rattle.std.specs.Char.{encode_utf8}
 use Rattle.std.specs.List.{AllByRecursion, flat_map}
+use Rattle.vt_cells.specs.Glyph.{columns_of}
 use Rattle.vt_cells.specs.Op.{csi}
+use Rattle.vt_redraw.specs.Fits.{IsDrawn}
 use Rattle.vt_scan.specs.Automaton.{Event, CsiDispatch, start}
 use Rattle.vt_scan.specs.Run.{run}
 use Rattle.vt_screen.specs.CallsOfRun.{screen_after_all, steps_in}
@@ -17,25 +20,33 @@ use Rattle.vt_screen.specs.Screen.{IsScreen, ScreenValue}
 abbrev pub repeat_text : ℕ → List ℕ
 repeat_text count = csi (decimal count) 0x62
 
+-- The character is printed in one column.
+pub record IsNarrow (c : ℕ) : Type 0 where
+  pub drawn : IsDrawn c
+  pub columns : columns_of c ≡ Some 1
+
+-- The character `c`, in UTF-8, the given number of times.
+abbrev pub copies : (count c : ℕ) → List ℕ
+copies count c = encode_utf8_all (replicate count c)
+
 -- A part of the output that ends in a run: a character that is printed once and then `count` times more.
 pub record Run : Type 0 where
   pub before : List ℕ
-  pub byte : ℕ
+  pub character : ℕ
   pub count : ℕ
 
--- The character is printable ASCII, and REP is shorter than the characters that it stands for.
+-- The character is printed in one column, and REP is shorter than the characters that it stands for.
 pub record IsShortened (run : Run) : Type 0 where
-  pub low : 0x20 ≤ run.byte
-  pub high : run.byte < 0x7F
-  pub shorter : length (repeat_text run.count) < run.count
+  pub narrow : IsNarrow run.character
+  pub shorter : length (repeat_text run.count) < length (copies run.count run.character)
 
--- The part with the run written out in full.
+-- The part of the output that a `Run` describes, with the run written out in full.
 abbrev pub full_text : Run → List ℕ
-full_text run = run.before ++ replicate (suc run.count) run.byte
+full_text run = run.before ++ copies (suc run.count) run.character
 
--- The part with the run written as the character and REP.
+-- The part of the output that a `Run` describes, with the run written as the character followed by REP.
 abbrev pub short_text : Run → List ℕ
-short_text run = run.before ++ run.byte ∷ repeat_text run.count
+short_text run = run.before ++ (encode_utf8 run.character ++ repeat_text run.count)
 
 -- The output `text` is the output `plain` in which some runs are written with REP. All else is the same.
 pub record HasRuns (plain text : List ℕ) : Type 0 where
@@ -47,27 +58,27 @@ pub record HasRuns (plain text : List ℕ) : Type 0 where
 
 -- ---- the effect of reading the output
 
--- A terminal in ground state takes the same steps for both outputs and then is in the same state. If it reads one of
--- them without invoking callbacks, allocating, or scrolling rows off the page, then also the other.
+-- A terminal in ground state takes the same steps for both outputs and ends in the same state. If it reads one of them
+-- without invoking callbacks, allocating, or scrolling rows off the page, it also reads the other one that way.
 pub record ReadsAlike (plain text : List ℕ) (reader : ScreenValue) : Type 0 where
   pub state : (run start text).state ≡ (run start plain).state
   pub steps : steps_in start reader text ≡ steps_in start reader plain
   pub reads : terminal_after (terminal start reader) text ≡ terminal_after (terminal start reader) plain
 
--- How often an event repeats the last printed character: REP's count, and 0 for all other events.
+-- The number of times that an event repeats the last printed character: the count of REP, and 0 for any other event.
 abbrev pub repetitions : Event → ℕ
 repetitions (CsiDispatch groups [] b) = if b == 0x62 then number_or 1 0 groups else 0
 repetitions _ = 0
 
 -- Each REP among the events finds enough columns left in the cursor's row for all its characters, so that none of them
--- wraps to the next row. The events begin on the given screen.
+-- wraps to the next row. The given screen is the one before the first event.
 abbrev pub RepeatInRows : List Event → ScreenValue → Type 0
 RepeatInRows [] screen = Unit {0}
 RepeatInRows (event ∷ events) screen =
     ((repetitions event ≡ 0) ⊎ (screen.page.column + repetitions event ≤ screen.page.width))
     × RepeatInRows events (screen_after_all (steps_of event (seen_of screen)) screen)
 
--- A terminal in ground state that reads the output repeats each character only within its row.
+-- While a terminal in ground state reads the output, each REP repeats its character only within the cursor's row.
 abbrev pub RepeatsInRows : List ℕ → ScreenValue → Type 0
 RepeatsInRows text reader = RepeatInRows (run start text).events reader
 

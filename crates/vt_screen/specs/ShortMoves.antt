@@ -1,5 +1,5 @@
 -- Output whose cursor movements are replaced by shorter ones.
-use Rattle.std.specs.Prelude.{◌≡◌, ◌≢◌, ◌⊎◌, nat_lt, ℕ, zero, suc, ◌+◌, ◌-◌, ◌*◌, ◌/◌, ◌<◌, ◌≤◌, Bool, true, false, min, if◌then◌else◌}
+use Rattle.std.specs.Prelude.{◌≡◌, ◌≢◌, nat_lt, ℕ, zero, suc, ◌+◌, ◌-◌, ◌*◌, ◌/◌, ◌<◌, ◌≤◌, Bool, true, false, min, if◌then◌else◌}
 use Rattle.std.specs.Prelude.{List, [], ◌∷◌, ◌++◌, length, replicate, decimal, encode_utf8, Option, Some, None}
 use Rattle.std.specs.List.{AllByRecursion}
 use Rattle.vt_redraw.specs.Fits.{IsDrawn}
@@ -73,7 +73,7 @@ pub record LeadsTo (height width : ℕ) (known : Option Pos) (to : Pos) (text : 
   pub keeps : KeepsPlain text
   pub made : IsMadeOf shortened_finals shortened_controls text
 
--- The string grew by output that replaces `old`.
+-- The string `after` is `before` followed by output that replaces `old`.
 pub record AppendsReplacement (height width : ℕ) (known new : Option Pos) (old before after : List ℕ) : Type 0 where
   pub text : List ℕ
   pub appends : after ≡ before ++ text
@@ -87,12 +87,6 @@ known_cursor screen =
     if nat_lt screen.page.column screen.page.width
     then Some (record { row = screen.page.row; col = screen.page.column })
     else None
-
--- On terminals that display what the screen `prev` displays, `text` can replace `old`, or is the same.
-abbrev pub IsShortVersion : (prev : ScreenValue) (old text : List ℕ) → Type 0
-IsShortVersion prev old text =
-    (text ≡ old)
-    ⊎ ((0 < length text) × Replaces (length prev.page.rows) prev.page.width (known_cursor prev) None old text)
 
 -- The output is a scrolling diff, or a version of one that is not longer and has the same effect on every plain
 -- terminal that displays the picture `prev`.
@@ -111,7 +105,8 @@ AreHandled wanted [] = Unit {0}
 AreHandled wanted (n ∷ ns) =
     ((group_read wanted (n ∷ [])).reading ≢ Unhandled) × AreHandled (group_read wanted (n ∷ [])).wanted ns
 
--- The number is known in SGR, and the next group is interpreted as `next` says.
+-- The number, as an SGR group interpreted according to `wanted`, is known, and `next` specifies how the next group is
+-- interpreted.
 abbrev pub IsWantedNext : Wanted → ℕ → Wanted → Type 0
 IsWantedNext wanted n next =
     ((group_read wanted (n ∷ [])).reading ≢ Unhandled) × (next ≡ (group_read wanted (n ∷ [])).wanted)
@@ -146,7 +141,7 @@ IsElement (element.Hide hidden) bytes = bytes ≡ bytes_of (Hide hidden)
 IsElement element.ClearAttrs bytes = bytes ≡ csi [] 0x6D
 IsElement element.Attrs bytes = (text : List ℕ) × IsSgrText 32 Any text × (bytes ≡ csi text 0x6D)
 
--- The position is some columns to the right of `from`, and not past the last column.
+-- The position `to` is `count` columns to the right of `from`, and not past the last column.
 pub record IsAfter (cols : ℕ) (from : Pos) (count : ℕ) (to : Pos) : Type 0 where
   pub row : to.row ≡ from.row
   pub column : to.col ≡ from.col + count
@@ -172,8 +167,8 @@ column_after_last width (last.Back count) col = col - count
 column_after_last width (last.Right count) col = min (col + count) (width - 1)
 column_after_last width (last.Column target) col = min target (width - 1)
 
--- The last part of a route is valid: it moves the cursor right by at least one column, or to a column within a
--- terminal's largest size.
+-- The last part of a route is valid: a move to the right is by at least one column, and a move to a given column is
+-- within a terminal's largest size.
 abbrev pub IsLastPart : Last → Type 0
 IsLastPart last.Stay = Unit {0}
 IsLastPart (last.Back count) = Unit {0}

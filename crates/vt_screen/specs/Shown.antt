@@ -141,7 +141,7 @@ RedrawsFrom was new text = Redraws (display new) (IsReaderOf (display new) (disp
 abbrev pub IsSameIfEmpty : (was new : ScreenValue) → List ℕ → Type 0
 IsSameIfEmpty was new text = IsSteady (display new) → text ≡ [] → display new ≡ display was
 
--- The terminal takes over the picture's cursor position and cursor visibility. The terminal's rows and attributes are
+-- The terminal adopts the picture's cursor position and cursor visibility. The terminal's rows and attributes are
 -- unchanged.
 pub record TakesCursor (picture : Picture) (reader after : ScreenValue) : Type 0 where
   pub rows : after.page.rows ≡ reader.page.rows

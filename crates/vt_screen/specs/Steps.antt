@@ -43,7 +43,7 @@ pub data Step : Type 0 where
 
 -- ---- the screen after a step, except for its scrollback; `screen_after` includes the scrollback
 
--- Whether a printed character becomes the last character: it takes columns and is not wider than the page.
+-- Whether a printed character becomes the last printed character: it occupies columns and is not wider than the page.
 abbrev pub becomes_last : ScreenValue → Option ℕ → Bool
 becomes_last screen None = false
 becomes_last screen (Some columns) = nat_lt 0 columns && nat_le columns screen.page.width

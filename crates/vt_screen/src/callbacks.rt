@@ -139,11 +139,11 @@ pub trait Callbacks {
         self.otherwise(screen, Call::VisualBell);
     }
 
-    /// Called when a program requests a new size in rows and columns with
-    /// `CSI 8 ; rows ; cols t` (xterm). The screen itself has not been resized.
+    /// Called when a program requests a new size in rows and columns with `CSI 8 ; rows ; cols t`
+    /// (xterm). The screen itself has not been resized.
     ///
-    /// A number that is missing at the end of the sequence defaults to the
-    /// screen's current size. An empty number is 0.
+    /// A number that is missing at the end of the sequence defaults to the screen's current number
+    /// of rows or columns. An empty number counts as 0.
     fn resize(&mut self, screen: &mut Screen, size: (u16, u16))
         ensures { does (calls.Resize size.0 size.1) self.old screen.old self.new screen.new }
     {

@@ -12,7 +12,7 @@ pub struct DiffOptions {
     /// `Screen::contents_diff_scrolling` does.
     pub scroll: bool,
 
-    /// Whether runs of a printable ASCII character may be written with REP
+    /// Whether runs of a one-column character may be written with REP
     /// (ECMA-48, 8.3.103). Some terminals ignore REP.
     pub repeat: bool,
 }

@@ -12,9 +12,9 @@ ghost use Rattle.vt_scan.specs.Automaton.{State};
 ghost use Rattle.vt_scan.specs.Selectors.{ReadsNoSelector};
 ghost use Rattle.vt_screen.specs.Capture.{basic_texts};
 ghost use Rattle.vt_screen.specs.Contents.{between_of, contents_of};
-ghost use Rattle.vt_screen.specs.Escapes.{HasOnlyEscapes};
+ghost use Rattle.vt_screen.specs.Escapes.{HasOnlyControls, HasOnlyEscapes, moving_controls};
 ghost use Rattle.vt_screen.specs.MadeOf.{IsMadeOf, capture_finals, drawing_controls, drawing_finals, plain_controls};
-ghost use Rattle.vt_screen.specs.MadeOf.{reset_controls, scrolling_finals, state_controls};
+ghost use Rattle.vt_screen.specs.MadeOf.{reset_controls, scrolling_finals, shortened_controls, shortened_finals, state_controls};
 ghost use Rattle.vt_screen.specs.Pages.{screen_after_resize};
 ghost use Rattle.vt_screen.specs.Screen.{IsScreen, ScreenValue, fresh_screen, scrolled_back, visible_row, visible_rows};
 ghost use Rattle.vt_screen.specs.Selectors.{HasNoSelectors};
@@ -158,15 +158,18 @@ pub fn wide_flags()
 /// function, based on the function's clause `controls`.
 ///
 /// Once decoded, the output contains no controls (C0, C1 or DEL) except BS, LF,
-/// CR and ESC. In output that draws (clauses `drawing`, `scrolling`, `reset`),
-/// each ESC is followed by `[`, `7` or `8`. In output that also sets modes
-/// (clause `state`), an ESC may also be followed by `=` or `>`. In captures,
-/// each ESC is followed by `[`. Plain text contains no ESC.
+/// CR and ESC and, in scrolling diffs, HT (clause `shortened`). In output that
+/// draws (clauses `drawing`, `scrolling`, `shortened`, `reset`), each ESC is
+/// followed by `[`, `7` or `8`. In output that also sets modes (clause `state`),
+/// an ESC may also be followed by `=` or `>`. In captures, each ESC is followed
+/// by `[`. Plain text contains no ESC.
 pub fn escapes()
     ensures drawing { (text : List ℕ) → IsMadeOf drawing_finals drawing_controls text →
         HasOnlyEscapes (codes "[78") text }
     ensures scrolling { (text : List ℕ) → IsMadeOf scrolling_finals drawing_controls text →
         HasOnlyEscapes (codes "[78") text }
+    ensures shortened { (text : List ℕ) → IsMadeOf shortened_finals shortened_controls text →
+        HasOnlyControls moving_controls (codes "[78") text }
     ensures reset { (text : List ℕ) → IsMadeOf drawing_finals reset_controls text → HasOnlyEscapes (codes "[78") text }
     ensures state { (text : List ℕ) → IsMadeOf drawing_finals state_controls text → HasOnlyEscapes (codes "[78=>") text }
     ensures capture { (text : List ℕ) → IsMadeOf capture_finals plain_controls text → HasOnlyEscapes (codes "[") text }

@@ -6,7 +6,7 @@ ghost use Rattle.vt_screen.specs.ModeStep.{modes_after};
 use crate::modes::{self, Modes};
 use vt_cells::modes::{CursorStyle, MouseProtocolEncoding, MouseProtocolMode};
 
-/// A change of one mode.
+/// A change to one mode.
 #[derive(Clone, Copy, PartialEq, Eq, Debug)]
 pub enum ModeStep {
     /// Turns application keypad mode on or off (DECKPAM, DECKPNM).

@@ -1,55 +1,62 @@
-//! Runs of one character that are written with REP.
+//! Runs of the same character that are written with REP.
 //!
 //! REP (CSI `n` `b`) repeats the last printed character `n` times (ECMA-48,
 //! 8.3.103). Terminals differ in what they do if the repeated characters do not
 //! fit in the row, so a run is written with REP only if it certainly fits.
 
-ghost use Rattle.std.specs.Prelude.{◌≡◌, ◌+◌, ◌-◌, ◌<◌, ◌≤◌, ◌++◌, ℕ, suc, List, IfSome, OnOk, codes, length, max, replicate};
-ghost use Rattle.std.specs.Prelude.{slice_index_or, string_bytes, take, true};
+ghost use Rattle.std.specs.Prelude.{◌≡◌, ◌+◌, ◌-◌, ◌<◌, ◌≤◌, ◌++◌, ℕ, List, Some, IfOk, IfSome, IsOk, OnOk, codes, length, max, true};
+ghost use Rattle.std.proofs.Common.{IsUtf8};
+ghost use Rattle.std.specs.Prelude.{slice_index_or, string_bytes, take};
+ghost use Rattle.std.specs.Char.{encode_utf8};
+ghost use Rattle.std.specs.List.{AllByRecursion};
+ghost use Rattle.vt_cells.specs.Glyph.{columns_of};
 ghost use Rattle.vt_cells.specs.Op.{csi};
 ghost use Rattle.vt_cells.specs.Refusals.{OnlyOutOfMemory};
+ghost use Rattle.vt_redraw.specs.Fits.{IsDrawn};
 ghost use Rattle.vt_redraw.specs.Refusals.{RefusedOnlyIfSome};
 ghost use Rattle.vt_scan.specs.Internals.{Opens};
 ghost use Rattle.vt_scan.specs.Parameters.{table_of};
 ghost use Rattle.vt_scan.specs.Texts.{IsParameterText};
-ghost use Rattle.vt_screen.specs.RepeatInternals.{AppendsRepeating, BeginsWithVisibility, Finds, IsLongRun, IsSplit};
 ghost use Rattle.vt_screen.specs.MadeOf.{IsOneOf};
-ghost use Rattle.vt_screen.specs.RepeatInternals.{KeepsRoom, Skips, SkipsByte};
-ghost use Rattle.vt_screen.specs.Repeating.{Repeats, repeat_text};
+ghost use Rattle.vt_screen.specs.RepeatInternals.{AppendsRepeating, BeginsRun, BeginsWithVisibility, Finds};
+ghost use Rattle.vt_screen.specs.RepeatInternals.{IsFinalAt, KeepsRoom, Skips};
+ghost use Rattle.vt_screen.specs.Repeating.{Repeats, copies, repeat_text};
+ghost use Rattle.vt_screen.specs.ShortMoves.{IsAsciiCharacter};
 ghost use Rattle.vt_screen.specs.TextResults.{IfText};
 
 use std::alloc::Global;
-use vt_cells::{Error, Sink};
+use vt_cells::{Error, Sink, columns};
 use vt_scan::Parameters;
 
-/// The fewest repetitions for which REP is shorter than the characters.
-const FEWEST: u16 = 5;
-
-/// A run of one printable ASCII character.
+/// A run of the same character, and the output before and after it.
 #[derive(Clone, Copy)]
-pub(crate) struct CharRun {
-    /// The index of the first character.
-    start: usize,
+pub(crate) struct CharRun<'a> {
+    /// The output up to and including the first character of the run.
+    front: &'a str,
 
-    /// How often the character is repeated.
+    /// The number of times that the character is repeated.
     count: u16,
 
-    /// The columns that are certainly left in the row after the run.
+    /// The output after the run.
+    back: &'a str,
+
+    /// A lower bound on the number of columns left in the cursor's row after the run.
     room: u16,
 }
 
-/// A control or a sequence that is copied.
+/// Characters, a control or an escape sequence that are copied from the text unchanged.
 #[derive(Clone, Copy)]
 pub(crate) struct Skipped {
     /// The length in bytes.
     len: usize,
 
-    /// The columns that are certainly left in the row afterwards.
+    /// A lower bound on the number of columns left in the cursor's row after the control or
+    /// sequence.
     room: u16,
 }
 
-/// Returns `text` with runs of one character written with REP, for a terminal
-/// of `cols` columns of which at least `room` are left in the cursor's row.
+/// Returns `text` with runs of the same character written with REP, for a terminal with `cols`
+/// columns and at least `room` columns left in the cursor's row.
 ///
 /// # Errors
 ///
@@ -59,51 +66,42 @@ pub fn with_repeats(alloc: Global, text: String, cols: u16, room: u16) -> Result
     ensures memory { OnlyOutOfMemory result }
     ensures nonempty { RefusedOnlyIfSome result (string_bytes text) }
 {
-    if find_run(text.as_bytes(), cols, room).is_none() {
-        return Ok(text);
-    }
     let mut short = String::new(alloc);
     match write_repeating(&mut short, text.as_str(), cols, room) {
-        Ok(()) => Ok(short),
+        Ok(true) => Ok(short),
+        Ok(false) => Ok(text),
         Err(_) => Err(Error::OutOfMemory),
     }
 }
 
-/// Writes `text` with runs of one character written with REP.
-fn write_repeating<S: Sink>(sink: &mut S, text: &str, cols: u16, room: u16) -> Result<(), S::Error>
-    ensures { OnOk result (AppendsRepeating (S.text sink.old) (S.text sink.new) cols room text.now) }
+/// Writes `text` with runs of the same character written with REP. If it has no run
+/// that REP shortens, writes nothing and returns `false`.
+fn write_repeating<S: Sink>(
+    sink: &mut S,
+    text: &str,
+    cols: u16,
+    room: u16,
+) -> Result<bool, S::Error>
+    ensures repeats { IfOk result (λ wrote. wrote ≡ true
+        → AppendsRepeating (S.text sink.old) (S.text sink.new) cols room text.now) }
+    ensures nonempty { length text.now ≡ 0 → IsOk result }
 {
     let mut rest = text;
     let mut left = room;
-    while !rest.is_empty() {
-        let Some(run) = find_run(rest.as_bytes(), cols, left) else {
-            return sink.write_str(rest);
-        };
-        let Some((front, back)) = split_at_run(rest, &run) else {
-            return sink.write_str(rest);
-        };
-        sink.write_str(front)?;
+    while let Some(run) = find_run(rest, cols, left) {
+        sink.write_str(run.front)?;
         write_repeat(sink, run.count)?;
-        rest = back;
+        rest = run.back;
         left = run.room;
     }
-    Ok(())
+    if rest.len() == text.len() {
+        return Ok(false);
+    }
+    sink.write_str(rest)?;
+    Ok(true)
 }
 
-/// Splits `text` after the first character of a run and after its last one.
-/// Returns what is before and what is after, or `None` if `text` is not split
-/// between characters there.
-fn split_at_run<'a>(text: &'a str, run: &CharRun) -> Option<(&'a str, &'a str)>
-    requires { run.now.start + suc run.now.count ≤ length text.now }
-    ensures { IfSome result (λ parts. IsSplit text.now run.now parts.0.now parts.1.now) }
-{
-    let first = run.start + 1;
-    let front = text.get(..first)?;
-    let back = text.get(first + usize::from(run.count)..)?;
-    Some((front, back))
-}
-
-/// Writes REP.
+/// Writes the control sequence that repeats the last character `count` times (REP).
 fn write_repeat<S: Sink>(sink: &mut S, count: u16) -> Result<(), S::Error>
     ensures { OnOk result (S.text sink.new ≡ S.text sink.old ++ repeat_text count) }
 {
@@ -113,21 +111,19 @@ fn write_repeat<S: Sink>(sink: &mut S, count: u16) -> Result<(), S::Error>
     sink.write_str("b")
 }
 
-/// Returns the first run of `bytes` that REP shortens, or `None` if there is
-/// none before the first byte that this module does not know.
-fn find_run(bytes: &[u8], cols: u16, room: u16) -> Option<CharRun>
-    ensures { IfSome result (Finds cols room bytes.now) }
+/// Returns the first run in `text` that REP shortens, or `None` if there is
+/// none before the first character that this module does not recognize.
+fn find_run(text: &str, cols: u16, room: u16) -> Option<CharRun<'_>>
+    ensures { IfSome result (λ run.
+        Finds cols room text.now run.front.now run.count run.room run.back.now) }
 {
     let mut at = 0;
     let mut left = room;
-    while at < bytes.len() {
-        let rest = &bytes[at..];
-        if let Some(len) = long_run(rest, left) {
-            return Some(CharRun {
-                start: at,
-                count: len - 1,
-                room: left - len,
-            });
+    while at < text.len() {
+        let rest = text.get(at..)?;
+        if let Some(run) = first_run(rest, left) {
+            let front = text.get(..at + run.front.len())?;
+            return Some(CharRun { front, ..run });
         }
         let skipped = skip(rest, cols, left)?;
         at += skipped.len;
@@ -136,50 +132,123 @@ fn find_run(bytes: &[u8], cols: u16, room: u16) -> Option<CharRun>
     None
 }
 
-/// Returns the number of equal printable ASCII characters at the start of
-/// `bytes`, at most `room`, if REP shortens them.
+/// Returns the run at the beginning of `text` if REP shortens it, otherwise
+/// `None`. The caller guarantees that at least `room` columns are left in the
+/// row.
 #[inline(always)]
-fn long_run(bytes: &[u8], room: u16) -> Option<u16>
-    ensures { IfSome result (IsLongRun room bytes.now) }
+fn first_run(text: &str, room: u16) -> Option<CharRun<'_>>
+    requires { 0 < length text.now }
+    ensures { IfSome result (λ run.
+        BeginsRun room text.now run.front.now run.count run.room run.back.now) }
 {
-    let fewest = usize::from(FEWEST);
-    if room <= FEWEST || bytes.len() <= fewest || bytes[0] != bytes[fewest] {
-        return None;
+    if may_repeat(text.as_bytes()) {
+        repeated(text, room)
+    } else {
+        None
     }
-    let byte = bytes[0];
-    if byte < 0x20 || byte >= 0x7F {
-        return None;
-    }
-    let len = run_len(bytes, room);
-    if len <= FEWEST { None } else { Some(len) }
 }
 
-/// Returns the number of bytes at the start of `bytes` that are equal, at most
-/// `most`.
-fn run_len(bytes: &[u8], most: u16) -> u16
-    ensures inside { result ≤ length bytes.now }
-    ensures most { result ≤ most }
-    ensures equal { take result bytes.now ≡ replicate result (slice_index_or bytes.now 0 0) }
-{
-    let mut len = 0;
-    while len < most && usize::from(len) < bytes.len() && bytes[usize::from(len)] == bytes[0] {
-        len += 1;
-    }
-    len
-}
-
-/// Skips a character's byte, a control or a sequence. Returns `None` if this
-/// module does not know it.
+/// Returns whether `bytes` may begin with a run that REP shortens. Only the first and the last byte of two of its characters are
+/// compared.
 #[inline(always)]
-fn skip(bytes: &[u8], cols: u16, room: u16) -> Option<Skipped>
+fn may_repeat(bytes: &[u8]) -> bool
     requires { 0 < length bytes.now }
-    ensures { IfSome result (Skips cols room bytes.now) }
 {
-    let byte = bytes[0];
-    if byte >= 0x20 {
-        return skip_character(byte, room);
+    let len = match bytes[0] {
+        0x20..=0x7E => 1,
+        0xC2..=0xDF => 2,
+        0xE0..=0xEF => 3,
+        0xF0..=0xF4 => 4,
+        _ => return false,
+    };
+    let far = len * usize::from(fewest(len));
+    far + len <= bytes.len() && bytes[0] == bytes[far] && bytes[len - 1] == bytes[far + len - 1]
+}
+
+/// Returns the smallest number of repetitions for which REP is shorter than the
+/// repeated characters, which have `len` bytes each.
+#[inline(always)]
+fn fewest(len: usize) -> u16
+    ensures { (n c : ℕ) → result ≤ n → n < 65536 → length (encode_utf8 c) ≡ len
+        → length (repeat_text n) < length (copies n c) }
+{
+    match len {
+        0 | 1 => 5,
+        2 => 3,
+        _ => 2,
     }
-    match byte {
+}
+
+/// Returns the run at the beginning of `text` if REP shortens it, otherwise
+/// `None`. The caller guarantees that at least `room` columns are left in the
+/// row.
+fn repeated(text: &str, room: u16) -> Option<CharRun<'_>>
+    ensures { IfSome result (λ run.
+        BeginsRun room text.now run.front.now run.count run.room run.back.now) }
+{
+    let (character, width) = first_character(text)?;
+    if width != 1 {
+        return None;
+    }
+    let (front, rest) = text.split_at_checked(character.len_utf8())?;
+    let left = room.checked_sub(1)?;
+    let (count, back) = skip_copies(rest, character, left);
+    if count < fewest(front.len()) {
+        return None;
+    }
+    Some(CharRun {
+        front,
+        count,
+        back,
+        room: left - count,
+    })
+}
+
+/// Returns the first character of `text` and its number of columns, if it is
+/// printed.
+fn first_character(text: &str) -> Option<(char, u8)>
+    ensures drawn { IfSome result (λ found. IsDrawn found.0) }
+    ensures columns { IfSome result (λ found. columns_of found.0 ≡ Some found.1) }
+    ensures first { IfSome result (λ found.
+        take (length (encode_utf8 found.0)) text.now ≡ encode_utf8 found.0) }
+{
+    let character = text.chars().next()?;
+    if character == '\u{fffd}' {
+        return None;
+    }
+    let width = columns(character)?;
+    Some((character, width))
+}
+
+/// Counts the copies of `character` at the start of `text`, at most `most`.
+/// Returns their number and the text after them.
+fn skip_copies(text: &str, character: char, most: u16) -> (u16, &str)
+    ensures most { result.0 ≤ most }
+    ensures whole { text.now ≡ copies result.0 character ++ result.1.now }
+    ensures utf8 { IsUtf8 result.1.now }
+{
+    let mut count = 0;
+    let mut rest = text;
+    while count < most {
+        let Some(tail) = rest.strip_prefix(character) else {
+            return (count, rest);
+        };
+        count += 1;
+        rest = tail;
+    }
+    (count, rest)
+}
+
+/// Skips characters, a control or a sequence. Returns `None` if this module
+/// does not recognize the beginning of `text`.
+#[inline(always)]
+fn skip(text: &str, cols: u16, room: u16) -> Option<Skipped>
+    requires { 0 < length text.now }
+    ensures { IfSome result (Skips cols room text.now) }
+{
+    let bytes = text.as_bytes();
+    match bytes[0] {
+        0x20..=0x7E => Some(skip_ascii(bytes, room)),
         0x1B => skip_escape(bytes, cols, room),
         b'\r' => Some(Skipped { len: 1, room: cols }),
         b'\n' | 0x08 => Some(Skipped { len: 1, room }),
@@ -187,23 +256,62 @@ fn skip(bytes: &[u8], cols: u16, room: u16) -> Option<Skipped>
             len: 1,
             room: room.saturating_sub(8),
         }),
-        _ => None,
+        0x00..=0x7F => None,
+        _ => skip_character(text, room),
     }
 }
 
-/// Skips a byte of a character, which takes at most as many columns as it has
-/// bytes.
-#[inline(always)]
-fn skip_character(byte: u8, room: u16) -> Option<Skipped>
-    requires { 0x20 ≤ byte }
-    ensures { IfSome result (λ skipped. SkipsByte room byte skipped) }
+/// Skips printable ASCII characters, at least one.
+fn skip_ascii(bytes: &[u8], room: u16) -> Skipped
+    requires nonempty { 0 < length bytes.now }
+    requires ascii { IsAsciiCharacter (slice_index_or bytes.now 0 0) }
+    ensures { (cols : ℕ) → Skips cols room bytes.now result }
 {
-    if byte == 0x7F {
-        return None;
+    let len = 1 + single_len(&bytes[1..]);
+    let taken = u16::try_from(len).unwrap_or(u16::MAX);
+    Skipped {
+        len,
+        room: room.saturating_sub(taken),
+    }
+}
+
+/// Returns the number of printable ASCII characters at the beginning of `bytes`,
+/// up to the first of two equal bytes or the last byte.
+fn single_len(bytes: &[u8]) -> usize
+    ensures inside { result ≤ length bytes.now }
+    ensures ascii { AllByRecursion IsAsciiCharacter (take result bytes.now) }
+{
+    let mut len = 0;
+    while len + 1 < bytes.len() && is_ascii_character(bytes[len]) && bytes[len] != bytes[len + 1] {
+        len += 1;
+    }
+    len
+}
+
+/// Returns whether `byte` is printable ASCII.
+#[inline(always)]
+fn is_ascii_character(byte: u8) -> bool
+    ensures { result ≡ true → IsAsciiCharacter byte }
+{
+    byte >= 0x20 && byte < 0x7F
+}
+
+/// Skips a character that is not ASCII. A combining character is counted as two
+/// columns, because it may make the glyph before the cursor wide.
+fn skip_character(text: &str, room: u16) -> Option<Skipped>
+    ensures { IfSome result (λ skipped. (cols : ℕ) → Skips cols room text.now skipped) }
+{
+    let (character, width) = first_character(text)?;
+    let len = character.len_utf8();
+    if width == 1 {
+        return Some(Skipped {
+            len,
+            room: room.saturating_sub(1),
+        });
     }
     Some(Skipped {
-        len: 1,
-        room: room.saturating_sub(1),
+        len,
+        room: room.saturating_sub(2),
     })
 }
 
@@ -226,6 +334,34 @@ fn skip_escape(bytes: &[u8], cols: u16, room: u16) -> Option<Skipped>
 
 /// Skips a control sequence.
 fn skip_sequence(bytes: &[u8], cols: u16, room: u16) -> Option<Skipped>
+    requires { Opens bytes.now }
+    ensures { IfSome result (Skips cols room bytes.now) }
+{
+    let last = final_byte_at(bytes)?;
+    if keeps_column(bytes[last]) {
+        return Some(Skipped {
+            len: last + 1,
+            room,
+        });
+    }
+    skip_movement(bytes, cols, room)
+}
+
+/// Returns the index of the final byte of a control sequence that has no other
+/// bytes than parameter bytes before it.
+fn final_byte_at(bytes: &[u8]) -> Option<usize>
+    requires { Opens bytes.now }
+    ensures { IfSome result (IsFinalAt bytes.now) }
+{
+    let mut last = 2;
+    while last < bytes.len() && bytes[last] >= 0x30 && bytes[last] <= 0x3B {
+        last += 1;
+    }
+    if last < bytes.len() { Some(last) } else { None }
+}
+
+/// Skips a control sequence that shows or hides the cursor or moves it.
+fn skip_movement(bytes: &[u8], cols: u16, room: u16) -> Option<Skipped>
     requires { Opens bytes.now }
     ensures { IfSome result (Skips cols room bytes.now) }
 {
@@ -258,15 +394,13 @@ fn is_visibility(bytes: &[u8]) -> bool
         && (bytes[5] == b'h' || bytes[5] == b'l')
 }
 
-/// Returns the columns that are certainly left in the row after a control
-/// sequence, or `None` if this module does not know the sequence.
+/// Returns a lower bound on the number of columns left in the row after a control
+/// sequence that moves the cursor right or to a column, or `None` if this module
+/// does not recognize the sequence.
 fn room_after(final_byte: u8, parameters: &Parameters, cols: u16, room: u16) -> Option<u16>
     ensures { IfSome result (λ after. (text : List ℕ) → IsParameterText text → parameters.now ≡ table_of text
         → KeepsRoom cols room after (csi text final_byte)) }
 {
-    if keeps_column(final_byte) {
-        return Some(room);
-    }
     match final_byte {
         b'C' => Some(room.saturating_sub(parameters.number(0).max(1))),
         b'G' => Some(room_from(parameters.number(0), cols)),
@@ -286,8 +420,8 @@ fn keeps_column(final_byte: u8) -> bool
     }
 }
 
-/// Returns the number of columns from the column with the number `number`,
-/// counted from 1, to the end of the row. The number 0 stands for 1.
+/// Returns the number of columns from column `number`, counted from 1, to the end of the row. The
+/// number 0 stands for 1.
 fn room_from(number: u16, cols: u16) -> u16
     ensures { result ≡ cols - (max number 1 - 1) }
 {

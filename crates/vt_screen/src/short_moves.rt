@@ -2,30 +2,40 @@
 //!
 //! The writers of `vt_redraw` move the cursor with CUP, CUF, and CR LF. This module reads their
 //! output, keeps track of where the cursor of the terminal is, and replaces a movement by LF, CR,
-//! HT, BS, CUF or CHA if these take fewer bytes. Nothing else in the output changes.
+//! HT, BS, CUF or CHA if these take fewer bytes. It replaces a short CUF by the glyphs that the
+//! terminal displays already, if their attributes are the current ones. Nothing else in the output
+//! changes.
 
-ghost use Rattle.std.specs.Prelude.{◌≡◌, ◌+◌, ◌-◌, ◌<◌, IfOk, IfSome, None, Some, ℕ, min, string_bytes};
+ghost use Rattle.std.specs.Prelude.{◌≡◌, ◌+◌, ◌++◌, ◌-◌, ◌<◌, IfOk, IfSome, Some, length, ℕ, min, string_bytes, take};
+ghost use Rattle.vt_cells.specs.Cell.{CellValue};
 ghost use Rattle.vt_cells.specs.Glyph.{columns_of};
 ghost use Rattle.vt_cells.specs.Refusals.{OnlyOutOfMemory};
+ghost use Rattle.vt_cells.specs.Op.{counted};
 ghost use Rattle.vt_redraw.specs.Refusals.{RefusedOnlyIfSome};
+ghost use Rattle.vt_screen.specs.Gaps.{AppendsInstead, IsLetter, IsPrinted, IsShownGap, ReplacesTracked, ReplacesWhole, picture_cell};
 ghost use Rattle.vt_screen.specs.ShortMoves.{AppendsReplacement, IsAfter, IsElement, LeadsTo, Replaces};
 
 mod elements;
+mod gaps;
+mod known;
 mod route;
 
 use elements::{Element, first_element};
+use gaps::{Gap, first_letter, gap_over, write_gap};
+pub use known::Known;
 use route::likely_route;
 use std::alloc::Global;
 use vt_cells::{Error, Pos, Sink, columns};
 use vt_grid::Size;
+use vt_redraw::View;
 
 /// The length in bytes of the longest output that is shortened. Reading longer output takes more time
 /// than the few bytes that it saves are worth.
 const LONGEST: usize = 4096;
 
-/// Returns `text` with shorter cursor movements, for a plain terminal of the given size whose cursor
-/// is at `start` (`None` if a wrap is pending). Returns `None` if `text` is longer than [`LONGEST`],
-/// or has an element that is unknown here.
+/// Returns `text` with shorter cursor movements, for a plain terminal that displays `prev` and of
+/// which `start` is known. Returns `None` if `text` is longer than [`LONGEST`], or contains something
+/// other than a known element.
 ///
 /// # Errors
 ///
@@ -33,11 +43,11 @@ const LONGEST: usize = 4096;
 pub fn with_short_moves(
     alloc: Global,
     text: &str,
-    size: Size,
-    start: Option<Pos>,
+    prev: &View<'_>,
+    start: Known,
 ) -> Result<Option<String>, Error>
-    ensures short { IfOk result (λ found. IfSome found (λ short.
-        Replaces size.rows size.cols start None text.now (string_bytes short))) }
+    ensures short { IfOk result (λ found. IfSome found (λ short. ReplacesWhole
+        (length prev.now.rows) prev.now.width (picture_cell prev.now) start text.now (string_bytes short))) }
     ensures memory { OnlyOutOfMemory result }
     ensures nonempty { RefusedOnlyIfSome result text.now }
 {
@@ -48,23 +58,106 @@ pub fn with_short_moves(
         return Err(Error::OutOfMemory);
     };
     let mut moves = String::new(alloc);
-    let mut at = start;
+    let mut known = start;
     let mut rest = text;
     while !rest.is_empty() {
-        let Some((element, len)) = first_element(rest) else {
+        let Some((next, len)) = add_next(&mut short, &mut moves, prev, known, rest)? else {
             return Ok(None);
         };
-        let Some((head, tail)) = rest.split_at_checked(len) else {
+        let Some((_, tail)) = rest.split_at_checked(len) else {
             return Ok(None);
         };
-        at = add_element(&mut short, &mut moves, size, at, element, head)?;
+        known = next;
         rest = tail;
     }
     Ok(Some(short))
 }
 
-/// Appends an element to `short`, or a shorter movement of the same effect, and returns the position
-/// of the cursor after it, if it is known. `moves` is overwritten.
+/// Appends the first element of `rest` to `short`, or shorter output with the same effect. Returns
+/// what is known afterward, and how many bytes of `rest` the output replaces. Returns `None` if
+/// `rest` begins with something other than a known element. `moves` is overwritten.
+///
+/// # Errors
+///
+/// Returns `Error::OutOfMemory` if a string cannot grow.
+#[inline]
+#[tactic(auto, using(crate::proofs::KnownSteps::next_instead))]
+fn add_next(
+    short: &mut String,
+    moves: &mut String,
+    prev: &View<'_>,
+    known: Known,
+    rest: &str,
+) -> Result<Option<(Known, usize)>, Error>
+    ensures appends { IfOk result (λ found. IfSome found (λ next. AppendsInstead
+        (length prev.now.rows) prev.now.width (picture_cell prev.now) known next.0
+        (take next.1 rest.now) (string_bytes short.old) (string_bytes short.new))) }
+    ensures some { IfOk result (λ found. IfSome found (λ next. 0 < next.1)) }
+    ensures memory { OnlyOutOfMemory result }
+{
+    let Some((element, len)) = first_element(rest) else {
+        return Ok(None);
+    };
+    let Some((head, tail)) = rest.split_at_checked(len) else {
+        return Ok(None);
+    };
+    if let Some(gap) = gap_over(prev, known, element) {
+        if let Some(letter) = first_letter(tail) {
+            let next = add_gap(short, prev, known, gap, letter)?;
+            return Ok(Some((next, len + 1)));
+        }
+    }
+    let next = add_element(short, moves, size_of(prev), known, element, head)?;
+    Ok(Some((next, len)))
+}
+
+/// Returns the size of a view.
+#[inline]
+fn size_of(view: &View<'_>) -> Size
+    ensures rows { result.rows ≡ length view.now.rows }
+    ensures cols { result.cols ≡ view.now.width }
+{
+    Size {
+        rows: view.rows(),
+        cols: view.cols(),
+    }
+}
+
+/// Appends the glyphs of a gap and the character `letter`, which is printed after it. Returns what is
+/// known afterward.
+///
+/// # Errors
+///
+/// Returns `Error::OutOfMemory` if the string cannot grow.
+fn add_gap(
+    short: &mut String,
+    prev: &View<'_>,
+    known: Known,
+    gap: Gap,
+    letter: &str,
+) -> Result<Known, Error>
+    requires gap { IsShownGap prev.now known gap }
+    requires letter { IsLetter letter.now }
+    ensures appends { IfOk result (λ after. AppendsInstead
+        (length prev.now.rows) prev.now.width (picture_cell prev.now) known after
+        (counted gap.count 0x43 ++ letter.now) (string_bytes short.old) (string_bytes short.new)) }
+    ensures memory { OnlyOutOfMemory result }
+{
+    write_gap(short, &prev.row(gap.from.row), gap.from.col, gap.count)?;
+    short.write_str(letter)?;
+    let to = Pos {
+        row: gap.from.row,
+        col: gap.from.col + gap.count,
+    };
+    let over = Known {
+        at: Some(to),
+        ..known
+    };
+    Ok(known_after(over, Element::Ascii, size_of(prev), letter))
+}
+
+/// Appends an element to `short`, or a shorter movement with the same effect, and returns what is
+/// known afterward. `moves` is overwritten.
 ///
 /// # Errors
 ///
@@ -73,21 +166,38 @@ fn add_element(
     short: &mut String,
     moves: &mut String,
     size: Size,
-    at: Option<Pos>,
+    known: Known,
     element: Element,
     head: &str,
-) -> Result<Option<Pos>, Error>
+) -> Result<Known, Error>
     requires { IsElement element head.now }
-    ensures appends { IfOk result (λ after.
-        AppendsReplacement size.rows size.cols at after head.now (string_bytes short.old) (string_bytes short.new)) }
+    ensures appends { IfOk result (λ after. (cells : ℕ → ℕ → CellValue) → AppendsInstead
+        size.rows size.cols cells known after head.now (string_bytes short.old) (string_bytes short.new)) }
     ensures memory { OnlyOutOfMemory result }
 {
-    match destination(element, size, at, head) {
-        Some(to) => add_move(short, moves, size, at, to, head),
+    match destination(element, size, known.at, head) {
+        Some(to) => {
+            let at = add_move(short, moves, size, known.at, to, head)?;
+            Ok(Known { at, ..known })
+        }
         None => {
             short.write_str(head)?;
-            Ok(position_after(element, size, at, head))
+            Ok(known_after(known, element, size, head))
         }
+    }
+}
+
+/// Returns what is known after an element that is copied.
+#[inline]
+fn known_after(known: Known, element: Element, size: Size, head: &str) -> Known
+    requires { IsElement element head.now }
+    ensures { (cells : ℕ → ℕ → CellValue) → ReplacesTracked size.rows size.cols cells known result head.now head.now }
+{
+    let at = position_after(element, size, known.at, head);
+    Known {
+        at,
+        kept: known.kept_after(element, at),
+        is_default: known.is_default_after(element),
     }
 }
 
@@ -142,10 +252,12 @@ fn next_row(from: Pos, size: Size) -> Option<Pos>
     }
 }
 
-/// Returns the position of the cursor after an element that is copied, if it is known.
+/// Returns the position of the cursor after an element that is copied unchanged to the output, if
+/// it is known.
 fn position_after(element: Element, size: Size, at: Option<Pos>, head: &str) -> Option<Pos>
     requires { IsElement element head.now }
-    ensures { Replaces size.rows size.cols at result head.now head.now }
+    ensures replaces { Replaces size.rows size.cols at result head.now head.now }
+    ensures printed { IfSome result (IsPrinted size.cols element at head.now) }
 {
     match element {
         Element::Ascii => match at {
@@ -198,7 +310,7 @@ fn after_characters(from: Pos, count: usize, size: Size) -> Option<Pos>
     }
 }
 
-/// Appends `head`, which moves the cursor from `at` to `to`, or a shorter movement of the same
+/// Appends `head`, which moves the cursor from `at` to `to`, or a shorter movement with the same
 /// effect. Returns the new position. `moves` is overwritten.
 ///
 /// # Errors

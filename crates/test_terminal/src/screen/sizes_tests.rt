@@ -5,7 +5,7 @@ use crate::aids::steps::Step::{Resize, ResizeParser, Text, View};
 use std::test::Fail;
 
 #[rattlefmt::skip]
-const RESIZED: [Example; 37] = [
+const RESIZED: [Example; 44] = [
     // Rows come back from scrollback, and as blank rows if they were not kept.
     (
         (2, 4),
@@ -100,6 +100,25 @@ const RESIZED: [Example; 37] = [
     ((3, 2), 0, &[Text("abcde\x1b[H"), Resize(2, 2)], "0:ab/ 1:cd @0,0\n"),
     ((3, 2), 0, &[Text("abcde"), Resize(3, 3)], "0:ab 1:cd 2:e @2,1\n"),
     ((3, 2), 0, &[Text("abcde"), Resize(3, 1)], "0:a 1:c 2:e @2,0\n"),
+
+    // Columns that were cut come back blank, on both pages.
+    ((2, 4), 0, &[Text("abcd"), Resize(2, 2), Resize(2, 4)], "0:ab @0,1\n"),
+    ((2, 4), 0, &[Text("ab中x"), Resize(2, 3), Resize(2, 4)], "0:ab 1:x @1,1\n"),
+    ((1, 4), 0, &[Text("abcd"), Resize(1, 2), Resize(1, 4), Text("中")], "0:a[中] @0,3\n"),
+    ((1, 2), 0, &[Text("ab"), Resize(1, 1), Resize(1, 3), Text("x")], "0:x @0,1\n"),
+    ((2, 4), 0, &[Text("abcd"), Resize(2, 2), Resize(3, 4), Resize(3, 5)], "0:ab @0,1\n"),
+    (
+        (2, 4),
+        0,
+        &[Text("abcd\x1b[?1049h\x1b[Hwxyz"), Resize(2, 2), Resize(2, 3)],
+        "0:wx @0,1 alternate\n",
+    ),
+    (
+        (2, 4),
+        0,
+        &[Text("abcd\x1b[?1049h\x1b[Hwxyz"), Resize(2, 2), Resize(2, 3), Text("\x1b[?1049l")],
+        "0:ab @0,1\n",
+    ),
 
     // A pending wrap is reset, and both cursors stay on the screen.
     ((1, 4), 0, &[Text("abcd"), Resize(1, 5)], "0:abcd @0,4\n"),

@@ -70,6 +70,20 @@ const MOVED: [Example; 7] = [
 ];
 
 #[rattlefmt::skip]
+const ERASED: [Example; 2] = [
+    // DL erases all rows.
+    ((4, 10), 0, &[Text(FOUR)], &[Text(FOUR), Text("\x1b[H\x1b[J")], "\x1b[H\x1b[4M"),
+
+    // DL erases the rows above the last one, and IL moves it back.
+    (
+        (5, 10), 0,
+        &[Text(FOUR), Text(FIFTH)],
+        &[Text("\x1b[5;1Hsssssssss\x1b[H")],
+        "\x1b[H\x1b[4M\x1b[4L",
+    ),
+];
+
+#[rattlefmt::skip]
 const SHIFTED: [Example; 4] = [
     // Columns are deleted.
     (
@@ -136,6 +150,69 @@ const SHORTENED: [Example; 8] = [
     ((2, 3), 0, &[Text("abc")], &[Text("abc"), Text("\x1b[2;2Hz")], "\x1b[2;2Hz"),
 ];
 
+/// Input with a row of letters, which leaves the cursor at its beginning.
+const LETTERS: &str = "abcdefgh\x1b[H";
+
+#[rattlefmt::skip]
+const GAPS: [Example; 8] = [
+    // Two columns between changed columns are printed again, since CUF takes four bytes.
+    ((1, 30), 0, &[Text(LETTERS)], &[Text(LETTERS), Text("X\x1b[2CY")], "XbcY"),
+
+    // So are gaps in a row below.
+    (
+        (2, 30), 0,
+        &[Text("abcd\r\nefgh\x1b[H")],
+        &[Text("abcd\r\nefgh\x1b[HX\r\nY\x1b[CZ")],
+        "X\r\nYfZ",
+    ),
+
+    // Four columns are skipped, since CUF is not longer.
+    ((1, 30), 0, &[Text(LETTERS)], &[Text(LETTERS), Text("X\x1b[4CY")], "X\x1b[4CY"),
+
+    // Columns with different attributes are skipped.
+    (
+        (1, 30), 0,
+        &[Text("a\x1b[31mb\x1b[mcd\x1b[H")],
+        &[Text("a\x1b[31mb\x1b[mcd\x1b[HX\x1b[2CY")],
+        "X\x1b[2CY",
+    ),
+
+    // Columns are skipped while the attributes are not the default ones.
+    (
+        (1, 30), 0,
+        &[Text(LETTERS)],
+        &[Text(LETTERS), Text("\x1b[31mX\x1b[2CY\x1b[m")],
+        "\x1b[31mX\x1b[2CY\x1b[m",
+    ),
+
+    // Blank columns are skipped.
+    (
+        (1, 30), 0,
+        &[Text("a\x1b[Cc\x1b[H")],
+        &[Text("a\x1b[Cc\x1b[HX\x1b[CY")],
+        "X\x1b[CY",
+    ),
+
+    // Columns that the diff has just erased are skipped.
+    (
+        (1, 30), 0,
+        &[Text(LETTERS)],
+        &[Text(LETTERS), Text("\x1b[2X\x1b[3CY")],
+        "\x1b[2X\x1b[3CY",
+    ),
+
+    // Columns before a character that is not ASCII are skipped.
+    ((1, 30), 0, &[Text(LETTERS)], &[Text(LETTERS), Text("X\x1b[2C\u{e9}")], "X\x1b[2C\u{e9}"),
+];
+
+#[test]
+fn short_gaps_are_printed(rt: HostRuntime) -> Result<(), Fail> {
+    for example in &GAPS {
+        expect_at_each_cut(rt.alloc(), Change::Scrolling, example)?;
+    }
+    Ok(())
+}
+
 #[test]
 fn movements_are_short(rt: HostRuntime) -> Result<(), Fail> {
     for example in &SHORTENED {
@@ -155,6 +232,14 @@ fn columns_move_first(rt: HostRuntime) -> Result<(), Fail> {
 #[test]
 fn rows_move_first(rt: HostRuntime) -> Result<(), Fail> {
     for example in &MOVED {
+        expect_at_each_cut(rt.alloc(), Change::Scrolling, example)?;
+    }
+    Ok(())
+}
+
+#[test]
+fn rows_are_erased_first(rt: HostRuntime) -> Result<(), Fail> {
+    for example in &ERASED {
         expect_at_each_cut(rt.alloc(), Change::Scrolling, example)?;
     }
     Ok(())

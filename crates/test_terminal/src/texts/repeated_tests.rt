@@ -28,7 +28,7 @@ const NEITHER: DiffOptions = DiffOptions {
 const FOUR: &str = "aaaaaaaaa\r\nbbbbbbbbb\r\nccccccccc\r\nddddddddd";
 
 #[rattlefmt::skip]
-const REPEATED: [Example; 12] = [
+const REPEATED: [Example; 20] = [
     // The character, and nine repetitions.
     ((2, 20), 0, &[], &[Text("----------")], "-\x1b[9b"),
 
@@ -54,9 +54,24 @@ const REPEATED: [Example; 12] = [
     // A run between other characters.
     ((2, 20), 0, &[], &[Text("\u{4e2d}.........z")], "\u{4e2d}.\x1b[8bz"),
 
-    // Only printable ASCII is repeated.
-    ((2, 20), 0, &[], &[Text("\u{2500}\u{2500}\u{2500}\u{2500}\u{2500}\u{2500}")],
-        "\u{2500}\u{2500}\u{2500}\u{2500}\u{2500}\u{2500}"),
+    // Characters of two, three and four bytes, with the fewest repetitions for which REP is shorter.
+    ((2, 20), 0, &[], &[Text("\u{e9}\u{e9}\u{e9}\u{e9}")], "\u{e9}\x1b[3b"),
+    ((2, 20), 0, &[], &[Text("\u{e9}\u{e9}\u{e9}")], "\u{e9}\u{e9}\u{e9}"),
+    ((2, 20), 0, &[], &[Text("\u{2500}\u{2500}\u{2500}")], "\u{2500}\x1b[2b"),
+    ((2, 20), 0, &[], &[Text("\u{2500}\u{2500}")], "\u{2500}\u{2500}"),
+    ((2, 20), 0, &[], &[Text("\u{1d400}\u{1d400}\u{1d400}")], "\u{1d400}\x1b[2b"),
+
+    // A repetition of such a character stops at the end of its row, too.
+    ((2, 4), 0, &[], &[Text("\u{2500}\u{2500}\u{2500}\u{2500}\u{2500}")],
+        "\u{2500}\x1b[3b\u{2500}"),
+
+    // Wide characters are not repeated.
+    ((2, 20), 0, &[], &[Text("\u{4e2d}\u{4e2d}\u{4e2d}\u{4e2d}")],
+        "\u{4e2d}\u{4e2d}\u{4e2d}\u{4e2d}"),
+
+    // A combining character is added to the last character of a run, and is not repeated.
+    ((2, 20), 0, &[], &[Text("xxxxxxx\u{301}")], "x\x1b[6b\u{301}"),
+    ((2, 20), 0, &[], &[Text("x\u{301}xxxxxxx")], "x\u{301}x\x1b[6b"),
 ];
 
 #[test]

@@ -1,15 +1,13 @@
 //! Sequences that erase parts of the screen. Only [`ClearScreen`] moves the cursor.
 
-ghost use Rattle.std.specs.Prelude.{◌≡◌, ◌++◌, ◌<◌, ◌≤◌, [], ◌∷◌, length, OnErr, OnOk};
-ghost use Rattle.vt_cells.specs.BufferInternals.{buffered_text};
+ghost use Rattle.std.specs.Prelude.{◌≡◌, ◌+◌, ◌++◌, ◌≤◌, [], ◌∷◌, length};
 ghost use Rattle.vt_cells.specs.Op as op;
 ghost use Rattle.vt_cells.specs.Op.{bytes_of, bytes_of_all};
-ghost use Rattle.vt_cells.specs.Sinks.{IsStopped};
 
 use crate::buffer::Buffer;
 use crate::sink::Sink;
 use crate::term::BufWrite;
-use crate::term::sequence_text::{add_counted, write_counted};
+use crate::term::sequences::write_counted;
 
 /// The sequence that moves the cursor home and erases the whole screen (CUP, then ED).
 #[derive(Clone, Copy, Debug)]
@@ -28,20 +26,13 @@ impl BufWrite for ClearScreen {
 pub struct ClearRowForward;
 
 impl ClearRowForward {
-    /// Appends the sequence to `buffer`, which is flushed to `sink` when it is full.
-    ///
-    /// # Errors
-    ///
-    /// Returns the sink's error. Part of the output may have been written by then.
-    #[inline]
-    pub fn add<S: Sink>(&self, sink: &mut S, buffer: &mut Buffer) -> Result<(), S::Error>
-        ensures text { OnOk result (buffered_text (S.text sink.new) buffer.new
-            ≡ buffered_text (S.text sink.old) buffer.old ++ bytes_of op.EraseRest) }
-        ensures grows { OnOk result (length (S.text sink.old) ≤ length (S.text sink.new)) }
-        ensures err { OnErr result (IsStopped S.refuses (S.text sink.old)
-            (buffer.old ++ bytes_of op.EraseRest) (S.text sink.new)) }
+    /// Appends the sequence to `buffer`, which must have room for it.
+    #[inline(always)]
+    pub fn push(&self, buffer: &mut Buffer)
+        requires { length buffer.old + 25 ≤ 256 }
+        ensures { buffer.new ≡ buffer.old ++ bytes_of op.EraseRest }
     {
-        buffer.add(sink, "\x1b[K")
+        buffer.push("\x1b[K");
     }
 }
 
@@ -61,21 +52,13 @@ pub struct EraseChar {
 }
 
 impl EraseChar {
-    /// Appends the sequence to `buffer`, which is flushed to `sink` when it is full.
-    ///
-    /// # Errors
-    ///
-    /// Returns the sink's error. Part of the output may have been written by then.
-    #[inline]
-    pub fn add<S: Sink>(&self, sink: &mut S, buffer: &mut Buffer) -> Result<(), S::Error>
-        ensures text { OnOk result (buffered_text (S.text sink.new) buffer.new
-            ≡ buffered_text (S.text sink.old) buffer.old ++ bytes_of (op.EraseChars self.now.count)) }
-        ensures grows { OnOk result (length (S.text sink.old) ≤ length (S.text sink.new)) }
-        ensures err { OnErr result (IsStopped S.refuses (S.text sink.old)
-            (buffer.old ++ bytes_of (op.EraseChars self.now.count)) (S.text sink.new)) }
-        ensures nonempty { OnErr result (0 < length (bytes_of (op.EraseChars self.now.count))) }
+    /// Appends the sequence to `buffer`, which must have room for it.
+    #[inline(always)]
+    pub fn push(&self, buffer: &mut Buffer)
+        requires { length buffer.old + 25 ≤ 256 }
+        ensures { buffer.new ≡ buffer.old ++ bytes_of (op.EraseChars self.now.count) }
     {
-        add_counted(sink, buffer, self.count, b'X')
+        buffer.push_counted(self.count, b'X');
     }
 }
 

@@ -4,7 +4,7 @@ ghost use Rattle.vt_cells.specs.Op.{counted};
 
 use crate::sink::Sink;
 use crate::term::BufWrite;
-use crate::term::sequence_text::write_counted;
+use crate::term::sequences::write_counted;
 
 /// The sequence that deletes `count` rows, starting at the cursor's row, and moves the rows below
 /// them up (DL); empty if `count` is 0.

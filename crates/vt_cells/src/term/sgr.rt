@@ -1,159 +1,175 @@
 //! The text of an SGR sequence.
 
-ghost use Rattle.std.specs.Prelude.{◌≡◌, ◌+◌, ◌≤◌, [], ◌∷◌, ◌++◌};
+ghost use Rattle.std.specs.Prelude.{◌≡◌, ◌+◌, ◌<◌, ◌≤◌, [], ◌∷◌, ◌++◌};
 ghost use Rattle.std.specs.Prelude.{length, if◌then◌else◌};
 ghost use Rattle.vt_cells.specs.Attrs.{same_bool, same_color, same_intensity};
-ghost use Rattle.vt_cells.specs.ChangeInternals.{separated_all, style_part};
+ghost use Rattle.vt_cells.specs.ChangeInternals.{AppendsNumbers, style_part, switches_part};
 ghost use Rattle.vt_cells.specs.Op.{background_numbers, change_numbers, csi};
 ghost use Rattle.vt_cells.specs.Op.{foreground_numbers, intensity_number, semicolon_list, part};
 
 use crate::attrs::{Attrs, Intensity};
+use crate::buffer::Buffer;
 use crate::color::Color;
-use crate::term::sequence_text::SequenceText;
 
-impl SequenceText {
-    /// Writes the SGR sequence that changes the attributes from `was` to `new`.
+/// The number of bytes that must fit in a buffer before an SGR sequence is appended. The longest
+/// has 14 numbers of at most three digits, a character before each, and the two bytes `ESC` and
+/// `m`.
+pub const SGR_ROOM: usize = 64;
+
+/// The methods append parameters, each preceded by the character `lead`, which is `[` before the
+/// first parameter of the sequence and `;` before the others. They return the character before the
+/// next parameter.
+impl Buffer {
+    /// Appends the SGR sequence that changes the attributes from `was` to `new`.
     ///
     /// Only attributes that differ have parameters, in this order: foreground, background,
     /// intensity, italics, underline, inverse. If none differs, the sequence has no parameters.
     #[inline(always)]
-    pub fn put_change(&mut self, was: &Attrs, new: &Attrs)
-        requires { self.old ≡ [] }
-        ensures { self.new ≡ csi (semicolon_list (change_numbers was.now new.now)) 0x6D }
+    pub fn push_change(&mut self, was: Attrs, new: Attrs)
+        requires { length self.old + 64 ≤ 256 }
+        ensures value { self.new ≡ self.old ++ csi (semicolon_list (change_numbers was new)) 0x6D }
+        ensures room { length self.new ≤ length self.old + 64 }
     {
-        self.put(b'm');
-        self.put_style(was, new);
-        self.put_background(was, new);
-        self.put_foreground(was, new);
-        self.begin();
+        self.push_byte(0x1B);
+        let lead = self.push_foreground(b'[', was, new);
+        let lead = self.push_background(lead, was, new);
+        let lead = self.push_style(lead, was, new);
+        if lead == b'[' {
+            self.push_byte(b'[');
+        }
+        self.push_byte(b'm');
     }
 
-    /// Prepends the parameters of the foreground color if it differs between `was` and `new`.
-    #[inline]
-    #[tactic(auto, using(crate::proofs::ChangeTexts::numbers_put), unfolding(crate::specs::Op::foreground_numbers))]
-    fn put_foreground(&mut self, was: &Attrs, new: &Attrs)
-        requires { length self.old + 20 ≤ 64 }
-        ensures value { self.new
-            ≡ separated_all (part (same_color was.now.fgcolor new.now.fgcolor) (foreground_numbers new.now.fgcolor))
-            ++ self.old }
-        ensures room { length self.new ≤ length self.old + 20 }
+    /// Appends the parameters of the foreground color if it differs between `was` and `new`.
+    #[inline(always)]
+    #[tactic(auto, using(crate::proofs::ChangeTexts::numbers_appended), unfolding(crate::specs::Op::foreground_numbers))]
+    fn push_foreground(&mut self, lead: u8, was: Attrs, new: Attrs) -> u8
+        requires room { length self.old + 20 ≤ 256 }
+        requires ascii { lead < 128 }
+        ensures { AppendsNumbers self.old self.new lead result 20
+            (part (same_color was.fgcolor new.fgcolor) (foreground_numbers new.fgcolor)) }
     {
-        if was.has_fgcolor_of(new) {
-            return;
+        if was.has_fgcolor_of(&new) {
+            return lead;
         }
         match new.fgcolor() {
-            Color::Default => self.put_number(39),
-            Color::Idx(i) if i < 8 => self.put_number(30 + i),
-            Color::Idx(i) if i < 16 => self.put_number(82 + i),
-            Color::Idx(i) => self.put_indexed(38, i),
-            Color::Rgb(r, g, b) => self.put_parts(38, r, g, b),
+            Color::Default => self.push_number(lead, 39),
+            Color::Idx(i) if i < 8 => self.push_number(lead, 30 + i),
+            Color::Idx(i) if i < 16 => self.push_number(lead, 82 + i),
+            Color::Idx(i) => self.push_indexed(lead, 38, i),
+            Color::Rgb(r, g, b) => self.push_parts(lead, 38, r, g, b),
         }
+        b';'
     }
 
-    /// Prepends the parameters of the background color if it differs between `was` and `new`.
-    #[inline]
-    #[tactic(auto, using(crate::proofs::ChangeTexts::numbers_put), unfolding(crate::specs::Op::background_numbers))]
-    fn put_background(&mut self, was: &Attrs, new: &Attrs)
-        requires { length self.old + 20 ≤ 64 }
-        ensures value { self.new
-            ≡ separated_all (part (same_color was.now.bgcolor new.now.bgcolor) (background_numbers new.now.bgcolor))
-            ++ self.old }
-        ensures room { length self.new ≤ length self.old + 20 }
+    /// Appends the parameters of the background color if it differs between `was` and `new`.
+    #[inline(always)]
+    #[tactic(auto, using(crate::proofs::ChangeTexts::numbers_appended), unfolding(crate::specs::Op::background_numbers))]
+    fn push_background(&mut self, lead: u8, was: Attrs, new: Attrs) -> u8
+        requires room { length self.old + 20 ≤ 256 }
+        requires ascii { lead < 128 }
+        ensures { AppendsNumbers self.old self.new lead result 20
+            (part (same_color was.bgcolor new.bgcolor) (background_numbers new.bgcolor)) }
     {
-        if was.has_bgcolor_of(new) {
-            return;
+        if was.has_bgcolor_of(&new) {
+            return lead;
         }
         match new.bgcolor() {
-            Color::Default => self.put_number(49),
-            Color::Idx(i) if i < 8 => self.put_number(40 + i),
-            Color::Idx(i) if i < 16 => self.put_number(92 + i),
-            Color::Idx(i) => self.put_indexed(48, i),
-            Color::Rgb(r, g, b) => self.put_parts(48, r, g, b),
+            Color::Default => self.push_number(lead, 49),
+            Color::Idx(i) if i < 8 => self.push_number(lead, 40 + i),
+            Color::Idx(i) if i < 16 => self.push_number(lead, 92 + i),
+            Color::Idx(i) => self.push_indexed(lead, 48, i),
+            Color::Rgb(r, g, b) => self.push_parts(lead, 48, r, g, b),
         }
+        b';'
     }
 
-    /// Prepends the parameters of the style (everything except the colors) if it differs between
+    /// Appends the parameters of the style (everything except the colors) if it differs between
     /// `was` and `new`.
-    #[inline]
-    #[tactic(auto, using(crate::proofs::ChangeTexts::no_style_put))]
-    fn put_style(&mut self, was: &Attrs, new: &Attrs)
-        requires { length self.old + 16 ≤ 64 }
-        ensures value { self.new ≡ separated_all (style_part was.now new.now) ++ self.old }
-        ensures room { length self.new ≤ length self.old + 16 }
+    #[inline(always)]
+    fn push_style(&mut self, lead: u8, was: Attrs, new: Attrs) -> u8
+        requires room { length self.old + 16 ≤ 256 }
+        requires ascii { lead < 128 }
+        ensures { AppendsNumbers self.old self.new lead result 16 (style_part was new) }
     {
-        if !was.has_style_of(new) {
-            self.put_switches(was, new);
+        let lead = self.push_intensity(lead, was, new);
+        self.push_switches(lead, was, new)
+    }
+
+    /// Appends the parameter of the intensity if it differs between `was` and `new`.
+    #[inline(always)]
+    fn push_intensity(&mut self, lead: u8, was: Attrs, new: Attrs) -> u8
+        requires room { length self.old + 4 ≤ 256 }
+        requires ascii { lead < 128 }
+        ensures { AppendsNumbers self.old self.new lead result 4
+            (part (same_intensity was.intensity new.intensity) (intensity_number new.intensity ∷ [])) }
+    {
+        if was.has_intensity_of(&new) {
+            return lead;
         }
+        match new.intensity() {
+            Intensity::Normal => self.push_number(lead, 22),
+            Intensity::Bold => self.push_number(lead, 1),
+            Intensity::Dim => self.push_number(lead, 2),
+        }
+        b';'
     }
 
-    /// Prepends a parameter for each of intensity, italics, underline and inverse that differs
-    /// between `was` and `new`.
-    #[inline(never)]
-    fn put_switches(&mut self, was: &Attrs, new: &Attrs)
-        requires { length self.old + 16 ≤ 64 }
-        ensures value { self.new ≡ separated_all (style_part was.now new.now) ++ self.old }
-        ensures room { length self.new ≤ length self.old + 16 }
+    /// Appends a parameter for each of italics, underline and inverse that differs between `was`
+    /// and `new`.
+    #[inline(always)]
+    fn push_switches(&mut self, lead: u8, was: Attrs, new: Attrs) -> u8
+        requires room { length self.old + 12 ≤ 256 }
+        requires ascii { lead < 128 }
+        ensures { AppendsNumbers self.old self.new lead result 12 (switches_part was new) }
     {
-        self.put_switch(was.inverse(), new.inverse(), 7, 27);
-        self.put_switch(was.underline(), new.underline(), 4, 24);
-        self.put_switch(was.italic(), new.italic(), 3, 23);
-        self.put_intensity(was.intensity(), new.intensity());
+        if was.has_switches_of(&new) {
+            return lead;
+        }
+        let lead = self.push_switch(lead, was.italic(), new.italic(), 3, 23);
+        let lead = self.push_switch(lead, was.underline(), new.underline(), 4, 24);
+        self.push_switch(lead, was.inverse(), new.inverse(), 7, 27)
     }
 
-    /// Prepends the parameter of the intensity if `was` and `new` differ.
-    #[inline]
-    fn put_intensity(&mut self, was: Intensity, new: Intensity)
-        requires { length self.old + 4 ≤ 64 }
-        ensures value { self.new
-            ≡ separated_all (part (same_intensity was new) (intensity_number new ∷ [])) ++ self.old }
-        ensures room { length self.new ≤ length self.old + 4 }
+    /// If `was` and `new` differ, appends the parameter `on` if `new` is true, otherwise `off`.
+    #[inline(always)]
+    #[tactic(auto, using(crate::proofs::ChangeTexts::numbers_appended))]
+    fn push_switch(&mut self, lead: u8, was: bool, new: bool, on: u8, off: u8) -> u8
+        requires room { length self.old + 4 ≤ 256 }
+        requires ascii { lead < 128 }
+        ensures { AppendsNumbers self.old self.new lead result 4
+            (part (same_bool was new) ((if new then on else off) ∷ [])) }
     {
         if was == new {
-            return;
+            return lead;
         }
-        match new {
-            Intensity::Normal => self.put_number(22),
-            Intensity::Bold => self.put_number(1),
-            Intensity::Dim => self.put_number(2),
-        }
+        self.push_number(lead, if new { on } else { off });
+        b';'
     }
 
-    /// If `was` and `new` differ, prepends the parameter `on` if `new` is true, otherwise `off`.
-    #[inline]
-    fn put_switch(&mut self, was: bool, new: bool, on: u8, off: u8)
-        requires { length self.old + 4 ≤ 64 }
-        ensures value { self.new
-            ≡ separated_all (part (same_bool was new) ((if new then on else off) ∷ [])) ++ self.old }
-        ensures room { length self.new ≤ length self.old + 4 }
+    /// Appends the parameters of a palette color: the layer (38 or 48), 5 and the index.
+    #[inline(always)]
+    fn push_indexed(&mut self, lead: u8, layer: u8, index: u8)
+        requires room { length self.old + 12 ≤ 256 }
+        requires ascii { lead < 128 }
+        ensures { AppendsNumbers self.old self.new lead 0x3B 12 (layer ∷ 5 ∷ index ∷ []) }
     {
-        if was != new {
-            self.put_number(if new { on } else { off });
-        }
+        self.push_number(lead, layer);
+        self.push_number(b';', 5);
+        self.push_number(b';', index);
     }
 
-    /// Prepends the parameters of a palette color: the layer (38 or 48), 5 and the index.
-    #[inline(never)]
-    fn put_indexed(&mut self, layer: u8, index: u8)
-        requires { length self.old + 12 ≤ 64 }
-        ensures value { self.new ≡ separated_all (layer ∷ 5 ∷ index ∷ []) ++ self.old }
-        ensures room { length self.new ≤ length self.old + 12 }
+    /// Appends the parameters of an RGB color: the layer (38 or 48), 2 and the three components.
+    #[inline(always)]
+    fn push_parts(&mut self, lead: u8, layer: u8, red: u8, green: u8, blue: u8)
+        requires room { length self.old + 20 ≤ 256 }
+        requires ascii { lead < 128 }
+        ensures { AppendsNumbers self.old self.new lead 0x3B 20 (layer ∷ 2 ∷ red ∷ green ∷ blue ∷ []) }
     {
-        self.put_number(index);
-        self.put_number(5);
-        self.put_number(layer);
-    }
-
-    /// Prepends the parameters of an RGB color: the layer (38 or 48), 2 and the three components.
-    #[inline(never)]
-    fn put_parts(&mut self, layer: u8, red: u8, green: u8, blue: u8)
-        requires { length self.old + 20 ≤ 64 }
-        ensures value { self.new ≡ separated_all (layer ∷ 2 ∷ red ∷ green ∷ blue ∷ []) ++ self.old }
-        ensures room { length self.new ≤ length self.old + 20 }
-    {
-        self.put_number(blue);
-        self.put_number(green);
-        self.put_number(red);
-        self.put_number(2);
-        self.put_number(layer);
+        self.push_number(lead, layer);
+        self.push_number(b';', 2);
+        self.push_number(b';', red);
+        self.push_number(b';', green);
+        self.push_number(b';', blue);
     }
 }

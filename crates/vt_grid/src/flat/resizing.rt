@@ -1,6 +1,6 @@
 //! Adding rows to a page and removing rows from it in place.
 
-ghost use Rattle.std.specs.Prelude.{◌≡◌, ◌≢◌, ◌++◌, ◌+◌, ◌-◌, ◌*◌, ◌<◌, ◌≤◌, ℕ, OnOk, length, vec_capacity};
+ghost use Rattle.std.specs.Prelude.{◌≡◌, ◌≢◌, ◌++◌, ◌+◌, ◌-◌, ◌*◌, ◌<◌, ◌≤◌, ℕ, OnOk, false, length, vec_capacity};
 ghost use Rattle.vt_cells.specs.Attrs.{default_attrs};
 ghost use Rattle.vt_cells.specs.Refusals.{OnlyOutOfMemory};
 ghost use Rattle.vt_rows.specs.Cells.{blanks};
@@ -20,11 +20,11 @@ impl Flat {
     pub fn reserve(&mut self, rows: u16) -> Result<(), Error>
         ensures cells { self.new.cells.items ≡ self.old.cells.items }
         ensures lines { self.new.lines.items ≡ self.old.lines.items }
-        ensures width { self.new.width ≡ self.old.width }
+        ensures columns { self.new.columns ≡ self.old.columns }
         ensures room { OnOk result (HasRoom rows self.new) }
         ensures memory { OnlyOutOfMemory result }
     {
-        let cells = usize::from(rows) * usize::from(self.width);
+        let cells = usize::from(rows) * usize::from(self.columns.stored);
         self.cells
             .reserve_exact(cells.saturating_sub(self.cells.len()))?;
         self.lines
@@ -40,13 +40,13 @@ impl Flat {
         requires more { length self.old.lines.items ≤ rows }
         ensures cells { self.new.cells.items
             ≡ self.old.cells.items
-            ++ blanks default_attrs (rows * self.old.width - length self.old.cells.items) }
+            ++ blanks default_attrs (rows * self.old.columns.stored - length self.old.cells.items) }
         ensures lines { self.new.lines.items
             ≡ self.old.lines.items
             ++ lines_from (length self.old.lines.items) (rows - length self.old.lines.items) }
-        ensures width { self.new.width ≡ self.old.width }
+        ensures columns { self.new.columns ≡ self.old.columns }
     {
-        let cells = usize::from(rows) * usize::from(self.width);
+        let cells = usize::from(rows) * usize::from(self.columns.stored);
         // There is memory for the blanks.
         let _ = self.cells.resize(cells, cell::default_blank());
         push_lines(&mut self.lines, rows);
@@ -59,14 +59,29 @@ impl Flat {
         requires inside { rows ≤ length self.old.lines.items }
         ensures flat { IsFlat self.new }
         ensures len { length self.new.lines.items ≡ rows }
-        ensures width { self.new.width ≡ self.old.width }
+        ensures columns { self.new.columns ≡ self.old.columns }
         ensures rows { (k : ℕ) → k < rows →
-            row_in self.old.width self.new.cells.items (line_at self.new.lines.items k)
-            ≡ row_in self.old.width self.old.cells.items (line_at self.old.lines.items k) }
+            row_in self.old.columns self.new.cells.items (line_at self.new.lines.items k)
+            ≡ row_in self.old.columns self.old.cells.items (line_at self.old.lines.items k) }
     {
         self.pack(rows);
         self.lines.truncate(rows);
-        self.cells.truncate(rows * usize::from(self.width));
+        self.cells.truncate(rows * usize::from(self.columns.stored));
+    }
+
+    /// Sets the number of columns of the page, up to the number of cells at each place, and clears
+    /// all wrapped flags. The cells are unchanged.
+    pub fn set_columns(&mut self, columns: u16)
+        ensures cells { self.new.cells ≡ self.old.cells }
+        ensures columns { self.new.columns ≡ record { shown = columns; stored = self.old.columns.stored } }
+        ensures len { length self.new.lines.items ≡ length self.old.lines.items }
+        ensures lines { (k : ℕ) → k < length self.old.lines.items →
+            line_at self.new.lines.items k ≡ record (line_at self.old.lines.items k) { wrapped = false } }
+    {
+        for row in 0..self.lines.len() {
+            self.lines[row].wrapped = false;
+        }
+        self.columns.shown = columns;
     }
 
     /// Moves the first `rows` rows to the first `rows` places.
@@ -75,10 +90,10 @@ impl Flat {
         requires inside { rows ≤ length self.old.lines.items }
         ensures flat { IsFlat self.new }
         ensures len { length self.new.lines.items ≡ length self.old.lines.items }
-        ensures width { self.new.width ≡ self.old.width }
+        ensures columns { self.new.columns ≡ self.old.columns }
         ensures rows { (k : ℕ) → k < rows →
-            row_in self.old.width self.new.cells.items (line_at self.new.lines.items k)
-            ≡ row_in self.old.width self.old.cells.items (line_at self.old.lines.items k) }
+            row_in self.old.columns self.new.cells.items (line_at self.new.lines.items k)
+            ≡ row_in self.old.columns self.old.cells.items (line_at self.old.lines.items k) }
         ensures packed { (k : ℕ) → k < rows → (line_at self.new.lines.items k).place < rows }
     {
         let mut free = rows;
@@ -90,8 +105,8 @@ impl Flat {
         }
     }
 
-    /// Copies the cells of a row to the place of another row, and swaps the places of the two rows.
-    /// The cells of the other row are lost: it becomes a copy of the row.
+    /// Copies the cells of `row` to the place of `other`, and swaps the places of the two rows. The
+    /// cells of `other` are lost: it becomes a copy of `row`.
     fn trade(&mut self, row: usize, other: usize)
         requires flat { IsFlat self.old }
         requires row { row < length self.old.lines.items }
@@ -99,22 +114,22 @@ impl Flat {
         requires apart { row ≢ other }
         ensures flat { IsFlat self.new }
         ensures len { length self.new.lines.items ≡ length self.old.lines.items }
-        ensures width { self.new.width ≡ self.old.width }
+        ensures columns { self.new.columns ≡ self.old.columns }
         ensures row { line_at self.new.lines.items row
             ≡ record (line_at self.old.lines.items row) { place = (line_at self.old.lines.items other).place } }
         ensures other { line_at self.new.lines.items other ≡ line_at self.old.lines.items row }
         ensures lines { (k : ℕ) → k ≢ row → k ≢ other →
             line_at self.new.lines.items k ≡ line_at self.old.lines.items k }
         ensures rows { (k : ℕ) → k < length self.old.lines.items → k ≢ other →
-            row_in self.old.width self.new.cells.items (line_at self.new.lines.items k)
-            ≡ row_in self.old.width self.old.cells.items (line_at self.old.lines.items k) }
+            row_in self.old.columns self.new.cells.items (line_at self.new.lines.items k)
+            ≡ row_in self.old.columns self.old.cells.items (line_at self.old.lines.items k) }
     {
-        let width = usize::from(self.width);
+        let stored = usize::from(self.columns.stored);
         let line = self.lines[row];
         let free = self.lines[other].place;
-        let start = usize::from(line.place) * width;
+        let start = usize::from(line.place) * stored;
         self.cells
-            .copy_within(start..start + width, usize::from(free) * width);
+            .copy_within(start..start + stored, usize::from(free) * stored);
         self.lines[row].place = free;
         self.lines[other] = line;
     }

@@ -1,131 +1,102 @@
 //! Cursor movement, the scroll region, origin mode and the saved cursor.
 
-ghost use Rattle.std.specs.Prelude.{◌≡◌, ◌+◌, ◌<◌, ◌⊎◌, if◌then◌else◌, length};
-ghost use Rattle.vt_grid.specs.Moves.{carriage_return, cursor_restored, cursor_saved};
-ghost use Rattle.vt_grid.specs.Moves.{moved_left, moved_right, moved_to, target_row};
-ghost use Rattle.vt_grid.specs.Regions.{in_region, last_row, moved_down, moved_to_column, moved_to_row};
-ghost use Rattle.vt_grid.specs.Regions.{moved_up, next_line, origin_set, previous_line, region_set, page_after_tab};
+ghost use Rattle.std.specs.Prelude.{◌≡◌, ◌+◌, ◌<◌, ◌⊎◌, length};
+ghost use Rattle.vt_grid.specs.Moves.{cursor_restored, cursor_saved, lower_edge, moved, origin_set};
+ghost use Rattle.vt_grid.specs.Moves.{position_after, target_row, upper_edge};
+ghost use Rattle.vt_grid.specs.Regions.{in_region, region_set};
 
 use super::Grid;
 use vt_cells::Pos;
 
+/// A movement of the cursor. Rows and columns are counted from 0.
+#[derive(Clone, Copy, PartialEq, Eq, Debug)]
+pub enum CursorMove {
+    /// To the first column (CR).
+    Return,
+
+    /// Up by a number of rows, keeping the column (CUU). The cursor stops at the top of the scroll
+    /// region if it starts inside the region, and at the first row otherwise.
+    Up(u16),
+
+    /// Down by a number of rows, keeping the column (CUD). The cursor stops at the bottom of the
+    /// scroll region if it starts inside the region, and at the last row otherwise.
+    Down(u16),
+
+    /// Right by a number of columns, stopping at the last column (CUF). If a wrap is pending, the
+    /// cursor moves to the last column.
+    Right(u16),
+
+    /// Left by a number of columns, stopping at the first column (BS, CUB). If a wrap is pending,
+    /// the columns are counted from one past the last column.
+    Left(u16),
+
+    /// To the first column, and down by a number of rows as [`CursorMove::Down`] does (CNL).
+    NextLine(u16),
+
+    /// To the first column, and up by a number of rows as [`CursorMove::Up`] does (CPL).
+    PreviousLine(u16),
+
+    /// To the next column that is a multiple of 8, or to the last column if there is no such column
+    /// (HT).
+    Tab,
+
+    /// To a row and a column, clamped to the last row and the last column (CUP, HVP). In origin
+    /// mode, the row is relative to the top of the scroll region and clamped to the region.
+    To {
+        /// The row.
+        row: u16,
+
+        /// The column.
+        col: u16,
+    },
+
+    /// To a column, clamped to the last one (CHA, HPA).
+    ToColumn(u16),
+
+    /// To a row, clamped to the last one (VPA).
+    ToRow(u16),
+}
+
 impl Grid {
-    /// Moves the cursor to the first column (CR).
-    #[inline]
-    pub fn cr(&mut self)
-        ensures { self.new ≡ carriage_return self.old }
+    /// Moves the cursor.
+    #[tactic(auto, using(crate::proofs::Regions::page_moved))]
+    #[inline(always)]
+    pub fn move_cursor(&mut self, cursor_move: CursorMove)
+        ensures { self.new ≡ moved cursor_move self.old }
     {
-        self.pos.col = 0;
+        let (row, col) = self.position_after(cursor_move);
+        self.pos = Pos { row, col };
     }
 
-    /// Moves the cursor left by `count` columns, stopping at the first column (CUB, BS). If a wrap
-    /// is pending, the columns are counted from one past the last column.
-    #[inline]
-    pub fn col_dec(&mut self, count: u16)
-        ensures { self.new ≡ moved_left count self.old }
+    /// Returns the row and column to which a movement takes the cursor.
+    #[inline(always)]
+    fn position_after(&self, cursor_move: CursorMove) -> (u16, u16)
+        ensures { result ≡ position_after cursor_move self.now }
     {
-        self.pos.col = self.pos.col.saturating_sub(count);
-    }
-
-    /// Moves the cursor right by `count` columns, stopping at the last column (CUF). When a wrap is
-    /// pending, the cursor moves to the last column.
-    #[inline]
-    pub fn col_inc_clamp(&mut self, count: u16)
-        ensures { self.new ≡ moved_right count self.old }
-    {
-        self.pos.col = self.pos.col.saturating_add(count).min(self.size.cols - 1);
-    }
-
-    /// Moves the cursor to a column, counted from 0 and limited to the last column (CHA, HPA).
-    #[inline]
-    pub fn col_set(&mut self, col: u16)
-        ensures { self.new ≡ moved_to_column col self.old }
-    {
-        self.pos.col = col.min(self.size.cols - 1);
-    }
-
-    /// Moves the cursor to the next column that is a multiple of 8, stopping at the last column
-    /// (HT). When a wrap is pending, the cursor moves to the last column.
-    #[inline]
-    pub fn col_tab(&mut self)
-        ensures { self.new ≡ page_after_tab self.old }
-    {
-        let ahead = 8 - self.pos.col % 8;
-        self.pos.col = self.pos.col.saturating_add(ahead).min(self.size.cols - 1);
-    }
-
-    /// Moves the cursor up by `count` rows; the column is unchanged (CUU).
-    ///
-    /// If the cursor starts inside the scroll region, it stops at the top of the region, otherwise
-    /// at the first row of the page.
-    #[tactic(auto, unfolding(crate::specs::Regions::moved_up))]
-    #[inline]
-    pub fn row_dec_clamp(&mut self, count: u16)
-        ensures { self.new ≡ moved_up count self.old }
-    {
-        self.pos.row = self.pos.row.saturating_sub(count).max(self.upper_edge());
-    }
-
-    /// Moves the cursor down by `count` rows; the column is unchanged (CUD).
-    ///
-    /// If the cursor starts inside the scroll region, it stops at the bottom of the region,
-    /// otherwise at the last row of the page.
-    #[tactic(auto, unfolding(crate::specs::Regions::moved_down))]
-    #[inline]
-    pub fn row_inc_clamp(&mut self, count: u16)
-        ensures { self.new ≡ moved_down count self.old }
-    {
-        self.pos.row = self.pos.row.saturating_add(count).min(self.lower_edge());
-    }
-
-    /// Moves the cursor to a row, counted from 0 and limited to the last row; the column is
-    /// unchanged (VPA).
-    #[inline]
-    pub fn row_set(&mut self, row: u16)
-        ensures { self.new ≡ moved_to_row row self.old }
-    {
-        self.pos.row = row.min(self.size.rows - 1);
-    }
-
-    /// Moves the cursor to the first column, and down by `count` rows as [`Grid::row_inc_clamp`]
-    /// does (CNL).
-    #[inline]
-    pub fn next_line(&mut self, count: u16)
-        ensures { self.new ≡ next_line count self.old }
-    {
-        self.row_inc_clamp(count);
-        self.cr();
-    }
-
-    /// Moves the cursor to the first column, and up by `count` rows as [`Grid::row_dec_clamp`] does
-    /// (CPL).
-    #[inline]
-    pub fn previous_line(&mut self, count: u16)
-        ensures { self.new ≡ previous_line count self.old }
-    {
-        self.row_dec_clamp(count);
-        self.cr();
-    }
-
-    /// Moves the cursor to a row and a column, both counted from 0 and limited to the page (CUP).
-    ///
-    /// In origin mode, the row is relative to the top of the scroll region and limited to the
-    /// region.
-    #[inline]
-    pub fn move_to(&mut self, row: u16, col: u16)
-        ensures { self.new ≡ moved_to row col self.old }
-    {
-        let row = self.target_row(row);
-        self.pos = Pos {
-            row,
-            col: col.min(self.size.cols - 1),
-        };
+        let Pos { row, col } = self.pos;
+        let last_col = self.size.cols - 1;
+        match cursor_move {
+            CursorMove::Return => (row, 0),
+            CursorMove::Up(count) => (row.saturating_sub(count).max(self.upper_edge()), col),
+            CursorMove::Down(count) => (row.saturating_add(count).min(self.lower_edge()), col),
+            CursorMove::Right(count) => (row, col.saturating_add(count).min(last_col)),
+            CursorMove::Left(count) => (row, col.saturating_sub(count)),
+            CursorMove::NextLine(count) => (row.saturating_add(count).min(self.lower_edge()), 0),
+            CursorMove::PreviousLine(count) => (
+                row.saturating_sub(count).max(self.upper_edge()),
+                0,
+            ),
+            CursorMove::Tab => (row, col.saturating_add(8 - col % 8).min(last_col)),
+            CursorMove::To { row, col } => (self.target_row(row), col.min(last_col)),
+            CursorMove::ToColumn(col) => (row, col.min(last_col)),
+            CursorMove::ToRow(row) => (row.min(self.size.rows - 1), col),
+        }
     }
 
     /// Sets the scroll region to rows `top..=bottom`, counted from 0, and moves the cursor to the
     /// first column of the region's first row (DECSTBM).
     ///
-    /// `bottom` is limited to the last row. If the region would have fewer than two rows, the whole
+    /// `bottom` is clamped to the last row. If the region would have fewer than two rows, the whole
     /// page becomes the region.
     #[tactic(auto, unfolding(crate::specs::Regions::region_set))]
     pub fn set_scroll_region(&mut self, top: u16, bottom: u16)
@@ -146,7 +117,7 @@ impl Grid {
         ensures { self.new ≡ origin_set on self.old }
     {
         self.origin_mode = on;
-        self.move_to(0, 0);
+        self.move_cursor(CursorMove::To { row: 0, col: 0 });
     }
 
     /// Saves the cursor position and origin mode (DECSC).
@@ -188,9 +159,10 @@ impl Grid {
     }
 
     /// Returns the topmost row that the cursor can move up to.
+    #[tactic(auto, unfolding(crate::specs::Moves::upper_edge))]
     #[inline]
     fn upper_edge(&self) -> u16
-        ensures { result ≡ (if in_region self.now then self.now.top else 0) }
+        ensures { result ≡ upper_edge self.now }
     {
         if self.in_scroll_region() {
             self.scroll_top
@@ -200,9 +172,10 @@ impl Grid {
     }
 
     /// Returns the bottommost row that the cursor can move down to.
+    #[tactic(auto, unfolding(crate::specs::Moves::lower_edge))]
     #[inline]
     fn lower_edge(&self) -> u16
-        ensures { result ≡ (if in_region self.now then self.now.bottom else last_row self.now) }
+        ensures { result ≡ lower_edge self.now }
     {
         if self.in_scroll_region() {
             self.scroll_bottom

@@ -176,8 +176,8 @@ impl Grid {
         cell::is_wide_text(&cell)
     }
 
-    /// Adds a combining character to the glyph before the cursor and, if the character is U+FE0F,
-    /// gives the glyph the width of its text. Does nothing if the glyph has no room for the
+    /// Adds a combining character to the glyph before the cursor. If the character is U+FE0F, also
+    /// sets the glyph's width to that of its new text. Does nothing if the glyph has no room for the
     /// character.
     #[tactic(auto, unfolding(crate::specs::Printing::mark_printed))]
     fn mark_cell(&mut self, mark: char, attrs: Attrs)

@@ -27,7 +27,7 @@ impl Grid {
     /// page.
     ///
     /// Each row is truncated or extended to the new width. The cursor and the saved cursor move
-    /// with their rows, limited to the new page. Afterward the scroll region is the whole page, no
+    /// with their rows and are clamped to the new page. Afterward the scroll region is the whole page, no
     /// wrap is pending, and no scrollback row is displayed.
     ///
     /// # Errors
@@ -234,8 +234,9 @@ fn at_most(rows: u16, count: usize) -> u16
 }
 
 /// Returns the position of a cursor that was at `pos` before `down` rows scrolled off the top of
-/// the page and `up` rows returned there. The cursor moves with its row, limited to the new size.
-fn resized(pos: Pos, down: u16, up: u16, size: Size) -> Pos
+/// the page and `up` rows returned there. The cursor moves with its row and is clamped to the new
+/// size.
+pub(super) fn resized(pos: Pos, down: u16, up: u16, size: Size) -> Pos
     ensures row { result.row ≡ row_resized size.rows down up pos.row }
     ensures col { result.col ≡ min pos.col (size.cols - 1) }
 {

@@ -1,6 +1,6 @@
 //! The columns of a row that are in use: all cells after them are default blanks.
 
-ghost use Rattle.std.specs.Prelude.{◌≡◌, ◌<◌, if◌then◌else◌, length, max};
+ghost use Rattle.std.specs.Prelude.{◌≡◌, ◌<◌, ◌≤◌, if◌then◌else◌, length, max};
 ghost use Rattle.vt_cells.specs.Cell.{blank, is_default_blank};
 ghost use Rattle.vt_rows.specs.Row.{cells_without_end};
 ghost use Rattle.vt_grid.specs.Flat.{IsBlankFrom, used_columns};
@@ -18,7 +18,8 @@ impl PageRows {
         ensures { cells_without_end result.now ≡ cells_without_end (page_row self.now row).cells }
     {
         let (start, _end) = self.flat.part(row);
-        &self.flat.cells[start..start + used_columns(self.flat.lines[row].used, self.flat.width)]
+        let used = used_columns(self.flat.lines[row].used, self.flat.columns.shown);
+        &self.flat.cells[start..start + used]
     }
 
     /// Returns the number of used columns of a row in groups of eight, as its table entry holds it.
@@ -30,8 +31,18 @@ impl PageRows {
         self.flat.lines[usize::from(row)].used
     }
 
-    /// Sets the number of used columns of a row to `groups` groups of eight, or as many as it takes
-    /// for `reach` columns. The cells are unchanged, and those after both must be default blanks.
+    /// Returns the number of used columns of a row.
+    pub(super) fn used_len(&self, row: u16) -> usize
+        requires { row < length self.now.rows }
+        ensures inside { result ≤ length (page_row self.now row).cells }
+        ensures blank { IsBlankFrom result (page_row self.now row).cells }
+    {
+        used_columns(self.groups(row), self.flat.columns.shown)
+    }
+
+    /// Marks the first `groups` groups of eight columns of a row as used, or as many groups as are
+    /// needed to cover `reach` columns if that is more. The cells are unchanged. Those after the
+    /// used columns must be default blanks.
     #[inline]
     pub(super) fn note_used(&mut self, row: u16, groups: u8, reach: usize)
         requires inside { row < length self.old.rows }
@@ -45,7 +56,8 @@ impl PageRows {
     }
 }
 
-/// Returns the column from which an erasure of columns up to `to` writes only default blanks.
+/// Returns the column at and after which an erasure of columns up to `to` writes only default
+/// blanks.
 pub(super) fn erased_reach(to: u16, attrs: Attrs) -> usize
     ensures { result ≡ (if is_default_blank (blank attrs) then 0 else to) }
 {

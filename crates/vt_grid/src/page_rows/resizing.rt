@@ -131,7 +131,7 @@ impl PageRows {
             (resized_row (length (page_row self.old row).cells) (record { cells = from.now; wrapped = wrapped }))
             self.old }
     {
-        let is_wrapped = flag_kept(wrapped, from.len() == usize::from(self.flat.width));
+        let is_wrapped = flag_kept(wrapped, from.len() == usize::from(self.flat.columns.shown));
         self.edit_row_and_flag(row, is_wrapped, |cells| trimming::refit(cells, from));
     }
 

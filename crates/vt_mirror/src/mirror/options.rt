@@ -1,11 +1,14 @@
 //! Updates with options.
 
-ghost use Rattle.std.specs.Prelude.{◌≡◌, IfOk};
+ghost use Rattle.std.specs.Prelude.{◌≡◌, IfOk, IsOk, true};
 ghost use Rattle.vt_cells.specs.Refusals.{OnlyOutOfMemory};
 ghost use Rattle.vt_mirror.specs.Calls.{Asks, IsUpdate, kind_with, kind_without_repeats};
-ghost use Rattle.vt_mirror.specs.Internals.{RepeatsUpdate};
+ghost use Rattle.vt_mirror.specs.Internals.{HasNoDiff, RepeatsUpdate};
+ghost use Rattle.vt_mirror.specs.Mirror.{is_current};
 ghost use Rattle.vt_mirror.specs.Viewers.{note_of};
+ghost use Rattle.vt_redraw.specs.Steady.{IsSteady};
 ghost use Rattle.vt_screen.specs.Screen.{IsColored, IsScreen};
+ghost use Rattle.vt_screen.specs.Shown.{display};
 
 use crate::mirror::Mirror;
 use crate::update::Update;
@@ -17,22 +20,25 @@ impl Mirror {
     /// for a diff.
     ///
     /// With `scroll`, the update is the one that [`update_scrolling`](Mirror::update_scrolling)
-    /// would return. With `repeat`, runs of a printable ASCII character in a diff are written with
+    /// would return. With `repeat`, runs of a one-column character in a diff may be written with
     /// REP (ECMA-48, 8.3.103), as with `Screen::contents_diff_with`. Use `repeat` only if the
-    /// viewer's terminal performs REP. Each update may have other options, and may also come from
-    /// `update` or `update_scrolling`.
+    /// viewer's terminal performs REP. Each update may use different options, and may also come
+    /// from `update` or `update_scrolling`.
     ///
     /// # Errors
     ///
     /// Returns `Error::OutOfMemory` if an allocation fails, as `update` does.
     /// On error, nothing is changed, and the same update can be requested
-    /// again.
+    /// again. There is no error if the viewer is up to date and the screen is
+    /// steady; without `scroll`, the screen need not be steady (clause `never`).
     pub fn update_with(
         &mut self,
         viewer: u64,
         options: DiffOptions,
     ) -> Result<Option<Update>, Error>
         ensures call { Asks (kind_with options) self.old viewer result self.new }
+        ensures never { is_current self.old viewer ≡ true →
+            (options.scroll ≡ true → IsSteady (display self.old.parser.screen)) → IsOk result }
     {
         if !self.viewers.has(viewer) {
             return Ok(None);
@@ -55,6 +61,8 @@ impl Mirror {
         ensures ok { IfOk result
             (λ update. IsUpdate (kind_with options) self.old.parser.screen (note_of self.old.viewers viewer) update) }
         ensures memory { OnlyOutOfMemory result }
+        ensures never { is_current self.old viewer ≡ true →
+            (options.scroll ≡ true → IsSteady (display self.old.parser.screen)) → IsOk result }
     {
         let plain = self.update_without_repeats(viewer, options.scroll)?;
         if !options.repeat {
@@ -64,7 +72,7 @@ impl Mirror {
         Ok(update)
     }
 
-    /// Returns the update without REP.
+    /// Returns the viewer's next update, written without REP.
     ///
     /// # Errors
     ///
@@ -75,7 +83,10 @@ impl Mirror {
         ensures colored { IsColored self.new.parser.screen }
         ensures ok { IfOk result (λ update.
             IsUpdate (kind_without_repeats scroll) self.old.parser.screen (note_of self.old.viewers viewer) update) }
+        ensures idle { is_current self.old viewer ≡ true → IfOk result HasNoDiff }
         ensures memory { OnlyOutOfMemory result }
+        ensures never { is_current self.old viewer ≡ true →
+            (scroll ≡ true → IsSteady (display self.old.parser.screen)) → IsOk result }
     {
         if scroll {
             let update = self.scrolling_update(viewer)?;
@@ -85,7 +96,8 @@ impl Mirror {
         Ok(update)
     }
 
-    /// Returns the viewer's update `plain` with the runs of a diff written with REP.
+    /// Returns the viewer's update `plain`. If it is a diff, its runs of a character are written
+    /// with REP.
     ///
     /// # Errors
     ///
@@ -93,6 +105,7 @@ impl Mirror {
     fn update_with_repeats(&self, viewer: u64, plain: Update) -> Result<Update, Error>
         ensures ok { IfOk result (λ update. RepeatsUpdate (note_of self.now.viewers viewer) plain update) }
         ensures memory { OnlyOutOfMemory result }
+        ensures never { HasNoDiff plain → IsOk result }
     {
         let text = match plain {
             Update::Full { rows, cols, text } => return Ok(Update::Full { rows, cols, text }),

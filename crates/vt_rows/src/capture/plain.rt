@@ -16,7 +16,7 @@ use std::marker::Model;
 /// [`basic_formatted_to_plain_indexed`].
 #[derive(Drop)]
 pub struct BasicFormattedToPlainIndexed<'a> {
-    /// The part of the capture that is not yet read.
+    /// The unread part of the capture.
     rest: &'a str,
     /// The length of the whole capture, in bytes.
     len: usize,

@@ -18,7 +18,7 @@ use unicode_width::UnicodeWidthChar;
 /// [`basic_formatted_rows`].
 #[derive(Drop)]
 pub struct BasicFormattedRows<'a> {
-    /// The part of the capture that is not yet read, or `None` after the last row.
+    /// The unread part of the capture, or `None` after the last row.
     rest: Option<&'a str>,
     width: u16,
 }

@@ -49,9 +49,9 @@ impl Scanner {
         }
     }
 
-    /// Returns whether `byte` is a C0 control character other than ESC that would be executed as
-    /// the only event, because no sequence or character is incomplete. Feeding such a byte leaves
-    /// the scanner unchanged, so the caller can skip it.
+    /// Returns whether feeding `byte` would only execute it: `byte` is a C0 control character other
+    /// than ESC, and no sequence or character is incomplete. Feeding such a byte leaves the scanner
+    /// unchanged, so the caller can skip it.
     #[inline(always)]
     pub fn is_control(&self, byte: u8) -> bool
         ensures feeds { IsTrue result

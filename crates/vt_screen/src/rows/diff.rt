@@ -42,7 +42,7 @@ impl<'a> Model for RowsDiff<'a> {
 }
 
 impl<'a> RowsDiff<'a> {
-    /// Creates an iterator over the rows from top to bottom, limited to the
+    /// Creates an iterator over the rows from top to bottom, restricted to the
     /// columns `start..stop`.
     pub(crate) fn new(screen: &'a Screen, prev: &'a Screen, start: u16, stop: u16) -> RowsDiff<'a>
         requires order { start ≤ stop }

@@ -38,7 +38,7 @@ impl<'a> Model for RowsFormatted<'a> {
 }
 
 impl<'a> RowsFormatted<'a> {
-    /// Creates an iterator over the rows from top to bottom, limited to the
+    /// Creates an iterator over the rows from top to bottom, restricted to the
     /// columns `start..stop`.
     pub(crate) fn new(screen: &'a Screen, start: u16, stop: u16) -> RowsFormatted<'a>
         requires order { start ≤ stop }

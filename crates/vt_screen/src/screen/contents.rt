@@ -208,7 +208,7 @@ fn column_if(test: bool, column: u16, other: u16) -> u16
     if test { column } else { other }
 }
 
-/// Returns the index of the row after `row`, limited to `rows`.
+/// Returns the index of the row after `row`, or `rows` if `row` is not less than `rows`.
 fn past_row(row: u16, rows: u16) -> u16
     ensures { result ≡ min (row + 1) rows }
 {

@@ -21,9 +21,9 @@ impl Screen {
     ///
     /// With `scroll`, the output may move rows or columns first, as that of
     /// [`Screen::contents_diff_scrolling`] does. With `repeat`, runs of a
-    /// printable ASCII character are written as the character followed by REP
-    /// (CSI `n` `b`, ECMA-48, 8.3.103) if that is shorter. Some terminals
-    /// ignore REP, so use `repeat` only if the reader performs it. Without
+    /// one-column character may be written as the character followed by
+    /// REP (CSI `n` `b`, ECMA-48, 8.3.103) if that is shorter. Some terminals
+    /// ignore REP, so use `repeat` only if the receiving terminal performs it. Without
     /// `repeat`, the output is that of `contents_diff` or, with `scroll`, of
     /// `contents_diff_scrolling`.
     ///
@@ -31,8 +31,8 @@ impl Screen {
     /// `shorter`). Every terminal in ground state takes the same steps for the
     /// output with REP as for the output with the runs written out (clause
     /// `text`). On a plain terminal that displays `prev`, the characters of each
-    /// REP fit in the row (clause `rows`), because terminals differ in what they
-    /// do otherwise.
+    /// REP fit in the row (clause `rows`); terminals differ in how they treat
+    /// characters that do not fit.
     ///
     /// If this screen is steady, a plain terminal that displays `prev` displays
     /// this screen after reading the output (clause `redraws`). The output is
@@ -72,8 +72,7 @@ impl Screen {
         Ok(text)
     }
 
-    /// Returns the plain diff or, if rows and columns may move first, the
-    /// scrolling diff.
+    /// Returns the ordinary diff or, if rows and columns may move first, the scrolling diff.
     ///
     /// # Errors
     ///
@@ -92,7 +91,7 @@ impl Screen {
         Ok(text)
     }
 
-    /// Returns `plain`, or the same output with runs written with REP.
+    /// Returns `plain` or, if `repeat` is true, the same output with its runs written with REP.
     ///
     /// # Errors
     ///

@@ -1,4 +1,4 @@
-//! Diffs that may move rows or columns first and are never longer than the plain diff.
+//! Diffs that may move rows or columns first and are never longer than the ordinary diff.
 //!
 //! The module `redraw` defines what a screen displays, when a terminal is
 //! plain, and when a screen is steady.
@@ -15,12 +15,13 @@ ghost use Rattle.vt_redraw.specs.Refusals.{RefusedOnlyIfSome};
 ghost use Rattle.vt_screen.specs.Again.{KeepsPlain};
 ghost use Rattle.vt_screen.specs.MadeOf.{IsMadeOf, shortened_controls, shortened_finals};
 ghost use Rattle.vt_screen.specs.Screen.{IsColored, IsScreen};
-ghost use Rattle.vt_screen.specs.ShortMoves.{IsShortMoving, IsShortVersion, known_cursor};
+ghost use Rattle.vt_screen.specs.Gaps.{IsShortVersion};
+ghost use Rattle.vt_screen.specs.ShortMoves.{IsShortMoving, known_cursor};
 ghost use Rattle.vt_screen.specs.Shown.{IsSameIfEmpty, RedrawsFrom, ShowsOwnPage, display, display_change};
 ghost use Rattle.vt_screen.specs.TextResults.{IfText};
 
 use crate::screen::Screen;
-use crate::short_moves::with_short_moves;
+use crate::short_moves::{Known, with_short_moves};
 use vt_cells::{Attrs, Error, Pos, Sink};
 use vt_grid::Grid;
 use vt_redraw::pen::write_change;
@@ -36,8 +37,12 @@ impl Screen {
     ///
     /// If rows have scrolled, even in only a part of the screen, the output may move them with DL
     /// and IL. If text has moved within its row, the output may move it with DCH and ICH. Either
-    /// can make the output much shorter. The moves are guesses; moved rows are looked for only
-    /// among the first 256 rows. The output may touch any row.
+    /// can make the output much shorter. If rows are better erased and drawn anew, DL and IL may
+    /// erase them first. The moves are guesses; moved rows are looked for only among the first 256
+    /// rows. The output may touch any row.
+    ///
+    /// The cursor is moved with LF, CR, BS, HT or CHA where that is shorter. The tty must therefore
+    /// not translate output, and the tab stops must be at every eighth column.
     ///
     /// A terminal is plain if it is in ground state, with the full scroll
     /// region, origin mode off and no scrollback displayed. A screen is steady
@@ -51,7 +56,7 @@ impl Screen {
     ///
     /// # Errors
     ///
-    /// Returns `Error::OutOfMemory` if the output, or the plain diff that it is compared with,
+    /// Returns `Error::OutOfMemory` if the output, or the ordinary diff that it is compared with,
     /// cannot be allocated. There is no error if both screens have the same display (clause
     /// `never`).
     ///
@@ -92,9 +97,12 @@ impl Screen {
         ensures memory { OnlyOutOfMemory result }
         ensures nonempty { RefusedOnlyIfSome result (string_bytes text) }
     {
-        let size = self.grid.size();
-        let start = self.known_cursor();
-        match with_short_moves(self.alloc, text.as_str(), size, start) {
+        let start = Known {
+            at: self.known_cursor(),
+            kept: Some(Pos { row: 0, col: 0 }),
+            is_default: self.attrs().is_same(&Attrs::new()),
+        };
+        match with_short_moves(self.alloc, text.as_str(), &self.view(), start) {
             Err(error) => Err(error),
             Ok(Some(short)) if is_better(short.as_str(), text.as_str()) => Ok(short),
             Ok(_) => Ok(text),
@@ -113,7 +121,7 @@ impl Screen {
         }
     }
 
-    /// Returns the plain diff `text`, or shorter output that moves rows or columns first.
+    /// Returns the ordinary diff `text`, or shorter output that moves rows or columns first.
     ///
     /// # Errors
     ///
@@ -138,13 +146,12 @@ impl Screen {
         }
     }
 
-    /// Returns the shorter of the plain diff `text` and the output that moves the rows of `band`
+    /// Returns the shorter of the ordinary diff `text` and the output that moves the rows of `band`
     /// first.
     ///
     /// # Errors
     ///
-    /// Returns `Error::OutOfMemory` if the alternative output cannot be
-    /// allocated.
+    /// Returns `Error::OutOfMemory` if the alternative output cannot be allocated.
     fn shorter_of(&self, prev: &Screen, band: Band, text: String) -> Result<String, Error>
         requires size { SameSize self.now.page prev.now.page }
         requires band { IsBand (length (display prev.now).rows) band }
@@ -178,13 +185,13 @@ impl Screen {
         write_contents_diff(sink, &self.view(), &prev.moved_view(band))
     }
 
-    /// Returns the shorter of the plain diff `text` and the output that shifts columns first,
+    /// Returns the shorter of the ordinary diff `text` and the output that shifts columns first,
     /// beginning with the shift `first`. Returns `text` if scrollback is displayed on `prev`.
     ///
     /// # Errors
     ///
-    /// Returns `Error::OutOfMemory` if the alternative output, or the copy of
-    /// the page that it is made from, cannot be allocated.
+    /// Returns `Error::OutOfMemory` if the alternative output, or the copy of the page that it is
+    /// made from, cannot be allocated.
     fn shorter_with_shifts(
         &self,
         prev: &Screen,
@@ -247,8 +254,7 @@ impl Screen {
         View::new(&self.scrollback, grid, Attrs::new(), self.hidden)
     }
 
-    /// Returns a view of what a terminal displays after it has displayed this
-    /// screen and then moved the rows of `band`.
+    /// Returns a view of this screen as a terminal displays it after moving the rows of `band`.
     fn moved_view(&self, band: Band) -> View<'_>
         requires { IsBand (length (display self.now).rows) band }
         ensures { result ≡ picture_after_move band (display self.now) }

@@ -312,11 +312,11 @@ impl Screen {
         }
     }
 
-    /// Returns the escape sequences that set the current attributes: a reset
-    /// (SGR 0) and the change from the defaults.
+    /// Returns the escape sequences that set the current attributes: a reset (SGR 0) followed by
+    /// the changes from the defaults.
     ///
-    /// Any terminal in ground state has this screen's current attributes after
-    /// reading the output, and nothing else changes (clause `sets`).
+    /// Any terminal in ground state has this screen's current attributes after reading the output,
+    /// and nothing else changes (clause `sets`).
     ///
     /// # Errors
     ///

@@ -1,6 +1,6 @@
 //! Resizing the screen.
 
-ghost use Rattle.std.specs.Prelude.{◌≡◌, ◌≤◌, [], IfOk, IfSome, IsErr, OnErr, OnOk};
+ghost use Rattle.std.specs.Prelude.{◌≡◌, ◌≢◌, ◌≤◌, [], IfOk, IfSome, IsErr, IsTrue, OnErr, OnOk};
 ghost use Rattle.std.specs.Prelude.{false, length, option_map, true};
 ghost use Rattle.vt_cells.specs.Refusals.{OnlyOutOfMemory};
 ghost use Rattle.vt_grid.specs.Page.{blank_page};
@@ -139,6 +139,9 @@ fn resize_below<CB: Callbacks>(
 {
     let now = screen.grid.size();
     if size.cols != now.cols {
+        if size.rows == now.rows && set_cols(screen, size) {
+            return Ok(());
+        }
         return refit_pages(screen, size, callbacks);
     }
     if size.rows > now.rows {
@@ -242,6 +245,33 @@ fn add_rows(screen: &mut Screen, size: Size) -> Result<(), Error>
         &mut screen.other_scrollback,
     )?;
     Ok(())
+}
+
+/// Resizes both pages to the width of `size` in place while the main page is
+/// active. The height of `size` must be that of the pages, and the width a
+/// different one. No row scrolls off.
+///
+/// Returns `false` and changes nothing if a page stores its rows without room
+/// for that many columns.
+fn set_cols(screen: &mut Screen, size: Size) -> bool
+    requires size { IsPageSize size.rows size.cols }
+    requires height { size.rows ≡ length screen.old.page.rows }
+    requires width { size.cols ≢ screen.old.page.width }
+    requires main { screen.old.is_alternate ≡ false }
+    ensures done { IsTrue result → screen.new ≡ pages_resized size.rows size.cols screen.old }
+    ensures undone { result ≡ false → screen.new ≡ screen.old }
+    ensures quiet { reports_of_pages size.rows screen.old ≡ [] }
+{
+    screen.other_scrollback.clear(&mut ());
+    if !screen.grid.set_cols(
+        &mut screen.other,
+        size.cols,
+        &mut screen.scrollback,
+        &mut screen.other_scrollback,
+    ) {
+        return false;
+    }
+    true
 }
 
 /// Resizes both pages to a size with a different width while the main page is

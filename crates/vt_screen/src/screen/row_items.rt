@@ -82,8 +82,11 @@ impl Screen {
     /// character of either row in two. The output of a whole row is empty if and only if both
     /// screens display the same row (clause `empty`). A row that is not wrapped on this screen is
     /// not wrapped on the terminal after the output of the whole row has been read (clause `off`).
-    /// A row that is wrapped on this screen becomes wrapped on the terminal when the output of the
-    /// next row is read or something is printed in the next row.
+    ///
+    /// If a row is wrapped on this screen but not on `prev`, the output of the whole row ends with
+    /// a pending wrap. The terminal's row then becomes wrapped only if a character is printed
+    /// before the cursor moves; no clause states this. In the example, the cursor moves before each
+    /// output, so such a row does not become wrapped.
     ///
     /// # Examples
     ///
@@ -128,7 +131,7 @@ impl Screen {
     }
 
     /// Returns the end of the range of `width` columns that begins at column
-    /// `start`, limited to the number of columns.
+    /// `start`, clamped to the number of columns of the screen.
     fn range_end(&self, start: u16, width: u16) -> u16
         requires { start < self.now.page.width }
         ensures value { result ≡ range_end start width self.now.page.width }

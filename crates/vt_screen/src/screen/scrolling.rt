@@ -80,7 +80,7 @@ pub fn erase_scrollback<CB: Callbacks>(screen: &mut Screen, callbacks: &mut CB)
 }
 
 impl Screen {
-    /// Scrolls the display back by `rows` rows, limited to the number of rows
+    /// Scrolls the display back by `rows` rows, clamped to the number of rows
     /// in scrollback. If `rows` is 0, only the page is displayed.
     ///
     /// The display may be scrolled back by more rows than the screen has. In

@@ -8,46 +8,47 @@ ghost use Rattle.vt_screen.specs.ShortMoves.{IsAsciiCharacter, IsElement, IsSgrT
 use crate::sgr::{Reading, Wanted};
 use vt_cells::{Pos, columns};
 
-/// The largest number of numbers in an SGR sequence.
+/// The maximum count of numbers in an SGR sequence.
 const MOST_NUMBERS: u8 = 32;
 
 /// An element of drawing output.
 #[derive(Clone, Copy, PartialEq, Eq, Debug)]
 pub enum Element {
-    /// Characters of printable ASCII.
+    /// A run of printable ASCII characters.
     Ascii,
 
-    /// A different character.
+    /// A printed character that is not ASCII.
     Other(char),
 
-    /// CUP.
+    /// A movement to this position (CUP).
     Place(Pos),
 
-    /// CUF.
+    /// A movement right by this many columns (CUF).
     Right(u16),
 
-    /// CR LF.
+    /// A movement to the first column of the next row (CR LF).
     NextRow,
 
-    /// EL without a parameter.
+    /// An erasure from the cursor to the end of the row (EL without a parameter).
     EraseRest,
 
-    /// ECH.
+    /// An erasure of this many columns, beginning at the cursor (ECH).
     EraseChars(u16),
 
-    /// DL, or IL if the flag is set.
+    /// The deletion of this many rows (DL) or, if the flag is set, their insertion (IL).
     Lines(u16, bool),
 
-    /// DCH, or ICH if the flag is set.
+    /// The deletion of this many columns of a row (DCH) or, if the flag is set, their insertion
+    /// (ICH).
     Chars(u16, bool),
 
-    /// DECTCEM, which hides the cursor if the flag is set and shows it otherwise.
+    /// The sequence that hides the cursor if the flag is set, and shows it otherwise (DECTCEM).
     Hide(bool),
 
-    /// SGR without a parameter.
+    /// A reset of all attributes (SGR without a parameter).
     ClearAttrs,
 
-    /// SGR with parameters.
+    /// A change of attributes (SGR with parameters).
     Attrs,
 }
 
@@ -159,7 +160,7 @@ fn short_sequence(last: u8) -> Option<Element>
     }
 }
 
-/// Returns the control sequence with the count `count`, which is not 0, that ends with `last`.
+/// Returns the control sequence that has the single parameter `count` (not 0) and ends with `last`.
 fn counted_sequence(count: u16, last: u8) -> Option<Element>
     requires { 0 < count }
     ensures { IfSome result (λ element. IsElement element (counted count last)) }
@@ -188,7 +189,8 @@ fn hide(bytes: &[u8]) -> Option<(Element, usize)>
     }
 }
 
-/// Returns the control sequence with numbers at the beginning of `bytes`.
+/// Returns the control sequence at the beginning of `bytes` if its parameters are numbers, and the
+/// number of its bytes.
 fn numbered_sequence(bytes: &[u8]) -> Option<(Element, usize)>
     requires long { 2 ≤ length bytes.now }
     requires introduced { take 2 bytes.now ≡ 0x1B ∷ 0x5B ∷ [] }
@@ -247,8 +249,9 @@ fn place(row: u16, bytes: &[u8]) -> Option<(Pos, usize)>
     Some((pos, len + 1))
 }
 
-/// Returns the length of the SGR parameters at the beginning of `bytes`, which are followed by the
-/// final byte `m`. They have at most `most` numbers, and all of them are known.
+/// Returns the length of the SGR parameters at the beginning of `bytes`. Returns `None` if they are
+/// not followed by the final byte `m`, if there are more than `most` numbers, or if a number is
+/// unknown.
 fn sgr_len(bytes: &[u8], wanted: Wanted, most: u8) -> Option<usize>
     ensures inside { IfSome result (λ len. len < length bytes.now) }
     ensures last { IfSome result (λ len. slice_index_or bytes.now len 0 ≡ 0x6D) }
@@ -272,8 +275,8 @@ fn sgr_len(bytes: &[u8], wanted: Wanted, most: u8) -> Option<usize>
     }
 }
 
-/// Returns how the number after `number` in an SGR sequence is interpreted, or `None` if `number` is
-/// unknown. Few numbers are looked up in the table of SGR.
+/// Returns how the number after `number` in an SGR sequence is interpreted, or `None` if `number`
+/// is unknown. Most numbers are handled without a lookup in the SGR table.
 #[inline]
 fn wanted_next(wanted: Wanted, number: u16) -> Option<Wanted>
     ensures { IfSome result (IsWantedNext wanted number) }
@@ -298,8 +301,8 @@ fn is_palette_number(wanted: Wanted, number: u16) -> bool
     matches!(wanted, Wanted::Any) && matches!(number, 30..=37 | 40..=47 | 90..=97 | 100..=107)
 }
 
-/// Returns the decimal number at the beginning of `bytes`, which has no leading zeros, and the
-/// number of its digits.
+/// Returns the decimal number at the beginning of `bytes`, and the number of its digits. Returns
+/// `None` if there is none, or if it has leading zeros.
 #[tactic(auto, using(crate::proofs::Numbers::number_first, crate::proofs::Numbers::number_next))]
 fn number(bytes: &[u8]) -> Option<(u16, usize)>
     ensures inside { IfSome result (λ found. found.1 ≤ length bytes.now) }

@@ -10,13 +10,13 @@ use vt_cells::{Error, Pos, Sink};
 /// The last part of a route.
 #[derive(Clone, Copy, PartialEq, Eq, Debug)]
 pub enum Last {
-    /// The cursor is already there.
+    /// The cursor is already at the destination.
     Stay,
 
-    /// The cursor moves left by some columns (BS).
+    /// The cursor moves left by this many columns (BS).
     Back(u16),
 
-    /// The cursor moves right by some columns (CUF).
+    /// The cursor moves right by this many columns (CUF).
     Right(u16),
 
     /// The cursor moves to a column, counted from 0 (CHA).
@@ -30,7 +30,7 @@ pub struct Route {
     /// The number of line feeds.
     pub feeds: u16,
 
-    /// Whether a carriage return follows.
+    /// Whether a carriage return follows the line feeds.
     pub returns: bool,
 
     /// The number of tabs.

@@ -1,4 +1,4 @@
--- The loop invariant: the terminal has received the differences sent so far.
+-- The loop invariant: the terminal has received the diffs sent so far.
 use Rattle.std.proofs.Common.{take}
 use Rattle.example_contracts.specs.Remote.{HasFollowed}
 use Rattle.example_contracts.proofs.multiplexer.follow.Given as goal

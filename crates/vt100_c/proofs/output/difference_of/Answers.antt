@@ -1,4 +1,4 @@
--- The difference is the one with this name.
+-- The diff is of the kind that its name says.
 use Rattle.std.proofs.Common.{subst, sym}
 use Rattle.vt100_c.specs.Texts.{HasDifference}
 use Rattle.vt100_c.specs.declared.output.Difference.{Difference}

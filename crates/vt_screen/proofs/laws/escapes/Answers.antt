@@ -1,4 +1,4 @@
-use Rattle.vt_screen.proofs.Escapes.{capture_only, drawn_only, plain_only, reset_only, scrolling_only, state_only}
+use Rattle.vt_screen.proofs.Escapes.{capture_only, drawn_only, plain_only, reset_only, scrolling_only, shortened_moves_only, state_only}
 use Rattle.vt_screen.proofs.laws.escapes.Goals as goal
 
 pub returns-clause-drawing : goal.returns-clause-drawing
@@ -6,6 +6,9 @@ returns-clause-drawing c = drawn_only
 
 pub returns-clause-scrolling : goal.returns-clause-scrolling
 returns-clause-scrolling c = scrolling_only
+
+pub returns-clause-shortened : goal.returns-clause-shortened
+returns-clause-shortened c = shortened_moves_only
 
 pub returns-clause-reset : goal.returns-clause-reset
 returns-clause-reset c = reset_only

@@ -3,12 +3,7 @@ use Rattle.vt_cells.specs.Op.{csi}
 use Rattle.vt_scan.specs.Parameters.{GroupTable}
 use Rattle.vt_screen.specs.RepeatInternals.{KeepsRoom}
 use Rattle.vt_screen.proofs.RepeatRooms.{keeps_column, keeps_place, keeps_right}
-use Rattle.vt_screen.proofs.RepeatTokens.{keeps_final}
 use Rattle.vt_screen.proofs.repeats.room_after.Goals as goal
-
-pub returns-then-keeps_column : goal.returns-then-keeps_column
-returns-then-keeps_column c text is e =
-    keeps_final c.args.cols c.args.room text c.args.final_byte is (c.keeps_column.ensures c.if-keeps_column.true)
 
 pub returns-in-67 : goal.returns-in-67
 returns-in-67 c text is e =

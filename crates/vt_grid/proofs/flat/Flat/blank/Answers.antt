@@ -1,4 +1,4 @@
-use Rattle.std.proofs.Common.{◌≡◌, ◌+◌, ◌-◌, ◌*◌, ◌<◌, ◌∙◌, List, length, take, drop, ap, arith}
+use Rattle.std.proofs.Common.{◌≡◌, ◌+◌, ◌-◌, ◌*◌, ◌<◌, ◌≤◌, ◌∙◌, List, length, take, drop, ap, arith}
 use Rattle.std.proofs.lemmas.List.{get_or_default, length-take, length-drop, length-replicate}
 use borrow.Rule.Slice.PartMut.{put_mid}
 use Rattle.vt_cells.specs.Attrs.{default_attrs}
@@ -14,18 +14,19 @@ use Rattle.vt_grid.proofs.flat.Flat.blank.Goals as goal
 pub returns-clause-own : goal.returns-clause-own
 returns-clause-own c =
     let flat = c.args.self.now in
-    let w = flat.width in
+    let w = flat.columns.stored in
+    let v = flat.columns.shown in
     let lines = flat.lines.items in
     let n = length lines in
     let line = line_at lines c.args.row in
-    let found : c.args.row < n = omega (arith, c.requires.inside, rows_counted w flat.cells.items lines) in
+    let found : c.args.row < n = omega (arith, c.requires.inside, rows_counted flat.columns flat.cells.items lines) in
     let h = c.requires.flat.table.inside c.args.row found in
-    let u = used_columns w line.used in
-    let few = used_inside w line.used in
+    let u = used_columns v line.used in
+    let few : u ≤ w = omega (arith, used_inside v line.used, c.requires.flat.fits) in
     let fits = place_inside line.place n w h in
     let used : c.used_columns-used.result ≡ u =
     c.used_columns-used.ensures
-    ∙ ap (λ (x : Line). used_columns w x.used)
+    ∙ ap (λ (x : Line). used_columns v x.used)
     (c.index.ensures ∙ get_or_default lines c.args.row c.index.result.now no_line found) in
     let s = c.part-start.result.0 in
     let k = s + c.used_columns-used.result - s in
@@ -54,18 +55,19 @@ returns-clause-own c =
 pub returns-clause-others : goal.returns-clause-others
 returns-clause-others c =
     let flat = c.args.self.now in
-    let w = flat.width in
+    let w = flat.columns.stored in
+    let v = flat.columns.shown in
     let lines = flat.lines.items in
     let n = length lines in
     let line = line_at lines c.args.row in
-    let found : c.args.row < n = omega (arith, c.requires.inside, rows_counted w flat.cells.items lines) in
+    let found : c.args.row < n = omega (arith, c.requires.inside, rows_counted flat.columns flat.cells.items lines) in
     let h = c.requires.flat.table.inside c.args.row found in
-    let u = used_columns w line.used in
-    let few = used_inside w line.used in
+    let u = used_columns v line.used in
+    let few : u ≤ w = omega (arith, used_inside v line.used, c.requires.flat.fits) in
     let fits = place_inside line.place n w h in
     let used : c.used_columns-used.result ≡ u =
     c.used_columns-used.ensures
-    ∙ ap (λ (x : Line). used_columns w x.used)
+    ∙ ap (λ (x : Line). used_columns v x.used)
     (c.index.ensures ∙ get_or_default lines c.args.row c.index.result.now no_line found) in
     let s = c.part-start.result.0 in
     let k = s + c.used_columns-used.result - s in

@@ -44,7 +44,7 @@ loop-row-preserved c =
             (subst (λ (xs : List Line). (line_at xs free.result).place < c.args.rows) same free.ensures.found)
             (subst (λ (xs : List Line). (k : ℕ) → c.args.rows ≤ k → k < free.result → c.args.rows ≤ (line_at xs k).place)
             same free.ensures.later)
-            w.trade.ensures.flat w.trade.ensures.len w.trade.ensures.width w.trade.ensures.row
+            w.trade.ensures.flat w.trade.ensures.len w.trade.ensures.columns w.trade.ensures.row
             w.trade.ensures.lines w.trade.ensures.rows at.invariant.state)
         | else-from-rows w ↦
             subst (λ (x : Flat × ℕ). PackedTo c.args.rows (at.row + 1) x.1 c.args.self.now x.0)

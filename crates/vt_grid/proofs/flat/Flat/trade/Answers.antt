@@ -14,9 +14,9 @@ copy_within-requires-clause-in_bounds c =
     let place : c.from.result ≡ (line_at lines c.args.row).place =
     c.from.ensures
     ∙ ap (λ (x : Line). x.place) (c.index-line.ensures ∙ get_or_default lines c.args.row _ no_line c.requires.row) in
-    let fits = place_inside c.from.result (length lines) flat.width
+    let fits = place_inside c.from.result (length lines) flat.columns.stored
     (omega (arith, place, c.requires.flat.table.inside c.args.row c.requires.row)) in
-    subst (λ (w : ℕ). c.from.result * w + w ≤ vec_len flat.cells) (sym c.from-width.ensures)
+    subst (λ (w : ℕ). c.from.result * w + w ≤ vec_len flat.cells) (sym c.from-stored.ensures)
     (omega (arith, fits, c.requires.flat.table.filled, flat.cells.ok.0))
 
 pub copy_within-requires-clause-dest_in_bounds : goal.copy_within-requires-clause-dest_in_bounds
@@ -26,10 +26,10 @@ copy_within-requires-clause-dest_in_bounds c =
     let place : c.from-2.result ≡ (line_at lines c.args.other).place =
     c.from-2.ensures
     ∙ ap (λ (x : Line). x.place) (c.index.ensures ∙ get_or_default lines c.args.other _ no_line c.requires.other) in
-    let fits = place_inside c.from-2.result (length lines) flat.width
+    let fits = place_inside c.from-2.result (length lines) flat.columns.stored
     (omega (arith, place, c.requires.flat.table.inside c.args.other c.requires.other)) in
     subst (λ (w : ℕ). c.from-2.result * w + (c.from.result * w + w - c.from.result * w) ≤ vec_len flat.cells)
-    (sym c.from-width.ensures) (omega (arith, fits, c.requires.flat.table.filled, flat.cells.ok.0))
+    (sym c.from-stored.ensures) (omega (arith, fits, c.requires.flat.table.filled, flat.cells.ok.0))
 
 pub returns-clause-flat : goal.returns-clause-flat
 returns-clause-flat c =
@@ -48,14 +48,14 @@ returns-clause-flat c =
     let free : c.from-2.result ≡ (line_at lines c.args.other).place =
     c.from-2.ensures
     ∙ ap (λ (x : Line). x.place) (c.index.ensures ∙ get_or_default lines c.args.other _ no_line c.requires.other) in
-    let w = c.from-width.result in
-    let start : c.from.result * w ≡ (line_at lines c.args.row).place * flat.width =
-    λ z. place z * c.from-width.ensures z in
-    let to : c.from-2.result * w ≡ (line_at lines c.args.other).place * flat.width =
-    λ z. free z * c.from-width.ensures z in
-    let count : c.from.result * w + w - c.from.result * w ≡ flat.width = omega (arith, c.from-width.ensures) in
+    let w = c.from-stored.result in
+    let start : c.from.result * w ≡ (line_at lines c.args.row).place * flat.columns.stored =
+    λ z. place z * c.from-stored.ensures z in
+    let to : c.from-2.result * w ≡ (line_at lines c.args.other).place * flat.columns.stored =
+    λ z. free z * c.from-stored.ensures z in
+    let count : c.from.result * w + w - c.from.result * w ≡ flat.columns.stored = omega (arith, c.from-stored.ensures) in
     let by_index = c.copy_within.ensures.by_index in
-    IsStored-traded flat.width c.args.row c.args.other flat.width cells after lines _
+    IsStored-traded flat.columns c.args.row c.args.other flat.columns.stored cells after lines _
     c.requires.row c.requires.other c.requires.apart size refl
     (subst (λ (x : ℕ × (ℕ × ℕ)). CopiedTo cells after x.0 x.1.0 x.1.1) (λ z. (start z, (to z, count z))) by_index.0)
     (subst (λ (x : ℕ). SameBelow cells after x) to by_index.1)
@@ -78,14 +78,14 @@ returns-clause-rows c =
     let free : c.from-2.result ≡ (line_at lines c.args.other).place =
     c.from-2.ensures
     ∙ ap (λ (x : Line). x.place) (c.index.ensures ∙ get_or_default lines c.args.other _ no_line c.requires.other) in
-    let w = c.from-width.result in
-    let start : c.from.result * w ≡ (line_at lines c.args.row).place * flat.width =
-    λ z. place z * c.from-width.ensures z in
-    let to : c.from-2.result * w ≡ (line_at lines c.args.other).place * flat.width =
-    λ z. free z * c.from-width.ensures z in
-    let count : c.from.result * w + w - c.from.result * w ≡ flat.width = omega (arith, c.from-width.ensures) in
+    let w = c.from-stored.result in
+    let start : c.from.result * w ≡ (line_at lines c.args.row).place * flat.columns.stored =
+    λ z. place z * c.from-stored.ensures z in
+    let to : c.from-2.result * w ≡ (line_at lines c.args.other).place * flat.columns.stored =
+    λ z. free z * c.from-stored.ensures z in
+    let count : c.from.result * w + w - c.from.result * w ≡ flat.columns.stored = omega (arith, c.from-stored.ensures) in
     let by_index = c.copy_within.ensures.by_index in
-    rows_in-traded flat.width c.args.row c.args.other flat.width cells after lines _
+    rows_in-traded flat.columns c.args.row c.args.other flat.columns.stored cells after lines _
     c.requires.row c.requires.other size refl
     (subst (λ (x : ℕ × (ℕ × ℕ)). CopiedTo cells after x.0 x.1.0 x.1.1) (λ z. (start z, (to z, count z))) by_index.0)
     (subst (λ (x : ℕ). SameBelow cells after x) to by_index.1)

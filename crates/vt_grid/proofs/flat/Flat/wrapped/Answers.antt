@@ -10,6 +10,6 @@ pub returns : goal.returns
 returns c =
     let flat = c.args.self.now in
     let lines = flat.lines.items in
-    let found : c.args.row < length lines = omega (arith, c.requires, rows_counted flat.width flat.cells.items lines) in
-    let row = row_found flat.width c.args.row flat.cells.items lines (blank_row default_attrs flat.width) found in
+    let found : c.args.row < length lines = omega (arith, c.requires, rows_counted flat.columns flat.cells.items lines) in
+    let row = row_found flat.columns c.args.row flat.cells.items lines (blank_row default_attrs flat.columns.shown) found in
     rw (c.index.ensures, get_or_default lines c.args.row _ no_line found) (sym (ap (λ (r : RowValue). r.wrapped) row))

@@ -21,7 +21,7 @@ invariant_of-self-2 c =
     let up : c.at_most-up.result ≡ returning_count h above page =
     c.at_most-up.ensures ∙ omega (arith, i.height, c.theoretical_len.ensures.value) in
     let steps = grown_page h h s.size.cols c.at_most-up.result above c.leave_view.new.self page s.page_rows c.append_rows.new.self
-    c.bring_back.new.self c.resized-self-inside.result c.resized-self-inside-2.result more refl i.width up c.leave_view.ensures
+    c.bring_back.new.self c.resized-self-inside.result c.resized-self-inside-2.result more refl i.width up c.leave_view.ensures.value
     refl refl c.in_ok-append_rows.ensures.ok c.bring_back.ensures.rows c.bring_back.ensures.width
     c.resized-self-inside.ensures.row c.resized-self-inside.ensures.col
     c.resized-self-inside-2.ensures.row c.resized-self-inside-2.ensures.col in
@@ -39,14 +39,14 @@ returns c =
     let up : c.at_most-up.result ≡ returning_count h above page =
     c.at_most-up.ensures ∙ omega (arith, i.height, c.theoretical_len.ensures.value) in
     let steps = grown_page h h s.size.cols c.at_most-up.result above c.leave_view.new.self page s.page_rows c.append_rows.new.self
-    c.bring_back.new.self c.resized-self-inside.result c.resized-self-inside-2.result more refl i.width up c.leave_view.ensures
+    c.bring_back.new.self c.resized-self-inside.result c.resized-self-inside-2.result more refl i.width up c.leave_view.ensures.value
     refl refl c.in_ok-append_rows.ensures.ok c.bring_back.ensures.rows c.bring_back.ensures.width
     c.resized-self-inside.ensures.row c.resized-self-inside.ensures.col
     c.resized-self-inside-2.ensures.row c.resized-self-inside-2.ensures.col in
     record {
       page = steps ∙ (λ z. page_resized h (c.self.view_is z).width above (c.self.view_is z));
       above =
-          grown_above h c.at_most-up.result above c.leave_view.new.self c.bring_back.new.above page more up c.leave_view.ensures
+          grown_above h c.at_most-up.result above c.leave_view.new.self c.bring_back.new.above page more up c.leave_view.ensures.value
           c.bring_back.ensures.above
           ∙ ap (λ (p : Page). scrollback_resized h p above) c.self.view_is;
       err = tt;

@@ -39,7 +39,7 @@ invariant_of-self-2 c =
     let up : c.at_most-up.result ≡ returning_count h above page =
     c.at_most-up.ensures ∙ omega (arith, i.height, c.theoretical_len.ensures.value) in
     let steps = grown_page h h s.size.cols c.at_most-up.result above c.leave_view.new.self page s.page_rows c.append_rows_to_both.new.self
-    c.bring_back.new.self c.resized-self-inside.result c.resized-self-inside-2.result more refl i.width up c.leave_view.ensures
+    c.bring_back.new.self c.resized-self-inside.result c.resized-self-inside-2.result more refl i.width up c.leave_view.ensures.value
     refl refl c.in_ok-append_rows_to_both.ensures.own c.bring_back.ensures.rows c.bring_back.ensures.width
     c.resized-self-inside.ensures.row c.resized-self-inside.ensures.col
     c.resized-self-inside-2.ensures.row c.resized-self-inside-2.ensures.col in
@@ -57,7 +57,7 @@ invariant_of-other-2 c =
     let up : c.at_most-other_up.result ≡ returning_count h above page =
     c.at_most-other_up.ensures ∙ omega (arith, i.height, c.theoretical_len-2.ensures.value) in
     let steps = grown_page h h s.size.cols c.at_most-other_up.result above c.leave_view-2.new.self page s.page_rows c.append_rows_to_both.new.other
-    c.bring_back-2.new.self c.resized-other-inside.result c.resized-other-inside-2.result more refl i.width up c.leave_view-2.ensures
+    c.bring_back-2.new.self c.resized-other-inside.result c.resized-other-inside-2.result more refl i.width up c.leave_view-2.ensures.value
     refl refl c.in_ok-append_rows_to_both.ensures.other c.bring_back-2.ensures.rows c.bring_back-2.ensures.width
     c.resized-other-inside.ensures.row c.resized-other-inside.ensures.col
     c.resized-other-inside-2.ensures.row c.resized-other-inside-2.ensures.col in
@@ -75,14 +75,14 @@ returns-clause-own c =
     let up : c.at_most-up.result ≡ returning_count h above page =
     c.at_most-up.ensures ∙ omega (arith, i.height, c.theoretical_len.ensures.value) in
     let steps = grown_page h h s.size.cols c.at_most-up.result above c.leave_view.new.self page s.page_rows c.append_rows_to_both.new.self
-    c.bring_back.new.self c.resized-self-inside.result c.resized-self-inside-2.result more refl i.width up c.leave_view.ensures
+    c.bring_back.new.self c.resized-self-inside.result c.resized-self-inside-2.result more refl i.width up c.leave_view.ensures.value
     refl refl c.in_ok-append_rows_to_both.ensures.own c.bring_back.ensures.rows c.bring_back.ensures.width
     c.resized-self-inside.ensures.row c.resized-self-inside.ensures.col
     c.resized-self-inside-2.ensures.row c.resized-self-inside-2.ensures.col in
     record {
       page = steps ∙ (λ z. page_resized h (c.self.view_is z).width above (c.self.view_is z));
       above =
-          grown_above h c.at_most-up.result above c.leave_view.new.self c.bring_back.new.above page more up c.leave_view.ensures
+          grown_above h c.at_most-up.result above c.leave_view.new.self c.bring_back.new.above page more up c.leave_view.ensures.value
           c.bring_back.ensures.above
           ∙ ap (λ (p : Page). scrollback_resized h p above) c.self.view_is;
       err = tt;
@@ -100,14 +100,14 @@ returns-clause-other c =
     let up : c.at_most-other_up.result ≡ returning_count h above page =
     c.at_most-other_up.ensures ∙ omega (arith, i.height, c.theoretical_len-2.ensures.value) in
     let steps = grown_page h h s.size.cols c.at_most-other_up.result above c.leave_view-2.new.self page s.page_rows c.append_rows_to_both.new.other
-    c.bring_back-2.new.self c.resized-other-inside.result c.resized-other-inside-2.result more refl i.width up c.leave_view-2.ensures
+    c.bring_back-2.new.self c.resized-other-inside.result c.resized-other-inside-2.result more refl i.width up c.leave_view-2.ensures.value
     refl refl c.in_ok-append_rows_to_both.ensures.other c.bring_back-2.ensures.rows c.bring_back-2.ensures.width
     c.resized-other-inside.ensures.row c.resized-other-inside.ensures.col
     c.resized-other-inside-2.ensures.row c.resized-other-inside-2.ensures.col in
     record {
       page = steps ∙ (λ z. page_resized h (c.other.view_is z).width above (c.other.view_is z));
       above =
-          grown_above h c.at_most-other_up.result above c.leave_view-2.new.self c.bring_back-2.new.above page more up c.leave_view-2.ensures
+          grown_above h c.at_most-other_up.result above c.leave_view-2.new.self c.bring_back-2.new.above page more up c.leave_view-2.ensures.value
           c.bring_back-2.ensures.above
           ∙ ap (λ (p : Page). scrollback_resized h p above) c.other.view_is;
       err = tt;

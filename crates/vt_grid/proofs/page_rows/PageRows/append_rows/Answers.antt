@@ -10,7 +10,7 @@ append_rows-requires-clause-more c =
     omega (
       arith,
       ap length c.reserve.ensures.lines,
-      rows_counted flat.width flat.cells.items flat.lines.items,
+      rows_counted flat.columns flat.cells.items flat.lines.items,
       ap (λ (s : PageRowsValue). length s.rows) c.self.view_is,
       c.requires,
     )
@@ -20,30 +20,30 @@ invariant_of-self-2 c =
     let flat = c.self.inside.flat in
     let room = c.reserve.new.self in
     let same = same_flat flat room c.self.invariant c.reserve.ensures.cells c.reserve.ensures.lines
-    c.reserve.ensures.width in
+    c.reserve.ensures.columns in
     let more : length room.lines.items ≤ c.args.rows = omega (
       arith,
       ap length c.reserve.ensures.lines,
-      rows_counted flat.width flat.cells.items flat.lines.items,
+      rows_counted flat.columns flat.cells.items flat.lines.items,
       ap (λ (s : PageRowsValue). length s.rows) c.self.view_is,
       c.requires,
     ) in
     (appended_flat c.args.rows room c.append_rows.new.self same.1 more
-    c.append_rows.ensures.cells c.append_rows.ensures.lines c.append_rows.ensures.width).1
+    c.append_rows.ensures.cells c.append_rows.ensures.lines c.append_rows.ensures.columns).1
 
 pub returns-clause-ok : goal.returns-clause-ok
 returns-clause-ok c =
     let flat = c.self.inside.flat in
     let room = c.reserve.new.self in
     let same = same_flat flat room c.self.invariant c.reserve.ensures.cells c.reserve.ensures.lines
-    c.reserve.ensures.width in
+    c.reserve.ensures.columns in
     let more : length room.lines.items ≤ c.args.rows = omega (
       arith,
       ap length c.reserve.ensures.lines,
-      rows_counted flat.width flat.cells.items flat.lines.items,
+      rows_counted flat.columns flat.cells.items flat.lines.items,
       ap (λ (s : PageRowsValue). length s.rows) c.self.view_is,
       c.requires,
     ) in
     (appended_flat c.args.rows room c.append_rows.new.self same.1 more
-    c.append_rows.ensures.cells c.append_rows.ensures.lines c.append_rows.ensures.width).0
+    c.append_rows.ensures.cells c.append_rows.ensures.lines c.append_rows.ensures.columns).0
     ∙ ap (with_blank_rows c.args.rows) (same.0 ∙ c.self.view_is)

@@ -10,7 +10,7 @@ append_rows-requires-clause-more c =
     omega (
       arith,
       ap length c.reserve.ensures.lines,
-      rows_counted flat.width flat.cells.items flat.lines.items,
+      rows_counted flat.columns flat.cells.items flat.lines.items,
       ap (λ (s : PageRowsValue). length s.rows) c.self.view_is,
       c.requires.own,
     )
@@ -21,7 +21,7 @@ append_rows-requires-2-clause-more c =
     omega (
       arith,
       ap length c.reserve-2.ensures.lines,
-      rows_counted flat.width flat.cells.items flat.lines.items,
+      rows_counted flat.columns flat.cells.items flat.lines.items,
       ap (λ (s : PageRowsValue). length s.rows) c.other.view_is,
       c.requires.other,
     )
@@ -31,48 +31,48 @@ invariant_of-self-2 c =
     let flat = c.self.inside.flat in
     let room = c.reserve.new.self in
     let same = same_flat flat room c.self.invariant c.reserve.ensures.cells c.reserve.ensures.lines
-    c.reserve.ensures.width in
+    c.reserve.ensures.columns in
     let more : length room.lines.items ≤ c.args.rows = omega (
       arith,
       ap length c.reserve.ensures.lines,
-      rows_counted flat.width flat.cells.items flat.lines.items,
+      rows_counted flat.columns flat.cells.items flat.lines.items,
       ap (λ (s : PageRowsValue). length s.rows) c.self.view_is,
       c.requires.own,
     ) in
     (appended_flat c.args.rows room c.append_rows.new.self same.1 more
-    c.append_rows.ensures.cells c.append_rows.ensures.lines c.append_rows.ensures.width).1
+    c.append_rows.ensures.cells c.append_rows.ensures.lines c.append_rows.ensures.columns).1
 
 pub invariant_of-other-2 : goal.invariant_of-other-2
 invariant_of-other-2 c =
     let flat = c.other.inside.flat in
     let room = c.reserve-2.new.self in
     let same = same_flat flat room c.other.invariant c.reserve-2.ensures.cells c.reserve-2.ensures.lines
-    c.reserve-2.ensures.width in
+    c.reserve-2.ensures.columns in
     let more : length room.lines.items ≤ c.args.rows = omega (
       arith,
       ap length c.reserve-2.ensures.lines,
-      rows_counted flat.width flat.cells.items flat.lines.items,
+      rows_counted flat.columns flat.cells.items flat.lines.items,
       ap (λ (s : PageRowsValue). length s.rows) c.other.view_is,
       c.requires.other,
     ) in
     (appended_flat c.args.rows room c.append_rows-2.new.self same.1 more
-    c.append_rows-2.ensures.cells c.append_rows-2.ensures.lines c.append_rows-2.ensures.width).1
+    c.append_rows-2.ensures.cells c.append_rows-2.ensures.lines c.append_rows-2.ensures.columns).1
 
 pub returns-clause-own : goal.returns-clause-own
 returns-clause-own c =
     let flat = c.self.inside.flat in
     let room = c.reserve.new.self in
     let same = same_flat flat room c.self.invariant c.reserve.ensures.cells c.reserve.ensures.lines
-    c.reserve.ensures.width in
+    c.reserve.ensures.columns in
     let more : length room.lines.items ≤ c.args.rows = omega (
       arith,
       ap length c.reserve.ensures.lines,
-      rows_counted flat.width flat.cells.items flat.lines.items,
+      rows_counted flat.columns flat.cells.items flat.lines.items,
       ap (λ (s : PageRowsValue). length s.rows) c.self.view_is,
       c.requires.own,
     ) in
     (appended_flat c.args.rows room c.append_rows.new.self same.1 more
-    c.append_rows.ensures.cells c.append_rows.ensures.lines c.append_rows.ensures.width).0
+    c.append_rows.ensures.cells c.append_rows.ensures.lines c.append_rows.ensures.columns).0
     ∙ ap (with_blank_rows c.args.rows) (same.0 ∙ c.self.view_is)
 
 pub returns-clause-other : goal.returns-clause-other
@@ -80,14 +80,14 @@ returns-clause-other c =
     let flat = c.other.inside.flat in
     let room = c.reserve-2.new.self in
     let same = same_flat flat room c.other.invariant c.reserve-2.ensures.cells c.reserve-2.ensures.lines
-    c.reserve-2.ensures.width in
+    c.reserve-2.ensures.columns in
     let more : length room.lines.items ≤ c.args.rows = omega (
       arith,
       ap length c.reserve-2.ensures.lines,
-      rows_counted flat.width flat.cells.items flat.lines.items,
+      rows_counted flat.columns flat.cells.items flat.lines.items,
       ap (λ (s : PageRowsValue). length s.rows) c.other.view_is,
       c.requires.other,
     ) in
     (appended_flat c.args.rows room c.append_rows-2.new.self same.1 more
-    c.append_rows-2.ensures.cells c.append_rows-2.ensures.lines c.append_rows-2.ensures.width).0
+    c.append_rows-2.ensures.cells c.append_rows-2.ensures.lines c.append_rows-2.ensures.columns).0
     ∙ ap (with_blank_rows c.args.rows) (same.0 ∙ c.other.view_is)

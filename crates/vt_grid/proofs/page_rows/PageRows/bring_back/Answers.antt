@@ -4,6 +4,7 @@ use Rattle.vt_cells.specs.Attrs.{default_attrs}
 use Rattle.vt_cells.specs.Cell.{default_blank}
 use Rattle.vt_rows.specs.Internals.{rotation_source}
 use Rattle.vt_rows.specs.Row.{RowValue, blank_row}
+use Rattle.vt_grid.specs.declared.flat.Columns.{Columns}
 use Rattle.vt_grid.specs.Flat.{rows_of}
 use Rattle.vt_grid.specs.Internals.{given_back}
 use Rattle.vt_grid.specs.PageRows.{PageRowsValue}
@@ -18,7 +19,7 @@ invariant_of-self c =
     let all = ap (λ (s : PageRowsValue). length s.rows) c.self.view_is in
     flat_turned 0 c.len-len.result (c.len-len.result - c.from-up.result) flat c.rotate.new.self
     c.self.invariant (omega arith) (omega (arith, all, c.len-len.ensures))
-    c.rotate.ensures.cells c.rotate.ensures.width c.rotate.ensures.len c.rotate.ensures.lines
+    c.rotate.ensures.cells c.rotate.ensures.columns c.rotate.ensures.len c.rotate.ensures.lines
 
 pub give_back-requires-clause-inside : goal.give_back-requires-clause-inside
 give_back-requires-clause-inside c = omega (
@@ -40,7 +41,7 @@ give_back-requires-clause-blank c = λ k d h.
     let i = k + (n - up) in
     let blank : get_or (rows_of c.rotate.new.self) k d ≡ blank_row default_attrs own.width =
     rows_turned 0 n (n - up) flat c.rotate.new.self (omega arith) (omega (arith, all, c.len-len.ensures))
-    c.rotate.ensures.cells c.rotate.ensures.width c.rotate.ensures.len c.rotate.ensures.lines k d
+    c.rotate.ensures.cells c.rotate.ensures.columns c.rotate.ensures.len c.rotate.ensures.lines k d
     (omega (arith, all, c.len-len.ensures, room, h))
     ∙ (ap (λ (j : ℕ). get_or (rows_of flat) j d) (turned_blank n up k room h)
     ∙ (ap (λ (s : PageRowsValue). get_or s.rows i d) c.self.view_is
@@ -72,11 +73,12 @@ returns-clause-rows c = λ own few e.
     ap (λ (s : PageRowsValue). s.rows) c.wrap.ensures
     ∙ brought_back old.width c.give_back.new.page.width h c.args.up (n - 1) c.args.above.now.rows own old.rows turned
     c.give_back.new.page.rows e few c.requires.nonempty c.requires.sound (c.give_back.ensures.len ∙ count)
-    (c.give_back.ensures.width ∙ (c.rotate.ensures.width ∙ ap (λ (s : PageRowsValue). s.width) c.self.view_is))
+    (c.give_back.ensures.width
+    ∙ (ap (λ (v : Columns). v.shown) c.rotate.ensures.columns ∙ ap (λ (s : PageRowsValue). s.width) c.self.view_is))
     (ap (λ (m : ℕ). m - 1) c.len-len.ensures)
     (λ k d l.
     rows_turned 0 n (n - up) flat c.rotate.new.self (omega arith) (omega (arith, all, c.len-len.ensures))
-    c.rotate.ensures.cells c.rotate.ensures.width c.rotate.ensures.len c.rotate.ensures.lines k d
+    c.rotate.ensures.cells c.rotate.ensures.columns c.rotate.ensures.len c.rotate.ensures.lines k d
     (omega (arith, all, l))
     ∙ (λ z. get_or (c.self.view_is z).rows
     (rotation_source 0 (c.len-len.ensures z) (c.len-len.ensures z - c.from-up.ensures z) k) d))

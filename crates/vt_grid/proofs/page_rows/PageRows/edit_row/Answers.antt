@@ -11,7 +11,7 @@ invariant_of-self g c =
     flat_changed c.from-row.result c.part-start.result.0 c.part-start.result.1 c.self.inside.flat
     c.set_entry.new.self c.deref_mut.result.now c.edit-edited.new.arg2 c.flag_left-is_wrapped.result c.self.invariant
     c.part-start.ensures.line c.set_entry.ensures.cells c.deref_mut.ensures.value c.part-start.ensures.start
-    c.part-start.ensures.end c.part-start.ensures.inside c.edit-edited.auto.arg2 c.set_entry.ensures.width
+    c.part-start.ensures.end c.part-start.ensures.inside c.edit-edited.auto.arg2 c.set_entry.ensures.columns
     c.set_entry.ensures.lines
 
 pub returns : goal.returns
@@ -23,7 +23,7 @@ returns g c =
     flat c.set_entry.new.self c.deref_mut.result.now new
     c.wrapped-is_wrapped.result c.flag_left-is_wrapped.result c.self.invariant c.part-start.ensures.line
     c.set_entry.ensures.cells c.deref_mut.ensures.value c.part-start.ensures.start
-    c.part-start.ensures.end c.part-start.ensures.inside c.edit-edited.auto.arg2 c.set_entry.ensures.width
+    c.part-start.ensures.end c.part-start.ensures.inside c.edit-edited.auto.arg2 c.set_entry.ensures.columns
     c.set_entry.ensures.lines c.wrapped-is_wrapped.ensures c.flag_left-is_wrapped.ensures in
     let cells = ap (λ (items : List CellValue). slice_range items c.part-start.result.0 c.part-start.result.1)
     c.deref_mut.ensures.value

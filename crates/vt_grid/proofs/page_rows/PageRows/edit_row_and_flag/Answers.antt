@@ -11,7 +11,7 @@ invariant_of-self g c =
     flat_changed c.args.row c.part-start.result.0 c.part-start.result.1 c.self.inside.flat
     c.set_entry.new.self c.deref_mut.result.now c.edit.new.arg2 c.args.is_wrapped c.self.invariant
     c.part-start.ensures.line c.set_entry.ensures.cells c.deref_mut.ensures.value c.part-start.ensures.start
-    c.part-start.ensures.end c.part-start.ensures.inside c.edit.auto.arg2 c.set_entry.ensures.width
+    c.part-start.ensures.end c.part-start.ensures.inside c.edit.auto.arg2 c.set_entry.ensures.columns
     c.set_entry.ensures.lines
 
 pub returns : goal.returns
@@ -21,7 +21,7 @@ returns g c =
     let edited = row_changed r 255 c.part-start.result.0 c.part-start.result.1 c.self.inside.flat
     c.set_entry.new.self c.deref_mut.result.now new c.args.is_wrapped c.self.invariant c.part-start.ensures.line
     c.set_entry.ensures.cells c.deref_mut.ensures.value c.part-start.ensures.start c.part-start.ensures.end
-    c.part-start.ensures.inside c.edit.auto.arg2 c.set_entry.ensures.width c.set_entry.ensures.lines in
+    c.part-start.ensures.inside c.edit.auto.arg2 c.set_entry.ensures.columns c.set_entry.ensures.lines in
     let cells = ap (λ (items : List CellValue). slice_range items c.part-start.result.0 c.part-start.result.1)
     c.deref_mut.ensures.value
     ∙ c.part-start.ensures.row in

@@ -6,6 +6,7 @@ use Rattle.vt_rows.specs.Cells.{at}
 use Rattle.vt_rows.specs.Row.{RowValue, blank_row}
 use Rattle.vt_grid.specs.Flat.{line_at, no_line, used_columns}
 use Rattle.vt_grid.specs.PageRows.{PageRowsValue, page_row}
+use Rattle.vt_grid.proofs.Bounds.{row_blank_from}
 use Rattle.vt_grid.proofs.Flats.{row_found, rows_counted}
 use Rattle.vt_grid.proofs.page_rows.PageRows.groups.Goals as goal
 
@@ -16,7 +17,7 @@ index-requires c =
       arith,
       c.requires,
       c.from.ensures,
-      rows_counted flat.width flat.cells.items flat.lines.items,
+      rows_counted flat.columns flat.cells.items flat.lines.items,
       ap (λ (s : PageRowsValue). length s.rows) c.self.view_is,
     )
 
@@ -28,17 +29,17 @@ returns c =
     let inside : r < length lines = omega (
       arith,
       c.requires,
-      rows_counted flat.width flat.cells.items lines,
+      rows_counted flat.columns flat.cells.items lines,
       ap (λ (s : PageRowsValue). length s.rows) c.self.view_is,
     ) in
-    let row = row_found flat.width r flat.cells.items lines (blank_row default_attrs flat.width) inside in
+    let row = row_found flat.columns r flat.cells.items lines (blank_row default_attrs flat.columns.shown) inside in
     let cells = sym (ap (λ (x : RowValue). x.cells) row) ∙ (λ z. (page_row (c.self.view_is z) r).cells) in
     let here : c.from.result < length lines = omega (arith, inside, c.from.ensures) in
     let line : c.index.result.now ≡ line_at lines r =
     c.index.ensures
     ∙ (get_or_default lines c.from.result c.index.result.now no_line here ∙ ap (line_at lines) c.from.ensures) in
-    let used : used_columns c.args.self.now.width c.index.result.now.used ≡ used_columns flat.width (line_at lines r).used =
+    let used : used_columns c.args.self.now.width c.index.result.now.used ≡ used_columns flat.columns.shown (line_at lines r).used =
     (λ z. used_columns (sym c.self.view_is z).width (line z).used) in
     λ k h.
     ap (λ (xs : List CellValue). at xs k) (sym cells)
-    ∙ c.self.invariant.blank r inside k (omega (arith, h, used))
+    ∙ row_blank_from r flat c.self.invariant inside k (omega (arith, h, used))

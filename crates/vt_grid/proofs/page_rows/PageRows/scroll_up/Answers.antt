@@ -16,7 +16,7 @@ invariant_of-self c =
     let few = c.min-count.ensures in
     flat_turned c.from-top.result (c.from-end.result + 1) c.min-count.result flat c.rotate.new.self
     c.self.invariant (omega (arith, few, order, c.from-top.ensures, c.from-end.ensures)) (omega (arith, bottom))
-    c.rotate.ensures.cells c.rotate.ensures.width c.rotate.ensures.len c.rotate.ensures.lines
+    c.rotate.ensures.cells c.rotate.ensures.columns c.rotate.ensures.len c.rotate.ensures.lines
 
 pub clear_rows-requires-clause-inside : goal.clear_rows-requires-clause-inside
 clear_rows-requires-clause-inside c =
@@ -40,7 +40,7 @@ returns c =
     flat c.rotate.new.self c.new.result c.clear_rows.new.self c.min-count.ensures
     (omega (arith, c.requires.in_order, c.from-top.ensures, c.from-end.ensures))
     (omega (arith, all, c.requires.inside, c.from-end.ensures))
-    c.rotate.ensures.cells c.rotate.ensures.width c.rotate.ensures.len c.rotate.ensures.lines
+    c.rotate.ensures.cells c.rotate.ensures.columns c.rotate.ensures.len c.rotate.ensures.lines
     c.new.ensures c.clear_rows.ensures.len c.clear_rows.ensures.width c.clear_rows.ensures.by_index
     ∙ (λ z.
     record {

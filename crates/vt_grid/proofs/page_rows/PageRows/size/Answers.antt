@@ -9,7 +9,7 @@ overflow_cast-result c =
     let all : c.len.result ≡ length c.args.self.now.rows =
     c.len.ensures
     ∙ (flat.lines.ok.0
-    ∙ (sym (rows_counted flat.width flat.cells.items flat.lines.items)
+    ∙ (sym (rows_counted flat.columns flat.cells.items flat.lines.items)
     ∙ ap (λ (s : PageRowsValue). length s.rows) c.self.view_is)) in
     omega (arith, all, c.requires)
 
@@ -18,5 +18,5 @@ returns-clause-rows c =
     let flat = c.self.inside.flat in
     c.len.ensures
     ∙ (flat.lines.ok.0
-    ∙ (sym (rows_counted flat.width flat.cells.items flat.lines.items)
+    ∙ (sym (rows_counted flat.columns flat.cells.items flat.lines.items)
     ∙ ap (λ (s : PageRowsValue). length s.rows) c.self.view_is))

@@ -9,11 +9,11 @@ returns c =
     let inside : c.args.row < length flat.lines.items = omega (
       arith,
       c.requires,
-      rows_counted flat.width flat.cells.items flat.lines.items,
+      rows_counted flat.columns flat.cells.items flat.lines.items,
       ap (λ (s : PageRowsValue). length s.rows) c.self.view_is,
     ) in
     row_flagged c.args.row c.args.wrapped flat c.wrap.new.self inside
-    c.wrap.ensures.cells c.wrap.ensures.width c.wrap.ensures.lines
+    c.wrap.ensures.cells c.wrap.ensures.columns c.wrap.ensures.lines
     ∙ ap
     (λ (s : PageRowsValue). with_page_row c.args.row (record (page_row s c.args.row) { wrapped = c.args.wrapped }) s)
     c.self.view_is

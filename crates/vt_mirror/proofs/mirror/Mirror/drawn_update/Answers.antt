@@ -12,7 +12,7 @@ contents_diff-requires c =
     copy_size c.self.inside.parser.screen c.screen-screen.result.now c.in-Some.noted.now c.screen-prev.result.now
     c.screen-screen.ensures.value c.screen-prev.ensures (c.self.invariant.sized c.args.viewer c.in-Some.noted.now c.in-Some.ensures.some)
 
--- A viewer that is up to date gets an empty difference.
+-- A viewer that is up to date gets an empty diff.
 pub returns-then-is_current-clause-ok : goal.returns-then-is_current-clause-ok
 returns-then-is_current-clause-ok c =
     let it = c.is_current.ensures.noted c.if-is_current.true in

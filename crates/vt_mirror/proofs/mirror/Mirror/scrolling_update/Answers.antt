@@ -23,7 +23,7 @@ returns-then-not-is_steady-clause-ok c =
     (sym c.if-not-is_steady.true ∙ c.is_steady.ensures.1 steady))
     c.full-then-not-is_steady.ensures.ok
 
--- A viewer that is up to date gets an empty difference.
+-- A viewer that is up to date gets an empty diff.
 pub returns-then-is_current-clause-ok : goal.returns-then-is_current-clause-ok
 returns-then-is_current-clause-ok c =
     let it = c.is_current-is_current.ensures.noted c.if-is_current.true in

@@ -11,8 +11,8 @@ returns-clause-same c k lt =
     let start = c.from-start.ensures in
     rw (sym c.from-start.ensures)
     (sym (at-part own.cells.now own.cols own.end own.wrapped c.from-start.result c.min-stop.result k
-    c.args.self.now c.self.view_is (omega (arith, lt, c.run_of.ensures.own)) (omega arith))
-    ∙ c.run_of.ensures.same k default_blank lt
+    c.args.self.now c.self.view_is (omega (arith, lt, c.blank_run.ensures.own)) (omega arith))
+    ∙ c.blank_run.ensures.same k default_blank lt
     ∙ sym (at-behind other.cells.now other.cols other.end (c.from-start.result + k) (omega arith)
-    (omega (arith, lt, c.run_of.ensures.own)))
+    (omega (arith, lt, c.blank_run.ensures.own)))
     ∙ ap (λ r. at r.cells (c.from-start.result + k)) c.other.view_is)

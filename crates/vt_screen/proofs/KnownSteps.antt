@@ -1,0 +1,117 @@
+-- What the code finds out about a terminal after an element, a movement or a gap.
+use Rattle.std.proofs.Common.{◌≡◌, ℕ, zero, suc, ◌+◌, ◌<◌, true, List, [], ◌∷◌, ◌++◌, Option, Some, None, length, refl, sym, subst, ap, ap₂, ◌∙◌, take, drop, append_assoc, arith}
+use Rattle.std.specs.Prelude.{IfSome}
+use Rattle.vt_cells.specs.Cell.{CellValue}
+use Rattle.vt_cells.specs.Glyph.{columns_of}
+use Rattle.vt_cells.specs.Op.{counted}
+use Rattle.vt_cells.specs.declared.pos.Pos.{Pos}
+use Rattle.vt_redraw.specs.Locality.{row_of_picture}
+use Rattle.vt_redraw.specs.Picture.{Picture}
+use Rattle.vt_rows.specs.Row.{RowValue}
+use Rattle.vt_screen.specs.Gaps.{AppendsInstead, IsLetter, IsPrinted, IsShownGap, ReplacesTracked, gap_text, picture_cell}
+use Rattle.vt_screen.specs.ShortMoves.{AppendsReplacement, IsAfter, IsElement, LeadsTo, is_still}
+use Rattle.vt_screen.specs.declared.short_moves.elements.Element.{Element}
+use Rattle.vt_screen.specs.declared.short_moves.elements.Element.TheVariants as elements
+use Rattle.vt_screen.specs.declared.short_moves.gaps.Gap.{Gap}
+use Rattle.vt_screen.specs.declared.short_moves.known.Known.{Known}
+use Rattle.vt_screen.proofs.Instead.{gap_stands, moved_stands}
+
+pub printed_ascii : (cols : ℕ) (known : Option Pos) (from : Pos) (element : Element) (result : Option Pos) (head : List ℕ) →
+    known ≡ Some from → element ≡ elements.Ascii → IfSome result (IsAfter cols from (length head)) →
+    IfSome result (IsPrinted cols element known head)
+printed_ascii cols known from element None head at is after = tt
+printed_ascii cols known from element (Some to) head at is after =
+    subst (λ (e : Element). IsPrinted cols e known head to) (sym is) (from, at, after)
+
+pub printed_other : (cols c : ℕ) (known : Option Pos) (from : Pos) (element : Element) (result : Option Pos)
+    (head : List ℕ) → known ≡ Some from → element ≡ elements.Other c →
+    IfSome result (λ to. (n : ℕ) × (columns_of c ≡ Some n) × (0 < n) × IsAfter cols from n to) →
+    IfSome result (IsPrinted cols element known head)
+printed_other cols c known from element None head at is after = tt
+printed_other cols c known from element (Some to) head at is after =
+    subst (λ (e : Element). IsPrinted cols e known head to) (sym is) (from, at, after)
+
+printed_at : (cols : ℕ) (known : Option Pos) (element : Element) (head : List ℕ) (to : Pos) → is_still element ≡ true →
+    IsPrinted cols element known head to
+printed_at cols known elements.Ascii head to still = absurd cc
+printed_at cols known (elements.Other c) head to still = absurd cc
+printed_at cols known (elements.Place pos) head to still = tt
+printed_at cols known (elements.Right n) head to still = tt
+printed_at cols known elements.NextRow head to still = tt
+printed_at cols known elements.EraseRest head to still = tt
+printed_at cols known (elements.EraseChars n) head to still = tt
+printed_at cols known (elements.Lines n insert) head to still = tt
+printed_at cols known (elements.Chars n insert) head to still = tt
+printed_at cols known (elements.Hide hidden) head to still = tt
+printed_at cols known elements.ClearAttrs head to still = tt
+printed_at cols known elements.Attrs head to still = tt
+
+pub printed_still : (cols : ℕ) (known : Option Pos) (element : Element) (head : List ℕ) → is_still element ≡ true →
+    (result : Option Pos) → IfSome result (IsPrinted cols element known head)
+printed_still cols known element head still None = tt
+printed_still cols known element head still (Some to) = printed_at cols known element head to still
+
+pub moved_instead : (rows cols : ℕ) (cells : ℕ → ℕ → CellValue) (known : Known) (at : Option Pos) (to : Pos)
+    (head before after : List ℕ) → LeadsTo rows cols known.at to head → to.row < rows → to.col < cols →
+    AppendsReplacement rows cols known.at at head before after →
+    AppendsInstead rows cols cells known (record { at = at; kept = known.kept; is_default = known.is_default }) head before after
+moved_instead rows cols cells known at to head before after leads low inside appended = record {
+  text = appended.text;
+  appends = appended.appends;
+  stands = moved_stands rows cols cells known at to head appended.text leads low inside appended.replaces;
+}
+
+-- Movements over a gap, and a character, were replaced by the gap's glyphs and the character.
+pub gap_instead : (picture : Picture) (known after : Known) (gap : Gap) (letter old middle new : List ℕ) (row : RowValue)
+    (rows cols : ℕ) → IsShownGap picture known gap → IsLetter letter → row ≡ row_of_picture picture gap.from.row →
+    rows ≡ length picture.rows → cols ≡ picture.width →
+    ((cells : ℕ → ℕ → CellValue) → ReplacesTracked rows cols cells
+    (record {
+      at = Some (record { row = gap.from.row; col = gap.from.col + gap.count });
+      kept = known.kept;
+      is_default = known.is_default;
+    }) after letter letter) → middle ≡ old ++ gap_text row.cells gap.from.col gap.count → new ≡ middle ++ letter →
+    AppendsInstead (length picture.rows) picture.width (picture_cell picture) known after
+    (counted gap.count 0x43 ++ letter) old new
+gap_instead picture known after gap letter old middle new row rows cols is letter_is same tall wide printed first last =
+    let text : List ℕ = gap_text (row_of_picture picture gap.from.row).cells gap.from.col gap.count in
+    let behind : Known = record {
+      at = Some (record { row = gap.from.row; col = gap.from.col + gap.count });
+      kept = known.kept;
+      is_default = known.is_default;
+    } in record {
+      text = text ++ letter;
+      appends = last
+          ∙ (ap (λ (t : List ℕ). t ++ letter)
+          (first ∙ ap (λ (x : RowValue). old ++ gap_text x.cells gap.from.col gap.count) same)
+          ∙ append_assoc old text letter);
+      stands = gap_stands picture known after gap letter is letter_is
+          (subst (λ (h : ℕ). ReplacesTracked h picture.width (picture_cell picture) behind after letter letter) tall
+          (subst (λ (w : ℕ). ReplacesTracked rows w (picture_cell picture) behind after letter letter) wide
+          (printed (picture_cell picture))));
+    }
+
+take_more : (n : ℕ) (xs : List ℕ) → take (n + 1) xs ≡ take n xs ++ take 1 (drop n xs)
+take_more zero [] = refl
+take_more zero (x ∷ xs) = refl
+take_more (suc n) [] = let e : suc n + 1 ≡ suc (n + 1) = omega arith in ap (λ (m : ℕ). take m []) e
+take_more (suc n) (x ∷ xs) =
+    let e : suc n + 1 ≡ suc (n + 1) = omega arith in
+    ap (λ (m : ℕ). take m (x ∷ xs)) e ∙ ap (λ (t : List ℕ). x ∷ t) (take_more n xs)
+
+-- The first element of the output and the character after it were replaced.
+pub next_instead : (rows cols len count : ℕ) (cells : ℕ → ℕ → CellValue) (known new : Known) (element : Element)
+    (rest head tail letter before after : List ℕ) → IsElement element head → element ≡ elements.Right count →
+    head ≡ take len rest → tail ≡ drop len rest → letter ≡ take 1 tail →
+    AppendsInstead rows cols cells known new (counted count 0x43 ++ letter) before after →
+    AppendsInstead rows cols cells known new (take (len + 1) rest) before after
+next_instead rows cols len count cells known new element rest head tail letter before after is right front back first appended =
+    subst (λ (old : List ℕ). AppendsInstead rows cols cells known new old before after) whole appended
+  where
+    over : head ≡ counted count 0x43
+    over = (subst (λ (e : Element). IsElement e head) right is).2
+
+    whole : counted count 0x43 ++ letter ≡ take (len + 1) rest
+    whole =
+        ap₂ (λ (a b : List ℕ). a ++ b) (sym over ∙ front) (first ∙ ap (λ (t : List ℕ). take 1 t) back)
+        ∙ sym (take_more len rest)

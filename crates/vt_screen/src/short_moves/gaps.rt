@@ -1,0 +1,119 @@
+//! Gaps between changed columns whose glyphs are printed instead of skipped.
+//!
+//! CUF takes three or four bytes, so printing one to three glyphs that the terminal already displays
+//! is shorter.
+
+ghost use Rattle.std.specs.Prelude.{◌≡◌, ◌<◌, ◌≤◌, ◌+◌, ◌++◌, IfSome, IsTrue, OnOk, length, string_bytes, take};
+ghost use Rattle.vt_cells.specs.Refusals.{OnlyOutOfMemory};
+ghost use Rattle.vt_screen.specs.Gaps.{IsByteGlyph, IsFrom, IsGap, IsGapOver, IsLetter, gap_text};
+
+use crate::short_moves::elements::Element;
+use crate::short_moves::known::Known;
+use vt_cells::{Attrs, Cell, Error, Pos, Sink, cell};
+use vt_redraw::{PictureRow, View};
+
+/// The largest number of columns over which CUF takes more bytes than their glyphs.
+const LONGEST_GAP: u16 = 3;
+
+/// Columns of the cursor's row, beginning at the cursor, over which the cursor moves.
+#[derive(Clone, Copy, PartialEq, Eq, Debug)]
+pub struct Gap {
+    /// The position of the first column.
+    pub from: Pos,
+
+    /// The number of columns.
+    pub count: u16,
+}
+
+/// Returns the gap over which `element` moves the cursor of a terminal that displayed `prev`, if the
+/// terminal still displays glyphs there that can be printed. They are printable ASCII characters with
+/// the terminal's attributes.
+#[inline]
+pub fn gap_over(prev: &View<'_>, known: Known, element: Element) -> Option<Gap>
+    ensures { IfSome result (IsGapOver prev.now known element) }
+{
+    let Element::Right(count) = element else {
+        return None;
+    };
+    if count == 0 || count > LONGEST_GAP || !known.is_default {
+        return None;
+    }
+    let from = known.at?;
+    let kept = known.kept?;
+    if from.row >= prev.rows() || from.col >= prev.cols() || !is_from(kept, from) {
+        return None;
+    }
+    if count >= prev.cols() - from.col || !is_gap(&prev.row(from.row), from.col, count) {
+        return None;
+    }
+    Some(Gap { from, count })
+}
+
+/// Returns whether `pos` is at or after `first` in reading order.
+fn is_from(first: Pos, pos: Pos) -> bool
+    ensures { IsTrue result → IsFrom first pos.row pos.col }
+{
+    first.row < pos.row || (first.row == pos.row && first.col <= pos.col)
+}
+
+/// Returns whether each of the `count` columns from `col` on has a glyph that [`gap_over`] accepts.
+#[tactic(auto, using(crate::proofs::GapsRead::gap_more))]
+fn is_gap(row: &PictureRow<'_>, col: u16, count: u16) -> bool
+    requires inside { col + count ≤ length row.now.cells }
+    requires short { col + count < 65536 }
+    ensures { IsTrue result → IsGap row.now.cells col count }
+{
+    if count == 0 {
+        return true;
+    }
+    is_byte_glyph(row.cell(col)) && is_gap(row, col + 1, count - 1)
+}
+
+/// Returns whether the cell is a narrow glyph of one printable ASCII character with default
+/// attributes.
+fn is_byte_glyph(cell: &Cell) -> bool
+    ensures { IsTrue result → IsByteGlyph cell.now }
+{
+    let text = cell.contents().as_bytes();
+    if cell.is_wide() || text.len() != 1 || text[0] < 0x20 || text[0] >= 0x7F {
+        return false;
+    }
+    cell::has_attrs(cell, &Attrs::new())
+}
+
+/// Appends the text of `count` columns from `col` on.
+///
+/// # Errors
+///
+/// Returns `Error::OutOfMemory` if the string cannot grow.
+#[tactic(auto, using(crate::proofs::GapsRead::text_more))]
+pub fn write_gap(
+    short: &mut String,
+    row: &PictureRow<'_>,
+    col: u16,
+    count: u16,
+) -> Result<(), Error>
+    requires inside { col + count ≤ length row.now.cells }
+    requires short { col + count < 65536 }
+    ensures text { OnOk result (string_bytes short.new ≡ string_bytes short.old ++ gap_text row.now.cells col count) }
+    ensures memory { OnlyOutOfMemory result }
+{
+    if count == 0 {
+        return Ok(());
+    }
+    short.write_str(row.cell(col).contents())?;
+    write_gap(short, row, col + 1, count - 1)
+}
+
+/// Returns the first character of `text` if it is printable ASCII.
+pub fn first_letter(text: &str) -> Option<&str>
+    ensures letter { IfSome result (λ letter. IsLetter letter.now) }
+    ensures first { IfSome result (λ letter. letter.now ≡ take 1 text.now) }
+{
+    let (letter, _) = text.split_at_checked(1)?;
+    let bytes = letter.as_bytes();
+    if bytes.is_empty() || bytes[0] < 0x20 || bytes[0] >= 0x7F {
+        return None;
+    }
+    Some(letter)
+}
