@@ -11,13 +11,13 @@ const char *vt100_status_text(vt100_status status) {
     switch (status) {
     case VT100_OK: return "done";
     case VT100_OUT_OF_MEMORY: return "out of memory";
-    case VT100_FAILED: return "the terminal ran out of memory before";
+    case VT100_FAILED: return "the parser or mirror ran out of memory in an earlier call";
     case VT100_BAD_ARGUMENT: return "bad argument";
-    case VT100_WRONG_KIND: return "the handle holds an object of another kind";
-    case VT100_OTHER_SIZE: return "the screens are of different sizes";
+    case VT100_WRONG_KIND: return "the handle holds an object of a different kind";
+    case VT100_OTHER_SIZE: return "the screens have different sizes";
     case VT100_NO_OBJECT: return "the handle is empty";
-    case VT100_IN_USE: return "the handle is in use";
-    case VT100_NO_NUMBER: return "no viewer's number is left";
+    case VT100_IN_USE: return "the handle is not empty";
+    case VT100_NO_NUMBER: return "no viewer numbers are left";
     default: return "unknown status";
     }
 }

@@ -33,35 +33,39 @@
  *
  *         VT100_PARSER   parses bytes, maintains a screen, and logs events
  *         VT100_SCREEN   a saved screen, which parses nothing
- *         VT100_MIRROR   parses bytes, and generates updates for viewers
- *         VT100_CAPTURE  the state of a capture of rows
+ *         VT100_MIRROR   parses bytes, and generates updates for viewers (other terminals)
+ *         VT100_CAPTURE  the state of a capture (the text of rows with their attributes)
  *
  * THREADS
  *     A handle may be passed to another thread. Only one call at a time may use a handle, even if
  *     the call only reads. Calls with different handles may run in parallel; handles share nothing.
  *
- *     The library allocates with malloc and free. Therefore, no function may be called in a signal
- *     handler, nor between fork and exec in the child of a multithreaded process.
+ *     The library allocates memory with malloc, realloc and free. Therefore, none of its functions
+ *     may be called in a signal handler, or between fork and exec in the child of a multithreaded
+ *     process.
  *
- * MEMORY AND TEXTS
+ * MEMORY AND TEXT
  *     The library uses a pointer only during the call it is passed to, and never returns a pointer
- *     to its own objects. A function that generates a text stores the text in the handle and
- *     reports its length; vt100_copy copies it out. The text is UTF-8 without a terminating null
- *     byte. It stays in the handle until the next call that generates a text with this handle.
+ *     to its own objects. A function that generates text stores the text in the handle and reports
+ *     its length in bytes; vt100_copy copies it to the caller's memory. The text is UTF-8 without a
+ *     terminating null byte. The handle keeps it until another call generates text with this
+ *     handle, or until vt100_free.
  *
  *     Buffers are passed as a pointer and a length. The pointer may be null if the length is 0;
  *     otherwise it must point to at least that many elements. Pointers to handles and to results
  *     must not be null and must point to an object of their type. The memory areas passed to one
- *     call must not overlap, except that passing the same handle twice returns a status.
+ *     call must not overlap, except that the same handle may be passed twice: the call then changes
+ *     nothing and returns an error status.
  *
  * REDRAWS
- *     The statements below about terminals that read redraws and diffs are proved for plain
- *     terminals and steady screens. A terminal is plain if its scroll region is the whole page,
- *     origin mode is off, no scrollback is displayed and no sequence is unfinished, as in every new
- *     terminal. A screen is steady if every visible glyph reproduces itself when it is printed
- *     again; only glyphs with U+FE0F may fail to do so.
+ *     A redraw makes a terminal that reads it display a screen; a diff turns the display of an
+ *     earlier screen into that of a later one. The statements below about their effects are proved
+ *     for plain terminals and steady screens. A terminal is plain if its scroll region is the whole
+ *     page, origin mode is off, no scrollback is displayed and no sequence is unfinished; every new
+ *     terminal is plain. A screen is steady if every visible glyph reproduces itself when it is
+ *     printed again; only glyphs with U+FE0F may fail to do so.
  *
- *     Two statements hold for every screen, steady or not. First, a text for a terminal consists of
+ *     Two statements hold for every screen, steady or not. First, output for a terminal consists of
  *     printable characters, control sequences with decimal numbers (cursor movement, erasing,
  *     colors, scrolling) and a few fixed sequences. It never contains an OSC, DCS, APC, PM or SOS
  *     string, a reset, a bell, a C1 control, or a query that a terminal replies to. Second, a plain
@@ -69,8 +73,9 @@
  *     steady screen displays that screen.
  *
  * THE ALTERNATE SCREEN
- *     The alternate screen has no scrollback. While it is active, no scrollback is displayed or
- *     counted, and functions that display or discard scrollback do nothing.
+ *     The alternate screen has no scrollback. While it is active, no scrollback is displayed, the
+ *     three numbers about scrollback in vt100_state are 0, and functions that display or discard
+ *     scrollback do nothing.
  *
  * VERSIONS
  *     VT100_VERSION_MAJOR and VT100_VERSION_MINOR are the version of this interface. MAJOR is
@@ -89,8 +94,9 @@
  *
  * RETURN VALUE
  *     Most functions return a status. If it is not VT100_OK, no results are stored and nothing has
- *     changed, unless the description of the function says otherwise. If several statuses apply,
- *     one of them is returned.
+ *     changed, unless the description of the function says otherwise. The description also lists
+ *     the error statuses of the function; vt100_status says what they mean. If several statuses
+ *     apply, one of them is returned.
  */
 #ifndef VT100_H
 #define VT100_H
@@ -127,13 +133,14 @@ typedef uint8_t vt100_status;
 enum {
     VT100_OK = 0,            /* success */
     VT100_OUT_OF_MEMORY = 1, /* an allocation failed */
-    VT100_FAILED = 2,        /* the parser or mirror ran out of memory before and reads nothing */
+    VT100_FAILED = 2,        /* the parser or mirror ran out of memory before, and processes no
+                                more bytes */
     VT100_BAD_ARGUMENT = 3,  /* zero rows or columns; no such row, column, cell, event, viewer or
-                                position in a text; not enough room; the same handle twice */
+                                position in the text; not enough room; the same handle twice */
     VT100_WRONG_KIND = 4,    /* the handle holds an object of the wrong kind */
     VT100_OTHER_SIZE = 5,    /* the screens have different sizes */
     VT100_NO_OBJECT = 6,     /* the handle is empty */
-    VT100_IN_USE = 7,        /* the handle to fill is not empty */
+    VT100_IN_USE = 7,        /* the handle in which to store an object is not empty */
     VT100_NO_NUMBER = 8      /* the mirror has no viewer number left */
 };
 
@@ -163,7 +170,7 @@ enum {
     VT100_EVENT_ON_SCROLL = 12
 };
 
-/* The bit of `wanted` that requests one kind of event, and the bits of all kinds. */
+/* For `wanted` of vt100_parser_new: the bit of one kind of event, and the bits of all kinds. */
 #define VT100_WANTS(kind) (1u << (kind))
 #define VT100_WANTS_ALL 0x1fffu
 
@@ -171,13 +178,14 @@ enum {
 
 /*
  * A color: the default color if `kind` is 0, the palette color whose index is in `red` if `kind` is
- * 1, and the color with the components `red`, `green` and `blue` if `kind` is 2.
+ * 1, and the color with the components `red`, `green` and `blue` if `kind` is 2. Components that
+ * are not used are 0.
  */
 typedef struct vt100_color {
     uint8_t kind, red, green, blue;
 } vt100_color;
 
-/* Bits of `flags`. The last two occur only in cells: a wide character and its continuation cell. */
+/* Bits of `flags`. Only cells have the last two: a wide character, and its continuation cell. */
 enum {
     VT100_BOLD = 1,
     VT100_DIM = 2,
@@ -198,11 +206,12 @@ typedef struct vt100_cell {
 
 /*
  * The properties of a screen other than its cells: 56 bytes. The 4 bytes of padding before
- * `scrollback` are unspecified, so compare the members rather than the memory.
+ * `scrollback` are unspecified, so compare the members rather than the memory. A wrap is pending
+ * after a character was printed in the last column: the next character goes to the next row.
  */
 typedef struct vt100_state {
     uint16_t rows, cols;
-    uint16_t cursor_row, cursor_col;   /* cursor_col is cols if a wrap is pending */
+    uint16_t cursor_row, cursor_col;   /* cursor_col equals cols if a wrap is pending */
     uint8_t alternate_screen;          /* this and the next four are 0 or 1 */
     uint8_t application_keypad;
     uint8_t application_cursor;
@@ -226,17 +235,18 @@ typedef struct vt100_state {
 /* ---- creating and freeing objects */
 
 /*
- * Creates a parser with a blank screen and stores it in `out`. Bit k of `wanted` requests that
- * events of kind k be logged (see EVENTS below); 0 logs no events, which is fastest. The additional
- * bit VT100_ROWS_WITHOUT_TEXT omits the plain text from the records of rows, for callers that only
- * read rows with vt100_capture_row.
+ * Creates a parser with a blank screen that keeps at most `scrollback_capacity` scrollback rows,
+ * and stores it in `out`. Bit k of `wanted` requests that events of kind k be logged (see EVENTS
+ * below); 0 logs no events, which is fastest. The additional bit VT100_ROWS_WITHOUT_TEXT omits the
+ * plain text from the records of rows, for callers that read rows only with vt100_capture_row.
  * VT100_IN_USE: `out` is not empty. VT100_BAD_ARGUMENT: rows or cols is 0. VT100_OUT_OF_MEMORY.
  */
 vt100_status vt100_parser_new(uint16_t rows, uint16_t cols, size_t scrollback_capacity,
                               uint16_t wanted, vt100_handle *out);
 
 /*
- * Creates a mirror with a blank screen and no viewers, and stores it in `out`.
+ * Creates a mirror without viewers, whose screen is blank and keeps at most `scrollback_capacity`
+ * scrollback rows, and stores it in `out`.
  * Statuses: as for vt100_parser_new.
  */
 vt100_status vt100_mirror_new(uint16_t rows, uint16_t cols, size_t scrollback_capacity,
@@ -246,8 +256,9 @@ vt100_status vt100_mirror_new(uint16_t rows, uint16_t cols, size_t scrollback_ca
 vt100_status vt100_capture_new(vt100_handle *out);
 
 /*
- * Stores a copy in `out`. The copy of a parser or a saved screen is a saved screen with both pages
- * and the scrollback. The copy of a capture is a capture in the same state, without text.
+ * Stores a copy of the object in `out`. The copy of a parser or a saved screen is a saved screen
+ * with both pages and the scrollback. The copy of a capture is a capture in the same state, without
+ * text.
  * VT100_NO_OBJECT. VT100_WRONG_KIND: the handle holds a mirror. VT100_IN_USE: `out` is not empty,
  * or is the same handle. VT100_OUT_OF_MEMORY.
  */
@@ -284,7 +295,7 @@ uint8_t vt100_kind(vt100_handle *handle);
  * VT100_NO_OBJECT, VT100_WRONG_KIND.
  * VT100_OUT_OF_MEMORY: everything before the step whose allocation failed has taken effect, and
  * that step has not. From then on, vt100_process and vt100_process_until return VT100_FAILED and
- * read nothing; other functions work as before.
+ * process no bytes; other functions work as before.
  */
 vt100_status vt100_process(vt100_handle *handle, const uint8_t *bytes, size_t len);
 
@@ -292,19 +303,20 @@ vt100_status vt100_process(vt100_handle *handle, const uint8_t *bytes, size_t le
  * Parses bytes up to and including the first byte that logs or loses an event, and stores the
  * number of bytes read in `*used`. Call this function until all bytes are read. Rows that are
  * logged without text do not stop parsing until the rows that this call has logged take 64 KiB or
- * the log reaches its limit. If the status is not VT100_OK, `*used` is the number of bytes before
- * the one whose allocation failed. Only for a parser.
- * Statuses: as for vt100_process, but always VT100_OK if `len` is 0.
+ * the log reaches its limit. Only for a parser.
+ * Statuses: as for vt100_process, except that a parser returns VT100_OK if `len` is 0. If the
+ * status is VT100_OUT_OF_MEMORY, `*used` is the number of bytes before the one whose allocation
+ * failed; for the other error statuses, it is 0.
  */
 vt100_status vt100_process_until(vt100_handle *handle, const uint8_t *bytes, size_t len,
                                  size_t *used);
 
 /*
  * Stores the number of bytes that a parser keeps for an unfinished operating system command (OSC,
- * which also sets titles): the bytes read after ESC ], not counting control characters. Stores 0 if
- * no command is unfinished. Only memory limits the length of a command. To end one at a limit of
- * your own, pass CAN (byte 24) to vt100_process, which dispatches the part that was read. Only for
- * a parser.
+ * such as one that sets the title): the bytes read after ESC ], not counting control characters.
+ * Stores 0 if no command is unfinished. Only memory limits the length of a command. To enforce a
+ * limit of your own, pass CAN (byte 0x18) to vt100_process: the part of the command that was read
+ * is dispatched, and CAN is an unhandled_control event. Only for a parser.
  * VT100_NO_OBJECT, VT100_WRONG_KIND.
  */
 vt100_status vt100_pending_len(vt100_handle *handle, size_t *len);
@@ -326,9 +338,9 @@ vt100_status vt100_set_size(vt100_handle *handle, uint16_t rows, uint16_t cols);
 vt100_status vt100_screen_set_size(vt100_handle *handle, uint16_t rows, uint16_t cols);
 
 /*
- * Sets the number of rows by which the display is scrolled back, at most the number of scrollback
- * rows; 0 displays the page itself. Cells and texts are those of the displayed rows, but captures
- * still include all rows, and the cursor is still that of the page. For a parser or a saved screen.
+ * Scrolls the display back by `rows` rows, or by all scrollback rows if there are fewer; 0 displays
+ * the page itself. Cells and text are then those of the displayed rows, but captures still include
+ * all rows, and the cursor is still that of the page. For a parser or a saved screen.
  * VT100_NO_OBJECT, VT100_WRONG_KIND, VT100_OUT_OF_MEMORY.
  */
 vt100_status vt100_set_scrollback(vt100_handle *handle, size_t rows);
@@ -372,23 +384,24 @@ vt100_status vt100_row_wrapped(vt100_handle *handle, uint16_t row, uint8_t *out)
  */
 vt100_status vt100_is_steady(vt100_handle *handle, uint8_t *out);
 
-/* ---- texts: for a parser or a saved screen
+/* ---- text: for a parser or a saved screen
  *
- * Each call stores its text in the first handle and the length of the text in `*len`; vt100_copy
- * copies it out.
- * VT100_NO_OBJECT, VT100_WRONG_KIND, VT100_OUT_OF_MEMORY: the previous text is unchanged.
+ * Each call stores the generated text in the first handle, and its length in bytes in `*len`;
+ * vt100_copy copies the text to the caller's memory. A call that fails leaves the previous text
+ * unchanged. All functions may return VT100_NO_OBJECT, VT100_WRONG_KIND and VT100_OUT_OF_MEMORY.
  */
 
 /*
- * Generates the plain text of the displayed rows. A newline follows each row that is not wrapped,
- * and precedes a row without text after a wrapped row. There are no newlines at the end.
+ * Generates the plain text of the displayed rows. Each row is followed by a newline, unless it is
+ * wrapped and the next row has text. Newlines at the end are omitted.
  */
 vt100_status vt100_contents(vt100_handle *handle, size_t *len);
 
 /*
- * Generates the plain text from one position up to but excluding a second one. If the range has
- * more than one row, start_col must not be greater than the number of columns, otherwise the status
- * is VT100_BAD_ARGUMENT.
+ * Generates the plain text from one position up to but excluding another, which is empty if the end
+ * is before the start. Each row except the last is followed by a newline, unless it is wrapped.
+ * VT100_BAD_ARGUMENT: the range has more than one row, and start_col is greater than the number of
+ * columns.
  */
 vt100_status vt100_contents_between(vt100_handle *handle, uint16_t start_row, uint16_t start_col,
                                     uint16_t end_row, uint16_t end_col, size_t *len);
@@ -399,10 +412,17 @@ vt100_status vt100_contents_between(vt100_handle *handle, uint16_t start_row, ui
  */
 vt100_status vt100_contents_formatted(vt100_handle *handle, size_t *len);
 
-/* Generates a redraw for terminals of this size with any scroll region and origin mode. */
+/*
+ * Generates a redraw for terminals of this size that need not be plain: they may have any scroll
+ * region and origin mode, but no scrollback may be displayed and no sequence may be unfinished.
+ */
 vt100_status vt100_contents_formatted_reset(vt100_handle *handle, size_t *len);
 
-/* Generates the text with SGR sequences for colors and attributes, and no other sequences. */
+/*
+ * Generates the text of the displayed rows with SGR sequences for colors and attributes, and
+ * without other escape sequences. Each row ends with a newline, unless it is wrapped or is the last
+ * one.
+ */
 vt100_status vt100_contents_formatted_basic(vt100_handle *handle, size_t *len);
 
 /*
@@ -412,8 +432,9 @@ vt100_status vt100_contents_formatted_basic(vt100_handle *handle, size_t *len);
 vt100_status vt100_state_formatted(vt100_handle *handle, size_t *len);
 
 /*
- * Generates the part of a redraw that sets the cursor, for a plain terminal that displays these
- * rows and has default attributes. This part may print and erase characters to set the cursor.
+ * Generates the part of a redraw that moves the cursor and shows or hides it, for a plain terminal
+ * of this size that displays the rows of this screen and has default attributes. If a wrap is
+ * pending, this part may draw the end of a row again.
  */
 vt100_status vt100_cursor_state_formatted(vt100_handle *handle, size_t *len);
 
@@ -421,9 +442,9 @@ vt100_status vt100_cursor_state_formatted(vt100_handle *handle, size_t *len);
 vt100_status vt100_attributes_formatted(vt100_handle *handle, size_t *len);
 
 /*
- * Generates the sequences that set the input modes. Keypad mode, cursor key mode and bracketed
- * paste mode are always set. The mouse modes and the cursor style are set only if they are not the
- * default, so the terminal must have the defaults.
+ * Generates the sequences that set the input modes: keypad, cursor keys, bracketed paste, mouse and
+ * cursor style. The terminal must have the default mouse mode, mouse encoding and cursor style,
+ * because these are set only if they are not the default.
  */
 vt100_status vt100_input_mode_formatted(vt100_handle *handle, size_t *len);
 
@@ -436,24 +457,25 @@ vt100_status vt100_contents_diff(vt100_handle *handle, vt100_handle *prev, size_
 
 /*
  * Generates a diff that may begin by moving rows or columns, and is never longer than that of
- * vt100_contents_diff.
+ * vt100_contents_diff. It may contain LF, HT and BS: the tty must not translate output, and the tab
+ * stops must be at every eighth column.
  * Statuses: as for vt100_contents_diff.
  */
 vt100_status vt100_contents_diff_scrolling(vt100_handle *handle, vt100_handle *prev, size_t *len);
 
 /*
- * Options of a difference, to be combined with `|`. VT100_DIFF_SCROLL: it may move rows or columns
- * first. VT100_DIFF_REPEAT: runs of a printable ASCII character may be written with REP (ECMA-48,
- * 8.3.103), within a row. Use it only if the terminal that reads the difference performs REP; some
- * terminals ignore it.
+ * Options of a diff, which can be combined with `|`; other bits are ignored. VT100_DIFF_SCROLL: the
+ * diff may begin by moving rows or columns. VT100_DIFF_REPEAT: runs of a one-column character within
+ * a row may be written with REP (ECMA-48, 8.3.103). Use it only for a terminal that performs REP;
+ * some terminals ignore REP.
  */
 #define VT100_DIFF_SCROLL 1
 #define VT100_DIFF_REPEAT 2
 
 /*
- * The difference of vt100_contents_diff with options. Without VT100_DIFF_REPEAT, it is that of
- * vt100_contents_diff or vt100_contents_diff_scrolling. It is never longer than that of
- * vt100_contents_diff.
+ * Generates a diff with options, which is never longer than that of vt100_contents_diff. Without
+ * VT100_DIFF_REPEAT, it is the diff of vt100_contents_diff or, with VT100_DIFF_SCROLL, of
+ * vt100_contents_diff_scrolling.
  * Statuses: as for vt100_contents_diff.
  */
 vt100_status vt100_contents_diff_with(vt100_handle *handle, vt100_handle *prev, uint8_t options,
@@ -461,7 +483,7 @@ vt100_status vt100_contents_diff_with(vt100_handle *handle, vt100_handle *prev, 
 
 /*
  * Generates the output of vt100_contents_diff, followed by that of vt100_input_mode_diff.
- * VT100_BAD_ARGUMENT, VT100_OTHER_SIZE.
+ * Statuses: as for vt100_contents_diff.
  */
 vt100_status vt100_state_diff(vt100_handle *handle, vt100_handle *prev, size_t *len);
 
@@ -473,19 +495,20 @@ vt100_status vt100_state_diff(vt100_handle *handle, vt100_handle *prev, size_t *
 vt100_status vt100_input_mode_diff(vt100_handle *handle, vt100_handle *prev, size_t *len);
 
 /*
- * Generates the concatenated plain texts of all displayed rows, each limited to `width` columns
- * from column `start` on. The text of row k ends at ends[k] and begins where the previous one ends.
- * `room` is the number of values that `ends` has room for.
+ * Generates the plain text of each displayed row in `width` columns from column `start` on, without
+ * anything between the rows. The text of row k ends before byte ends[k] and begins where that of
+ * the previous row ends. `room` is the number of values that `ends` has room for.
  * VT100_BAD_ARGUMENT: `room` is less than the number of rows.
  */
 vt100_status vt100_rows(vt100_handle *handle, uint16_t start, uint16_t width, size_t *ends,
                         size_t room, size_t *len);
 
 /*
- * Works like vt100_rows, but generates the output that draws each row on a blank row of a terminal.
- * The terminal must have default attributes and its cursor in column `start` of that row, and
- * neither end of the range may split a wide character. The wrapped flag of a row is drawn together
- * with the row below.
+ * Works like vt100_rows, but generates the output that draws each row on a blank row of a plain
+ * terminal. Before the terminal reads the output of a row, it must have default attributes and its
+ * cursor in column `start` of that row. Neither end of the range may split a wide character. A
+ * wrapped row becomes wrapped on the terminal when the output of the whole next row is read while a
+ * wrap is pending.
  * VT100_BAD_ARGUMENT: also if `start` is not a column of the screen.
  */
 vt100_status vt100_rows_formatted(vt100_handle *handle, uint16_t start, uint16_t width,
@@ -493,15 +516,17 @@ vt100_status vt100_rows_formatted(vt100_handle *handle, uint16_t start, uint16_t
 
 /*
  * Works like vt100_rows_formatted, but generates the output that turns each row of `prev` into the
- * corresponding row of this screen.
+ * corresponding row of this screen. A row that was not wrapped becomes wrapped only if a character
+ * is printed after its output before the cursor moves.
  * VT100_BAD_ARGUMENT: also if both are the same handle. VT100_OTHER_SIZE.
  */
 vt100_status vt100_rows_diff(vt100_handle *handle, vt100_handle *prev, uint16_t start,
                              uint16_t width, size_t *ends, size_t room, size_t *len);
 
 /*
- * Copies the handle's text, or as much of it as fits, and returns the number of bytes copied, which
- * is 0 for an empty handle. Works for every kind of object. The text stays in the handle.
+ * Copies the handle's text, or its first `room` bytes if it is longer, and returns the number of
+ * bytes copied, which is 0 for an empty handle. Works for every kind of object. The text stays in
+ * the handle.
  */
 size_t vt100_copy(vt100_handle *handle, uint8_t *out, size_t room);
 
@@ -509,20 +534,21 @@ size_t vt100_copy(vt100_handle *handle, uint8_t *out, size_t room);
  *
  * A capture is the concatenated text of rows, with SGR sequences and no other escape sequences:
  * first the rows that scroll off a screen, in order, and finally the rows that are still on it. A
- * capture object stores the state between two rows: the attributes of the last text, and whether a
- * newline is due. The text is stored in the handle of the capture.
+ * capture object stores the state between two rows: the attributes in effect, and whether a newline
+ * is due. Each call stores only the text that it adds, in the handle of the capture, and the length
+ * of this text in bytes in `*len`; the caller concatenates the text of all calls.
  */
 
 /*
- * Appends the text of all rows of a parser or a saved screen, including scrollback, to a capture.
+ * Continues a capture with all rows of a parser or a saved screen, including scrollback.
  * VT100_NO_OBJECT, VT100_WRONG_KIND: for either handle. VT100_OUT_OF_MEMORY: the capture is
  * unchanged. VT100_BAD_ARGUMENT: both are the same handle.
  */
 vt100_status vt100_capture_screen(vt100_handle *handle, vt100_handle *capture, size_t *len);
 
 /*
- * Appends the text of a row that scrolled off a parser's screen to a capture. `index` counts the
- * logged on_scroll events from 0.
+ * Continues a capture with a row that scrolled off a parser's screen. `index` counts the logged
+ * on_scroll events from 0.
  * VT100_NO_OBJECT, VT100_WRONG_KIND: for either handle. VT100_OUT_OF_MEMORY: the capture is
  * unchanged. VT100_BAD_ARGUMENT: there is no such event, or both are the same handle.
  */
@@ -530,18 +556,18 @@ vt100_status vt100_capture_row(vt100_handle *parser, size_t index, vt100_handle 
                                size_t *len);
 
 /*
- * Finds the next piece of a capture's text without escape sequences, from byte `at` on. The piece
- * is text[*start] up to but excluding text[*end]; both indices are len if there is no such piece.
- * Continue at *end.
+ * Finds the next chunk of a capture's text without escape sequences, from byte `at` on. The chunk
+ * is text[*start] up to but excluding text[*end]; both indices are len if there is no such chunk.
+ * To find the chunk after it, pass *end as `at`.
  * VT100_BAD_ARGUMENT: the text is not UTF-8, or `at` is inside a character or past the end.
  */
 vt100_status vt100_next_plain(const uint8_t *text, size_t len, size_t at, size_t *start,
                               size_t *end);
 
 /*
- * Finds the end of the row of a capture's text that begins at byte `at`, on a screen of `width`
- * columns: the row ends before text[*end], and the next one begins at *next. *next is SIZE_MAX if
- * there is no next row.
+ * Finds the end of the row that begins at byte `at` of a capture's text, for a screen of `width`
+ * columns. The row ends before text[*end], and the next row begins at text[*next]. *next is
+ * SIZE_MAX if there is no next row.
  * VT100_BAD_ARGUMENT: as for vt100_next_plain.
  */
 vt100_status vt100_next_row(const uint8_t *text, size_t len, uint16_t width, size_t at, size_t *end,
@@ -549,48 +575,54 @@ vt100_status vt100_next_row(const uint8_t *text, size_t len, uint16_t width, siz
 
 /* ---- EVENTS: for a parser
  *
- * Events are requests of a program other than drawing, sequences that the screen does not support,
- * and rows that scroll off. A parser logs the events of the requested kinds as records, in order. A
- * record consists of the kind of the event (1 byte), two numbers (4 bytes each), the length of the
- * event's text (8 bytes) and the text. All numbers are little-endian.
+ * Events are what a program asks of its terminal besides drawing, unsupported sequences, and rows
+ * that scroll off and are not kept. A parser logs the events of the requested kinds as records, in
+ * order. A record consists of the kind of the event (1 byte), two numbers (4 bytes each, 0 if the
+ * event has none), the length of the event's text (8 bytes) and the text. All numbers are
+ * little-endian.
  *
  *      0  audible_bell
  *      1  visual_bell
  *      2  resize: rows, cols
- *      3  set_window_icon_name: text
- *      4  set_window_title: text
- *      5  copy_to_clipboard: text is the kind and the data, each preceded by its length in 8 bytes
- *      6  paste_from_clipboard: text
+ *      3  set_window_icon_name: text is the name
+ *      4  set_window_title: text is the title
+ *      5  copy_to_clipboard: text is the names of the clipboards and the base64 data, each preceded
+ *         by its length in 8 bytes
+ *      6  paste_from_clipboard: text is the names of the clipboards
  *      7  unhandled_char: its code point
  *      8  unhandled_control: the byte
  *      9  unhandled_escape: two intermediates, 256 for none; text is the final byte
- *     10  unhandled_csi: two intermediates, 256 for none; text is the final character in 4 bytes,
- *         then each group of numbers: its count in 8 bytes, and 2 bytes for each number
- *     11  unhandled_osc: text is the parts, each preceded by its length in 8 bytes
- *     12  on_scroll: 1 for the alternate screen, 1 if the row is wrapped; text is its plain text,
- *         or nothing with VT100_ROWS_WITHOUT_TEXT
+ *     10  unhandled_csi: two intermediates, or a private marker and an intermediate, 256 for none;
+ *         text is the final character in 4 bytes, then each group of numbers: its count in 8 bytes,
+ *         and 2 bytes for each number
+ *     11  unhandled_osc: text is the parts between semicolons, each preceded by its length in 8
+ *         bytes
+ *     12  on_scroll, for a row that scrolled off, or that ED 3 (CSI 3 J) erased from scrollback: 1
+ *         for the alternate screen, 1 if the row is wrapped; text is its plain text, or nothing
+ *         with VT100_ROWS_WITHOUT_TEXT
  *
  * A program can cause any number of events; even a single byte may scroll a thousand rows.
  * Therefore, the log has a limit, which is 1 MiB unless it is changed by vt100_set_event_limit. The
  * limit applies to the records plus 40 bytes for each cell of a row that scrolled off. Once it is
  * reached, events are lost until vt100_clear_events is called. A caller that clears the log after
- * each vt100_process_until loses events only if those of a single byte exceed the limit.
+ * each vt100_process_until loses events only if those of a single byte exceed the limit, or if an
+ * allocation fails.
  */
 
 /* A bit of `wanted`: rows are logged without their text. */
 enum { VT100_ROWS_WITHOUT_TEXT = 1 << 13 };
 
 /*
- * Stores the number of bytes that the logged records take. *is_whole is 0 if an event was lost
+ * Stores the length of all logged records in bytes. Stores 0 in *is_whole if an event was lost
  * because its allocation failed or the log had reached its limit, otherwise 1. After a loss, all
- * further events are lost too, until vt100_clear_events, so that the log has no gaps.
+ * further events are lost, too, until vt100_clear_events is called, so that the log has no gaps.
  * VT100_NO_OBJECT, VT100_WRONG_KIND.
  */
 vt100_status vt100_events(vt100_handle *handle, size_t *len, uint8_t *is_whole);
 
 /*
- * Copies the logged records, or as much of them as fits, and returns the number of bytes copied,
- * which is 0 if the handle holds no parser.
+ * Copies the logged records, or their first `room` bytes if they are longer, and returns the number
+ * of bytes copied, which is 0 if the handle holds no parser. The log is unchanged.
  */
 size_t vt100_copy_events(vt100_handle *handle, uint8_t *out, size_t room);
 
@@ -606,14 +638,15 @@ vt100_status vt100_set_event_limit(vt100_handle *handle, size_t bytes);
 
 /* ---- viewers of a mirror
  *
- * A viewer is a terminal outside the library. A viewer's first update is a redraw, and each later
- * one is a diff from its previous update; after a resize, the next update is a redraw again. A
- * viewer displays the mirror's screen as it was at the viewer's last update.
+ * A viewer is a plain terminal outside the library that reads all its updates in order, and thus
+ * displays the mirror's screen as it was at the last update. A viewer's first update, and its first
+ * update after a resize, redraws the screen; every other update is a diff from the screen of the
+ * previous update.
  */
 
 /*
- * Adds a viewer and stores its number. VT100_NO_OBJECT, VT100_WRONG_KIND, VT100_NO_NUMBER,
- * VT100_OUT_OF_MEMORY.
+ * Adds a viewer and stores its number, which is never reused.
+ * VT100_NO_OBJECT, VT100_WRONG_KIND, VT100_NO_NUMBER, VT100_OUT_OF_MEMORY.
  */
 vt100_status vt100_join(vt100_handle *mirror, uint64_t *viewer);
 
@@ -623,8 +656,9 @@ vt100_status vt100_join(vt100_handle *mirror, uint64_t *viewer);
 vt100_status vt100_leave(vt100_handle *mirror, uint64_t viewer);
 
 /*
- * Generates the update that the viewer must read. For a redraw, stores in *rows and *cols the size
- * to which the viewer's terminal must be set first; for a diff, stores 0 in both.
+ * Generates the next update of a viewer; the updates after it assume that the viewer has read it.
+ * For a redraw, stores in *rows and *cols the size to which the viewer's terminal must be resized
+ * first; for a diff, stores 0 in both.
  * VT100_NO_OBJECT, VT100_WRONG_KIND, VT100_OUT_OF_MEMORY. VT100_BAD_ARGUMENT: there is no such
  * viewer.
  */
@@ -632,31 +666,32 @@ vt100_status vt100_update(vt100_handle *mirror, uint64_t viewer, uint16_t *rows,
                           size_t *len);
 
 /*
- * Works like vt100_update, but a diff may begin by moving rows or columns, and is never longer. If
- * the screen of the viewer's last update was not steady, the update is a redraw, which corrects a
- * viewer that displayed that screen incorrectly.
+ * Works like vt100_update, but a diff may begin by moving rows or columns, and is never longer than
+ * that of vt100_update. If the screen of the viewer's last update was not steady, the update is a
+ * redraw, which corrects the viewer's display.
  */
 vt100_status vt100_update_scrolling(vt100_handle *mirror, uint64_t viewer, uint16_t *rows,
                                     uint16_t *cols, size_t *len);
 
 /*
- * As vt100_update, but the diff has the given options (see VT100_DIFF_SCROLL). With
- * VT100_DIFF_SCROLL, the update may be a redraw, as with vt100_update_scrolling.
+ * Works like vt100_update, but a diff has the given options (see VT100_DIFF_SCROLL), and is never
+ * longer than that of vt100_update. With VT100_DIFF_SCROLL, the update may be a redraw, as with
+ * vt100_update_scrolling.
  */
 vt100_status vt100_update_with(vt100_handle *mirror, uint64_t viewer, uint8_t options,
                                uint16_t *rows, uint16_t *cols, size_t *len);
 
 /*
  * Stores 1 if the viewer is known to be up to date, otherwise 0. The next update of an up-to-date
- * viewer is an empty diff, or, with vt100_update_scrolling and an unsteady screen, a redraw. The
- * value is 0 if the viewer has had no update since it joined or since the last resize, if
- * vt100_process was called since its last update (even if nothing displayed has changed), and if
- * there is no such viewer. This function neither allocates nor reads cells.
+ * viewer is an empty diff, except that vt100_update_scrolling and VT100_DIFF_SCROLL redraw a screen
+ * that is not steady. The value is 0 if the viewer has had no update since it joined or since the
+ * last resize, if vt100_process was called since its last update (even if nothing displayed has
+ * changed), and if there is no such viewer. This function neither allocates nor reads cells.
  * VT100_NO_OBJECT, VT100_WRONG_KIND.
  */
 vt100_status vt100_mirror_is_current(vt100_handle *mirror, uint64_t viewer, uint8_t *out);
 
-/* ---- the version and the texts of statuses: the pointers are never null, and always valid */
+/* ---- the version and status messages: the returned pointers are never null, and always valid */
 
 /*
  * Returns the interface version of the library that the program runs with, such as "1.1":

@@ -1,8 +1,8 @@
 /*
  * events ROWS COLS: reads what a program wrote to its terminal, and writes a line for each event:
- * what the program asked of its terminal besides drawing, what the screen does not support, and
- * each row that scrolled off the top. The exit status is 0 on success, 1 on failure, and 2 if the
- * arguments are invalid.
+ * what the program asked of its terminal besides drawing, each unsupported sequence, and each row
+ * that scrolled off the top. The exit status is 0 on success, 1 on failure, and 2 if the arguments
+ * are invalid.
  */
 #include <vt100.h>
 
@@ -47,7 +47,7 @@ static uint64_t take_number(struct bytes *rest, size_t len) {
     return number;
 }
 
-/* Prints a text in quotes, with each byte that is not printable ASCII as \xNN. */
+/* Prints a string in quotes, with each byte that is not printable ASCII as \xNN. */
 static void print_text(struct bytes text) {
     printf(" \"");
     for (size_t k = 0; k < text.len; k++) {
@@ -57,7 +57,7 @@ static void print_text(struct bytes text) {
     printf("\"");
 }
 
-/* Prints the texts in a record that stores each of them after its length. */
+/* Prints the strings in the text of a record, each of which is preceded by its length. */
 static void print_parts(struct bytes text) {
     while (text.len > 0) print_text(take(&text, take_number(&text, 8)));
 }

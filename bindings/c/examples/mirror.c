@@ -1,8 +1,8 @@
 /*
  * mirror ROWS COLS EVERY: reads what a program writes to its terminal, and writes the escape
- * sequences that keep a second terminal equal to it: a redraw, then a diff after every EVERY
- * bytes and one at the end. The exit status is 0 on success, 1 on failure, and 2 if the arguments
- * are invalid.
+ * sequences that keep a second terminal in sync: a redraw, then a diff after every EVERY bytes and
+ * one at the end. The exit status is 0 on success, 1 on failure, and 2 if the arguments are
+ * invalid.
  */
 #include <vt100.h>
 
@@ -31,7 +31,7 @@ static int write_text(vt100_handle *handle, size_t len) {
     return written < len || fflush(stdout) != 0 ? failed("write failed") : 0;
 }
 
-/* Writes the difference from the screen `shown`, and stores the current screen in `shown`. */
+/* Writes the diff from the screen `shown`, and stores a copy of the current screen in `shown`. */
 static int update(vt100_handle *parser, vt100_handle *shown) {
     size_t len;
     if (vt100_contents_diff(parser, shown, &len) != VT100_OK) return failed("out of memory");
@@ -40,7 +40,7 @@ static int update(vt100_handle *parser, vt100_handle *shown) {
     return vt100_shown_copy(parser, shown) != VT100_OK ? failed("out of memory") : 0;
 }
 
-/* Writes a redraw, and then a difference after every `every` bytes of input. */
+/* Writes a redraw, then a diff after every `every` bytes of input and one at the end. */
 static int follow(vt100_handle *parser, vt100_handle *shown, size_t every) {
     size_t len, count, held = 0;
     uint8_t *bytes = malloc(every);

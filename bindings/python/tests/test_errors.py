@@ -327,7 +327,7 @@ class Import(unittest.TestCase):
     def test_the_variable_names_no_library(self):
         for wrong in ("/no/such/file", os.path.abspath(__file__)):
             message = self.import_error(VT100_LIBRARY=wrong)
-            self.assertRegex(message, "^ImportError: VT100_LIBRARY names no library")
+            self.assertRegex(message, "^ImportError: VT100_LIBRARY does not name a library")
             self.assertIn(wrong, message)
 
     def test_the_library_is_another_one(self):

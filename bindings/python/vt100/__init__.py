@@ -1,5 +1,5 @@
-"""A headless terminal emulator: it parses what a program writes to its terminal, and keeps the
-screen in memory.
+"""A headless terminal emulator: it parses what a program writes to its terminal, and maintains the
+screen that a person would see.
 
     import vt100
 
@@ -9,13 +9,14 @@ screen in memory.
     assert parser.cell(0, 13).fgcolor == 1
     assert parser.find("RED") == [(0, 13)]
 
-The shared object is loaded from the path in the environment variable VT100_LIBRARY, otherwise it is
-libvt100.so.1, wherever the system finds it. `library_version` is the version of its C interface.
-Rows and columns are 0-based.
+The shared object is loaded from the path in the environment variable VT100_LIBRARY. If that is not
+set, libvt100.so.1 is loaded from the directory of this package or, if it is not there, from where
+the system finds it. `library_version` is the version of its C interface. Rows and columns are
+0-based.
 
-Integers out of range raise `ValueError`, failed allocations raise `MemoryError`, and all other
-failures raise `Error`. The methods of one object may be called from several threads; calls wait for
-each other. `vt100.testing` runs programs in a terminal.
+Invalid arguments, such as integers out of range, raise `ValueError`; failed allocations raise
+`MemoryError`; other failures in the library raise `Error`. The methods of one object may be called
+from several threads; calls wait for each other. `vt100.testing` runs programs in a terminal.
 """
 
 from ._cells import (

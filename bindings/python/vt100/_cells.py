@@ -118,7 +118,7 @@ def color_of(kind: int, red: int, green: int, blue: int) -> Color:
     return red if kind == 1 else (red, green, blue)
 
 
-# Cells are immutable, and a screen has few different ones, so that most of them are found in this
+# Cells are immutable, and a screen has few distinct ones, so that most of them are found in this
 # cache.
 @functools.lru_cache(maxsize=8192)
 def cell_of(record: bytes) -> Cell:

@@ -31,7 +31,8 @@ _CODE = struct.Struct("<I")
 
 
 def wanted(callbacks: Callbacks) -> int:
-    """Returns the bits for the kinds of events whose callbacks are overridden."""
+    """Returns the argument `wanted` of vt100_parser_new: the bits of the kinds of events whose
+    callbacks are overridden."""
     bits = 0
     for kind, name in enumerate(NAMES):
         method = getattr(callbacks, name)
@@ -64,7 +65,7 @@ def _byte(number: int) -> Optional[int]:
 
 
 def _parts(text: bytes) -> List[bytes]:
-    """Returns the byte strings in a text that stores each of them after its length."""
+    """Returns the byte strings in a text, each of which is preceded by its length."""
     parts, at = [], 0
     while at < len(text):
         (length,) = _LENGTH.unpack_from(text, at)
@@ -75,7 +76,7 @@ def _parts(text: bytes) -> List[bytes]:
 
 
 def _groups(text: bytes) -> List[List[int]]:
-    """Returns the groups of numbers in a text that stores each group after its count."""
+    """Returns the groups of 2-byte numbers in a text, each of which is preceded by its count."""
     groups, at = [], 0
     while at < len(text):
         (count,) = _LENGTH.unpack_from(text, at)

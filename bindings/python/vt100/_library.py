@@ -20,8 +20,8 @@ MAX_SIZE = ctypes.c_size_t(-1).value
 OUT_OF_MEMORY = 1
 BAD_ARGUMENT = 3
 _STATUSES = {
-    2: "the parser or mirror ran out of memory before and processes no more bytes",
-    4: "the object is of another kind",
+    2: "the parser or mirror ran out of memory in an earlier call and processes no more bytes",
+    4: "the object is of a different kind",
     5: "the screens have different sizes",
     6: "the object is closed",
     7: "the object is initialized already",
@@ -168,7 +168,7 @@ def _open() -> ctypes.CDLL:
         return ctypes.CDLL(named or _default())
     except OSError as error:
         if named:
-            raise ImportError(f"VT100_LIBRARY names no library that loads: {error}") from error
+            raise ImportError(f"VT100_LIBRARY does not name a library that can be loaded: {error}") from error
         raise ImportError(
             f"the library {SONAME} was not found ({error}): install it by bindings/build PREFIX,"
             " and set VT100_LIBRARY to PREFIX/lib/libvt100.so"
@@ -226,10 +226,10 @@ def in_range(name: str, value: SupportsIndex, low: int, high: int) -> int:
 
 
 def diff_options(scroll: bool, repeat: bool) -> int:
-    """Returns the bits of the options of a difference."""
+    """Returns the bits that the library expects for the options of a diff."""
     return int(bool(scroll)) | int(bool(repeat)) << 1
 
 
 def size_in_range(rows: SupportsIndex, cols: SupportsIndex) -> Tuple[int, int]:
-    """Returns a size as ints. Raises `ValueError` if it is not a valid screen size."""
+    """Returns a size as ints. Raises `ValueError` if either number is not from 1 to 65535."""
     return in_range("rows", rows, 1, MAX_U16), in_range("cols", cols, 1, MAX_U16)

@@ -45,8 +45,8 @@ class HasState(Object):
 
     @property
     def cursor(self) -> Position:
-        """The position of the cursor. If the column equals the width, a wrap is pending: the next
-        character goes to the next row."""
+        """The position of the cursor. If a wrap is pending (after a character was printed in the
+        last column), the column equals the number of columns."""
         state = self._state
         return Position(state.cursor_row, state.cursor_col)
 
@@ -62,7 +62,7 @@ class HasState(Object):
 
     @property
     def alternate_screen(self) -> bool:
-        """Whether the alternate screen is displayed."""
+        """Whether the alternate screen is active."""
         return bool(self._state.alternate_screen)
 
     @property
@@ -77,7 +77,7 @@ class HasState(Object):
 
     @property
     def bracketed_paste(self) -> bool:
-        """Whether pasted text is bracketed (DEC private mode 2004)."""
+        """Whether bracketed paste mode is set (DEC private mode 2004)."""
         return bool(self._state.bracketed_paste)
 
     @property
@@ -143,5 +143,5 @@ class HasState(Object):
 
     @property
     def scrollback_capacity(self) -> int:
-        """The maximum number of scrollback rows."""
+        """The maximum number of scrollback rows; 0 on the alternate screen."""
         return self._state.scrollback_capacity

@@ -9,8 +9,8 @@ if TYPE_CHECKING:
 
 
 class Callbacks:
-    """Callbacks for requests of a program other than drawing, for unsupported sequences, and for
-    rows that scroll off the top.
+    """Callbacks for what a program asks of its terminal besides drawing, for unsupported sequences,
+    and for rows that scroll off and are not kept.
 
     Derive a class and override the methods that you need; other events are not even recorded. Pass
     an instance to the parser:
@@ -30,8 +30,9 @@ class Callbacks:
 
     Strings that a program sends are `bytes`, because they need not be UTF-8.
 
-    The events of a byte are recorded until the byte has been processed. If memory runs out for some
-    of them, `events_lost` is invoked instead of their callbacks.
+    The events of a byte are recorded until the byte has been processed. If an allocation fails, or
+    the events of one byte take more than about 1 MiB (such as many rows that scroll off at once),
+    `events_lost` is invoked instead of the callbacks of the remaining events.
     """
 
     def audible_bell(self, screen: Screen) -> None:
@@ -41,7 +42,7 @@ class Callbacks:
         """Handles a visual bell (ESC g)."""
 
     def resize(self, screen: Screen, rows: int, cols: int) -> None:
-        """Handles a request to resize the terminal (CSI 8 ; rows ; cols t). Either number may be
+        """Handles a request to resize the terminal (CSI 8 ; ROWS ; COLS t). Either number may be
         0."""
 
     def set_window_icon_name(self, screen: Screen, icon_name: bytes) -> None:
@@ -58,7 +59,8 @@ class Callbacks:
         ?)."""
 
     def unhandled_char(self, screen: Screen, char: str) -> None:
-        """Handles a character that is not drawn, such as U+FFFD for invalid UTF-8."""
+        """Handles a character that is not drawn: U+FFFD, which stands for malformed UTF-8, or a C1
+        control character."""
 
     def unhandled_control(self, screen: Screen, control: int) -> None:
         """Handles an unsupported control character."""
@@ -89,7 +91,7 @@ class Callbacks:
 
     def on_scroll(self, text: str, wrapped: bool, alternate_screen: bool) -> None:
         """Handles a row that scrolled off the top of the screen, or out of scrollback, and is not
-        kept.
+        kept, or a row of scrollback that ED 3 (CSI 3 J) erased.
 
         `text` is the plain text of the row. `wrapped` is true if the text continues on the next
         row, and `alternate_screen` is true if the row was on the alternate screen.
@@ -97,5 +99,5 @@ class Callbacks:
         """
 
     def events_lost(self, screen: Screen) -> None:
-        """Handles a loss of events. This callback is invoked after the callbacks of the events
-        before the lost ones."""
+        """Handles a loss of events. Invoked after the callbacks of the events that preceded the
+        lost ones."""

@@ -11,19 +11,24 @@ from ._object import BytesLike, Object, as_bytes
 
 
 class Update(NamedTuple):
-    """The escape sequences for a viewer's terminal, and the size to which the terminal must be set
-    first. The size is None if the update draws only what has changed."""
+    """The escape sequences for a viewer's terminal, and the size to which the terminal must be
+    resized first. The size is None if the update is a diff."""
 
     text: str
     size: Optional[Size] = None
 
 
 class Mirror(Object):
-    """A terminal that is watched by viewers elsewhere.
+    """A terminal that remembers, for each of its viewers, the screen of the last update.
 
-    A viewer's first update, and its first update after a resize, draws the whole screen; every
-    other update draws what has changed since the previous one. A viewer may join at any time and
-    request updates as rarely as it likes.
+    `scrollback` is the maximum number of scrollback rows.
+
+    A viewer is a plain terminal (see `Screen.contents_formatted`) that reads all its updates in
+    order, and thus displays the mirror's screen as it was at the last update. A viewer's first
+    update, and its first update after a resize, redraws the screen; every other update is a diff
+    from the screen of the previous update. A viewer may join at any time and request updates as
+    rarely as it likes. If there is no viewer with the given number, methods raise `ValueError`,
+    except `is_current`.
     """
 
     def __init__(
@@ -37,7 +42,8 @@ class Mirror(Object):
         check(library.vt100_mirror_new(*size, capacity, self._at))
 
     def process(self, data: BytesLike) -> None:
-        """Parses bytes and applies them to the screen. Input may be split anywhere."""
+        """Parses bytes and applies them to the screen. Input may be split anywhere: an incomplete
+        character or sequence continues with the next call."""
         self._process(as_bytes(data))
 
     def set_size(self, rows: SupportsIndex, cols: SupportsIndex) -> None:
@@ -55,32 +61,33 @@ class Mirror(Object):
         self._call(library.vt100_leave, in_range("viewer", viewer, 0, MAX_U64))
 
     def update(self, viewer: SupportsIndex) -> Update:
-        """Returns the next update of a viewer, which makes its terminal display the screen."""
+        """Returns the next update of a viewer. The updates after it assume that the viewer has read
+        it."""
         return self._update(library.vt100_update, viewer)
 
     def update_scrolling(self, viewer: SupportsIndex) -> Update:
         """Returns the next update of a viewer. A diff may begin by moving rows or columns, and is
         never longer than that of `update`.
 
-        If the screen of the viewer's last update had a glyph that does not reproduce itself when it
-        is printed (which is possible only for glyphs with U+FE0F), the update is a full redraw,
-        which corrects the viewer's display.
+        If the screen of the viewer's last update was not steady (see `Screen.is_steady`), the
+        update is a redraw, which corrects the viewer's display.
         """
         return self._update(library.vt100_update_scrolling, viewer)
 
     def update_with(
         self, viewer: SupportsIndex, *, scroll: bool = False, repeat: bool = False
     ) -> Update:
-        """Returns the next update of a viewer. It is never longer than that of `update`. With
-        `scroll`, it may move rows or columns first, and may be a full redraw, as with
-        `update_scrolling`. With `repeat`, runs of a printable ASCII character may be written with REP
-        (ECMA-48, 8.3.103), within a row; some terminals ignore REP.
+        """Returns the next update of a viewer. A diff is never longer than that of `update`. With
+        `scroll`, a diff may begin by moving rows or columns, and the update may be a redraw, as
+        with `update_scrolling`. With `repeat`, runs of a one-column character within a row may be
+        written with REP (ECMA-48, 8.3.103); some terminals ignore REP.
         """
         return self._update(library.vt100_update_with, viewer, diff_options(scroll, repeat))
 
     def is_current(self, viewer: SupportsIndex) -> bool:
-        """Returns whether a viewer is known to be up to date. If it is, its next update draws
-        nothing, except that `update_scrolling` redraws the screen if it is not steady.
+        """Returns whether a viewer is known to be up to date. If it is, its next update is an empty
+        diff, except that `update_scrolling` and the option `scroll` redraw a screen that is not
+        steady.
 
         Returns False if the viewer has had no update since it joined or since the last resize, if
         `process` was called since its last update (even if nothing displayed has changed), and if

@@ -15,9 +15,8 @@ from .screen import Screen
 class Parser(Screen):
     """A screen with a parser that applies bytes to it.
 
-    `scrollback` is the maximum number of rows that are kept after they scroll off the top.
-    `callbacks` is notified of events other than drawing. In a `with` statement, the parser is freed
-    at the end.
+    `scrollback` is the maximum number of scrollback rows. The methods of `callbacks` are invoked
+    for bells, titles and other events. In a `with` statement, the parser is freed at the end.
     """
 
     _callbacks: Optional[Callbacks] = None
@@ -77,15 +76,16 @@ class Parser(Screen):
 
     @property
     def pending_len(self) -> int:
-        """The number of bytes stored for an unfinished operating system command: those read after
-        `ESC ]`, not counting control characters. Only memory limits the length of a command;
-        processing CAN (`b"\\x18"`) ends it."""
+        """The number of bytes that the parser keeps for an unfinished operating system command
+        (OSC): the bytes read after `ESC ]`, not counting control characters. Only memory limits the
+        length of a command. To enforce a limit of your own, process CAN (`b"\\x18"`): the part of
+        the command that was read is dispatched, and `unhandled_control` is invoked for CAN."""
         length = ctypes.c_size_t()
         self._call(library.vt100_pending_len, ctypes.byref(length))
         return length.value
 
     def set_size(self, rows: SupportsIndex, cols: SupportsIndex) -> None:
-        """Resizes the screen, and invokes `on_scroll` for rows that scroll off and are not kept. A
+        """Resizes the terminal, invoking `on_scroll` for rows that scroll off and are not kept. A
         call from within a callback invokes no callbacks."""
         size = size_in_range(rows, cols)
         with self._lock:

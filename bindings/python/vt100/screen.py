@@ -43,15 +43,15 @@ class Screen(HasState):
         raise TypeError("Screen() makes no screen: make a Parser, or save() one")
 
     def save(self) -> Screen:
-        """Returns a copy of the screen that is independent of the parser."""
+        """Returns a copy of the screen, which later input does not change."""
         copy = Screen.__new__(Screen)
         self._call(library.vt100_save, copy._at)
         return copy
 
     def shown_copy(self) -> Screen:
-        """Returns a screen of the same size that displays the same content, without scrollback and
-        without the inactive page. If scrollback is displayed, the copy is complete. The copy
-        can serve as `prev` of `contents_diff` and takes less memory than one made by `save`."""
+        """Returns a screen of the same size that displays the same content, without scrollback or
+        the inactive page. While scrollback is displayed, the copy is complete. The copy can be the
+        `prev` of a later `contents_diff` and takes less memory than one made by `save`."""
         copy = Screen.__new__(Screen)
         self._call(library.vt100_shown_copy, copy._at)
         return copy
@@ -60,27 +60,29 @@ class Screen(HasState):
         return self.save()
 
     def swap(self, other: Screen) -> None:
-        """Swaps the contents of two screens. This lets a parser display a saved screen again."""
+        """Swaps two screens, for example to let a parser display a saved screen again. A parser
+        keeps its callbacks and its unfinished sequence."""
         with self._and(other):
             self._call(library.vt100_swap, other._at)
 
     def set_size(self, rows: _Index, cols: _Index) -> None:
-        """Resizes the screen."""
+        """Resizes the screen without invoking callbacks."""
         self._call(library.vt100_screen_set_size, *size_in_range(rows, cols))
 
     def set_scrollback(self, rows: _Index) -> None:
-        """Sets the number of rows by which the display is scrolled back, at most the number of
-        scrollback rows."""
+        """Scrolls the display back by `rows` rows, or by all scrollback rows if there are fewer; 0
+        displays the page itself. Does nothing on the alternate screen."""
         self._call(library.vt100_set_scrollback, in_range("rows", rows, 0, MAX_SIZE))
 
     def clear_scrollback(self) -> None:
-        """Discards the scrollback."""
+        """Discards the scrollback without invoking callbacks. Does nothing on the alternate
+        screen."""
         self._call(library.vt100_clear_scrollback)
 
     # Cells
 
     def cell(self, row: _Index, col: _Index) -> Optional[Cell]:
-        """Returns the cell at a position, or None if there is no such cell."""
+        """Returns the displayed cell at a row and column, or None if there is no such cell."""
         row, col = operator.index(row), operator.index(col)
         if not (0 <= row <= MAX_U16 and 0 <= col <= MAX_U16):
             return None
@@ -92,8 +94,8 @@ class Screen(HasState):
         return cell_of(record.raw)
 
     def cells(self, row: _Index) -> List[Cell]:
-        """Returns the cells of a displayed row, one for each column of the screen. This is
-        faster than calling `cell` for each column."""
+        """Returns the cells of a displayed row, one for each column of the screen. This is faster
+        than calling `cell` for each column. Raises `ValueError` if there is no such row."""
         row = in_range("row", row, 0, MAX_U16)
         with self._lock:
             cols = self._state.cols
@@ -132,16 +134,17 @@ class Screen(HasState):
         return iter(self.buffer)
 
     def row_wrapped(self, row: _Index) -> bool:
-        """Returns whether a row is wrapped: its text continues on the next row."""
+        """Returns whether a displayed row is wrapped (its text continues on the next row). Raises
+        `ValueError` if there is no such row."""
         wrapped = ctypes.c_uint8()
         row = in_range("row", row, 0, MAX_U16)
         self._call(library.vt100_row_wrapped, row, ctypes.byref(wrapped))
         return wrapped.value == 1
 
     def is_steady(self) -> bool:
-        """Returns whether every displayed glyph reproduces itself when it is printed on a blank
-        row, so that a terminal that reads a redraw or a difference displays exactly this screen. A
-        screen without U+FE0F is steady."""
+        """Returns whether the screen is steady: every displayed glyph reproduces itself when it is
+        printed on a blank row. A terminal that reads the redraw of a steady screen, or a diff to
+        it, displays exactly that screen. Only U+FE0F can make a screen unsteady."""
         steady = ctypes.c_uint8()
         self._call(library.vt100_is_steady, ctypes.byref(steady))
         return steady.value == 1
@@ -182,14 +185,17 @@ class Screen(HasState):
         return ["".join(cell.display for cell in cells) for cells in self.buffer]
 
     def contents(self) -> str:
-        """Returns the plain text, with a newline after each row that is not wrapped and none at the
-        end."""
+        """Returns the plain text of the displayed rows. Each row is followed by a newline, unless
+        it is wrapped and the next row has text. Newlines at the end are omitted."""
         return self._text(library.vt100_contents)
 
     def contents_between(
         self, start_row: _Index, start_col: _Index, end_row: _Index, end_col: _Index
     ) -> str:
-        """Returns the plain text from one cell up to but excluding another."""
+        """Returns the plain text from one position up to but excluding another, which is empty if
+        the end is before the start. Each row except the last is followed by a newline, unless it is
+        wrapped. Raises `ValueError` if the range has more than one row and `start_col` is greater
+        than the number of columns."""
         named = (
             ("start_row", start_row),
             ("start_col", start_col),
@@ -209,22 +215,24 @@ class Screen(HasState):
         return _find.places_of(text, cells, wrapped)
 
     def rows(self, start: _Index = 0, width: Optional[_Index] = None) -> List[str]:
-        """Returns the plain text of each row in `width` columns from `start` on, or up to the last
-        column by default."""
+        """Returns the plain text of each displayed row in `width` columns from column `start` on.
+        By default, `width` is the number of columns of the screen."""
         return self._row_texts(library.vt100_rows, start, width)
 
     def rows_formatted(self, start: _Index = 0, width: Optional[_Index] = None) -> List[str]:
-        """Returns the escape sequences that draw each row on a blank row of a terminal. The
-        terminal must have default attributes and its cursor in column `start` of the row. The range
-        must not split a wide character, and `start` must be a column of the screen."""
+        """Returns the escape sequences that draw each row, in `width` columns from column `start`
+        on, on a blank row of a plain terminal. Before the terminal reads the output of a row, it
+        must have default attributes and its cursor in column `start` of that row. Neither end of
+        the range may split a wide character. Raises `ValueError` if `start` is not a column of the
+        screen."""
         return self._row_texts(library.vt100_rows_formatted, start, width)
 
     def rows_diff(
         self, prev: Screen, start: _Index = 0, width: Optional[_Index] = None
     ) -> List[str]:
-        """Returns the escape sequences that turn each row of `prev`, a screen of the same size,
-        into the corresponding row of this screen. The cursor and the attributes must be as for
-        `rows_formatted`."""
+        """Returns the escape sequences that turn each row of `prev` into the corresponding row of
+        this screen, in `width` columns from column `start` on. The attributes, the cursor and the
+        range must be as for `rows_formatted`. Raises `Error` if the sizes differ."""
         with self._and(prev) as other:
             return self._row_texts(library.vt100_rows_diff, start, width, other._at)
 
@@ -243,58 +251,70 @@ class Screen(HasState):
     # Redraws and diffs
 
     def contents_formatted(self) -> str:
-        """Returns the escape sequences that make a terminal of this size display this screen."""
+        """Returns a redraw: the escape sequences that make any plain terminal of this size display
+        this screen.
+
+        A terminal is plain if its scroll region is the whole page, origin mode is off, no
+        scrollback is displayed and no sequence is unfinished; every new terminal is plain. If this
+        screen is steady (see `is_steady`), the terminal then displays exactly this screen.
+        """
         return self._text(library.vt100_contents_formatted)
 
     def contents_formatted_reset(self) -> str:
-        """Returns the escape sequences that make a terminal of this size display this screen,
-        whatever the terminal's scroll region and origin mode."""
+        """Returns a redraw for terminals of this size that need not be plain: they may have any
+        scroll region and origin mode, but no scrollback may be displayed and no sequence may be
+        unfinished."""
         return self._text(library.vt100_contents_formatted_reset)
 
     def contents_formatted_basic(self) -> str:
-        """Returns the text with SGR sequences for its colors and attributes, and without other
-        escape sequences."""
+        """Returns the text of the displayed rows with SGR sequences for colors and attributes, and
+        without other escape sequences. Each row ends with a newline, unless it is wrapped or is the
+        last one."""
         return self._text(library.vt100_contents_formatted_basic)
 
     def state_formatted(self) -> str:
-        """Returns `contents_formatted` followed by the escape sequences that set the input
-        modes."""
+        """Returns the escape sequences that redraw the screen and set the input modes:
+        `contents_formatted` followed by `input_mode_formatted`."""
         return self._text(library.vt100_state_formatted)
 
     def cursor_state_formatted(self) -> str:
-        """Returns the escape sequences that set the cursor of a terminal that displays these rows
-        and has default attributes."""
+        """Returns the part of a redraw that moves the cursor and shows or hides it, for a plain
+        terminal of this size that displays the rows of this screen and has default attributes. If a
+        wrap is pending, this part may draw the end of a row again."""
         return self._text(library.vt100_cursor_state_formatted)
 
     def attributes_formatted(self) -> str:
-        """Returns the escape sequence that sets the attributes of the next character."""
+        """Returns the part of a redraw that sets the attributes of the next character."""
         return self._text(library.vt100_attributes_formatted)
 
     def input_mode_formatted(self) -> str:
         """Returns the escape sequences that set the input modes: keypad, cursor keys, bracketed
-        paste, mouse, and cursor style."""
+        paste, mouse and cursor style. The terminal must have the default mouse mode, mouse encoding
+        and cursor style, because these are set only if they are not the default."""
         return self._text(library.vt100_input_mode_formatted)
 
     def contents_diff(self, prev: Screen) -> str:
-        """Returns the escape sequences that turn the display of `prev`, a screen of the same size,
-        into the display of this screen."""
+        """Returns a diff: the escape sequences that turn the display of `prev` on a plain terminal
+        into the display of this screen. Raises `Error` if the sizes differ."""
         return self._diff(library.vt100_contents_diff, prev)
 
     def contents_diff_scrolling(self, prev: Screen) -> str:
-        """Returns a diff that may begin by moving rows or columns and is never longer than that of
+        """Returns a diff that may begin by moving rows or columns, and is never longer than that of
         `contents_diff`."""
         return self._diff(library.vt100_contents_diff_scrolling, prev)
 
     def contents_diff_with(
         self, prev: Screen, *, scroll: bool = False, repeat: bool = False
     ) -> str:
-        """Returns a difference that is never longer than `contents_diff`. With `scroll`, it may move
-        rows or columns first. With `repeat`, runs of a printable ASCII character may be written with
-        REP (ECMA-48, 8.3.103), within a row; some terminals ignore REP."""
+        """Returns a diff with options, which is never longer than that of `contents_diff`. With
+        `scroll`, it may begin by moving rows or columns. With `repeat`, runs of a one-column
+        character within a row may be written with REP (ECMA-48, 8.3.103); some terminals ignore
+        REP."""
         return self._diff(library.vt100_contents_diff_with, prev, diff_options(scroll, repeat))
 
     def state_diff(self, prev: Screen) -> str:
-        """Returns `contents_diff` followed by the escape sequences that change the input modes."""
+        """Returns the escape sequences that turn the display and the input modes of `prev` into
+        those of this screen: `contents_diff` followed by `input_mode_diff`."""
         return self._diff(library.vt100_state_diff, prev)
 
     def input_mode_diff(self, prev: Screen) -> str:

@@ -67,8 +67,8 @@ _CURSOR_KEYS = ("up", "down", "right", "left", "home", "end")
 
 
 class WaitFailed(AssertionError):
-    """Raised if the screen does not satisfy a condition in time. The message contains the screen;
-    `screen` is a copy of it."""
+    """Raised if the terminal or its program does not do in time what was waited for, or if the
+    program ends first. The message contains the screen; `screen` is a copy of it."""
 
     def __init__(self, message: str, screen: Screen) -> None:
         super().__init__(f"{message}\n{framed(screen)}")
@@ -89,9 +89,10 @@ def framed(screen: Screen) -> str:
 class Terminal:
     """A program that runs in a terminal.
 
-    `command` is the program and its arguments. `env` replaces the environment; TERM is always set
-    to `term`. `timeout` is the default limit of each wait in seconds. `screen` is the terminal's
-    parser, created with `scrollback` and `callbacks`.
+    `command` is the program and its arguments. `env` replaces the environment, which otherwise is
+    that of the caller without LINES and COLUMNS; TERM is always set to `term`. `timeout` is the
+    default time limit of each wait in seconds. `screen` is the terminal's parser, created with
+    `scrollback` and `callbacks`.
     """
 
     def __init__(
@@ -151,7 +152,7 @@ class Terminal:
 
     def send(self, data: Union[str, bytes]) -> None:
         """Sends text to the program as if it were typed. Raises `WaitFailed` if the program has
-        ended or does not read the text in time."""
+        ended or does not read the text within `self.timeout` seconds."""
         rest = memoryview(data.encode() if isinstance(data, str) else data)
         deadline = self._deadline(None)
         while rest:
@@ -253,8 +254,8 @@ class Terminal:
             return b""
 
     def close(self) -> None:
-        """Hangs up the terminal, and kills the program if that does not end it. May be called more
-        than once."""
+        """Hangs up the terminal, and kills the program if that does not end it within one second.
+        May be called more than once."""
         if self._file >= 0:
             os.close(self._file)
             self._file, self._has_output = -1, False

@@ -1,7 +1,7 @@
-//! `bench PIECE WHAT ROWS COLS CAPACITY TIMES FILE`: one parser processes FILE TIMES times, in
-//! chunks of PIECE bytes, as `tool_bench process` does in chunks of 4096. WHAT says what is done in
-//! addition: `process` for nothing, `callbacks` for callbacks that do nothing, `rows` for an
-//! `on_scroll` that writes the row, `cell` for reading a cell of the first row after each chunk.
+//! `bench PIECE WHAT ROWS COLS CAPACITY TIMES FILE`: processes FILE TIMES times with one parser, in
+//! chunks of PIECE bytes (`tool_bench process` uses chunks of 4096). WHAT is one of `process` for
+//! no additional work, `callbacks` for callbacks that do nothing, `rows` for an `on_scroll` that
+//! writes the row, and `cell` for reading a cell of the first row after each chunk.
 
 use std::hint::black_box;
 use std::num::NonZeroU16;

@@ -2,9 +2,8 @@
 //! status (DSR 5), the cursor position (DSR 6), and the default colors (OSC 10 and 11).
 //!
 //! `replies COMMAND` runs a shell command in a terminal of 24 rows and 80 columns, sends it the
-//! replies that it asks for, and prints the final screen. The program `script` of util-linux
-//! provides the terminal. Without a command, `replies` sends the queries itself and tests the
-//! replies.
+//! replies to its queries, and prints the final screen. The program `script` of util-linux provides
+//! the pseudoterminal. Without a command, `replies` sends the queries itself and tests the replies.
 
 use std::env;
 use std::io::{self, Read, Write};
@@ -46,7 +45,7 @@ impl Callbacks for Replies {
         match (i1, i2, c, number) {
             // DA1: a VT100 with the advanced video option, which claims no more than is supported.
             (None, None, 'c', 0) => self.reply("\x1b[?1;2c"),
-            // DA2: a VT100 without a version, so that no program takes it for one that it knows.
+            // DA2: a VT100 without a version, so that no program mistakes it for a known terminal.
             (Some(b'>'), None, 'c', 0) => self.reply("\x1b[>0;0;0c"),
             (None, None, 'n', 5) => self.reply("\x1b[0n"),
             (None, None, 'n', 6) => self.reply(&cursor_report(screen)),

@@ -1,8 +1,8 @@
 use crate::capture::RowContents;
 use crate::Screen;
 
-/// The callbacks that a parser invokes for requests of a program other than drawing, for
-/// unsupported sequences, and for rows that scroll off.
+/// The callbacks that a parser invokes for what a program asks of its terminal besides drawing, for
+/// unsupported sequences, and for rows that scroll off and are not kept.
 ///
 /// By default, each callback does nothing. All callbacks except [`on_scroll`](Self::on_scroll)
 /// receive the screen as it is after the byte that caused the call, and may change it.
@@ -13,7 +13,8 @@ pub trait Callbacks {
     /// Called for the visual bell (ESC `g`).
     fn visual_bell(&mut self, _: &mut Screen) {}
 
-    /// Called when the program requests a number of rows and columns (`CSI 8 ; ROWS ; COLS t`).
+    /// Called when the program requests a resize to a number of rows and columns
+    /// (`CSI 8 ; ROWS ; COLS t`). Either number may be 0.
     fn resize(&mut self, _: &mut Screen, _request: (u16, u16)) {}
 
     /// Called with a new icon name of the window (OSC 0 and 1).
@@ -22,13 +23,15 @@ pub trait Callbacks {
     /// Called with a new title of the window (OSC 0 and 2).
     fn set_window_title(&mut self, _: &mut Screen, _title: &[u8]) {}
 
-    /// Called with base64 data for the clipboard `ty` (OSC 52).
+    /// Called with base64 data for the clipboards that `ty` names (OSC 52).
     fn copy_to_clipboard(&mut self, _: &mut Screen, _ty: &[u8], _data: &[u8]) {}
 
-    /// Called when the program requests the contents of the clipboard `ty` (OSC 52 with `?`).
+    /// Called when the program requests the contents of the clipboards that `ty` names (OSC 52 with
+    /// `?`).
     fn paste_from_clipboard(&mut self, _: &mut Screen, _ty: &[u8]) {}
 
-    /// Called for a character that is not drawn: U+FFFD or a C1 control character.
+    /// Called for a character that is not drawn: U+FFFD, which stands for malformed UTF-8, or a C1
+    /// control character.
     fn unhandled_char(&mut self, _: &mut Screen, _c: char) {}
 
     /// Called for an unsupported control character.
@@ -49,18 +52,19 @@ pub trait Callbacks {
     ) {
     }
 
-    /// Called for an unsupported operating system command, with its parameters.
+    /// Called for an unsupported operating system command, split at its semicolons.
     fn unhandled_osc(&mut self, _: &mut Screen, _params: &[&[u8]]) {}
 
     /// Called for a row that scrolled off the top of the screen, or out of scrollback, and is not
-    /// kept. `alternate_screen` is `true` if the row was on the alternate screen.
+    /// kept, and for each row of scrollback that ED 3 (`CSI 3 J`) erases. `alternate_screen` is
+    /// `true` if the row was on the alternate screen.
     ///
     /// By the time of the call, the row has scrolled off, and later text may be on the screen. A
     /// panic in this callback therefore doesn't bring the row back.
     ///
-    /// [`Parser::set_size`](crate::Parser::set_size) may also call this. If a screen whose
-    /// scrollback lost rows grows in height, blank rows replace the lost ones, and are reported
-    /// when they scroll off.
+    /// [`Parser::set_size`](crate::Parser::set_size) may also invoke this callback. If the height
+    /// grows, blank rows replace the rows that are no longer kept, and are reported when they
+    /// scroll off.
     #[allow(unused_variables)]
     fn on_scroll(&mut self, contents: RowContents<'_>, alternate_screen: bool) {}
 }

@@ -143,8 +143,8 @@ impl<'a> Iterator for BasicFormattedToPlainIndexed<'a> {
 
 impl FusedIterator for BasicFormattedToPlainIndexed<'_> {}
 
-/// Returns the text of a capture without its escape sequences, in chunks. If `capture` is not a
-/// capture, the chunks are unspecified.
+/// Returns an iterator over the text of a capture without its escape sequences, in chunks. If
+/// `capture` is not a capture, the chunks are unspecified.
 #[must_use]
 pub fn basic_formatted_to_plain(capture: &str) -> BasicFormattedToPlain<'_> {
     BasicFormattedToPlain {
@@ -152,7 +152,8 @@ pub fn basic_formatted_to_plain(capture: &str) -> BasicFormattedToPlain<'_> {
     }
 }
 
-/// Returns the text of a capture without its escape sequences, in chunks with their byte indices.
+/// Returns an iterator over the text of a capture without its escape sequences, in chunks with
+/// their byte indices. If `capture` is not a capture, the chunks are unspecified.
 ///
 /// ```
 /// # use vt100::capture::basic_formatted_to_plain_indexed;
@@ -190,8 +191,9 @@ impl<'a> Iterator for BasicFormattedRows<'a> {
 
 impl FusedIterator for BasicFormattedRows<'_> {}
 
-/// Returns the rows of a capture on a screen of `screen_width` columns, with their escape sequences
-/// but without the newlines between them. If `capture` is not a capture, the rows are unspecified.
+/// Returns an iterator over the rows of a capture on a screen of `screen_width` columns, with their
+/// escape sequences but without the newlines between them. If `capture` is not a capture, the rows
+/// are unspecified.
 #[must_use]
 pub fn basic_formatted_rows(capture: &str, screen_width: u16) -> BasicFormattedRows<'_> {
     BasicFormattedRows {
@@ -203,10 +205,11 @@ pub fn basic_formatted_rows(capture: &str, screen_width: u16) -> BasicFormattedR
 /// The number of bytes in the first prefix of a capture that is passed to the library.
 const FIRST_WINDOW: usize = 256;
 
-/// Returns the result of `find` for the shortest of several prefixes of `text` for which there is a
-/// result. The first prefix has `first` bytes, and each later one is twice as long. The result for
-/// a prefix must be that for the whole text. This avoids passing a long capture for each row to the
-/// library, which examines all bytes that it gets.
+/// Calls `find` with longer and longer prefixes of `text`, and returns its first result, which must
+/// be that for the whole text. The first prefix has `first` bytes, and each later one is twice as
+/// long. Returns `None` if there is no result for a prefix that is shorter than `text`. This avoids
+/// passing a long capture to the library for each row, since the library examines all bytes that it
+/// gets.
 fn in_windows<T>(text: &str, first: usize, find: impl Fn(&str) -> Option<T>) -> Option<T> {
     let mut len = first;
     while len < text.len() {

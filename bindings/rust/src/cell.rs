@@ -23,7 +23,7 @@ impl Cell {
         self.0.len > 0
     }
 
-    /// Returns whether the cell's character is wide, which means that it takes this cell and the
+    /// Returns whether the cell's character is wide, which means that it takes up this cell and the
     /// next.
     #[must_use]
     pub fn is_wide(&self) -> bool {

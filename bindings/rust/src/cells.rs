@@ -1,4 +1,4 @@
-//! A cache of the cells requested since the last change of a screen.
+//! A cache of the cells requested since a screen last changed.
 
 use crate::{Cell, Screen};
 use std::sync::OnceLock;
@@ -6,7 +6,7 @@ use std::sync::OnceLock;
 /// A cache of the cells of one screen, which is cleared by each change.
 ///
 /// The first cell requested from each row is fetched individually, since many programs look at only
-/// a few cells after each change. The second request for a row fetches the whole row.
+/// a few cells after each change. A request for another cell of the row fetches the whole row.
 #[derive(Default)]
 pub struct Cells {
     first: OnceLock<(u16, Single)>,

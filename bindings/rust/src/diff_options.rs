@@ -1,13 +1,13 @@
-/// What a difference may contain besides the sequences of
+/// What a diff may contain besides the sequences of
 /// [`Screen::contents_diff`](crate::Screen::contents_diff). The default allows nothing else. Not in
 /// the crate `vt100`.
 #[derive(Clone, Copy, Debug, Default, Eq, PartialEq)]
 pub struct DiffOptions {
-    /// Whether rows or columns may move first.
+    /// Whether the diff may begin by moving rows or columns.
     pub scroll: bool,
 
-    /// Whether runs of a printable ASCII character may be written with REP (ECMA-48, 8.3.103), within
-    /// a row. Some terminals ignore REP.
+    /// Whether runs of a one-column character within a row may be written with REP (ECMA-48,
+    /// 8.3.103). Some terminals ignore REP.
     pub repeat: bool,
 }
 

@@ -64,7 +64,7 @@ impl<'a> Event<'a> {
         }
     }
 
-    /// Invokes the event's callback, except for a row that scrolled off.
+    /// Invokes the event's callback, unless the event is a row that scrolled off.
     pub fn tell(&self, callbacks: &mut impl Callbacks, screen: &mut Screen) {
         match self {
             Self::AudibleBell => callbacks.audible_bell(screen),
@@ -114,7 +114,7 @@ fn character(code: u32) -> char {
     char::from_u32(code).expect("a code is a character's")
 }
 
-/// Returns the parts in a text that stores each of them after its length.
+/// Returns the byte strings in a text, each of which is preceded by its length.
 fn parts_of(mut text: &[u8]) -> Vec<&[u8]> {
     let mut parts = Vec::new();
     while !text.is_empty() {
@@ -125,7 +125,7 @@ fn parts_of(mut text: &[u8]) -> Vec<&[u8]> {
     parts
 }
 
-/// Returns the groups of 2-byte numbers in a text that stores each group after its count.
+/// Returns the groups of 2-byte numbers in a text, each of which is preceded by its count.
 fn groups_of(mut text: &[u8]) -> Vec<Vec<u16>> {
     let mut groups = Vec::new();
     while !text.is_empty() {

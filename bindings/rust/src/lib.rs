@@ -1,9 +1,11 @@
-//! A headless terminal emulator. It processes what a program writes to its terminal, maintains the
-//! screen that a person would see, and returns it as text, as a redraw or as a diff.
+//! A headless terminal emulator. It parses what a program writes to its terminal, maintains the
+//! screen that a person would see, and returns it as text, as a redraw for another terminal, or as
+//! a diff from an earlier screen.
 //!
 //! The items are those of the crate `vt100` 0.18.1, with the addition of [`mirror`],
 //! [`DiffOptions`], [`Parser::pending_len`], [`Screen::contents_diff_scrolling`],
-//! [`Screen::contents_diff_with`], [`Screen::is_steady`] and [`Screen::shown_copy`]. The crate wraps a library that is formally verified.
+//! [`Screen::contents_diff_with`], [`Screen::is_steady`] and [`Screen::shown_copy`]. This crate
+//! wraps a formally verified library.
 //!
 //! # Synopsis
 //!
@@ -31,9 +33,10 @@
 //!
 //! # Memory
 //!
-//! If the library cannot allocate memory, a call panics and changes nothing. After
-//! [`Parser::process`] has panicked for this reason, each further call to it panics, too. If Rust
-//! cannot allocate memory for a string or for cells, the program aborts.
+//! If an allocation in the library fails, the call panics and has changed nothing, except that
+//! `process` has applied everything before the step whose allocation failed. From then on,
+//! `process` of the same parser or mirror always panics. If an allocation in Rust code fails (for a
+//! string, cells or event records), the program aborts.
 
 #![warn(missing_docs)]
 #![deny(unsafe_code)]

@@ -1,4 +1,5 @@
-//! The C library, and safe wrappers of its functions. All unsafe code of this crate is here.
+//! Declarations of the C library, and safe wrappers of its functions. All unsafe code of this crate
+//! is here.
 //!
 //! Two things are trusted: these declarations match `vt100.h`, and calls follow the rules of that
 //! header. A [`Handle`] ensures the latter:
@@ -277,7 +278,7 @@ fn check(status: u8) {
     match status {
         OK => {}
         OUT_OF_MEMORY => panic!("vt100: out of memory"),
-        FAILED => panic!("vt100: the parser ran out of memory before"),
+        FAILED => panic!("vt100: the parser ran out of memory in an earlier call"),
         BAD_ARGUMENT => panic!("vt100: a bad argument"),
         _ => panic!("vt100: status {status}"),
     }
@@ -286,8 +287,9 @@ fn check(status: u8) {
 // The calls below are safe for the reasons given at the top of this module.
 impl Handle {
     /// Creates a parser with a blank screen and an event log without a limit. The log needs none,
-    /// because it is cleared whenever the parser stops at an event, and a single byte scrolls off
-    /// at most as many rows as the screen has, or rows of at most 65535 cells in total.
+    /// because it is cleared whenever the parser stops: besides 64 KiB of rows, it then holds only
+    /// the events of one byte, which reports at most all rows of the screen (SU), all rows of
+    /// scrollback (ED 3), or the rows that 65535 characters fill (REP).
     pub fn parser(rows: u16, cols: u16, capacity: usize, wanted: u16) -> Self {
         let mut out = Self::default();
         check(unsafe { vt100_parser_new(rows, cols, capacity, wanted, &mut out) });
@@ -326,8 +328,8 @@ impl Handle {
         out
     }
 
-    /// Returns a screen that displays the same content, without scrollback and without the inactive
-    /// page.
+    /// Returns a screen of the same size that displays the same content, without scrollback or the
+    /// inactive page.
     pub fn shown_copy(&mut self) -> Self {
         let mut out = Self::default();
         check(unsafe { vt100_shown_copy(self, &mut out) });
@@ -343,8 +345,8 @@ impl Handle {
         check(unsafe { vt100_process(self, bytes.as_ptr(), bytes.len()) });
     }
 
-    /// Parses bytes up to and including the first byte that logs an event. Returns the number of
-    /// bytes read.
+    /// Parses bytes up to and including the first byte that logs an event, except that rows do not
+    /// stop parsing until 64 KiB of them are logged. Returns the number of bytes read.
     pub fn process_until(&mut self, bytes: &[u8]) -> usize {
         let mut used = 0;
         check(unsafe { vt100_process_until(self, bytes.as_ptr(), bytes.len(), &mut used) });
@@ -443,7 +445,7 @@ impl Handle {
         }
     }
 
-    /// Returns the difference from the screen `prev` with options, or `None` if the sizes differ.
+    /// Returns the diff from the screen `prev` with options, or `None` if the sizes differ.
     pub fn difference_with(&mut self, prev: &mut Self, options: DiffOptions) -> Option<String> {
         let mut len = 0;
         match unsafe { vt100_contents_diff_with(self, prev, options.bits(), &mut len) } {
@@ -485,14 +487,14 @@ impl Handle {
         }
     }
 
-    /// Appends a screen to a capture, and returns the appended text.
+    /// Continues a capture with all rows of a screen, and returns the added text.
     pub fn capture_screen(&mut self, capture: &mut Self) -> String {
         let mut len = 0;
         check(unsafe { vt100_capture_screen(self, capture, &mut len) });
         capture.copied(len)
     }
 
-    /// Appends a row that scrolled off a parser's screen to a capture, and returns the appended
+    /// Continues a capture with a row that scrolled off a parser's screen, and returns the added
     /// text.
     pub fn capture_row(&mut self, index: usize, capture: &mut Self) -> String {
         let mut len = 0;
@@ -554,7 +556,7 @@ impl Handle {
         }
     }
 
-    /// Returns the update that [`update`](Self::update) returns, with options for a difference.
+    /// Works like [`update`](Self::update), with options for a diff.
     pub fn update_with(
         &mut self,
         options: DiffOptions,

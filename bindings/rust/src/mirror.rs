@@ -8,7 +8,7 @@ use std::sync::{Mutex, PoisonError};
 /// An update for the terminal of a viewer.
 #[derive(Clone, Debug, PartialEq, Eq)]
 pub enum Update {
-    /// The whole screen: the viewer's terminal must be resized and then process the text.
+    /// A redraw: the viewer's terminal must be resized to this size and then process the text.
     Full {
         /// The number of rows of the viewer's terminal.
         rows: NonZeroU16,
@@ -17,7 +17,7 @@ pub enum Update {
         /// The redraw.
         text: String,
     },
-    /// The diff since the viewer's last update.
+    /// A diff from the screen of the viewer's previous update.
     Diff(String),
 }
 
@@ -33,8 +33,13 @@ impl Update {
 
 /// A terminal that remembers, for each of its viewers, the screen of the last update.
 ///
-/// A viewer's first update, and its first update after a resize, redraws the screen; every other
-/// update is a diff. A viewer may join late and fall behind.
+/// A viewer is a plain terminal (see [`Screen::contents_formatted`]) that reads all its updates in
+/// order, and thus displays the mirror's screen as it was at the last update. A viewer's first
+/// update, and its first update after a resize, redraws the screen; every other update is a diff
+/// from the screen of the previous update. A viewer may join at any time and request updates as
+/// rarely as it likes.
+///
+/// [`Screen::contents_formatted`]: crate::Screen::contents_formatted
 ///
 /// ```
 /// use std::num::NonZeroU16;
@@ -71,7 +76,8 @@ impl Mirror {
             .unwrap_or_else(PoisonError::into_inner)
     }
 
-    /// Parses bytes and applies them to the screen. Input may be split anywhere.
+    /// Parses bytes and applies them to the screen. Input may be split anywhere: an incomplete
+    /// character or sequence continues with the next call.
     pub fn process(&mut self, bytes: &[u8]) {
         self.handle().process(bytes);
     }
@@ -91,26 +97,28 @@ impl Mirror {
         self.handle().leave(viewer)
     }
 
-    /// Returns the next update of a viewer, or `None` if there is no viewer with this number.
+    /// Returns the next update of a viewer, or `None` if there is no viewer with this number. The
+    /// updates after it assume that the viewer has read it.
     pub fn update(&mut self, viewer: u64) -> Option<Update> {
         self.next(Updates::DRAWN, viewer)
     }
 
     /// Returns the next update of a viewer, or `None` if there is no viewer with this number. A
-    /// diff may move rows or columns first, and is never longer than that of
-    /// [`update`](Self::update). A viewer may alternate between both kinds of updates.
+    /// diff may begin by moving rows or columns, and is never longer than that of
+    /// [`update`](Self::update). A viewer may use all kinds of updates in turn.
     ///
-    /// If the screen of the viewer's last update had a glyph that does not reproduce itself when it
-    /// is printed (which is possible only for glyphs with U+FE0F), the update is a full redraw,
-    /// which corrects the viewer's display.
+    /// If the screen of the viewer's last update was not steady (see
+    /// [`Screen::is_steady`](crate::Screen::is_steady)), the update is a redraw, which corrects the
+    /// viewer's display.
     pub fn update_scrolling(&mut self, viewer: u64) -> Option<Update> {
         self.next(Updates::SCROLLING, viewer)
     }
 
-    /// Returns the next update of a viewer, or `None` if there is no viewer with this number. The
-    /// diff has the given options, which may differ from update to update.
+    /// Returns the next update of a viewer, or `None` if there is no viewer with this number. A
+    /// diff has the given options, which may change from update to update, and is never longer than
+    /// that of [`update`](Self::update).
     ///
-    /// If rows and columns may move first, the update may be a full one, as with
+    /// With the option `scroll`, the update may be a redraw, as with
     /// [`update_scrolling`](Self::update_scrolling).
     pub fn update_with(&mut self, viewer: u64, options: DiffOptions) -> Option<Update> {
         let update = self.handle().update_with(options, viewer)?;
@@ -118,8 +126,8 @@ impl Mirror {
     }
 
     /// Returns whether a viewer is known to be up to date. If it is, its next update is an empty
-    /// diff, except that [`update_scrolling`](Self::update_scrolling) returns a full update if the
-    /// screen is not steady.
+    /// diff, except that [`update_scrolling`](Self::update_scrolling) and the option `scroll`
+    /// redraw a screen that is not steady.
     ///
     /// Returns `false` if the viewer has had no update since it joined or since the last resize, if
     /// [`process`](Self::process) was called since its last update (even if nothing displayed has

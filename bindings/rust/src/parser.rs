@@ -45,7 +45,8 @@ impl Parser {
 }
 
 impl<CB: Callbacks> Parser<CB> {
-    /// Creates a parser as [`new`](Parser::new) does, with the given callbacks.
+    /// Creates a parser with the given callbacks, whose screen is blank and keeps at most
+    /// `scrollback_capacity` scrollback rows.
     pub fn new_with_callbacks(
         rows: NonZeroU16,
         cols: NonZeroU16,
@@ -75,7 +76,10 @@ impl<CB: Callbacks> Parser<CB> {
 
     /// Parses bytes and applies them to the screen, invoking callbacks as sequences complete. Input
     /// may be split anywhere: an incomplete character or sequence continues with the next call.
-    /// Each callback is invoked after the byte that causes it and before the next byte is parsed.
+    ///
+    /// Callbacks are invoked in order. Each callback is invoked after the byte that causes it and
+    /// before the next byte is parsed, except that [`on_scroll`](Callbacks::on_scroll) may be
+    /// invoked later.
     pub fn process(&mut self, bytes: &[u8]) {
         self.join();
         if !self.has_events {
@@ -93,12 +97,12 @@ impl<CB: Callbacks> Parser<CB> {
         }
     }
 
-    /// Returns the number of bytes that the parser stores for an unfinished operating system
-    /// command: those read after `\x1b]`, not counting control characters. Returns 0 if no command
-    /// is unfinished. Not in the crate `vt100`.
+    /// Returns the number of bytes that the parser keeps for an unfinished operating system command
+    /// (OSC): the bytes read after `\x1b]`, not counting control characters. Returns 0 if no
+    /// command is unfinished. Not in the crate `vt100`.
     ///
-    /// Only memory limits the length of a command. To end one at a limit of your own, process CAN:
-    /// the part that was read is dispatched, and then
+    /// Only memory limits the length of a command. To enforce a limit of your own, process CAN
+    /// (`\x18`): the part of the command that was read is dispatched, and then
     /// [`unhandled_control`](Callbacks::unhandled_control) is called for CAN.
     ///
     /// ```
@@ -127,7 +131,7 @@ impl<CB: Callbacks> Parser<CB> {
     /// into scrollback, and [`on_scroll`](Callbacks::on_scroll) is called for those that are not
     /// kept. If the height grows, rows come back from scrollback, with blank rows for those that
     /// are no longer kept, and any rows still missing are added as blank rows at the bottom. Rows
-    /// are cut off or extended to the new width.
+    /// are cut off or extended to the new width; their text is not rewrapped.
     pub fn set_size(&mut self, rows: NonZeroU16, cols: NonZeroU16) {
         self.join();
         if self.has_events {

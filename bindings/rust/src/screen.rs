@@ -55,8 +55,8 @@ impl Screen {
         self.state.get_or_init(|| self.lock().state())
     }
 
-    /// Resizes the screen, invoking no callbacks. [`Parser::set_size`](crate::Parser::set_size)
-    /// reports the rows that scroll off the top.
+    /// Resizes the screen as [`Parser::set_size`](crate::Parser::set_size) does, but without
+    /// invoking callbacks.
     pub fn set_size(&mut self, rows: NonZeroU16, cols: NonZeroU16) {
         self.changed().screen_set_size(rows.get(), cols.get());
     }
@@ -69,25 +69,25 @@ impl Screen {
         (number(state.rows), number(state.cols))
     }
 
-    /// Returns the number of scrollback rows.
+    /// Returns the number of scrollback rows, which is 0 on the alternate screen.
     #[must_use]
     pub fn scrollback_len(&self) -> usize {
         self.state().scrollback_len
     }
 
-    /// Returns the maximum number of scrollback rows.
+    /// Returns the maximum number of scrollback rows, which is 0 on the alternate screen.
     #[must_use]
     pub fn scrollback_capacity(&self) -> usize {
         self.state().scrollback_capacity
     }
 
-    /// Sets the number of rows by which the display is scrolled back, at most the number of
-    /// scrollback rows; 0 displays none of them.
+    /// Scrolls the display back by `rows` rows, or by all scrollback rows if there are fewer; 0
+    /// displays the page itself. Does nothing on the alternate screen.
     pub fn set_scrollback(&mut self, rows: usize) {
         self.changed().set_scrollback(rows);
     }
 
-    /// Removes all scrollback rows, invoking no callbacks.
+    /// Discards the scrollback without invoking callbacks. Does nothing on the alternate screen.
     pub fn clear_scrollback(&mut self) {
         self.changed().clear_scrollback();
     }
@@ -98,21 +98,22 @@ impl Screen {
         self.state().scrollback
     }
 
-    /// Returns the row and column of the cursor. The column equals the number of columns if a wrap
-    /// is pending, after a character was printed in the last column.
+    /// Returns the row and column of the cursor. If a wrap is pending (after a character was
+    /// printed in the last column), the column equals the number of columns.
     #[must_use]
     pub fn cursor_position(&self) -> (u16, u16) {
         let state = self.state();
         (state.cursor_row, state.cursor_col)
     }
 
-    /// Returns the cell at a position, or `None` if there is none.
+    /// Returns the displayed cell at a row and column, or `None` if there is no such cell.
     #[must_use]
     pub fn cell(&self, row: u16, col: u16) -> Option<&Cell> {
         self.cells.get(self, row, col)
     }
 
-    /// Returns whether a row is wrapped: its text continues on the next row.
+    /// Returns whether a displayed row is wrapped (its text continues on the next row). Returns
+    /// `false` if there is no such row.
     #[must_use]
     pub fn row_wrapped(&self, row: u16) -> bool {
         self.lock().row_wrapped(row)
@@ -212,17 +213,17 @@ impl Screen {
     /// printed on a blank row.
     ///
     /// A terminal that reads the redraw of a steady screen, or a diff to it, displays exactly that
-    /// screen. A screen without U+FE0F is steady. Not in the crate `vt100`.
+    /// screen. Only U+FE0F can make a screen unsteady. Not in the crate `vt100`.
     #[must_use]
     pub fn is_steady(&self) -> bool {
         self.lock().is_steady()
     }
 
-    /// Returns a screen of the same size that displays the same content, without scrollback and
-    /// without the inactive page. If scrollback is displayed, it is a clone.
+    /// Returns a screen of the same size that displays the same content, without scrollback or the
+    /// inactive page. While scrollback is displayed, the result is a clone.
     ///
-    /// The copy can serve as `prev` of [`contents_diff`](Self::contents_diff) and takes less memory
-    /// than a clone. Not in the crate `vt100`.
+    /// The copy can be the `prev` of a later [`contents_diff`](Self::contents_diff) and takes less
+    /// memory than a clone. Not in the crate `vt100`.
     ///
     /// ```
     /// let mut parser = vt100::Parser::default();

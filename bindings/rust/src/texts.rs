@@ -7,8 +7,8 @@ use crate::Screen;
 use std::fmt;
 
 impl Screen {
-    /// Returns the plain text of the displayed rows. A newline separates two rows, unless the first
-    /// of them is wrapped.
+    /// Returns the plain text of the displayed rows. Each row is followed by a newline, unless it
+    /// is wrapped and the next row has text. Newlines at the end are omitted.
     #[must_use]
     pub fn contents(&self) -> String {
         self.lock().text(Text::CONTENTS)
@@ -22,12 +22,14 @@ impl Screen {
             .into_iter()
     }
 
-    /// Returns the plain text from one position up to but excluding another.
+    /// Returns the plain text from one position up to but excluding another, which is empty if the
+    /// end is before the start. Each row except the last is followed by a newline, unless it is
+    /// wrapped.
     ///
     /// # Panics
     ///
-    /// Panics if `start_col` is greater than the number of columns and the range has more than one
-    /// row.
+    /// Panics if the range has more than one row and `start_col` is greater than the number of
+    /// columns.
     #[must_use]
     pub fn contents_between(
         &self,
@@ -57,14 +59,21 @@ impl Screen {
             .unwrap_or_else(|| self.contents_formatted() + &self.input_mode_diff(prev))
     }
 
-    /// Returns a redraw: the escape sequences that make a terminal of this size display the screen.
+    /// Returns a redraw: the escape sequences that make any plain terminal of this size display the
+    /// screen.
+    ///
+    /// A terminal is plain if its scroll region is the whole page, origin mode is off, no
+    /// scrollback is displayed and no sequence is unfinished; every new terminal is plain. If this
+    /// screen is steady (see [`is_steady`](Self::is_steady)), the terminal then displays exactly
+    /// this screen.
     #[must_use]
     pub fn contents_formatted(&self) -> String {
         self.lock().text(Text::FORMATTED)
     }
 
-    /// Returns the text with SGR sequences for its colors and attributes, and without other escape
-    /// sequences. Each row ends with a newline, unless it is wrapped or is the last one.
+    /// Returns the text of the displayed rows with SGR sequences for colors and attributes, and
+    /// without other escape sequences. Each row ends with a newline, unless it is wrapped or is the
+    /// last one.
     #[must_use]
     pub fn contents_formatted_basic(&self) -> String {
         self.lock().text(Text::BASIC)
@@ -75,7 +84,8 @@ impl Screen {
     ///
     /// # Errors
     ///
-    /// Returns an error if the writer fails.
+    /// Returns an error if the writer fails. The state of the capture is then as if all rows had
+    /// been written.
     pub fn write_contents_formatted_basic(
         &self,
         writer: &mut impl fmt::Write,
@@ -88,8 +98,13 @@ impl Screen {
         writer.write_str(&text)
     }
 
-    /// Returns the escape sequences that draw each row in `width` columns from column `start` on.
-    /// The cursor must be where the row begins; the final position of the cursor is unspecified.
+    /// Returns the escape sequences that draw each row, in `width` columns from column `start` on,
+    /// on a blank row of a plain terminal.
+    ///
+    /// Before the terminal reads the output of a row, it must have default attributes and its
+    /// cursor in column `start` of that row; the final position of the cursor is unspecified.
+    /// Neither end of the range may split a wide character. If `start` is not a column of the
+    /// screen, all strings are empty.
     pub fn rows_formatted(&self, start: u16, width: u16) -> impl Iterator<Item = String> + '_ {
         let (rows, cols) = (self.state().rows, self.state().cols);
         let texts = if start < cols {
@@ -100,25 +115,27 @@ impl Screen {
         texts.into_iter()
     }
 
-    /// Returns the escape sequences that turn the display of `prev` into the display of `self`. If
-    /// the sizes differ, this is the redraw.
+    /// Returns a diff: the escape sequences that turn the display of `prev` on a plain terminal
+    /// into the display of `self`. If the sizes differ, returns the redraw instead.
     #[must_use]
     pub fn contents_diff(&self, prev: &Self) -> String {
         self.difference(prev, Difference::CONTENTS)
             .unwrap_or_else(|| self.contents_formatted())
     }
 
-    /// Returns a diff from `prev` that may move rows or columns first and is never longer than
-    /// [`contents_diff`](Self::contents_diff). Not in the crate `vt100`.
+    /// Returns a diff that may begin by moving rows or columns, and is never longer than that of
+    /// [`contents_diff`](Self::contents_diff). If the sizes differ, returns the redraw instead. The
+    /// output may contain LF, HT and BS: the tty must not translate output, and the tab stops must
+    /// be at every eighth column. Not in the crate `vt100`.
     #[must_use]
     pub fn contents_diff_scrolling(&self, prev: &Self) -> String {
         self.difference(prev, Difference::SCROLLING)
             .unwrap_or_else(|| self.contents_formatted())
     }
 
-    /// Returns the escape sequences that turn the display of `prev` into that of `self`, with
-    /// options. The result is never longer than [`contents_diff`](Self::contents_diff). Not in the
-    /// crate `vt100`.
+    /// Returns a diff with options, which is never longer than that of
+    /// [`contents_diff`](Self::contents_diff). If the sizes differ, returns the redraw instead. Not
+    /// in the crate `vt100`.
     #[must_use]
     pub fn contents_diff_with(&self, prev: &Self, options: DiffOptions) -> String {
         self.with_both(prev, |handle, prev| handle.difference_with(prev, options))
@@ -126,9 +143,11 @@ impl Screen {
     }
 
     /// Returns the escape sequences that turn each row of `prev` into the corresponding row of
-    /// `self`, in `width` columns from column `start` on. The cursor must be where the row begins;
-    /// the final position of the cursor is unspecified. If the sizes differ, the sequences redraw
-    /// each row that both screens have.
+    /// `self`, in `width` columns from column `start` on.
+    ///
+    /// The attributes, the cursor and the range must be as for
+    /// [`rows_formatted`](Self::rows_formatted). If the sizes differ, returns the output of
+    /// `rows_formatted` for the rows that both screens have.
     pub fn rows_diff<'a>(
         &'a self,
         prev: &'a Self,
@@ -150,29 +169,31 @@ impl Screen {
             .take(both)
     }
 
-    /// Returns the escape sequences that set the input modes: application keypad and cursor keys,
-    /// bracketed paste, mouse, and cursor style.
+    /// Returns the escape sequences that set the input modes: keypad, cursor keys, bracketed paste,
+    /// mouse and cursor style. The terminal must have the default mouse mode, mouse encoding and
+    /// cursor style, because these are set only if they are not the default.
     #[must_use]
     pub fn input_mode_formatted(&self) -> String {
         self.lock().text(Text::INPUT_MODE)
     }
 
-    /// Returns the escape sequences that turn the input modes of `prev` into those of `self`.
+    /// Returns the escape sequences that turn the input modes of `prev` into those of `self`. The
+    /// screens may have different sizes.
     #[must_use]
     pub fn input_mode_diff(&self, prev: &Self) -> String {
         self.difference(prev, Difference::INPUT_MODE)
             .unwrap_or_else(|| self.input_mode_formatted())
     }
 
-    /// Returns the escape sequences that set the attributes of the next character, which are part
-    /// of a redraw.
+    /// Returns the part of a redraw that sets the attributes of the next character.
     #[must_use]
     pub fn attributes_formatted(&self) -> String {
         self.lock().text(Text::ATTRIBUTES)
     }
 
-    /// Returns the escape sequences that set the cursor, which are part of a redraw. These
-    /// sequences may draw cells again and thereby change the attributes of the next character.
+    /// Returns the part of a redraw that moves the cursor and shows or hides it, for a plain
+    /// terminal of this size that displays the rows of this screen and has default attributes. If a
+    /// wrap is pending, this part may draw the end of a row again.
     #[must_use]
     pub fn cursor_state_formatted(&self) -> String {
         self.lock().text(Text::CURSOR_STATE)
