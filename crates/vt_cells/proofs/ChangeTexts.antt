@@ -1,5 +1,5 @@
 -- The text of an SGR change, appended number by number.
-use Rattle.std.proofs.Common.{◌≡◌, ◌≢◌, ℕ, ◌+◌, ◌/◌, ◌%◌, ◌^◌, ◌<◌, ◌≤◌, true, false, List, [], ◌∷◌}
+use Rattle.std.proofs.Common.{◌≡◌, ◌≢◌, ℕ, ◌+◌, ◌-◌, ◌*◌, ◌/◌, ◌%◌, ◌^◌, ◌<◌, ◌≤◌, true, false, List, [], ◌∷◌}
 use Rattle.std.proofs.Common.{◌++◌, length, decimal, refl, sym}
 use Rattle.std.proofs.Common.{ap, ◌∙◌, append_assoc, append-nil, length-append, arith}
 use Rattle.std.proofs.lemmas.Fmt.{decimal_digit, decimal_step, length-decimal-le}
@@ -44,17 +44,44 @@ two_more old lead n lo hi =
     ∙ (append_assoc old (lead ∷ []) ((48 + n / 10) ∷ (48 + n % 10) ∷ [])
     ∙ ap (λ (ds : List ℕ). old ++ lead ∷ ds) (sym (two_digits n lo hi)))
 
-pub three_more : (old : List ℕ) (lead n : ℕ) → 100 ≤ n → n < 256 →
-    (((old ++ lead ∷ []) ++ (48 + n / 100) ∷ []) ++ (48 + n / 10 % 10) ∷ []) ++ (48 + n % 10) ∷ []
+hundreds_more : (old : List ℕ) (lead h n : ℕ) → h < 10 → 0 < h → 100 * h ≤ n → n < 100 * h + 100 →
+    (((old ++ lead ∷ []) ++ (48 + h) ∷ []) ++ (48 + (n - 100 * h) / 10) ∷ []) ++ (48 + (n - 100 * h) % 10) ∷ []
     ≡ old ++ lead ∷ decimal n
-three_more old lead n lo hi =
-    append_assoc ((old ++ lead ∷ []) ++ (48 + n / 100) ∷ []) ((48 + n / 10 % 10) ∷ []) ((48 + n % 10) ∷ [])
-    ∙ (append_assoc (old ++ lead ∷ []) ((48 + n / 100) ∷ []) ((48 + n / 10 % 10) ∷ (48 + n % 10) ∷ [])
-    ∙ (append_assoc old (lead ∷ []) ((48 + n / 100) ∷ (48 + n / 10 % 10) ∷ (48 + n % 10) ∷ [])
-    ∙ ap (λ (ds : List ℕ). old ++ lead ∷ ds) (sym (three_digits n lo (omega arith)))))
+hundreds_more old lead h n digit some lo hi =
+    let first : h ≡ n / 100 = omega arith in
+    let second : (n - 100 * h) / 10 ≡ n / 10 % 10 = omega arith in
+    let third : (n - 100 * h) % 10 ≡ n % 10 = omega arith in
+    append_assoc ((old ++ lead ∷ []) ++ (48 + h) ∷ []) ((48 + (n - 100 * h) / 10) ∷ []) ((48 + (n - 100 * h) % 10) ∷ [])
+    ∙ (append_assoc (old ++ lead ∷ []) ((48 + h) ∷ []) ((48 + (n - 100 * h) / 10) ∷ (48 + (n - 100 * h) % 10) ∷ [])
+    ∙ (append_assoc old (lead ∷ []) ((48 + h) ∷ (48 + (n - 100 * h) / 10) ∷ (48 + (n - 100 * h) % 10) ∷ [])
+    ∙ ap (λ (ds : List ℕ). old ++ lead ∷ ds)
+    (ap (λ (a : ℕ). (48 + a) ∷ (48 + (n - 100 * h) / 10) ∷ (48 + (n - 100 * h) % 10) ∷ []) first
+    ∙ (ap (λ (a : ℕ). (48 + n / 100) ∷ (48 + a) ∷ (48 + (n - 100 * h) % 10) ∷ []) second
+    ∙ (ap (λ (a : ℕ). (48 + n / 100) ∷ (48 + n / 10 % 10) ∷ (48 + a) ∷ []) third
+    ∙ sym (three_digits n (omega arith) (omega arith)))))))
+
+pub one_hundred_more : (old : List ℕ) (lead n : ℕ) → 100 ≤ n → n < 200 →
+    (((old ++ lead ∷ []) ++ 49 ∷ []) ++ (48 + (n - 100) / 10) ∷ []) ++ (48 + (n - 100) % 10) ∷ []
+    ≡ old ++ lead ∷ decimal n
+one_hundred_more old lead n lo hi = hundreds_more old lead 1 n (omega arith) (omega arith) lo hi
+
+pub two_hundred_more : (old : List ℕ) (lead n : ℕ) → 200 ≤ n → n < 256 →
+    (((old ++ lead ∷ []) ++ 50 ∷ []) ++ (48 + (n - 200) / 10) ∷ []) ++ (48 + (n - 200) % 10) ∷ []
+    ≡ old ++ lead ∷ decimal n
+two_hundred_more old lead n lo hi = hundreds_more old lead 2 n (omega arith) (omega arith) lo (omega arith)
+
+pub tens_more : (old : List ℕ) (lead tens unit : ℕ) → 0 < tens → tens < 10 → unit < 10 →
+    ((old ++ lead ∷ []) ++ (48 + tens) ∷ []) ++ (48 + unit) ∷ [] ≡ old ++ lead ∷ decimal (10 * tens + unit)
+tens_more old lead tens unit some digit last =
+    let n = 10 * tens + unit in
+    let first : tens ≡ n / 10 = omega arith in
+    let second : unit ≡ n % 10 = omega arith in
+    ap (λ (a : ℕ). ((old ++ lead ∷ []) ++ (48 + a) ∷ []) ++ (48 + unit) ∷ []) first
+    ∙ (ap (λ (a : ℕ). ((old ++ lead ∷ []) ++ (48 + n / 10) ∷ []) ++ (48 + a) ∷ []) second
+    ∙ two_more old lead n (omega arith) (omega arith))
 
 -- Appending the digits of a number one after the other appends the number.
-pub ruleset digits_appended = (one_digit, two_more, three_more)
+pub ruleset digits_appended = (one_digit, two_more, tens_more, one_hundred_more, two_hundred_more)
 
 pub longer_by_number : (n most lead : ℕ) (old new : List ℕ) → length (decimal n) ≤ most →
     new ≡ old ++ lead ∷ decimal n → length new ≤ length old + (most + 1)

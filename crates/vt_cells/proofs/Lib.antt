@@ -5,6 +5,7 @@ pub mod Texts
 pub mod Cells
 pub mod Encoding
 pub mod Four
+pub mod Fronts
 pub mod Glyphs
 pub mod Ideographs
 pub mod KeptCells

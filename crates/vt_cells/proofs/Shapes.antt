@@ -104,6 +104,13 @@ short_head word none = omega arith
 pub long_head : (word : ℕ) → word / 8 % 4 ≢ 0 → 7 < word % 128 % 32
 long_head word some = omega arith
 
+-- The two high bits of the length, in their places, are 0 exactly if the text has fewer than eight bytes.
+pub short_bits : (word : ℕ) → word % 32 / 8 * 8 ≡ 0 → word % 128 % 32 < 8
+short_bits word none = omega arith
+
+pub no_long_bits : (word : ℕ) → word % 128 % 32 < 8 → word % 32 / 8 * 8 ≡ 0
+no_long_bits word short = omega arith
+
 -- The highest bit of a packed shape is set exactly if the number is at least 64.
 pub high_bit : (m : ℕ) → shape_bits (shape_of m) ≡ m → nat_le 64 m ≡ (m / 64 == 1)
 high_bit m p =

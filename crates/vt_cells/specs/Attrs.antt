@@ -58,10 +58,9 @@ same_attrs a b =
     same_color a.fgcolor b.fgcolor && (same_color a.bgcolor b.bgcolor && (same_intensity a.intensity b.intensity
     && (same_bool a.italic b.italic && (same_bool a.underline b.underline && same_bool a.inverse b.inverse))))
 
--- The attributes of a terminal, given as the last argument, after the terminal reads the SGR sequence that changes the
--- first set of attributes to the second. If these two sets are equal, nothing changes; if the second set is the
--- default, all attributes become the defaults. Otherwise, each component in which the two sets differ is taken from the
--- second.
+-- `changed_attrs was new attrs` is what a terminal's attributes `attrs` become when the terminal reads the SGR sequence
+-- that changes `was` to `new`. If `was` and `new` are equal, nothing changes; if `new` is the default, all attributes
+-- become the defaults. Otherwise, each component in which `was` and `new` differ is taken from `new`.
 unfoldable pub changed_attrs : Attrs → Attrs → Attrs → Attrs
 changed_attrs was new attrs =
     if same_attrs was new then attrs

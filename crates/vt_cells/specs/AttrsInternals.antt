@@ -22,11 +22,11 @@ color_bits Default = 0
 color_bits (Idx i) = 1 + 4 * i
 color_bits (Rgb r g b) = 2 + 4 * (r + 256 * (g + 256 * b))
 
--- The color that a packed number stands for.
+-- The color that is packed into the given number.
 abbrev pub color_of : ℕ → Color
 color_of bits = color_of_parts (bits % 4) (bits / 4 % 256) (bits / 4 / 256 % 256) (bits / 4 / 256 / 256 % 256)
 
--- The number is a valid packed color, which fits in 26 bits.
+-- The number fits in 26 bits and is a valid packed color.
 pub record IsColorBits (bits : ℕ) : Type 0 where
   pub small : bits < 67108864
   pub back : color_bits (color_of bits) ≡ bits
@@ -49,24 +49,24 @@ same_style a b =
     same_intensity a.intensity b.intensity
     && (same_bool a.italic b.italic && (same_bool a.underline b.underline && same_bool a.inverse b.inverse))
 
--- Italics, underline and inverse are equal in both sets of attributes.
+-- The two sets of attributes agree in italic, underline and inverse.
 unfoldable pub same_switches : Attrs → Attrs → Bool
 same_switches a b =
     same_bool a.italic b.italic && (same_bool a.underline b.underline && same_bool a.inverse b.inverse)
 
--- The intensity that a number below 4 stands for.
+-- The intensity encoded by a number below 4.
 abbrev pub intensity_of : ℕ → Intensity
 intensity_of zero = Normal
 intensity_of (suc zero) = Bold
 intensity_of (suc (suc bits)) = Dim
 
--- The number that stands for an intensity.
+-- The number that encodes an intensity.
 abbrev pub intensity_bits : Intensity → ℕ
 intensity_bits Normal = 0
 intensity_bits Bold = 1
 intensity_bits Dim = 2
 
--- The style that the low five bits of a number stand for: two bits for the intensity, and one bit each for italic,
+-- The style encoded by the low five bits of a number: two bits for the intensity, and one bit each for italic,
 -- underline and inverse.
 abbrev pub style_of : ℕ → StyleValue
 style_of bits = record {
@@ -93,8 +93,8 @@ attrs_of_bits style fgcolor bgcolor = record {
   inverse = (style_of style).inverse;
 }
 
--- The attributes that a packed word stands for: five bits of style, then 26 bits each for the foreground and the
--- background color.
+-- The attributes encoded by a packed word: five bits of style, then 26 bits each for the foreground and the background
+-- color.
 abbrev pub attrs_of_word : ℕ → Attrs
 attrs_of_word word = attrs_of_bits (word % 32) (word / 32 % 67108864) (word / 32 / 67108864)
 

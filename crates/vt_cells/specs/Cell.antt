@@ -1,5 +1,5 @@
 -- Cells. A cell is a blank, a glyph, or the continuation cell (right half) of the wide glyph before it.
-use Rattle.std.specs.Prelude.{ℕ, ◌==◌, Bool, true, false, List, [], ◌∷◌, length, bytes_eq, ◌&&◌, if◌then◌else◌}
+use Rattle.std.specs.Prelude.{ℕ, ◌<◌, ◌==◌, Bool, true, false, List, [], ◌∷◌, length, bytes_eq, ◌&&◌, if◌then◌else◌}
 use Rattle.vt_cells.specs.Attrs.{default_attrs, same_bool, same_attrs, Attrs}
 use Rattle.vt_cells.specs.Glyph.{IsGlyphText, marked_text}
 
@@ -63,14 +63,14 @@ same_cell (glyph s v a) (glyph t w b) = bytes_eq s t && (same_bool v w && same_a
 same_cell right_half right_half = true
 same_cell _ _ = false
 
--- The cell after a combining character is added to its text, if the text is short enough. A blank first becomes the
--- glyph of a space with the same attributes; a continuation cell is unchanged.
+-- The cell after a combining character is added to its text; the text is unchanged if it has no room for the character.
+-- A blank first becomes the glyph of a space with the same attributes; a continuation cell is unchanged.
 abbrev pub cell_with_mark : ℕ → CellValue → CellValue
 cell_with_mark mark (blank attrs) = glyph (marked_text (0x20 ∷ []) mark) false attrs
 cell_with_mark mark (glyph text wide attrs) = glyph (marked_text text mark) wide attrs
 cell_with_mark mark right_half = right_half
 
--- The cell after its glyph becomes wide or narrow; a cell without a glyph is unchanged.
+-- The cell after its glyph becomes wide if the flag is set, or narrow otherwise; a cell without a glyph is unchanged.
 abbrev pub cell_made_wide : Bool → CellValue → CellValue
 cell_made_wide wide (glyph text was attrs) = glyph text wide attrs
 cell_made_wide wide (blank attrs) = blank attrs
@@ -86,3 +86,7 @@ cell_with_attrs attrs right_half = right_half
 abbrev pub IsCell : CellValue → Type 0
 IsCell (glyph text wide attrs) = IsGlyphText text wide
 IsCell _ = Unit {0}
+
+-- The text of the cell has at most seven bytes.
+abbrev pub IsShort : CellValue → Type 0
+IsShort cell = length (text_of cell) < 8

@@ -27,7 +27,7 @@ attrs_eq_equiv =
     (and_equiv (on_equiv (λ a. a.intensity) intensity_laws) (and_equiv (on_equiv (λ a. a.italic) bool_eq_equiv)
     (and_equiv (on_equiv (λ a. a.underline) bool_eq_equiv) (on_equiv (λ a. a.inverse) bool_eq_equiv)))))
 
--- A distinct number for each kind of cell.
+-- A distinct number for each kind of cell: blank, narrow glyph, wide glyph and continuation cell.
 abbrev pub kind_of : CellValue → ℕ
 kind_of (blank attrs) = 0
 kind_of (glyph text wide attrs) = if wide then 2 else 1

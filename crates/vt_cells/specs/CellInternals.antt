@@ -33,7 +33,7 @@ blank_shape = record { len = 0; wide = false; right_half = false }
 abbrev pub shape_of_cell : CellValue → ShapeValue
 shape_of_cell cell = record { len = length (text_of cell); wide = is_wide cell; right_half = is_right_half cell }
 
--- The shape that a byte stands for: five bits hold the length of the cell's text, and two bits indicate whether the
+-- The cell shape encoded by a byte: five bits hold the length of the cell's text, and two bits indicate whether the
 -- cell is a wide glyph and whether it is a continuation cell.
 abbrev pub shape_of : ℕ → ShapeValue
 shape_of bits = record { len = bits % 32; wide = bits / 32 % 2 == 1; right_half = bits / 64 == 1 }
@@ -59,8 +59,8 @@ same_head a b = same_shape a.shape b.shape && same_attrs a.attrs b.attrs
 abbrev pub head_of_cell : CellValue → HeadValue
 head_of_cell cell = record { attrs = attrs_of cell; shape = shape_of_cell cell }
 
--- The head (attributes and shape) that a word stands for: the low seven bits hold the shape, and the remaining bits
--- hold the packed attributes.
+-- The head (attributes and shape) encoded by a word: the low seven bits hold the shape, and the remaining bits hold the
+-- packed attributes.
 abbrev pub head_of : ℕ → HeadValue
 head_of word = record { attrs = attrs_of_word (word / 128); shape = shape_of (word % 128) }
 
@@ -77,8 +77,8 @@ pub record IsHead (word : ℕ) : Type 0 where
 pub head_back : (word : ℕ) → IsHead word → head_word (head_of word) ≡ word
 head_back word h = (λ i. h.shape i + 128 * word_back (word / 128) h.attrs i) ∙ omega arith
 
--- The fields of a cell are valid and consistent: the length and bytes of its text, the flags for a wide glyph and for a
--- continuation cell, and the attributes.
+-- The given fields of a cell are valid and consistent: the length and bytes of the cell's text, the flags for a wide
+-- glyph and for a continuation cell, and the attributes.
 pub record IsKept (len : ℕ) (text : List ℕ) (wide right : Bool) (attrs : Attrs) : Type 0 where
   pub bounded : len ≤ text_room
   pub measured : length text ≡ len

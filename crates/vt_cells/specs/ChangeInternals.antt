@@ -4,18 +4,19 @@ use Rattle.vt_cells.specs.Attrs.{Attrs, same_bool, same_intensity}
 use Rattle.vt_cells.specs.Op.{bytes_of_all, cursor_move_ops, intensity_number, part}
 use Rattle.vt_cells.specs.declared.pos.Pos.{Pos}
 
--- Numbers in decimal: the first is preceded by the given character, the others by `;`.
+-- The given numbers in decimal. The first number is preceded by the given character, and each of the others by `;`.
 abbrev pub numbers_after : ℕ → List ℕ → List ℕ
 numbers_after lead [] = []
 numbers_after lead (n ∷ ns) = (lead ∷ decimal n) ++ numbers_after 0x3B ns
 
--- The character that precedes the next number, after the given numbers of which the first is preceded by `lead`.
+-- The character that precedes the number after the given list of numbers: the given character if the list is empty, and
+-- `;` otherwise.
 abbrev pub lead_after : ℕ → List ℕ → ℕ
 lead_after lead [] = lead
 lead_after lead (n ∷ ns) = 0x3B
 
--- Appending numbers, of which the first is preceded by `lead`, changes the text from `old` to `new`, by at most `most`
--- bytes. The next number is to be preceded by `following`.
+-- Appending the numbers `ns`, with `lead` before the first number, changes the text from `old` to `new` and adds at
+-- most `most` bytes. The next number must be preceded by `following`.
 pub record AppendsNumbers (old new : List ℕ) (lead following most : ℕ) (ns : List ℕ) : Type 0 where
   pub text : new ≡ old ++ numbers_after lead ns
   pub next : following ≡ lead_after lead ns

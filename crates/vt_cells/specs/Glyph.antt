@@ -1,4 +1,4 @@
--- The text of a glyph: one character that takes columns, followed by combining characters.
+-- The text of a glyph: one character of nonzero width, followed by combining characters.
 use Rattle.std.specs.Prelude.{◌≡◌, ◌≢◌, ℕ, Bool, true, false, ◌==◌, nat_lt, min, List, [], ◌∷◌}
 use Rattle.std.specs.Prelude.{◌++◌, length, Option, Some, None, chars, if◌then◌else◌}
 use Rattle.std.specs.List.{list_any, AllByRecursion}
@@ -32,7 +32,7 @@ mark_limit = 26
 abbrev pub has_room : List ℕ → Bool
 has_room text = nat_lt (length text) mark_limit
 
--- The text with a combining character appended, if the text is short enough.
+-- The text with a combining character appended; unchanged if the text has no room for the character.
 abbrev pub marked_text : List ℕ → ℕ → List ℕ
 marked_text text mark = if has_room text then text ++ encode_utf8 mark else text
 
@@ -50,7 +50,8 @@ Joins text (mark ∷ marks) whole = (has_room text ≡ true) × Joins (text ++ e
 abbrev pub glyph_columns : Bool → ℕ
 glyph_columns wide = if wide then 2 else 1
 
--- The text is a valid glyph text: a first character of nonzero width, followed by combining characters.
+-- The text is valid for a glyph of the given width: a first character that takes one or two columns and is not U+FFFD,
+-- followed by combining characters.
 pub record IsGlyphText (text : List ℕ) (wide : Bool) : Type 0 where
   pub first : ℕ
   pub marks : List ℕ

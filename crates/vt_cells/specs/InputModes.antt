@@ -8,7 +8,8 @@ use Rattle.vt_cells.specs.declared.modes.MouseProtocolEncoding.TheVariants as en
 use Rattle.vt_cells.specs.declared.modes.MouseProtocolMode.{MouseProtocolMode}
 use Rattle.vt_cells.specs.declared.modes.MouseProtocolMode.TheVariants as mouse
 
--- The sequence that selects application keypad mode (DECKPAM) or numeric keypad mode (DECKPNM).
+-- The sequence that selects application keypad mode (DECKPAM) if the flag is set, and numeric keypad mode (DECKPNM)
+-- otherwise.
 abbrev pub keypad_text : Bool → List ℕ
 keypad_text true = 0x1B ∷ codes "="
 keypad_text false = 0x1B ∷ codes ">"
@@ -21,11 +22,11 @@ mode_set digits = csi (0x3F ∷ digits) 0x68
 abbrev pub mode_reset : List ℕ → List ℕ
 mode_reset digits = csi (0x3F ∷ digits) 0x6C
 
--- The sequence that sets or resets application cursor keys (DECCKM).
+-- The sequence that sets application cursor keys mode (DECCKM) if the flag is set, and resets the mode otherwise.
 abbrev pub application_cursor_text : Bool → List ℕ
 application_cursor_text on = if on then mode_set (codes "1") else mode_reset (codes "1")
 
--- The sequence that sets or resets bracketed paste mode (xterm).
+-- The sequence that sets bracketed paste mode (xterm) if the flag is set, and resets the mode otherwise.
 abbrev pub bracketed_paste_text : Bool → List ℕ
 bracketed_paste_text on = if on then mode_set (codes "2004") else mode_reset (codes "2004")
 

@@ -28,7 +28,7 @@ pub data Op : Type 0 where
   EraseChars : (count : ℕ) → Op
   SaveCursor : Op
   RestoreCursor : Op
-  -- Changes the attributes from the first set to the second.
+  -- Changes the attributes from `was` to `new`.
   ChangeAttrs : (was new : Attrs) → Op
   -- Prints characters, encoded in UTF-8.
   Print : (text : List ℕ) → Op
@@ -77,7 +77,8 @@ intensity_number Normal = 22
 intensity_number Bold = 1
 intensity_number Dim = 2
 
--- The SGR parameters for one component of the attributes; none if the component is unchanged.
+-- The given SGR parameters of one component of the attributes; none if the flag indicates that the component is
+-- unchanged.
 abbrev pub part : Bool → List ℕ → List ℕ
 part same numbers = if same then [] else numbers
 
@@ -141,8 +142,8 @@ FitsColor (Rgb r g b) = (r < 256) × ((g < 256) × (b < 256))
 abbrev pub FitsAttrs : Attrs → Type 0
 FitsAttrs attrs = FitsColor attrs.fgcolor × FitsColor attrs.bgcolor
 
--- The numbers in the operation are in range: rows, columns and counts fit in 16 bits, and palette indices and RGB
--- components in bytes.
+-- The numbers in the operation are in range: each row, column and count fits in 16 bits, and each palette index and RGB
+-- component fits in a byte.
 abbrev pub FitsOp : Op → Type 0
 FitsOp (MoveTo row col) = (row < 2 ^ 16) × (col < 2 ^ 16)
 FitsOp (MoveRight count) = count < 2 ^ 16

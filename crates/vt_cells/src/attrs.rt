@@ -127,7 +127,7 @@ impl Attrs {
         }
     }
 
-    /// Returns the packed word, which uses the low 57 bits.
+    /// Returns the packed word, of which only the low 57 bits are used.
     #[inline]
     #[tactic(auto, using(crate::proofs::Packing::word_small))]
     pub(crate) fn word(&self) -> u64
@@ -413,7 +413,7 @@ fn intensity_bits(intensity: Intensity) -> u64
     }
 }
 
-/// Returns `bit` if `on`, otherwise 0.
+/// Returns `bit` if `on` is true, otherwise 0.
 #[inline]
 fn switch_bits(on: bool, bit: u64) -> u64
     requires { bit < 32 }

@@ -11,10 +11,9 @@ use std::str;
 /// The capacity of a [`Buffer`] in bytes.
 const ROOM: usize = 256;
 
-/// A buffer of at most 256 bytes in front of a [`Sink`].
+/// A buffer of 256 bytes that collects short strings before they are written to a [`Sink`].
 ///
-/// Short strings are collected and written together. Call [`Buffer::flush`] at the end: only then
-/// is everything guaranteed to have reached the sink.
+/// Call [`Buffer::flush`] at the end to write the bytes that are still buffered.
 #[derive(Drop)]
 pub struct Buffer {
     bytes: [u8; ROOM],
@@ -123,7 +122,8 @@ impl Buffer {
         self.len = end;
     }
 
-    /// Appends a one-byte string, which must fit in the buffer. Most glyphs are one byte long.
+    /// Appends a one-byte string, which must fit in the buffer. This is the fast path: most glyphs
+    /// are one byte long.
     #[inline(always)]
     pub fn push_one(&mut self, text: &str)
         requires room { length self.old + 1 ≤ 256 }
@@ -179,7 +179,7 @@ impl Buffer {
     }
 }
 
-/// Copies the single byte of `from` into `to`.
+/// Copies the single byte in `from` into `to`, which must also have length 1.
 #[inline(always)]
 #[tactic(auto, using(crate::proofs::Buffers::one_set))]
 fn copy_one(to: &mut [u8], from: &[u8])
@@ -192,7 +192,7 @@ fn copy_one(to: &mut [u8], from: &[u8])
 
 /// Copies `from` into `to`, which must have the same length.
 ///
-/// A slice of at most three bytes, as for most glyphs, is copied inline rather than by a call to
+/// One to three bytes, the length of most glyphs, are copied inline instead of by a call to
 /// `memcpy`.
 #[inline(always)]
 #[tactic(auto, using(crate::proofs::Buffers::one_set, crate::proofs::Buffers::two_set, crate::proofs::Buffers::three_set))]

@@ -10,12 +10,14 @@ ghost use Rattle.vt_cells.specs.Glyph.{is_wide_text};
 
 mod editing;
 mod making;
+mod short;
 
 use crate::attrs::Attrs;
 use crate::color::Color;
 use crate::head::Head;
-pub use editing::{append, clear, set_attrs, set_glyph, set_wide};
+pub use editing::{append, clear, set_ascii, set_attrs, set_glyph, set_right_half, set_wide};
 pub use making::{ascii, blank, default_blank, glyph, right_half, space};
+pub use short::{are_short, put_short};
 use std::marker::Model;
 use std::str;
 use unicode_width::UnicodeWidthStr;
@@ -128,10 +130,10 @@ impl Cell {
         self.contents() == other.contents()
     }
 
-    /// Returns a bit mask that is 0 only if the two cells are equal.
+    /// Returns a bit mask that is nonzero if the two cells differ.
     ///
-    /// The mask is also nonzero if `self` has more than seven bytes of text, because the rest of
-    /// the text is not compared.
+    /// The mask is also nonzero if `self` has more than seven bytes of text, because only the first
+    /// eight bytes are compared.
     #[inline(always)]
     pub(crate) fn odd_bits(&self, other: &Cell) -> u64
         ensures { result ≡ 0 → self.now ≡ other.now }
@@ -243,8 +245,8 @@ pub fn is_blank(cell: &Cell) -> bool
     cell.head.shape().is_blank()
 }
 
-/// Returns whether the two cells agree in everything except the bytes of their text: the length and
-/// width of the text, whether the cell is a continuation cell, and the attributes.
+/// Returns whether the heads of the two cells are equal: the length and width of the text, whether
+/// the cell is a continuation cell, and the attributes. The text itself is not compared.
 #[inline]
 pub fn has_head_of(cell: &Cell, other: &Cell) -> bool
     ensures value { result ≡ same_head (head_of_cell cell.now) (head_of_cell other.now) }

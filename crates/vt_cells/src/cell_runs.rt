@@ -5,11 +5,10 @@ ghost use Rattle.vt_cells.specs.Cell.{CellValue};
 
 use crate::cell::Cell;
 
-/// Returns the length of a common prefix of two rows, in cells. The longest common prefix may be
-/// longer.
+/// Returns the length, in cells, of a common prefix of two rows, not necessarily the longest one.
 ///
 /// Cells are compared in groups of four. The comparison stops at the first group in which the two
-/// rows differ or a cell has more than seven bytes of text.
+/// rows differ or a cell has more than seven bytes of text, or when fewer than four cells remain.
 pub fn same_run(own: &[Cell], others: &[Cell]) -> usize
     ensures own { result ≤ length own.now }
     ensures others { result ≤ length others.now }

@@ -42,8 +42,8 @@ impl Head {
         }
     }
 
-    /// Creates the head of a glyph with `len` bytes of text, which is wide if `wide` is true, or of
-    /// a blank if `len` is 0.
+    /// Creates the head of a glyph that has `len` bytes of text, at most 31, and is wide if `wide`
+    /// is true. If `len` is 0 and `wide` is false, creates the head of a blank.
     #[inline]
     pub fn text(len: u8, wide: bool, attrs: Attrs) -> Self
         requires { len < 32 }
@@ -87,6 +87,17 @@ impl Head {
         ensures long { IsTrue result → 7 < self.now.shape.len }
     {
         self.word / 8 % 4 != 0
+    }
+
+    /// Returns the two upper bits of the text length, in their places. They are 0 if and only if the
+    /// text has at most seven bytes.
+    #[inline(always)]
+    #[tactic(auto, using(crate::proofs::Shapes::short_bits, crate::proofs::Shapes::no_long_bits))]
+    pub fn long_bits(&self) -> u64
+        ensures short { result ≡ 0 → self.now.shape.len < 8 }
+        ensures none { self.now.shape.len < 8 → result ≡ 0 }
+    {
+        self.word % 32 / 8 * 8
     }
 
     /// Returns a bit mask that is 0 if and only if the two heads are equal and their text length is

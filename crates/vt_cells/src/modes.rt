@@ -24,14 +24,15 @@ pub enum MouseProtocolMode {
 /// The encoding of reported mouse events (xterm, DEC private modes 1005 and 1006).
 #[derive(Clone, Copy, PartialEq, Eq, Debug, Default)]
 pub enum MouseProtocolEncoding {
-    /// Each number is encoded as one byte.
+    /// The button and the coordinates are encoded as one byte each.
     #[default]
     Default,
 
-    /// Each number is encoded as one UTF-8 character (mode 1005).
+    /// The button and the coordinates are encoded as one UTF-8 character each (mode 1005).
     Utf8,
 
-    /// Numbers are encoded in decimal, in a sequence that resembles SGR (mode 1006).
+    /// The button and the coordinates are encoded as decimal parameters of a control sequence (mode
+    /// 1006).
     Sgr,
 }
 

@@ -34,8 +34,8 @@ impl Model for Shape {
 }
 
 impl Shape {
-    /// Creates the shape of a glyph with `len` bytes of text, which is wide if `wide` is true, or
-    /// of a blank if `len` is 0.
+    /// Creates the shape of a glyph that has `len` bytes of text, at most 31, and is wide if `wide`
+    /// is true. If `len` is 0 and `wide` is false, creates the shape of a blank.
     #[inline]
     #[tactic(auto, using(crate::proofs::Shapes::text_back))]
     pub fn text(len: u8, wide: bool) -> Self

@@ -1,4 +1,4 @@
-//! Destinations for the output of this crate's writers.
+//! Destinations for output, such as a `String`.
 
 ghost use Rattle.std.specs.Prelude.{◌≡◌, ◌+◌, ◌<◌, ◌++◌, ℕ, List, length, OnOk, OnErr};
 ghost use Rattle.std.specs.Prelude.{string_bytes, string_capacity, string_len};
@@ -18,8 +18,8 @@ pub trait Sink {
     ///
     /// # Errors
     ///
-    /// Returns the sink's own error. Each sink specifies the effect of a failed write by the
-    /// relation `refuses` between the contents before the write, `s`, and the contents after the
+    /// Returns the sink's own error. Each sink specifies the effect of a failed write with
+    /// `refuses`, a relation among the contents before the write, `s`, and the contents after the
     /// write. For example, a `String` is unchanged, and a sink of fixed capacity may append the
     /// prefix of `s` that fits. A sink may also leave the effect unspecified.
     fn write_str(&mut self, s: &str) -> Result<(), Self::Error>

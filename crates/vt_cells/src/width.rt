@@ -8,8 +8,9 @@ use unicode_width::UnicodeWidthChar;
 /// Returns the number of columns that a character takes, from 0 to 2, or `None` for a control
 /// character (UAX #11).
 ///
-/// A character for which `unicode_width` returns more than two columns takes two. If
-/// `unicode_width` returns `None` for a character from U+0100 up, the character takes one column.
+/// If `unicode_width` returns more than two columns for a character, the character takes two
+/// columns. If it returns `None` for a character at or above U+0100, the character takes one
+/// column.
 #[inline]
 pub fn columns(c: char) -> Option<u8>
     ensures { result ≡ columns_of c }

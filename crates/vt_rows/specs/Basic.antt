@@ -5,7 +5,7 @@ use Rattle.vt_cells.specs.Cell.{CellValue, blank, glyph, right_half, is_default_
 use Rattle.vt_cells.specs.Op.{change_text}
 use Rattle.vt_rows.specs.Row.{RowValue, cells_without_end}
 
--- The state of a capture between two rows: the current attributes, and whether a line end is due before the next row.
+-- The state of a capture between two rows: the current attributes, and whether a newline is due before the next row.
 pub record Written : Type 0 where
   pub attrs : Attrs
   pub is_due : Bool
@@ -29,7 +29,8 @@ shown_text right_half = []
 abbrev pub attrs_after : Attrs → CellValue → Attrs
 attrs_after attrs cell = if is_bare cell then attrs else attrs_of cell
 
--- The text of a list of cells, each preceded by the SGR change to the cell's attributes.
+-- The text of a list of cells, each preceded by the SGR change to the cell's attributes. Default blanks and
+-- continuation cells don't change the attributes.
 abbrev pub cells_text : Attrs → List CellValue → List ℕ
 cells_text attrs [] = []
 cells_text attrs (cell ∷ cells) =
@@ -40,11 +41,11 @@ abbrev pub attrs_after_all : Attrs → List CellValue → Attrs
 attrs_after_all attrs [] = attrs
 attrs_after_all attrs (cell ∷ cells) = attrs_after_all (attrs_after attrs cell) cells
 
--- The basic text of a row: a line end if one is due, followed by the text of the cells without trailing default blanks.
+-- The basic text of a row: a newline if one is due, followed by the text of the cells without trailing default blanks.
 abbrev pub basic_text : Written → RowValue → List ℕ
 basic_text written row = (if written.is_due then 0x0A ∷ [] else []) ++ cells_text written.attrs (cells_without_end row.cells)
 
--- The state of a capture after a row is written: a line end is due unless the row is wrapped.
+-- The state of a capture after a row is written: a newline is due unless the row is wrapped.
 abbrev pub written_after : Written → RowValue → Written
 written_after written row =
     record { attrs = attrs_after_all written.attrs (cells_without_end row.cells); is_due = not row.wrapped }

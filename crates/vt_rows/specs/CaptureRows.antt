@@ -4,12 +4,12 @@ use Rattle.std.specs.Prelude.{◌∷◌, ◌+◌, ◌<◌, IsUtf8, chars, get_or
 use Rattle.vt_rows.specs.Pieces.{Piece, piece_end}
 use Rattle.vt_rows.specs.Stretches.{columns_added, columns_in, ends_within}
 
--- The given character, which follows the given text of a row, is a line end, that is, an LF outside SGR sequences.
+-- The given character ends a row that has the given text: it is a newline, that is, an LF outside SGR sequences.
 abbrev pub ends_row : List ℕ → ℕ → Bool
 ends_row row c = not (ends_within row) && (c == 0x0A)
 
--- In `is_beyond width used added`, a character of `added` columns doesn't fit after `used` columns in a row of `width`
--- columns. A character always fits if `used` or `added` is 0.
+-- `is_beyond width used added` holds if a character of `added` columns doesn't fit after `used` columns in a row of
+-- `width` columns. A character always fits if `used` or `added` is 0.
 abbrev pub is_beyond : ℕ → ℕ → ℕ → Bool
 is_beyond width used added = nat_lt 0 used && (nat_lt 0 added && nat_lt width (used + added))
 
@@ -17,19 +17,20 @@ is_beyond width used added = nat_lt 0 used && (nat_lt 0 added && nat_lt width (u
 abbrev pub overflows : ℕ → List ℕ → ℕ → Bool
 overflows width row c = is_beyond width (columns_in row) (columns_added (ends_within row) c)
 
--- No character of the row is a line end, and every character fits in the given width after the characters before it.
+-- No character of the row is a newline, and every character fits in the given width after the characters before it.
 abbrev pub IsUncut : ℕ → List ℕ → Type 0
 IsUncut width row =
     (k : ℕ) → k < length row →
     (ends_row (take k row) (get_or row k 0) ≡ false) × (overflows width (take k row) (get_or row k 0) ≡ false)
 
--- The row is the slice of the capture at the row's index, consists of whole characters, and contains no row break.
+-- The row is the slice of the capture at the row's index and consists of whole characters. None of them is a newline,
+-- and each fits in the given width after the characters before it.
 pub record IsRowOf (width : ℕ) (capture : List ℕ) (row : Piece) : Type 0 where
   pub slice : take (length row.1) (drop row.0 capture) ≡ row.1
   pub utf8 : IsUtf8 row.1
   pub uncut : IsUncut width (chars row.1)
 
--- The row `next` begins directly after the line end that ends `row`.
+-- The row `next` begins directly after the newline that ends `row`.
 pub record IsBehindEnd (capture : List ℕ) (row next : Piece) : Type 0 where
   pub place : next.0 ≡ piece_end row + 1
   pub ends : ends_row (chars row.1) (get_or capture (piece_end row) 0) ≡ true

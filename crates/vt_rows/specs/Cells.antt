@@ -1,4 +1,4 @@
--- The cells of a row by column, and the edits of rows.
+-- The cells of a row, indexed by column, and the edits to rows.
 use Rattle.std.specs.Prelude.{◌≡◌, ℕ, ◌+◌, ◌-◌, ◌&&◌, ◌==◌, nat_lt, not, Bool, true, false, List, [], ◌∷◌, ◌++◌}
 use Rattle.std.specs.Prelude.{length, take, drop, replicate, map, slice_index_or, slice_set, if◌then◌else◌}
 use Rattle.std.specs.List.{range_with_len}
@@ -66,13 +66,13 @@ column_of c n orphan new cells k =
     else if (k == c + n) && is_right_half (at cells k) then orphan
     else at cells k
 
--- The cells after a narrow glyph is written at the given column. A continuation cell that loses its wide glyph becomes
--- a space with the attributes of the new glyph.
+-- The cells that result from writing a narrow glyph at the given column. A continuation cell that loses its wide glyph
+-- becomes a space with the attributes of the new glyph.
 abbrev pub put_narrow : ℕ → List ℕ → Attrs → List CellValue → List CellValue
 put_narrow c text attrs cells = put_cells c (glyph (0x20 ∷ []) false attrs) (glyph text false attrs ∷ []) 1 cells
 
--- The cells after a wide glyph is written at the given column and the next one. A continuation cell that loses its own
--- wide glyph becomes a blank with the attributes of the new glyph.
+-- The cells that result from writing a wide glyph at the given column and the next one. A continuation cell that loses
+-- its own wide glyph becomes a blank with the attributes of the new glyph.
 abbrev pub put_wide : ℕ → List ℕ → Attrs → List CellValue → List CellValue
 put_wide c text attrs cells = put_cells c (blank attrs) (glyph text true attrs ∷ right_half ∷ []) 2 cells
 
@@ -87,8 +87,9 @@ cells_after_erase c n attrs cells = put_cells c default_blank (blanks attrs n) n
 abbrev pub marked_at : ℕ → ℕ → List CellValue → List CellValue
 marked_at k mark cells = slice_set cells k (cell_with_mark mark (at cells k))
 
--- The cells after the narrow glyph at the given column becomes wide. If the new continuation cell overwrites the first
--- cell of another wide glyph, that glyph's continuation cell becomes a blank with the given attributes.
+-- The cells of a row in which the narrow glyph at the given column has become wide. If the new continuation cell
+-- overwrites the first cell of another wide glyph, that glyph's continuation cell becomes a blank with the given
+-- attributes.
 abbrev pub widened_at : ℕ → Attrs → List CellValue → List CellValue
 widened_at k attrs cells = put_cells k (blank attrs) (cell_made_wide true (at cells k) ∷ right_half ∷ []) 2 cells
 
@@ -97,11 +98,11 @@ widened_at k attrs cells = put_cells k (blank attrs) (cell_made_wide true (at ce
 abbrev pub narrowed_at : ℕ → Attrs → List CellValue → List CellValue
 narrowed_at k attrs cells = put_cells k (glyph (0x20 ∷ []) false attrs) (cell_made_wide false (at cells k) ∷ []) 1 cells
 
--- ---- Edits that move columns: column `k` is the former column `source k`, or a default blank if that is past the end
+-- ---- Moves of columns: column `k` is the former column `source k`, or a default blank if that index is past the end
 
--- The cell at column `k` of a row of `n` columns after its columns have moved; the given function maps each column to
--- the column that its cell came from. A cell that is no longer next to the other cell of its wide glyph becomes a blank
--- with the cell's own attributes.
+-- `moved_at n source cells k` is column `k` of the row of `n` columns that results from moving the columns of `cells`.
+-- The function `source` maps each column to the column that its cell came from. A cell that is no longer next to the
+-- other cell of its wide glyph becomes a blank with the cell's own attributes.
 abbrev pub moved_at : ℕ → (ℕ → ℕ) → List CellValue → ℕ → CellValue
 moved_at n source cells k =
     if is_wide (at cells (source k)) && not (nat_lt (k + 1) n && (source (k + 1) == source k + 1))
@@ -109,8 +110,9 @@ moved_at n source cells k =
     else if is_right_half (at cells (source k)) && not (source k == source (k - 1) + 1) then default_blank
     else at cells (source k)
 
--- The cells of a row of `n` columns after its columns have moved; the given function maps each column to the column
--- that its cell came from. A cell that is no longer next to the other cell of its wide glyph becomes a blank.
+-- `cells_after_move n source cells` is the row of `n` columns that results from moving the columns of `cells`. The
+-- function `source` maps each column to the column that its cell came from. A cell that is no longer next to the other
+-- cell of its wide glyph becomes a blank.
 unfoldable pub cells_after_move : ℕ → (ℕ → ℕ) → List CellValue → List CellValue
 cells_after_move n source cells = by_column n (moved_at n source cells)
 

@@ -1,4 +1,4 @@
--- The plain text of a capture: the longest pieces outside SGR sequences.
+-- The plain text of a capture: the maximal pieces outside SGR sequences.
 use Rattle.std.specs.Prelude.{◌≡◌, ◌≢◌, ◌<◌, ◌≤◌, ◌↔◌, ◌⊎◌, ℕ, Bool, true, false, List, []}
 use Rattle.std.specs.Prelude.{◌∷◌, ◌+◌, length, take, drop, map, if◌then◌else◌, ⊤}
 use Rattle.vt_rows.specs.Stretches.{IsInStretch, begins_stretch, is_within_after}

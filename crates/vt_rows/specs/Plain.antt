@@ -1,4 +1,5 @@
--- The plain text of some columns of a row: its glyphs, with spaces for the columns before and between them.
+-- The plain text of a range of columns of a row: the glyphs in the range, with spaces for the columns before and
+-- between them.
 use Rattle.std.specs.Prelude.{ℕ, Bool, List, [], ◌∷◌, take, drop, if◌then◌else◌}
 use Rattle.std.specs.List.{flat_map, list_any}
 use Rattle.vt_cells.specs.Cell.{CellValue, default_blank, is_glyph}
@@ -16,7 +17,7 @@ up_to_last_glyph [] = []
 up_to_last_glyph (cell ∷ cells) = if list_any is_glyph (cell ∷ cells) then cell ∷ up_to_last_glyph cells else []
 
 -- The plain text of the columns `start..stop` of a row, up to the last glyph that begins in these columns. A
--- continuation cell adds no text, and any other column without a glyph adds a space.
+-- continuation cell after column `start` adds no text, and any other column without a glyph adds a space.
 unfoldable pub plain_text : (start stop : ℕ) → List CellValue → List ℕ
 plain_text start stop cells = flat_map shown_text (up_to_last_glyph (columns_between start stop cells))
 

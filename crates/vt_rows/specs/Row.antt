@@ -14,8 +14,8 @@ pub record RowValue : Type 0 where
 abbrev pub blank_row : Attrs → ℕ → RowValue
 blank_row attrs width = record { cells = blanks attrs width; wrapped = false }
 
--- The row after its cells are replaced by printing or erasing. The wrapped flag is cleared if the last column is now
--- blank.
+-- The row after printing or erasing replaces its cells with the given cells. The wrapped flag is cleared if the last
+-- column is now blank.
 abbrev pub with_cells : RowValue → List CellValue → RowValue
 with_cells row cells = record { cells = cells; wrapped = row.wrapped && not (ends_blank cells) }
 

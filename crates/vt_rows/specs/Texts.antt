@@ -1,4 +1,4 @@
--- Runs of narrow characters in a row: one narrow glyph for each character.
+-- Runs of narrow characters on one row: one narrow glyph for each character.
 use Rattle.std.specs.Prelude.{◌≡◌, ◌≢◌, ℕ, ◌<◌, ◌≤◌, false, List, [], ◌∷◌, length, map, Some, All}
 use Rattle.std.specs.Char.{encode_utf8, IsScalar}
 use Rattle.vt_cells.specs.Attrs.{Attrs}
@@ -18,15 +18,15 @@ IsNarrowCharacter c = IsScalar c × ((c ≢ 0xFFFD) × (columns_of c ≡ Some 1)
 abbrev pub IsNarrowText : List ℕ → Type 0
 IsNarrowText text = All IsNarrowCharacter text
 
--- The narrow glyph of a character.
+-- The narrow glyph with the given attributes whose text is the given character.
 abbrev pub narrow_glyph : Attrs → ℕ → CellValue
 narrow_glyph attrs c = glyph (encode_utf8 c) false attrs
 
--- The narrow glyphs of a text, one for each character.
+-- The narrow glyphs of a string, one for each character.
 abbrev pub glyphs_of : Attrs → List ℕ → List CellValue
 glyphs_of attrs text = map (narrow_glyph attrs) text
 
--- The cells that result from writing the narrow glyphs of a text, starting at the given column. A continuation cell
+-- The cells that result from writing the narrow glyphs of a string, starting at the given column. A continuation cell
 -- that loses its wide glyph becomes a space with the attributes of the new glyphs.
 abbrev pub put_text : ℕ → List ℕ → Attrs → List CellValue → List CellValue
 put_text c text attrs cells = put_cells c (glyph (0x20 ∷ []) false attrs) (glyphs_of attrs text) (length text) cells

@@ -1,4 +1,4 @@
--- Runs of wide characters in a row: two columns for each character.
+-- Runs of wide characters on one row: two columns for each character.
 use Rattle.std.specs.Prelude.{◌≡◌, ◌≢◌, ℕ, ◌+◌, ◌*◌, true, List, [], ◌∷◌, length, Some, All}
 use Rattle.std.specs.Char.{encode_utf8, IsScalar}
 use Rattle.vt_cells.specs.Attrs.{Attrs}
@@ -14,21 +14,21 @@ IsWideCharacter c = IsScalar c × ((c ≢ 0xFFFD) × (columns_of c ≡ Some 2))
 abbrev pub IsWideText : List ℕ → Type 0
 IsWideText text = All IsWideCharacter text
 
--- The wide glyph of a character.
+-- The wide glyph with the given attributes whose text is the given character.
 abbrev pub wide_glyph : Attrs → ℕ → CellValue
 wide_glyph attrs c = glyph (encode_utf8 c) true attrs
 
--- The cells for a text of wide characters: a wide glyph and a continuation cell for each character.
+-- The cells for a string of wide characters: a wide glyph and a continuation cell for each character.
 abbrev pub wide_glyphs_of : Attrs → List ℕ → List CellValue
 wide_glyphs_of attrs [] = []
 wide_glyphs_of attrs (c ∷ text) = wide_glyph attrs c ∷ right_half ∷ wide_glyphs_of attrs text
 
--- The cells that result from writing the wide glyphs of a text, starting at the given column. A continuation cell that
--- loses its own wide glyph becomes a blank with the attributes of the new glyphs.
+-- The cells that result from writing the wide glyphs of a string, starting at the given column. A continuation cell
+-- that loses its own wide glyph becomes a blank with the attributes of the new glyphs.
 abbrev pub put_wide_text : ℕ → List ℕ → Attrs → List CellValue → List CellValue
 put_wide_text c text attrs cells = put_cells c (blank attrs) (wide_glyphs_of attrs text) (2 * length text) cells
 
--- The cells after `put_wide` has written each character of a text in turn, starting at the given column.
+-- The cells that result from writing each character of a string in turn with `put_wide`, starting at the given column.
 abbrev pub put_each_wide : ℕ → List ℕ → Attrs → List CellValue → List CellValue
 put_each_wide c [] attrs cells = cells
 put_each_wide c (x ∷ text) attrs cells = put_each_wide (c + 2) text attrs (put_wide c (encode_utf8 x) attrs cells)

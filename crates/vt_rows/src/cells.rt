@@ -7,7 +7,7 @@
 ghost use Rattle.std.specs.Prelude.{◌≡◌, ◌≢◌, ◌<◌, ◌≤◌, ◌+◌, ◌-◌, ◌*◌, ◌&&◌, ◌∷◌, [], All};
 ghost use Rattle.std.specs.Prelude.{Some, encode_utf8, false, true, length, not};
 ghost use Rattle.vt_cells.specs.Attrs.{default_attrs};
-ghost use Rattle.vt_cells.specs.Cell.{IsCell, attrs_of, blank, glyph, is_blank};
+ghost use Rattle.vt_cells.specs.Cell.{IsCell, IsShort, attrs_of, blank, glyph, is_blank};
 ghost use Rattle.vt_cells.specs.Cell.{is_right_half, is_wide, text_of, cell_made_wide};
 ghost use Rattle.vt_cells.specs.Glyph.{columns_of};
 ghost use Rattle.vt_rows.specs.Cells.{IsPaired, at, blanks, ends_blank, cells_after_erase, marked_at};
@@ -19,14 +19,10 @@ ghost use Rattle.vt_rows.specs.WideTexts.{IsWideText, put_wide_text, wide_glyphs
 use std::mem;
 use vt_cells::{Attrs, Cell, cell};
 
-/// The number of default blanks written at a time: few enough that the C library copies them with
-/// vector instructions.
-const RUN: usize = 40;
-
-/// The number of glyphs written at a time: few enough that the compiler unrolls the loop over them.
+/// The number of cells written at a time: few enough that the compiler unrolls the loop over them.
 const GLYPHS: usize = 8;
 
-/// Puts a narrow glyph at a column.
+/// Puts the narrow glyph for `c`, with attributes `attrs`, at column `column`.
 ///
 /// If the column held the continuation cell of a wide glyph, the first cell of that glyph becomes a
 /// blank and keeps its attributes. If the column held the first cell of a wide glyph, the
@@ -82,10 +78,54 @@ fn write_text(cells: &mut [Cell], text: &[u8], attrs: Attrs)
     let mut done = 0;
     while len - done >= GLYPHS {
         let end = done + GLYPHS;
-        write_each(&mut cells[done..end], &text[done..end], attrs);
+        write_group(&mut cells[done..end], &text[done..end], attrs);
         done = end;
     }
     write_each(&mut cells[done..len], &text[done..len], attrs);
+}
+
+/// Sets each cell to the narrow glyph for the corresponding byte of `text`, which must be printable
+/// ASCII. The lengths of the old texts are tested together.
+#[inline(always)]
+fn write_group(cells: &mut [Cell], text: &[u8], attrs: Attrs)
+    requires same { length cells.old ≡ length text.now }
+    requires printable { IsPrintableAscii text.now }
+    ensures { cells.new ≡ glyphs_of attrs text.now }
+{
+    if cell::are_short(cells) {
+        write_short(cells, text, attrs);
+    } else {
+        write_long(cells, text, attrs);
+    }
+}
+
+/// Sets each cell to the narrow glyph for the corresponding byte of `text`, which must be printable
+/// ASCII. Called if a cell has long text, which few have.
+///
+/// This function is kept out of line: when it is inlined, the text lengths of the group are not
+/// combined.
+#[inline(never)]
+fn write_long(cells: &mut [Cell], text: &[u8], attrs: Attrs)
+    requires same { length cells.old ≡ length text.now }
+    requires printable { IsPrintableAscii text.now }
+    ensures { cells.new ≡ glyphs_of attrs text.now }
+{
+    write_each(cells, text, attrs);
+}
+
+/// Sets each cell to the narrow glyph for the corresponding byte of `text`, which must be printable
+/// ASCII. No cell may have more than seven bytes of text.
+#[inline(always)]
+fn write_short(cells: &mut [Cell], text: &[u8], attrs: Attrs)
+    requires same { length cells.old ≡ length text.now }
+    requires printable { IsPrintableAscii text.now }
+    requires short { All IsShort cells.old }
+    ensures { cells.new ≡ glyphs_of attrs text.now }
+{
+    let count = cells.len().min(text.len());
+    for k in 0..count {
+        cell::put_short(&mut cells[k], &cell::ascii(text[k], attrs));
+    }
 }
 
 /// Sets each cell to the narrow glyph for the corresponding byte of `text`, which must be printable
@@ -98,7 +138,7 @@ fn write_each(cells: &mut [Cell], text: &[u8], attrs: Attrs)
 {
     let count = cells.len().min(text.len());
     for k in 0..count {
-        cells[k] = cell::ascii(text[k], attrs);
+        cell::set_ascii(&mut cells[k], text[k], attrs);
     }
 }
 
@@ -133,11 +173,11 @@ fn write_narrow(cells: &mut [Cell], text: &[char], attrs: Attrs)
 {
     let count = cells.len().min(text.len());
     for k in 0..count {
-        cells[k] = cell::glyph(text[k], false, attrs);
+        cell::set_glyph(&mut cells[k], text[k], false, attrs);
     }
 }
 
-/// Puts a wide glyph at `column` and the next column.
+/// Puts the wide glyph for `c`, with attributes `attrs`, at `column` and the next column.
 ///
 /// If the first column held the continuation cell of a wide glyph, the first cell of that glyph
 /// becomes a blank and keeps its attributes. If the second column held the first cell of a wide
@@ -155,7 +195,7 @@ pub fn put_wide(cells: &mut [Cell], column: usize, c: char, attrs: Attrs)
     put_wide_cell(cells, column, cell::glyph(c, true, attrs));
 }
 
-/// Puts a wide glyph at `column` and its continuation cell at the next column.
+/// Puts the wide glyph `cell` at `column`, and its continuation cell at the next column.
 ///
 /// Wide glyphs that are partly overwritten are handled as in [`put_wide`], with the attributes of
 /// `cell`.
@@ -171,7 +211,7 @@ pub fn put_wide_cell(cells: &mut [Cell], column: usize, cell: Cell)
     blank_left(cells, column);
     blank_right(cells, column + 1, cell::attrs(&cell));
     cells[column] = cell;
-    cells[column + 1] = cell::right_half();
+    cell::set_right_half(&mut cells[column + 1]);
 }
 
 /// Puts the characters of `text` at consecutive pairs of columns as wide glyphs.
@@ -196,8 +236,8 @@ pub fn put_wide_text(cells: &mut [Cell], column: usize, text: &[char], attrs: At
     write_wide(&mut cells[column..end], text, attrs);
 }
 
-/// Sets each pair of cells to the wide glyph for the corresponding character of `text` and its
-/// continuation cell.
+/// Sets each pair of cells to the two cells of the wide glyph for the corresponding character of
+/// `text`.
 #[inline]
 fn write_wide(cells: &mut [Cell], text: &[char], attrs: Attrs)
     requires same { length cells.old ≡ 2 * length text.now }
@@ -206,12 +246,12 @@ fn write_wide(cells: &mut [Cell], text: &[char], attrs: Attrs)
 {
     let count = text.len().min(cells.len() / 2);
     for k in 0..count {
-        cells[2 * k] = cell::glyph(text[k], true, attrs);
-        cells[2 * k + 1] = cell::right_half();
+        cell::set_glyph(&mut cells[2 * k], text[k], true, attrs);
+        cell::set_right_half(&mut cells[2 * k + 1]);
     }
 }
 
-/// Removes the cell at a column and returns it, leaving a blank with attributes `attrs`.
+/// Removes the cell at column `column` and returns it, leaving a blank with attributes `attrs`.
 ///
 /// If the cell was one of the two cells of a wide glyph, the other cell becomes a blank and keeps
 /// its attributes.
@@ -228,7 +268,7 @@ pub fn lift(cells: &mut [Cell], column: usize, attrs: Attrs) -> Cell
     mem::replace(&mut cells[column], cell::blank(attrs))
 }
 
-/// Adds the combining character `mark`, of width 0, to the cell at a column.
+/// Adds the combining character `mark`, of width 0, to the cell at column `column`.
 ///
 /// A blank first becomes a space with the same attributes. A cell that already has
 /// [`MARK_LIMIT`](vt_cells::MARK_LIMIT) or more bytes of text is unchanged.
@@ -244,7 +284,7 @@ pub fn append(cells: &mut [Cell], column: usize, mark: char)
     cell::append(cell, mark);
 }
 
-/// Makes the glyph at a column wide, and turns the next column into its continuation cell.
+/// Makes the glyph at column `column` wide, and turns the next column into its continuation cell.
 ///
 /// If the next column held the first cell of a wide glyph, the continuation cell of that glyph
 /// becomes a blank with attributes `attrs`.
@@ -264,8 +304,8 @@ pub fn widen(cells: &mut [Cell], column: usize, attrs: Attrs)
     cells[column + 1] = cell::right_half();
 }
 
-/// Makes the glyph at a column narrow. If it was wide, its continuation cell becomes a space with
-/// attributes `attrs`.
+/// Makes the glyph at column `column` narrow. If it was wide, its continuation cell becomes a space
+/// with attributes `attrs`.
 pub fn narrow(cells: &mut [Cell], column: usize, attrs: Attrs)
     requires paired { IsPaired cells.old }
     requires inside { column < length cells.old }
@@ -292,7 +332,7 @@ pub fn clear(cells: &mut [Cell], attrs: Attrs)
     }
 }
 
-/// Sets all cells to default blanks, [`RUN`] at a time.
+/// Sets all cells to default blanks, in groups of [`GLYPHS`].
 ///
 /// This function is kept out of line: when it is inlined, the loop is compiled to one large
 /// unrolled block.
@@ -300,17 +340,47 @@ pub fn clear(cells: &mut [Cell], attrs: Attrs)
 fn clear_default(cells: &mut [Cell])
     ensures { cells.new ≡ blanks default_attrs (length cells.old) }
 {
+    let attrs = Attrs::new();
     let len = cells.len();
     let mut done = 0;
-    while len - done >= RUN {
-        cells[done..done + RUN].copy_from_slice(&[cell::default_blank(); RUN]);
-        done += RUN;
+    while len - done >= GLYPHS {
+        let end = done + GLYPHS;
+        clear_group(&mut cells[done..end], attrs);
+        done = end;
     }
-    clear_each(&mut cells[done..len], Attrs::new());
+    clear_each(&mut cells[done..len], attrs);
+}
+
+/// Sets all cells to blanks with attributes `attrs`. The lengths of the old texts are tested
+/// together.
+#[inline(always)]
+fn clear_group(cells: &mut [Cell], attrs: Attrs)
+    ensures { cells.new ≡ blanks attrs (length cells.old) }
+{
+    if cell::are_short(cells) {
+        clear_short(cells, attrs);
+    } else {
+        clear_each(cells, attrs);
+    }
+}
+
+/// Sets all cells to blanks with attributes `attrs`. No cell may have more than seven bytes of
+/// text.
+#[inline(always)]
+fn clear_short(cells: &mut [Cell], attrs: Attrs)
+    requires { All IsShort cells.old }
+    ensures { cells.new ≡ blanks attrs (length cells.old) }
+{
+    for cell in cells.iter_mut() {
+        cell::put_short(cell, &cell::blank(attrs));
+    }
 }
 
 /// Sets all cells to blanks with attributes `attrs`, one by one.
-#[inline]
+///
+/// This function is kept out of line: when it is inlined in [`clear_group`], the text lengths of
+/// the group are not combined.
+#[inline(never)]
 fn clear_each(cells: &mut [Cell], attrs: Attrs)
     ensures { cells.new ≡ blanks attrs (length cells.old) }
 {
@@ -347,9 +417,9 @@ pub fn ends_blank(cells: &[Cell]) -> bool
     }
 }
 
-/// Returns whether a row is wrapped after printing or erasing. `cells` are its cells after the
-/// change, and `wrapped` is true if it was wrapped before. A row whose last cell is a blank is not
-/// wrapped.
+/// Returns whether a row is wrapped after an edit, which is the case if it was wrapped before and
+/// its last cell is not a blank. `wrapped` is true if the row was wrapped before the edit, and
+/// `cells` are its cells after the edit.
 #[inline]
 pub fn flag_left(cells: &[Cell], wrapped: bool) -> bool
     ensures { result ≡ (wrapped && not (ends_blank cells.now)) }

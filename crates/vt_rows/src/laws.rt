@@ -5,13 +5,13 @@ ghost use Rattle.vt_rows.specs.CaptureRows.{AreRowsOf};
 ghost use Rattle.vt_rows.specs.Pieces.{ArePiecesOf, Piece};
 ghost use Rattle.vt_rows.specs.Stretches.{IsInStretch, ends_within};
 
-/// States that a capture determines its list of chunks uniquely.
+/// States that a capture uniquely determines the list of its chunks outside SGR sequences.
 pub fn pieces_are_one()
     ensures { (capture : List ℕ) (pieces others : List Piece) →
         ArePiecesOf capture pieces → ArePiecesOf capture others → pieces ≡ others }
 {}
 
-/// States that a capture and a terminal width determine the list of rows uniquely.
+/// States that a capture and a terminal width uniquely determine the list of rows.
 pub fn rows_are_one()
     ensures { (width : ℕ) (capture : List ℕ) (rows others : List Piece) → IsUtf8 capture →
         AreRowsOf width capture rows → AreRowsOf width capture others → rows ≡ others }

@@ -1,4 +1,4 @@
-//! The plain text of the columns of a row.
+//! The plain text of a range of columns of a row.
 
 ghost use Rattle.std.specs.Prelude.{◌≡◌, ◌<◌, ◌≤◌, ◌+◌, ◌++◌, drop, flat_map, length, take, true, IsTrue, OnErr, OnOk};
 ghost use Rattle.vt_cells.specs.Cell.{is_right_half, text_of};
@@ -10,7 +10,7 @@ ghost use Rattle.vt_rows.specs.Plain.{has_glyph, plain_text, up_to_last_glyph};
 use crate::trimming::trimmed_len;
 use vt_cells::{Buffer, Cell, Sink, cell};
 
-/// The length of the longest text of a cell, in bytes.
+/// The maximum length of a cell's text, in bytes.
 const LONGEST: usize = 29;
 
 /// Writes the plain text of columns `start..stop`, without attributes. Columns past the end of the
@@ -67,7 +67,8 @@ fn columns_between(cells: &[Cell], start: usize, stop: usize) -> &[Cell]
     &left[start.min(left.len())..]
 }
 
-/// Returns the number of cells up to and including the last glyph.
+/// Returns the number of cells up to and including the first cell of the last glyph, or 0 if there
+/// is no glyph.
 fn text_end(cells: &[Cell]) -> usize
     ensures inside { result ≤ length cells.now }
     ensures value { take result cells.now ≡ up_to_last_glyph cells.now }
@@ -89,7 +90,8 @@ fn begins_cut(cells: &[Cell]) -> bool
 /// Writes the buffered bytes and then the text of `cells`: a space for each blank, and nothing for
 /// a continuation cell.
 ///
-/// Most cells belong to runs of letters, of wide characters or of blanks, which have a loop each.
+/// Most cells belong to runs of letters, of wide characters or of blanks. Each kind of run has its
+/// own loop.
 #[inline(always)]
 fn write_shown<S: Sink>(sink: &mut S, buffer: &mut Buffer, cells: &[Cell]) -> Result<(), S::Error>
     ensures text { OnOk result
@@ -105,8 +107,9 @@ fn write_shown<S: Sink>(sink: &mut S, buffer: &mut Buffer, cells: &[Cell]) -> Re
     Ok(())
 }
 
-/// Appends the texts of the first cell, which must fit in the buffer, and of runs of cells after
-/// it, as many as fit. Returns the number of cells.
+/// Appends the text of the first cell and then, while the buffer has room, the text of up to three
+/// runs in this order: one-byte glyphs, three-byte wide glyphs, and blanks. Returns the number of
+/// cells appended. The buffer must have room for [`LONGEST`] bytes.
 #[inline(always)]
 fn push_runs(buffer: &mut Buffer, cells: &[Cell]) -> usize
     requires room { length buffer.old + 29 ≤ 256 }
@@ -120,7 +123,8 @@ fn push_runs(buffer: &mut Buffer, cells: &[Cell]) -> usize
     pairs + push_spaces(buffer, &cells[pairs..])
 }
 
-/// Appends the text of a cell, which must fit in the buffer.
+/// Appends the text of a cell: a space for a blank, and nothing for a continuation cell. The buffer
+/// must have room for [`LONGEST`] bytes.
 #[inline(always)]
 fn push_cell(buffer: &mut Buffer, cell: &Cell)
     requires { length buffer.old + 29 ≤ 256 }
@@ -133,8 +137,8 @@ fn push_cell(buffer: &mut Buffer, cell: &Cell)
     }
 }
 
-/// Appends the texts of leading cells whose text is one byte long, as many as fit. Returns their
-/// number.
+/// Appends the text of each leading cell whose text is one byte long, until the buffer is full.
+/// Returns the number of cells appended.
 #[inline(always)]
 fn push_letters(buffer: &mut Buffer, cells: &[Cell]) -> usize
     ensures { Shows buffer.old buffer.new result cells.now }
@@ -148,8 +152,8 @@ fn push_letters(buffer: &mut Buffer, cells: &[Cell]) -> usize
     count
 }
 
-/// Appends the texts of leading wide characters of three bytes, as many as fit. Returns the number
-/// of their cells.
+/// Appends the text of leading wide glyphs that are three bytes long. May stop before the buffer is
+/// full. Returns the number of cells appended, two for each glyph.
 #[inline(always)]
 fn push_pairs(buffer: &mut Buffer, cells: &[Cell]) -> usize
     ensures { Shows buffer.old buffer.new result cells.now }
@@ -163,8 +167,7 @@ fn push_pairs(buffer: &mut Buffer, cells: &[Cell]) -> usize
     count
 }
 
-/// Returns whether the first of two cells has a text of three bytes and the second is a
-/// continuation cell.
+/// Returns whether `cell` has three bytes of text and `next` is a continuation cell.
 #[inline(always)]
 fn is_pair(cell: &Cell, next: &Cell) -> bool
     ensures text { IsTrue result → length (text_of cell.now) ≡ 3 }
@@ -173,7 +176,8 @@ fn is_pair(cell: &Cell, next: &Cell) -> bool
     cell.contents().len() == 3 && next.is_wide_continuation()
 }
 
-/// Appends a space for each leading blank, as many as fit. Returns the number of blanks.
+/// Appends a space for each leading blank until the buffer is full. Returns the number of spaces
+/// appended.
 #[inline(always)]
 fn push_spaces(buffer: &mut Buffer, cells: &[Cell]) -> usize
     ensures { Shows buffer.old buffer.new result cells.now }

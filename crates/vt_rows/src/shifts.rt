@@ -8,8 +8,8 @@ ghost use Rattle.vt_rows.specs.Internals.{rotation_source};
 use crate::{cells, trimming};
 use vt_cells::{Attrs, Cell};
 
-/// Inserts `count` default blanks at a column (ICH). Cells that are pushed past the end of the row
-/// are lost.
+/// Inserts `count` default blanks at column `column` (ICH). Cells that are pushed past the end of
+/// the row are lost.
 ///
 /// If the column holds a continuation cell, the blanks are inserted after it. If the last column
 /// holds the first cell of a wide glyph after the insertion, that cell becomes a blank and keeps
@@ -55,8 +55,8 @@ pub fn delete(cells: &mut [Cell], column: usize, count: usize)
 /// Shifts the cells at and after `start` right by `count` columns. Cells that are pushed past the
 /// end of the row are lost, and the cells of the gap are left for the caller to overwrite.
 ///
-/// The cells are rotated only if `count` is 1: a rotation by one column moves the other cells as
-/// one block of memory, but a rotation by more columns moves each cell several times.
+/// If `count` is 1, the cells are rotated: all but one of them move as one block of memory.
+/// Otherwise they are copied, because a rotation by more columns moves each cell several times.
 fn open_gap(cells: &mut [Cell], start: usize, count: usize)
     requires inside { start + count ≤ length cells.old }
     ensures len { length cells.new ≡ length cells.old }
@@ -72,11 +72,11 @@ fn open_gap(cells: &mut [Cell], start: usize, count: usize)
     cells.copy_within(start..len - count, start + count);
 }
 
-/// Shifts the cells after the `count` columns at `column` left by `count` columns. The last `count`
-/// cells of the row are left for the caller to overwrite.
+/// Shifts the cells at and after `column + count` left by `count` columns. The last `count` cells
+/// of the row are left for the caller to overwrite.
 ///
-/// As in [`open_gap`], the cells are rotated only if `count` is 1, because only a rotation by one
-/// column is fast.
+/// As in [`open_gap`], the cells are rotated if `count` is 1 and copied otherwise, because only a
+/// rotation by one column is fast.
 fn close_gap(cells: &mut [Cell], column: usize, count: usize)
     requires inside { column + count ≤ length cells.old }
     ensures len { length cells.new ≡ length cells.old }
@@ -103,8 +103,8 @@ pub fn turn<T>(items: &mut [T], from: usize, to: usize, count: usize)
     items[from..to].rotate_left(count);
 }
 
-/// Returns the column at which an insertion at `column` takes place: `column` itself, or the next
-/// column if `column` would split a wide glyph.
+/// Returns the column at which an insertion at `column` takes place: the next column if `column`
+/// holds a continuation cell, otherwise `column` itself.
 fn insert_column(cells: &[Cell], column: usize) -> usize
     requires paired { IsPaired cells.now }
     requires inside { column ≤ length cells.now }

@@ -25,8 +25,8 @@ pub fn trimmed_len(cells: &[Cell]) -> usize
     len
 }
 
-/// Returns whether all eight cells are default blanks. All of them are tested, without branches in
-/// between.
+/// Returns whether all eight cells are default blanks. All eight are tested, with no branch between
+/// the tests.
 #[inline(always)]
 fn eight_default(cells: &[Cell]) -> bool
     requires { length cells.now ≡ 8 }

@@ -1,11 +1,12 @@
 //! Functions that change a cell in place.
 
-ghost use Rattle.std.specs.Prelude.{◌≡◌, ◌≢◌, false, Some, if◌then◌else◌, encode_utf8};
-ghost use Rattle.vt_cells.specs.Cell.{blank, glyph, is_blank, is_right_half, cell_with_mark, cell_made_wide, cell_with_attrs, IsCell};
+ghost use Rattle.std.specs.Prelude.{◌≡◌, ◌≢◌, ◌<◌, ◌≤◌, false, Some, if◌then◌else◌, encode_utf8};
+ghost use Rattle.vt_cells.specs.Cell.{blank, glyph, right_half, is_blank, is_right_half, cell_with_mark, cell_made_wide, cell_with_attrs, IsCell};
 ghost use Rattle.vt_cells.specs.CellInternals.{cell_as_glyph};
 ghost use Rattle.vt_cells.specs.Glyph.{columns_of};
 
-use super::making::{blank, glyph, push_char, space};
+use super::making::{ascii, blank, glyph, push_char, right_half, space};
+use super::short::overwrite;
 use super::{Cell, MARK_LIMIT, attrs, is_blank};
 use crate::attrs::Attrs;
 use crate::head::Head;
@@ -15,7 +16,7 @@ use crate::head::Head;
 pub fn clear(cell: &mut Cell, attrs: Attrs)
     ensures { cell.new ≡ blank attrs }
 {
-    *cell = blank(attrs);
+    overwrite(cell, blank(attrs));
 }
 
 /// Turns the cell into the glyph that [`glyph`] creates from the same arguments.
@@ -25,7 +26,25 @@ pub fn set_glyph(cell: &mut Cell, c: char, wide: bool, attrs: Attrs)
     requires columns { columns_of c ≡ Some (if wide then 2 else 1) }
     ensures { cell.new ≡ glyph (encode_utf8 c) wide attrs }
 {
-    *cell = glyph(c, wide, attrs);
+    overwrite(cell, glyph(c, wide, attrs));
+}
+
+/// Turns the cell into a glyph of one printable ASCII character.
+#[inline(always)]
+pub fn set_ascii(cell: &mut Cell, byte: u8, attrs: Attrs)
+    requires low { 0x20 ≤ byte }
+    requires high { byte < 0x7F }
+    ensures { cell.new ≡ glyph (encode_utf8 byte) false attrs }
+{
+    overwrite(cell, ascii(byte, attrs));
+}
+
+/// Turns the cell into the continuation cell of a wide glyph.
+#[inline(always)]
+pub fn set_right_half(cell: &mut Cell)
+    ensures { cell.new ≡ right_half }
+{
+    overwrite(cell, right_half());
 }
 
 /// Adds the combining character `c`, of width 0, to the cell.
@@ -51,7 +70,8 @@ fn fill_blank(cell: &mut Cell)
     }
 }
 
-/// Adds a combining character to a glyph if its text has fewer than [`MARK_LIMIT`] bytes.
+/// Adds a combining character to a glyph, or leaves the glyph unchanged if its text already has
+/// [`MARK_LIMIT`] or more bytes.
 fn put_mark(cell: &mut Cell, c: char)
     requires glyph { is_blank cell.old ≡ false }
     requires shown { is_right_half cell.old ≡ false }
@@ -68,8 +88,8 @@ fn put_mark(cell: &mut Cell, c: char)
 
 /// Makes a glyph wide or narrow; leaves any other cell unchanged.
 ///
-/// The new width must be that of the glyph's first character. If the glyph contains U+FE0F
-/// (variation selector 16), either width is allowed.
+/// Unless the glyph contains U+FE0F (variation selector 16), the new width must equal the width of
+/// the glyph's first character.
 pub fn set_wide(cell: &mut Cell, wide: bool)
     requires { IsCell (cell_made_wide wide cell.old) }
     ensures { cell.new ≡ cell_made_wide wide cell.old }

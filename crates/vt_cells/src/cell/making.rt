@@ -29,7 +29,7 @@ pub fn blank(attrs: Attrs) -> Cell
     }
 }
 
-/// Creates the continuation cell of a wide glyph, which has no text and default attributes.
+/// Creates a continuation cell, which has default attributes and no text.
 #[inline]
 pub fn right_half() -> Cell
     ensures { result ≡ right_half }
@@ -81,8 +81,8 @@ pub fn space(attrs: Attrs) -> Cell
     ascii(b' ', attrs)
 }
 
-/// Appends the UTF-8 encoding of `c` to the text in `contents`, which is `len` bytes long, and
-/// returns the new length of the text (Unicode Standard, section 3.9, Table 3-6).
+/// Appends the UTF-8 encoding of `c` (Unicode Standard, section 3.9, Table 3-6) to the text in the
+/// first `len` bytes of `contents`. Returns the new length of the text.
 #[inline]
 pub(super) fn push_char(contents: &mut [u8; TEXT_ROOM], len: u8, c: char) -> u8
     requires { len < MARK_LIMIT }
@@ -110,8 +110,8 @@ pub(super) fn push_char(contents: &mut [u8; TEXT_ROOM], len: u8, c: char) -> u8
     }
 }
 
-/// Appends `byte` to the text in `contents`, which is `len` bytes long, and returns the new length
-/// of the text.
+/// Appends `byte` to the text in the first `len` bytes of `contents`. Returns the new length of the
+/// text.
 #[inline]
 fn push_byte(contents: &mut [u8; TEXT_ROOM], len: u8, byte: u8) -> u8
     requires { len < TEXT_ROOM }

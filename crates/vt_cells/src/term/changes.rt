@@ -24,8 +24,7 @@ impl BufWrite for ClearAttrs {
     }
 }
 
-/// The sequence that changes the attributes from one set to another (SGR); empty if the two sets
-/// are equal.
+/// The SGR sequence that changes the attributes from `was` to `new`; empty if the two are equal.
 #[derive(Clone, Copy, Debug)]
 pub struct ChangeAttrs {
     /// The attributes before the change.
@@ -36,8 +35,9 @@ pub struct ChangeAttrs {
 }
 
 impl ChangeAttrs {
-    /// Appends the sequence to `buffer`, which is flushed to `sink` when it is full. Appends
-    /// nothing if the two sets of attributes are equal.
+    /// Appends to `buffer` the SGR sequence that changes the attributes from `was` to `new`. First
+    /// flushes the buffer to `sink` if it has fewer than [`SGR_ROOM`] free bytes. Does nothing if
+    /// `was` and `new` are equal.
     ///
     /// # Errors
     ///
@@ -60,8 +60,8 @@ impl ChangeAttrs {
         Ok(())
     }
 
-    /// Appends the sequence to `buffer`, which must have room for it. Appends nothing if the two
-    /// sets of attributes are equal.
+    /// Appends to `buffer` the SGR sequence that changes the attributes from `was` to `new`, or
+    /// nothing if the two are equal. The buffer must have room for [`SGR_ROOM`] bytes.
     #[inline(always)]
     #[tactic(auto, unfolding(crate::specs::Op::change_text))]
     pub fn push(&self, buffer: &mut Buffer)

@@ -1,4 +1,4 @@
-//! Sequences without parameters that move, save, restore, hide or show the cursor.
+//! Control characters and fixed sequences that move, save, restore, hide or show the cursor.
 
 ghost use Rattle.vt_cells.specs.Op as op;
 ghost use Rattle.vt_cells.specs.Op.{bytes_of};

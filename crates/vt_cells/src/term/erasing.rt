@@ -26,7 +26,7 @@ impl BufWrite for ClearScreen {
 pub struct ClearRowForward;
 
 impl ClearRowForward {
-    /// Appends the sequence to `buffer`, which must have room for it.
+    /// Appends the EL sequence to `buffer`, which must have room for at least 25 bytes.
     #[inline(always)]
     pub fn push(&self, buffer: &mut Buffer)
         requires { length buffer.old + 25 ≤ 256 }
@@ -52,7 +52,8 @@ pub struct EraseChar {
 }
 
 impl EraseChar {
-    /// Appends the sequence to `buffer`, which must have room for it.
+    /// Appends the ECH sequence to `buffer`, which must have room for at least 25 bytes. Appends
+    /// nothing if `count` is 0.
     #[inline(always)]
     pub fn push(&self, buffer: &mut Buffer)
         requires { length buffer.old + 25 ≤ 256 }

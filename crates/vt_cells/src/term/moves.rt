@@ -1,4 +1,4 @@
-//! Sequences that move the cursor to a column or a position.
+//! Sequences that move the cursor to a position, or to the right within its row.
 
 ghost use Rattle.std.specs.Prelude.{◌≡◌, ◌+◌, ◌++◌, ◌≤◌, length};
 ghost use Rattle.vt_cells.specs.ChangeInternals.{move_text};
@@ -14,7 +14,7 @@ use crate::term::sequences::write_counted;
 /// The sequence that moves the cursor to a position (CUP, whose parameters are 1-based).
 #[derive(Clone, Copy, Debug)]
 pub struct MoveTo {
-    /// The position of the cursor afterward.
+    /// The position of the cursor after the move.
     pub pos: Pos,
 }
 
@@ -59,7 +59,8 @@ pub struct MoveFromTo {
 }
 
 impl MoveFromTo {
-    /// Appends the sequence to `buffer`, which must have room for it.
+    /// Appends to `buffer` the sequence that moves the cursor from `from` to `to`, or nothing if
+    /// the two are equal. The buffer must have room for at least 25 bytes.
     #[inline(always)]
     pub fn push(&self, buffer: &mut Buffer)
         requires { length buffer.old + 25 ≤ 256 }

@@ -1,18 +1,19 @@
-//! Control sequences with numbers, appended to a buffer.
+//! Writing control sequences with numeric parameters to a buffer or a sink.
 
-ghost use Rattle.std.specs.Prelude.{◌≡◌, ◌+◌, ◌≤◌, ◌<◌, ◌∷◌, ◌++◌, length, decimal, OnErr, OnOk};
+ghost use Rattle.std.specs.Prelude.{◌≡◌, ◌+◌, ◌*◌, ◌≤◌, ◌<◌, ◌∷◌, ◌++◌, length, decimal, OnErr, OnOk};
 ghost use Rattle.vt_cells.specs.Op.{counted, csi, place};
 
 use crate::buffer::Buffer;
 use crate::pos::Pos;
 use crate::sink::Sink;
 
-/// The number of bytes that must fit in a buffer before a sequence with one or two numbers of at
-/// most ten digits is appended.
+/// The free space, in bytes, that a buffer must have for a control sequence with one or two
+/// parameters of at most ten digits each.
 pub const SHORT_ROOM: usize = 25;
 
 impl Buffer {
-    /// Appends a character and a number of up to three digits.
+    /// Appends the ASCII character `lead` and the decimal digits of `number`. The buffer must have
+    /// room for four bytes.
     #[inline(always)]
     #[tactic(auto, using(crate::proofs::ChangeTexts::digits_appended))]
     pub fn push_number(&mut self, lead: u8, number: u8)
@@ -27,14 +28,40 @@ impl Buffer {
         } else if number < 100 {
             self.push_byte(b'0' + number / 10);
             self.push_byte(b'0' + number % 10);
+        } else if number < 200 {
+            // A comparison takes fewer instructions than a division by 100.
+            let rest = number - 100;
+            self.push_byte(b'1');
+            self.push_byte(b'0' + rest / 10);
+            self.push_byte(b'0' + rest % 10);
         } else {
-            self.push_byte(b'0' + number / 100);
-            self.push_byte(b'0' + number / 10 % 10);
-            self.push_byte(b'0' + number % 10);
+            let rest = number - 200;
+            self.push_byte(b'2');
+            self.push_byte(b'0' + rest / 10);
+            self.push_byte(b'0' + rest % 10);
         }
     }
 
-    /// Appends a character and a number of up to ten digits. Most numbers have at most three.
+    /// Appends the ASCII character `lead` and the two decimal digits `tens` and `unit`. The buffer must
+    /// have room for four bytes.
+    #[inline(always)]
+    #[tactic(auto, using(crate::proofs::ChangeTexts::digits_appended))]
+    pub(crate) fn push_tens(&mut self, lead: u8, tens: u8, unit: u8)
+        requires room { length self.old + 4 ≤ 256 }
+        requires ascii { lead < 128 }
+        requires some { 0 < tens }
+        requires digit { tens < 10 }
+        requires unit { unit < 10 }
+        ensures value { self.new ≡ self.old ++ lead ∷ decimal (10 * tens + unit) }
+        ensures room { length self.new ≤ length self.old + 4 }
+    {
+        self.push_byte(lead);
+        self.push_byte(b'0' + tens);
+        self.push_byte(b'0' + unit);
+    }
+
+    /// Appends the ASCII character `lead` and the decimal digits of `number`. The buffer must have
+    /// room for 11 bytes. Numbers below 256, the common case, are formatted inline.
     #[inline(always)]
     fn push_count(&mut self, lead: u8, number: u32)
         requires room { length self.old + 11 ≤ 256 }
@@ -49,7 +76,8 @@ impl Buffer {
         }
     }
 
-    /// Appends a character and a number of up to ten digits.
+    /// Appends the ASCII character `lead` and the decimal digits of `number`, in a call that is not
+    /// inlined. The buffer must have room for 11 bytes.
     #[inline(never)]
     fn push_long(&mut self, lead: u8, number: u32)
         requires room { length self.old + 11 ≤ 256 }
@@ -62,8 +90,9 @@ impl Buffer {
         self.push(digits.format(number));
     }
 
-    /// Appends the sequence with a count and a final byte. Appends nothing if the count is 0, and
-    /// no parameter if the count is 1.
+    /// Appends the control sequence with the parameter `count` and the final byte `last`. Omits the
+    /// parameter if `count` is 1, and appends nothing if `count` is 0. The buffer must have room
+    /// for [`SHORT_ROOM`] bytes.
     #[inline(always)]
     pub fn push_counted(&mut self, count: u16, last: u8)
         requires room { length self.old + 25 ≤ 256 }
@@ -103,8 +132,8 @@ impl Buffer {
     }
 }
 
-/// Writes the sequence with a count and a final byte. The sequence is empty if the count is 0, and
-/// has no parameter if the count is 1.
+/// Writes to `sink` the control sequence with the parameter `count` and the final byte `last`.
+/// Omits the parameter if `count` is 1, and writes nothing if `count` is 0.
 ///
 /// # Errors
 ///

@@ -1,4 +1,4 @@
-//! The text of an SGR sequence.
+//! Appending SGR sequences to a buffer.
 
 ghost use Rattle.std.specs.Prelude.{◌≡◌, ◌+◌, ◌<◌, ◌≤◌, [], ◌∷◌, ◌++◌};
 ghost use Rattle.std.specs.Prelude.{length, if◌then◌else◌};
@@ -7,18 +7,18 @@ ghost use Rattle.vt_cells.specs.ChangeInternals.{AppendsNumbers, style_part, swi
 ghost use Rattle.vt_cells.specs.Op.{background_numbers, change_numbers, csi};
 ghost use Rattle.vt_cells.specs.Op.{foreground_numbers, intensity_number, semicolon_list, part};
 
-use crate::attrs::{Attrs, Intensity};
+use crate::attrs::Attrs;
 use crate::buffer::Buffer;
 use crate::color::Color;
 
-/// The number of bytes that must fit in a buffer before an SGR sequence is appended. The longest
-/// has 14 numbers of at most three digits, a character before each, and the two bytes `ESC` and
-/// `m`.
+/// The free space, in bytes, that a buffer must have before an SGR sequence is appended. The
+/// longest sequence has 14 parameters of at most three digits, each preceded by one character, and
+/// the bytes `ESC` and `m`.
 pub const SGR_ROOM: usize = 64;
 
-/// The methods append parameters, each preceded by the character `lead`, which is `[` before the
-/// first parameter of the sequence and `;` before the others. They return the character before the
-/// next parameter.
+/// Methods that append an SGR sequence or some of its parameters. `lead` is the character before
+/// the next parameter: `[` before the first parameter of the sequence, `;` before any other.
+/// Methods that return a character return the `lead` of the next parameter.
 impl Buffer {
     /// Appends the SGR sequence that changes the attributes from `was` to `new`.
     ///
@@ -41,6 +41,7 @@ impl Buffer {
     }
 
     /// Appends the parameters of the foreground color if it differs between `was` and `new`.
+    /// Returns the `lead` character of the next parameter.
     #[inline(always)]
     #[tactic(auto, using(crate::proofs::ChangeTexts::numbers_appended), unfolding(crate::specs::Op::foreground_numbers))]
     fn push_foreground(&mut self, lead: u8, was: Attrs, new: Attrs) -> u8
@@ -54,7 +55,7 @@ impl Buffer {
         }
         match new.fgcolor() {
             Color::Default => self.push_number(lead, 39),
-            Color::Idx(i) if i < 8 => self.push_number(lead, 30 + i),
+            Color::Idx(i) if i < 8 => self.push_tens(lead, 3, i),
             Color::Idx(i) if i < 16 => self.push_number(lead, 82 + i),
             Color::Idx(i) => self.push_indexed(lead, 38, i),
             Color::Rgb(r, g, b) => self.push_parts(lead, 38, r, g, b),
@@ -63,6 +64,7 @@ impl Buffer {
     }
 
     /// Appends the parameters of the background color if it differs between `was` and `new`.
+    /// Returns the `lead` character of the next parameter.
     #[inline(always)]
     #[tactic(auto, using(crate::proofs::ChangeTexts::numbers_appended), unfolding(crate::specs::Op::background_numbers))]
     fn push_background(&mut self, lead: u8, was: Attrs, new: Attrs) -> u8
@@ -76,7 +78,7 @@ impl Buffer {
         }
         match new.bgcolor() {
             Color::Default => self.push_number(lead, 49),
-            Color::Idx(i) if i < 8 => self.push_number(lead, 40 + i),
+            Color::Idx(i) if i < 8 => self.push_tens(lead, 4, i),
             Color::Idx(i) if i < 16 => self.push_number(lead, 92 + i),
             Color::Idx(i) => self.push_indexed(lead, 48, i),
             Color::Rgb(r, g, b) => self.push_parts(lead, 48, r, g, b),
@@ -84,8 +86,8 @@ impl Buffer {
         b';'
     }
 
-    /// Appends the parameters of the style (everything except the colors) if it differs between
-    /// `was` and `new`.
+    /// Appends a parameter for each of intensity, italics, underline and inverse that differs
+    /// between `was` and `new`. Returns the `lead` character of the next parameter.
     #[inline(always)]
     fn push_style(&mut self, lead: u8, was: Attrs, new: Attrs) -> u8
         requires room { length self.old + 16 ≤ 256 }
@@ -96,7 +98,8 @@ impl Buffer {
         self.push_switches(lead, was, new)
     }
 
-    /// Appends the parameter of the intensity if it differs between `was` and `new`.
+    /// Appends the parameter of the intensity if it differs between `was` and `new`. Returns the
+    /// `lead` character of the next parameter.
     #[inline(always)]
     fn push_intensity(&mut self, lead: u8, was: Attrs, new: Attrs) -> u8
         requires room { length self.old + 4 ≤ 256 }
@@ -107,16 +110,19 @@ impl Buffer {
         if was.has_intensity_of(&new) {
             return lead;
         }
-        match new.intensity() {
-            Intensity::Normal => self.push_number(lead, 22),
-            Intensity::Bold => self.push_number(lead, 1),
-            Intensity::Dim => self.push_number(lead, 2),
+        if new.bold() {
+            self.push_number(lead, 1);
+        } else if new.dim() {
+            self.push_number(lead, 2);
+        } else {
+            self.push_number(lead, 22);
         }
         b';'
     }
 
-    /// Appends a parameter for each of italics, underline and inverse that differs between `was`
-    /// and `new`.
+    /// Appends an SGR parameter for each of italics, underline and inverse that differs between
+    /// `was` and `new`. `lead` precedes the first of them. Returns the character that must precede
+    /// the next parameter.
     #[inline(always)]
     fn push_switches(&mut self, lead: u8, was: Attrs, new: Attrs) -> u8
         requires room { length self.old + 12 ≤ 256 }
@@ -132,6 +138,7 @@ impl Buffer {
     }
 
     /// If `was` and `new` differ, appends the parameter `on` if `new` is true, otherwise `off`.
+    /// Returns the `lead` character of the next parameter.
     #[inline(always)]
     #[tactic(auto, using(crate::proofs::ChangeTexts::numbers_appended))]
     fn push_switch(&mut self, lead: u8, was: bool, new: bool, on: u8, off: u8) -> u8

@@ -79,8 +79,9 @@ fn write_cells<S: Sink>(sink: &mut S, cells: &[Cell], attrs: Attrs) -> Result<At
     Ok(last)
 }
 
-/// Appends the text of a cell. `attrs` holds the attributes written last, and is updated. Appends
-/// nothing for a continuation cell.
+/// Appends the text of a cell to `buffer`, flushing the buffer to `sink` if it lacks room. Unless
+/// [`keeps_attrs`] returns `true`, an SGR sequence precedes the text. `attrs` holds the attributes
+/// written last, and is updated. Appends nothing for a continuation cell.
 #[inline]
 #[tactic(auto, using(crate::proofs::BasicTexts::right_adds, crate::proofs::BasicTexts::right_keeps))]
 fn add_cell<S: Sink>(
@@ -108,8 +109,8 @@ fn add_cell<S: Sink>(
     buffer.add(sink, shown_text(cell))
 }
 
-/// Returns whether a cell is written without an SGR sequence: it is a default blank, a continuation
-/// cell, or a cell with `attrs`, the attributes written last.
+/// Returns whether a cell is written without an SGR sequence, that is, whether it is a default
+/// blank, a continuation cell, or a cell with `attrs`, the attributes written last.
 #[inline]
 #[tactic(auto, using(crate::proofs::BasicTexts::attrs_kept))]
 fn keeps_attrs(cell: &Cell, attrs: &Attrs) -> bool

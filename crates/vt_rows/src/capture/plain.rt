@@ -82,7 +82,7 @@ impl<'a> Iterator for BasicFormattedToPlainIndexed<'a> {
 impl<'a> FusedIterator for BasicFormattedToPlainIndexed<'a> {}
 
 /// Splits `text` at its first SGR sequence. Returns the text before the sequence and the text after
-/// it.
+/// it, or `text` and an empty string if there is no sequence.
 fn split_at_sgr(text: &str) -> (&str, &str)
     ensures pieces { (at : ℕ) →
         pieces_from at text.now
@@ -128,7 +128,7 @@ impl<'a> Model for BasicFormattedToPlain<'a> {
 }
 
 /// Returns an iterator over the chunks of `capture` that are outside SGR sequences, in order.
-/// Concatenated, they are the plain text of the capture.
+/// Concatenated, the chunks are the plain text of the capture.
 ///
 /// [`basic_formatted_to_plain_indexed`] also returns the byte index of each chunk.
 pub fn basic_formatted_to_plain(capture: &str) -> BasicFormattedToPlain<'_>

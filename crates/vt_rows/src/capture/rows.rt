@@ -34,13 +34,13 @@ impl<'a> Model for BasicFormattedRows<'a> {
     ghost view = { λ it. option_map_or (λ rest. rows_of it.width rest.now) it.rest [] };
 }
 
-/// Returns an iterator over the rows that `capture` has on a terminal of `screen_width` columns, in
+/// Returns an iterator over the rows of `capture` on a terminal of `screen_width` columns, in
 /// order.
 ///
 /// A row ends at a `\n` that is outside SGR sequences, or before a character that would make the
 /// row wider than `screen_width`. The `\n` is dropped. A row always has room for its first
 /// character of nonzero width, even if that character is wider than `screen_width`. The text after
-/// the end of the last row found in this way is also a row, even if it is empty.
+/// the last row end is the last row, even if it is empty.
 ///
 /// An SGR sequence extends from ESC through the next `m`, or to the end of the capture if there is
 /// none. An SGR sequence takes no columns; between two rows, it belongs to the earlier row. A
@@ -121,8 +121,8 @@ impl Reach {
         }
     }
 
-    /// Returns whether the character `c`, which follows the text read so far, ends the row: it is a
-    /// `\n` outside SGR sequences.
+    /// Returns whether the character `c`, which follows the text read so far, ends the row, that
+    /// is, whether it is a `\n` outside SGR sequences.
     fn is_row_end(self, c: char) -> bool
         ensures { result ≡ (not self.is_within && (c == 0x0A)) }
     {
@@ -166,8 +166,8 @@ impl Reach {
     }
 }
 
-/// Returns whether a string is inside an SGR sequence at its end, after its last character `c`.
-/// `within` is true if the string is inside one before `c`.
+/// Returns whether a string whose last character is `c` ends inside an SGR sequence. `within` is
+/// true if the part before `c` ends inside one.
 fn is_within_after(within: bool, c: char) -> bool
     ensures { result ≡ is_within_after within c }
 {

@@ -17,7 +17,7 @@ returns-clause-value c =
     let x = c.args.cell in
     let cells = c.args.cells.now in
     let k = c.args.column in
-    rw (c.right_half.ensures, c.blank_right.ensures, c.blank_left.ensures, c.attrs.ensures)
+    rw (c.set_right_half.ensures, c.blank_right.ensures, c.blank_left.ensures, c.attrs.ensures)
     (wide_steps k (blank (attrs_of x)) x cells c.requires.paired c.requires.inside
     ∙ ap (λ (g : CellValue). put_cells k (blank (attrs_of x)) (g ∷ right_half ∷ []) 2 cells)
     (wide_is x c.requires.wide))

@@ -2,13 +2,13 @@ use Rattle.std.proofs.Common.{◌<◌, length, arith}
 use Rattle.vt_rows.proofs.Texts.{glyphs_of_is}
 use Rattle.vt_rows.proofs.cells.write_each.Goals as goal
 
-pub ascii-requires-clause-low : goal.ascii-requires-clause-low
-ascii-requires-clause-low c =
+pub set_ascii-requires-clause-low : goal.set_ascii-requires-clause-low
+set_ascii-requires-clause-low c =
     let lt : c.loop-k.k < length c.args.text.now = omega arith in
     (c.requires.printable c.loop-k.k 0 lt).0
 
-pub ascii-requires-clause-high : goal.ascii-requires-clause-high
-ascii-requires-clause-high c =
+pub set_ascii-requires-clause-high : goal.set_ascii-requires-clause-high
+set_ascii-requires-clause-high c =
     let lt : c.loop-k.k < length c.args.text.now = omega arith in
     (c.requires.printable c.loop-k.k 0 lt).1
 

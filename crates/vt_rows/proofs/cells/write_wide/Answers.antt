@@ -3,13 +3,13 @@ use Rattle.vt_cells.specs.Glyph.{columns_of}
 use Rattle.vt_rows.proofs.WideTexts.{wide_glyphs_of_is}
 use Rattle.vt_rows.proofs.cells.write_wide.Goals as goal
 
-pub glyph-requires-clause-reported : goal.glyph-requires-clause-reported
-glyph-requires-clause-reported c =
+pub set_glyph-requires-clause-reported : goal.set_glyph-requires-clause-reported
+set_glyph-requires-clause-reported c =
     let lt : c.loop-k.k < length c.args.text.now = omega arith in
     subst (λ (x : ℕ). x ≢ 0xFFFD) (sym c.index-text-k.is) (c.requires.wide c.loop-k.k c.index-text-k.result lt).1.0
 
-pub glyph-requires-clause-columns : goal.glyph-requires-clause-columns
-glyph-requires-clause-columns c =
+pub set_glyph-requires-clause-columns : goal.set_glyph-requires-clause-columns
+set_glyph-requires-clause-columns c =
     let lt : c.loop-k.k < length c.args.text.now = omega arith in
     subst (λ (x : ℕ). columns_of x ≡ Some 2) (sym c.index-text-k.is)
     (c.requires.wide c.loop-k.k c.index-text-k.result lt).1.1

@@ -1,4 +1,4 @@
-use Rattle.std.proofs.Common.{◌+◌, ◌++◌, ◌∙◌, [], List, ℕ, ap, arith, drop, refl, subst}
+use Rattle.std.proofs.Common.{◌++◌, ◌∙◌, [], List, ℕ, ap, arith, drop, refl, subst}
 use Rattle.std.specs.List.{flat_map}
 use Rattle.std.proofs.lemmas.List.{length-drop, take_rest}
 use Rattle.vt_cells.proofs.Sinks.{on_err, some_among}

@@ -1,0 +1,12 @@
+use Rattle.std.proofs.Common.{◌<◌, arith, length}
+use Rattle.vt_rows.proofs.Columns.{blanks_is}
+use Rattle.vt_rows.proofs.cells.clear_short.Goals as goal
+
+pub put_short-requires-clause-old : goal.put_short-requires-clause-old
+put_short-requires-clause-old c = c.loop-cell.invariant.rest c.loop-cell.cell-index _ (omega arith) (omega arith)
+
+pub returns : goal.returns
+returns c =
+    let l = c.loop-cell.auto.cells in
+    blanks_is c.args.attrs (length c.args.cells.now) c.loop-cell.cells (omega arith)
+    (λ k h. let lt : k < c.loop-cell.cell-index = omega arith in c.loop-cell.invariant.written k lt)
