@@ -105,7 +105,7 @@ pub record IsPageUnder (scrollback : Scrollback) (full : ℕ) (rows : List RowVa
   pub nonempty : 0 < columns
 
 -- The row at the given index of a picture made from the given displayed rows, or a blank row if the index is past the
--- end.
+-- end. If `is_last` is true, the row is not wrapped.
 abbrev pub row_seen : (is_last : Bool) → ℕ → List RowValue → ℕ → RowValue
 row_seen is_last width rows r = cut_row (is_last || (r + 1 == length rows)) width (row_or width rows r)
 
@@ -206,8 +206,8 @@ pub record GathersOrStops {A E : Type 0} (result : Result A E) (start before end
   pub grows : OnOk result (length start ≤ length end)
   pub nonempty : RefusedOnlyIfSome result (before ++ bytes_of_all ops)
 
--- The effect of writing the output for the cells at a position. The call returns the number of columns that it
--- completed, and fails only if the sink rejects some nonempty output.
+-- The effect of writing the output for the next cells of a row, starting at the given position. The call returns the
+-- number of columns that it has drawn, at least one. It fails only if the sink rejects nonempty output.
 pub record SettlesOrStops {E : Type 0} (result : Result ℕ E) (start before end behind : List ℕ)
     (pen : Pen) (flag : Bool) (pos : Pos) (x y : RowValue) (whole : Scripted) : Type 0 where
   pub leads : IfOk result (λ n. Leads (buffered_text end behind)
@@ -243,11 +243,11 @@ pub record Writes (start text : List ℕ) (pen : Pen) (flag : Bool) (whole : Scr
 abbrev pub row_behind : ℕ → Link → Pen → (x y : RowValue) → Scripted
 row_behind r link pen x y = row_written r link.settled pen link.flag x y.cells
 
--- The output that turns the rows `ys`, displayed below row `r` of the terminal, into the rows `xs`.
+-- The output that turns the part of the terminal's rows `ys` below row `r` into the same part of `xs`.
 abbrev pub rows_under : (r width : ℕ) → Pen → Bool → (xs ys : List RowValue) → Scripted
 rows_under r width pen on xs ys = rows_below r pen (row_or width xs r) on (drop (r + 1) xs) (drop (r + 1) ys)
 
--- The operations that set the wrapped flag of the terminal's row; none unless the flag is wanted and not yet set.
+-- The operations that set the wrapped flag of the terminal's row if the flag is wanted and not yet set; otherwise none.
 abbrev pub mark_of : ℕ → Pen → (flag wanted : Bool) → List CellValue → List Op
 mark_of r pen flag wanted cells = if wanted && not flag then (behind_last_glyph r pen cells).ops else []
 

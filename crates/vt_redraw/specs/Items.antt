@@ -43,8 +43,8 @@ range_written r start stop flag xs ys =
 abbrev pub is_whole : (start stop width : ℕ) → Bool
 is_whole start stop width = (start == 0) && (stop == width)
 
--- The given output, followed by printing the row's last glyph again if the row must be wrapped and the terminal's row
--- is not.
+-- The given output, followed by the operations that print the row's last glyph again if the row must be wrapped and the
+-- terminal's row is not.
 abbrev pub marked_on : ℕ → Scripted → Bool → List CellValue → Scripted
 marked_on r w wanted cells =
     if wanted && not w.flag
@@ -122,8 +122,8 @@ abbrev pub formatted_row : (start stop width : ℕ) → RowValue → RowValue
 formatted_row start stop width x =
     record { cells = with_range start stop x.cells (blanks default_attrs width); wrapped = false }
 
--- The canvas after its row `r` is replaced with the given row, and its cursor position and attributes are replaced with
--- those of a pen.
+-- The canvas after the row at the given index is replaced with the given row, and the cursor position and attributes
+-- are replaced with those of a pen.
 abbrev pub row_drawn : ℕ → RowValue → Pen → Canvas → Canvas
 row_drawn r row pen any = record any {
   page = record (with_row r row any.page) { row = pen.row; column = pen.col };

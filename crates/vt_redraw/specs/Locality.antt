@@ -43,8 +43,8 @@ abbrev pub placing_row : Option ℕ → ℕ → ℕ
 placing_row None r = r
 placing_row (Some i) r = i
 
--- A wrap is pending in the picture, and the position at the given row and column belongs to what a redraw prints to make
--- that wrap pending: the last glyph of a row, or a blank in its last column.
+-- A wrap is pending in the picture, and a redraw may print at the given row and column to make the wrap pending: the
+-- position is in the last glyph of a row or in a row's blank last column.
 abbrev pub MayPlace : Picture → ℕ → ℕ → Type 0
 MayPlace self r c =
     (self.column ≡ self.width)

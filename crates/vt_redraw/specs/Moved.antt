@@ -11,7 +11,8 @@ use Rattle.vt_redraw.specs.Redraw.{difference}
 use Rattle.vt_redraw.specs.Script.{attr_ops}
 use Rattle.vt_redraw.specs.declared.band.Band.{Band}
 
--- The band moves and is valid for a picture of `height` rows. If it moves by its whole height, all its rows become blank.
+-- The band lies within a picture of `height` rows and moves by at least one row and at most its own height. If it moves
+-- by its whole height, all its rows become blank.
 pub record IsBand (height : ℕ) (band : Band) : Type 0 where
   pub nonempty : 0 < band.count
   pub rows : band.top + band.count ≤ band.bottom
@@ -28,8 +29,8 @@ abbrev pub band_source : Band → (past r : ℕ) → ℕ
 band_source band past r =
     if nat_le band.top r && nat_lt r band.bottom then source_within band past r else r
 
--- The rows after a band of them has moved. Rows that the band leaves empty become default blanks, and the last row is
--- not wrapped.
+-- The rows after a band of them has moved. Rows that the band vacates are filled with default blanks, and the last row
+-- is marked as not wrapped.
 unfoldable pub rows_moved : (width : ℕ) → Band → List RowValue → List RowValue
 rows_moved width band rows =
     unflagged width (length rows - 1) (moved_rows width (band_source band (length rows)) rows)
@@ -41,9 +42,9 @@ last_moved height band =
     else if band.up then band.bottom - band.count
     else band.top
 
--- The picture displayed after the sequences that move a band. The cursor is in the first column of the row that
--- `last_moved` gives. The attributes are the defaults, because a terminal may fill blank rows with the current
--- background color.
+-- The picture displayed after the terminal reads the sequences that move a band. The cursor is in the first column of
+-- the row that `last_moved` returns. The attributes are the defaults, because a terminal may fill blank rows with the
+-- current background color.
 abbrev pub picture_after_move : Band → Picture → Picture
 picture_after_move band picture = record picture {
   rows = rows_moved picture.width band picture.rows;
@@ -76,7 +77,7 @@ down_text height band =
     if band.bottom == height then lines_inserted_text band.top band.count
     else lines_deleted_text (band.bottom - band.count) band.count ++ lines_inserted_text band.top band.count
 
--- The sequences that move a band in its direction.
+-- The sequences that move a band up or down, depending on the band's direction.
 abbrev pub band_text : (height : ℕ) → Band → List ℕ
 band_text height band = if band.up then up_text height band else down_text height band
 

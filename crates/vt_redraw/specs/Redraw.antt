@@ -14,7 +14,7 @@ use Rattle.vt_redraw.specs.Picture.{Picture}
 use Rattle.vt_redraw.specs.Script.{Scripted, no_ops, ops_then, is_at, behind_last_glyph, last_column}
 use Rattle.vt_redraw.specs.Script.{last_glyph, cells_written, Linked, no_link, row_link, row_break}
 
--- ---- the rows from the top
+-- ---- the rows, from top to bottom
 
 -- The output for row `r`: the row's cells, except for the first `settled` cells, and then the break, which clears the
 -- wrapped flag if the row must not be wrapped.
@@ -47,12 +47,13 @@ rows_written pen (x ∷ xs) (y ∷ ys) =
 
 -- ---- the cursor
 
--- The nearest row, at or above the given row, whose last column is not blank.
+-- The nearest row at or above the given row whose last column is not blank; `None` if there is no such row.
 abbrev pub nearest : ℕ → List RowValue → ℕ → Option ℕ
 nearest width rows zero = if ends_blank (row_or width rows 0).cells then None else Some 0
 nearest width rows (suc n) = if ends_blank (row_or width rows (suc n)).cells then nearest width rows n else Some (suc n)
 
--- The operations that move the cursor past a blank last column: a space is printed and then erased.
+-- The operations that move the cursor past a last column that holds a blank with the attributes `attrs`: a space is
+-- printed and then erased. The pen has the attributes `was` before and afterward.
 abbrev pub blank_passed : (was attrs : Attrs) → List Op
 blank_passed was attrs =
     Print (0x20 ∷ [])

@@ -1,4 +1,4 @@
--- The output that a sink can reject.
+-- Failed writes: a sink can reject only nonempty output.
 use Rattle.std.specs.Prelude.{ℕ, ◌<◌, List, length, OnErr, Result}
 
 -- If the result is an error, the output is not empty.

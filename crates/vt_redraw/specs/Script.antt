@@ -67,8 +67,8 @@ abbrev pub is_torn : List CellValue → Bool
 is_torn (right_half ∷ []) = true
 is_torn _ = false
 
--- Whether the terminal's row is still wrapped after a glyph is printed: the row was wrapped before, and the glyph is
--- not a wide one followed only by a continuation cell, which becomes blank.
+-- Whether the terminal's row is still wrapped after a glyph is printed. Printing a wide glyph clears the wrapped flag
+-- if the only cell after the glyph is a continuation cell, which becomes blank.
 abbrev pub flag_behind : Bool → Bool → List CellValue → Bool
 flag_behind flag wide rest = flag && not (wide && is_torn rest)
 

@@ -25,7 +25,7 @@ abbrev pub IsMove : (height width : ℕ) → Move → Type 0
 IsMove height width (Rows band) = IsBand height band
 IsMove height width (Columns shift) = IsRowShift height width shift
 
--- A row after blanks are inserted in the row or columns are deleted from it.
+-- A row after a shift inserts blanks into it or deletes columns from it.
 abbrev pub shifted_row : RowShift → RowValue → RowValue
 shifted_row shift row =
     if shift.insert then inserted_row shift.col shift.count row else deleted_row shift.col shift.count row
@@ -36,7 +36,7 @@ shifted_page shift page =
     with_row shift.row (shifted_row shift (row_at page shift.row))
     (record page { row = shift.row; column = shift.col })
 
--- A page after several shifts, in order.
+-- A page after the given shifts are applied in order.
 abbrev pub shifted_pages : List RowShift → Page → Page
 shifted_pages [] page = page
 shifted_pages (shift ∷ shifts) page = shifted_pages shifts (shifted_page shift page)
@@ -49,13 +49,13 @@ shifted shift picture = record picture {
   column = shift.col;
 }
 
--- A picture after several shifts, in order.
+-- A picture after the given shifts are applied in order.
 abbrev pub shifted_all : List RowShift → Picture → Picture
 shifted_all [] picture = picture
 shifted_all (shift ∷ shifts) picture = shifted_all shifts (shifted shift picture)
 
--- The picture with default attributes, which are set before columns are shifted because a terminal may fill inserted
--- columns with the current background color.
+-- The picture with its current attributes reset to the defaults; its cells are unchanged. The attributes are reset before
+-- columns are shifted, because a terminal may fill inserted columns with the current background color.
 abbrev pub in_default_attrs : Picture → Picture
 in_default_attrs picture = record picture { attrs = default_attrs }
 
@@ -66,7 +66,7 @@ abbrev pub shift_text : RowShift → List ℕ
 shift_text shift =
     bytes_of (MoveTo shift.row shift.col) ++ counted shift.count (if shift.insert then 0x40 else 0x50)
 
--- The sequences of several shifts.
+-- The sequences that perform the given shifts in order.
 abbrev pub shifts_text : List RowShift → List ℕ
 shifts_text shifts = flat_map shift_text shifts
 

@@ -39,7 +39,7 @@ pub record IsOfSize (width height : ℕ) (picture : Picture) : Type 0 where
 
 -- ---- pictures known to be steady
 
--- Whether a glyph contains U+FE0F, which requests emoji presentation (Unicode, Variation Sequences).
+-- Whether a cell's text contains U+FE0F, which requests emoji presentation (Unicode, Variation Sequences).
 abbrev pub has_selector : CellValue → Bool
 has_selector (glyph text wide attrs) = list_any is_selector (chars text)
 has_selector (blank attrs) = false
@@ -48,6 +48,6 @@ has_selector right_half = false
 abbrev pub HasNoSelector : Picture → Type 0
 HasNoSelector picture = All (λ row. All (λ cell. has_selector cell ≡ false) row.cells) picture.rows
 
--- The text of a heart, U+2764, followed by U+FE0F.
+-- The text of a heart emoji: U+2764 followed by U+FE0F.
 abbrev pub heart_text : List ℕ
 heart_text = encode_utf8 0x2764 ++ encode_utf8 0xFE0F

@@ -1,11 +1,11 @@
-//! Bands of rows of a picture that move together.
+//! Bands: ranges of a picture's rows that move up or down together.
 
 ghost use Rattle.std.specs.Prelude.{◌≡◌, ◌<◌, ℕ, true, unwrap_or};
 ghost use Rattle.vt_redraw.specs.Moved.{IsBand, band_source, last_moved};
 
-/// A band of rows that move up or down within a range of rows. Rows that move
-/// past the end of the range are lost, and blank rows enter at its other end. If
-/// the distance is the height of the range, the move erases all its rows.
+/// A band of rows that move up or down within a range of rows. Rows that move past one end of the
+/// range are lost, and blank rows enter at the other. If the distance is the height of the range,
+/// all rows of the range are erased.
 #[derive(Clone, Copy, PartialEq, Eq, Debug)]
 pub struct Band {
     /// The first row of the range, counted from 0.

@@ -1,5 +1,5 @@
-//! A guess at the rows that have moved between two pictures. Correctness does not depend on the
-//! guess: after any band has moved, the diff draws all remaining changes.
+//! A guess at the rows or columns that have moved between two pictures. Correctness does not depend
+//! on the guess: whatever is moved, the diff then draws all remaining changes.
 //!
 //! Throughout this module, `prev` is the picture that the terminal displays, and `view` is the
 //! picture that it is to display. Only the first `height` rows are examined. `here` holds the cost
@@ -19,15 +19,19 @@ use crate::row_shift::RowShift;
 use crate::view::View;
 use vt_cells::Attrs;
 
-/// The maximum number of rows that are examined, starting at the top.
+/// The maximum number of rows, counted from the top, that are examined in the search for a move.
 const MOST_ROWS: u16 = 256;
 
 /// The number of columns at the left edge that are ignored when rows are
 /// compared, because they may hold line numbers.
 const MARGIN: u16 = 8;
 
-/// The minimum length, in bytes, of a diff that is examined for moved rows.
+/// The minimum length, in bytes, of a diff for which a move is considered.
 const LEAST_TEXT: usize = 20;
+
+/// The maximum length, in bytes, of a diff that is examined for moved columns or for rows to erase.
+/// A longer diff is not worth the time that it takes to write it a second time.
+const MOST_TEXT: usize = 4096;
 
 /// The number of columns, starting after the margin, whose text determines the
 /// key of a row.
@@ -36,9 +40,13 @@ const KEYED: u16 = 16;
 /// The cost of a row, in bytes, above which the row is examined for columns that have moved.
 const LEAST_COST: i32 = 12;
 
+/// A shift of columns is the first one only if it is expected to save more than one byte of the diff
+/// in so many.
+const LEAST_SHARE: i32 = 64;
+
 /// The maximum number of rows that are examined in the search for a row whose columns seem to have
 /// moved.
-const MOST_TRIED: u32 = 6;
+const MOST_TRIED: u32 = 12;
 
 /// A key for each examined row. Rows are compared only if their keys are equal.
 type Keys = [u32; 256];
@@ -59,20 +67,22 @@ struct Stretch {
     behind: u16,
 }
 
-/// A move that the output may make before it draws the remaining changes.
+/// A movement of rows or columns with which a diff may begin, before it draws what else differs.
 #[derive(Clone, Copy, PartialEq, Eq, Debug)]
 pub enum Move {
     /// A band of rows moves up or down.
     Rows(Band),
 
-    /// Columns of some rows move right or left. The value is the shift of the first of these rows.
+    /// Columns move right or left in one or more rows. The value is the shift of the first of these
+    /// rows.
     Columns(RowShift),
 }
 
-/// Returns the move of rows or columns that most likely happened between `prev` and `view`. If
-/// none seems to have happened, returns a move that erases rows, or `None` if no move is expected
-/// to shorten the output. `text` is the diff written without a move. Only the first 256 rows are
-/// examined.
+/// Returns the move of rows or columns that most likely happened between `prev` and `view`. If no
+/// rows or columns seem to have moved, returns a move that erases rows. Returns `None` if no move is
+/// expected to shorten the output enough, or if `text`, the diff written without a move, is shorter
+/// than 20 bytes. Only the first 256 rows are examined, and if `text` is longer than 4096 bytes, only
+/// moves of rows are considered.
 pub fn likely_move(view: &View<'_>, prev: &View<'_>, text: &str) -> Option<Move>
     requires { SamePictureSize view.now prev.now }
     ensures inside { IfSome result (IsMove (length prev.now.rows) prev.now.width) }
@@ -86,10 +96,13 @@ pub fn likely_move(view: &View<'_>, prev: &View<'_>, text: &str) -> Option<Move>
     if let Some(band) = likely_band(view, prev, height, &here) {
         return Some(Move::Rows(band));
     }
-    if let Some(shift) = first_row_shift(view, prev, height, &here) {
+    if text.len() > MOST_TEXT {
+        return None;
+    }
+    if let Some(shift) = first_row_shift(view, prev, height, &here, text.len()) {
         return Some(Move::Columns(shift));
     }
-    let erased = likely_erasure(view, height, &here, prev.pen().attrs)?;
+    let erased = likely_erasure(view, height, &here, prev.pen().attrs, text.len())?;
     Some(Move::Rows(erased))
 }
 
@@ -111,24 +124,28 @@ fn likely_band(view: &View<'_>, prev: &View<'_>, height: u16, here: &Numbers) ->
     }
 }
 
-/// Returns the shift of the first row whose columns seem to have moved between `prev` and `view`.
-/// Only the first [`MOST_TRIED`] rows that cost more than [`LEAST_COST`] bytes are examined.
+/// Returns the shift of the first row whose columns seem to have moved between `prev` and `view`,
+/// or `None` if there is no such row. Only the first [`MOST_TRIED`] rows that cost more than
+/// [`LEAST_COST`] bytes are examined. Skips shifts that save too small a share of the `len` bytes of
+/// the diff.
 fn first_row_shift(
     view: &View<'_>,
     prev: &View<'_>,
     height: u16,
     here: &Numbers,
+    len: usize,
 ) -> Option<RowShift>
     requires size { SamePictureSize view.now prev.now }
     requires inside { height ≤ length view.now.rows }
     requires few { height ≤ 256 }
     ensures { IfSome result (IsRowShift (length prev.now.rows) prev.now.width) }
 {
+    let least = i32::try_from(len).ok()? / LEAST_SHARE;
     let mut tried = 0;
     for row in 0..height {
         if here[usize::from(row)] > LEAST_COST && tried < MOST_TRIED {
             tried += 1;
-            if let Some(shift) = likely_row_shift(view, prev, row) {
+            if let Some(shift) = likely_row_shift(view, prev, row, least) {
                 return Some(shift);
             }
         }
@@ -149,23 +166,24 @@ fn keys(view: &View<'_>, height: u16) -> Keys
     keys
 }
 
-/// Returns the key of a row, computed from the first bytes of some of its
-/// cells.
+/// Returns the key of a row, computed from the first byte of each cell's text in the [`KEYED`]
+/// columns after the margin. Blanks add nothing to it, because a row need not store its last blanks.
 fn key(cells: &PictureRow<'_>) -> u32 {
-    let stop = cells.cols().min(MARGIN + KEYED);
+    let own = cells.own_cells();
+    let stop = own.len().min(usize::from(MARGIN + KEYED));
     let mut key = 0_u32;
-    for col in MARGIN..stop {
-        let first = cells.cell(col).contents().as_bytes().first();
-        key = key.wrapping_mul(31).wrapping_add(match first {
-            Some(byte) => u32::from(*byte),
-            None => 0,
-        });
+    let mut factor = 1_u32;
+    for col in usize::from(MARGIN)..stop {
+        if let Some(byte) = own[col].contents().as_bytes().first() {
+            key = key.wrapping_add(u32::from(*byte).wrapping_mul(factor));
+        }
+        factor = factor.wrapping_mul(31);
     }
     key
 }
 
-/// Returns the shift that moves the most rows of `prev` to where an equal row of `view` is, with
-/// each row weighted by its cost. Returns `None` if no shift moves such a row.
+/// Returns the shift that moves the most rows of `prev` onto equal rows of `view`, with each row
+/// weighted by its cost. Returns `None` if no shift moves a row onto an equal row.
 fn likely_shift(view: &View<'_>, prev: &View<'_>, height: u16, here: &Numbers) -> Option<Shift>
     requires size { SamePictureSize view.now prev.now }
     requires inside { height ≤ length view.now.rows }
@@ -173,17 +191,19 @@ fn likely_shift(view: &View<'_>, prev: &View<'_>, height: u16, here: &Numbers) -
 {
     let keys = keys(prev, height);
     let mut votes = [0_i32; 512];
+    let mut voted = false;
     for row in 0..height {
         let weight = here[usize::from(row)];
         if weight > 0 {
-            vote(&mut votes, &view.row(row), prev, &keys, row, weight, height);
+            voted |= vote(&mut votes, &view.row(row), prev, &keys, row, weight, height);
         }
     }
-    heaviest(&votes)
+    if voted { heaviest(&votes) } else { None }
 }
 
-/// Adds `weight` to the votes for each shift that moves a row of `prev` that equals `cells` to row
-/// `row`. Adds no votes if `cells` has no text. `keys` are the keys of the rows of `prev`.
+/// Adds `weight` to the votes for each shift that would move a row of `prev` equal to `cells` to
+/// row `row`. Adds no votes if `cells` has no text. Returns whether it added votes. `keys` holds the
+/// keys of the rows of `prev`.
 ///
 /// Element `256 + n` of `votes` holds the votes for moving rows up by `n` rows.
 fn vote(
@@ -194,22 +214,25 @@ fn vote(
     row: u16,
     weight: i32,
     height: u16,
-)
+) -> bool
     requires row { row < 256 }
     requires inside { height ≤ length prev.now.rows }
     requires few { height ≤ 256 }
 {
     let Some(start) = compared_from(cells) else {
-        return;
+        return false;
     };
     let key = key(cells);
+    let mut voted = false;
     for from in 0..height {
         let may_be = from != row && keys[usize::from(from)] == key;
         if may_be && are_alike(cells, &prev.row(from), start) {
             let shift = usize::from(256 + from - row);
             votes[shift] = votes[shift].saturating_add(weight);
+            voted = true;
         }
     }
+    voted
 }
 
 /// Returns the first column of the part of a row that is compared with other rows: the column after
@@ -245,7 +268,8 @@ fn are_alike(cells: &PictureRow<'_>, over: &PictureRow<'_>, start: u16) -> bool 
     let same = cells.same_run(over, start);
     let first = start.saturating_add(u16::try_from(same).unwrap_or(cols));
     for col in first..cols {
-        if *cells.cell(col) != *over.cell(col) {
+        let same = *cells.cell(col) == *over.cell(col);
+        if !same {
             return false;
         }
     }
@@ -321,10 +345,10 @@ impl Shift {
         if from < height { Some(from) } else { None }
     }
 
-    /// Returns the number of bytes saved in rows `from..row`, which become blank if the shift moves
-    /// a range of rows down and the first of these rows moves from `from` to `row`. Returns 0 if
-    /// the shift moves rows up, because no row above the range then becomes blank. `savings` is the
-    /// result of [`savings`].
+    /// Returns the number of bytes saved in the rows that become blank above a range that the shift
+    /// moves down. These are the rows `from..row` if the first row of the range moves from `from`
+    /// to `row`. Returns 0 if the shift moves rows up, because no row above the range then becomes
+    /// blank. `savings` is the result of [`savings`].
     fn opening(&self, savings: &[i32; 257], from: u16, row: u16) -> i32
         requires from { from ≤ 256 }
         requires row { row ≤ 256 }
@@ -339,8 +363,8 @@ impl Shift {
 
 impl Stretch {
     /// Returns this range extended by row `row`, or a new range that consists of row `row` if the
-    /// new range saves more bytes. `gain` is the number of bytes saved in row `row`, and `opening`
-    /// is the number of bytes saved in the rows above a range that begins there (see
+    /// new range saves more bytes. `gain` is the number of bytes saved in row `row`. `opening` is the
+    /// number of bytes that a range beginning at row `row` saves in the rows above it (see
     /// [`Shift::opening`]).
     fn and_row(&self, row: u16, opening: i32, gain: i32) -> Stretch
         requires { row < 65535 }
@@ -361,10 +385,10 @@ impl Stretch {
         }
     }
 
-    /// Returns the number of bytes saved in total if the shift moves exactly this range, whose last
-    /// row moves from row `from`. Includes the bytes saved in the rows below the range that become
-    /// blank, and subtracts the length of the move's escape sequences. `height` is the height of
-    /// the picture, and `attrs` are the terminal's attributes.
+    /// Returns the total number of bytes saved if the shift moves exactly this range. `from` is the
+    /// row that the last row of the range moves from. The total includes the bytes saved in the
+    /// rows below the range that become blank, less the length of the escape sequences that perform
+    /// the move. `height` is the height of the picture, and `attrs` are the terminal's attributes.
     fn closed(
         &self,
         shift: Shift,
@@ -387,7 +411,7 @@ impl Stretch {
             .saturating_sub(sequences(bottom < height, attrs))
     }
 
-    /// Returns the band of the move that fills this range with the rows that `shift` moves there.
+    /// Returns the band that, moved by `shift`, fills this range.
     fn band(&self, shift: Shift) -> Band {
         let Shift { count, up } = shift;
         if up {

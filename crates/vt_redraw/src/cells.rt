@@ -18,14 +18,14 @@ ghost use Rattle.vt_redraw.specs.Internals.{run_ops};
 ghost use Rattle.vt_redraw.specs.Refusals.{RefusedOnlyIfSome};
 ghost use Rattle.vt_redraw.specs.Script.{erase_run, flag_behind, flag_past, pen_at};
 
-use crate::passing::{next_other, stands};
+use crate::passing::{next_other, stands_at};
 use crate::pen::Pen;
 use crate::picture_row::PictureRow;
 use vt_cells::term::{BufWrite, ClearRowForward, EraseChar};
 use vt_cells::{Attrs, Buffer, Cell, Pos, Sink, cell};
 
-/// The number of bytes that must fit in a buffer before a glyph or a run of blanks
-/// is appended: a cursor movement, an SGR sequence, and the longest text of a cell.
+/// The free space, in bytes, that a buffer must have before a glyph or a run of blanks is appended:
+/// enough for a cursor movement, an SGR sequence, and the longest text of a cell.
 const RUN_ROOM: usize = 118;
 
 /// Returns the number of columns that a glyph takes.
@@ -107,6 +107,29 @@ fn gather_glyph<S: Sink>(
     Ok(())
 }
 
+/// Buffers a narrow glyph, whose text is one byte long, at a position, and moves the pen past it.
+#[inline(always)]
+fn gather_byte<S: Sink>(
+    sink: &mut S,
+    buffer: &mut Buffer,
+    pen: &mut Pen,
+    pos: Pos,
+    cell: &Cell,
+) -> Result<(), S::Error>
+    requires short { pos.col + 1 < 65536 }
+    requires one { length (text_of cell.now) ≡ 1 }
+    ensures gathers { GathersOrStops result
+        (S.text sink.old) buffer.old (S.text sink.new) buffer.new (glyph_ops pen.old pos cell.now) }
+    ensures pen { OnOk result (pen.new ≡ pen_at pos.row (pos.col + 1) (attrs_of cell.now)) }
+{
+    buffer.make_room(sink, RUN_ROOM)?;
+    pen.push_move(buffer, pos);
+    pen.push_attrs(buffer, cell::attrs(cell));
+    buffer.push_one(cell.contents());
+    pen.col = pos.col + 1;
+    Ok(())
+}
+
 /// Writes the sequence that erases `count` columns (ECH), or the rest of the
 /// row (EL) if the columns extend to its end. `end` is the column after the
 /// erased columns.
@@ -129,8 +152,8 @@ fn write_erase<S: Sink>(
     }
 }
 
-/// Writes a run of `count` blanks at a position. The pen remains at the first
-/// column of the run.
+/// Writes a run of `count` blanks with attributes `attrs` at a position. The pen remains at the
+/// first column of the run.
 ///
 /// # Errors
 ///
@@ -170,8 +193,8 @@ fn push_erase(buffer: &mut Buffer, count: u16, end: u16, over: &PictureRow<'_>)
     }
 }
 
-/// Buffers a run of `count` blanks at a position. The pen remains at the first
-/// column of the run.
+/// Buffers a run of `count` blanks with attributes `attrs` at a position. The pen remains at the
+/// first column of the run.
 fn gather_run<S: Sink>(
     sink: &mut S,
     buffer: &mut Buffer,
@@ -217,9 +240,8 @@ pub fn flag_past(flag: bool, over: &PictureRow<'_>, col: u16) -> bool
     flag && !over.is_torn(col)
 }
 
-/// Returns whether the stored cell in column `col` of `own` looks like the glyph
-/// `like` and differs from the stored cell of `others` in that column, if there
-/// is one.
+/// Returns whether `own` has a stored cell in column `col` that looks like the glyph `like` and
+/// differs from the stored cell of `others` in that column, if `others` has one.
 #[inline(always)]
 fn is_alike(like: &Cell, own: &[Cell], others: &[Cell], col: u16) -> bool
     ensures { IsTrue result → IsAlike col like.now own.now others.now }
@@ -231,9 +253,9 @@ fn is_alike(like: &Cell, own: &[Cell], others: &[Cell], col: u16) -> bool
     col >= others.len() || !(own[col] == others[col])
 }
 
-/// Buffers the glyphs after the pen that look like the narrow glyph `like`, whose
-/// text is one byte long, up to a glyph that needs no output or does not fit in
-/// the buffer. `flag` says whether the terminal's row is wrapped.
+/// Buffers consecutive glyphs, starting at the pen, that look like the narrow glyph `like`, whose
+/// text is one byte long, and moves the pen past them. Stops at a glyph that needs no output or
+/// does not fit in the buffer. `flag` is true if the terminal's row is wrapped.
 #[inline(always)]
 fn gather_bytes(
     buffer: &mut Buffer,
@@ -266,9 +288,9 @@ fn gather_bytes(
     pen.col = col;
 }
 
-/// Buffers the glyphs after the pen that look like `like`: their attributes,
-/// their width and the length of their text are the same. Stops at a glyph that
-/// needs no output or does not fit in the buffer.
+/// Buffers consecutive glyphs, starting at the pen, that look like `like` (with the same
+/// attributes, width and length of text), and moves the pen past them. Stops at a glyph that needs
+/// no output or does not fit in the buffer.
 #[inline(never)]
 fn gather_more(
     buffer: &mut Buffer,
@@ -306,39 +328,36 @@ fn gather_more(
     *flag = on;
 }
 
-/// Buffers the glyphs after the pen that look like `like`: their attributes,
-/// their width and the length of their text are the same. Stops at a glyph that
-/// needs no output or does not fit in the buffer.
-#[inline]
-fn gather_alike(
+/// Buffers the narrow glyph `cell` at position `pos`, whose text is one byte long, and the glyphs
+/// after it that look like it (with the same attributes, width and length of text). Returns the
+/// number of columns that they take. `flag` is true if the terminal's row is wrapped.
+#[inline(always)]
+fn gather_short<S: Sink>(
+    sink: &mut S,
     buffer: &mut Buffer,
     pen: &mut Pen,
-    flag: &mut bool,
-    like: &Cell,
+    flag: bool,
+    pos: Pos,
+    cell: &Cell,
     cells: &PictureRow<'_>,
     over: &PictureRow<'_>,
-)
-    requires range { IsRange cells.now.cells over.now.cells }
-    requires short { length over.now.cells < 65536 }
-    requires glyph { is_glyph like.now ≡ true }
-    requires attrs { pen.old.attrs ≡ attrs_of like.now }
-    requires inside { pen.old.col ≤ length over.now.cells }
-    ensures leads { (text : List ℕ) → Leads (buffered_text text buffer.new)
-        (cells_from pen.old.row pen.new.col pen.new flag.new cells.now.cells over.now.cells)
-        (buffered_text text buffer.old)
-        (cells_from pen.old.row pen.old.col pen.old flag.old cells.now.cells over.now.cells) }
-    ensures order { pen.old.col ≤ pen.new.col }
-    ensures inside { pen.new.col ≤ length over.now.cells }
+) -> Result<u16, S::Error>
+    requires other { IsOther pos.col cells.now over.now }
+    requires cell { cell.now ≡ at cells.now.cells pos.col }
+    requires glyph { is_blank cell.now ≡ false }
+    requires one { length (text_of cell.now) ≡ 1 }
+    requires narrow { is_wide cell.now ≡ false }
+    ensures { SettlesOrStops result (S.text sink.old) buffer.old (S.text sink.new) buffer.new
+        pen.new flag pos cells.now over.now (cells_over pos pen.old flag cells.now over.now) }
 {
-    if like.contents().len() == 1 && !like.is_wide() {
-        return gather_bytes(buffer, pen, *flag, like, cells, over);
-    }
-    gather_more(buffer, pen, flag, like, cells, over);
+    gather_byte(sink, buffer, pen, pos, cell)?;
+    gather_bytes(buffer, pen, flag, cell, cells, over);
+    Ok(pen.col - pos.col)
 }
 
-/// Buffers the glyph at a position and the glyphs after it that look like it.
-/// Returns the number of columns handled.
-fn gather_glyphs<S: Sink>(
+/// Buffers the glyph at position `pos` and the glyphs after it that look like it (with the same
+/// attributes, width and length of text). Returns the number of columns that they take.
+fn gather_long<S: Sink>(
     sink: &mut S,
     buffer: &mut Buffer,
     pen: &mut Pen,
@@ -355,28 +374,54 @@ fn gather_glyphs<S: Sink>(
     let cell = cells.cell(pos.col);
     gather_glyph(sink, buffer, pen, pos, cell)?;
     *flag = flag_behind(*flag, cell.is_wide(), over, pen.col);
-    gather_alike(buffer, pen, flag, cell, cells, over);
+    gather_more(buffer, pen, flag, cell, cells, over);
     Ok(pen.col - pos.col)
 }
 
-/// Buffers the glyphs or the run of blanks that begin at a position. Returns
-/// the number of columns handled.
+/// Buffers the glyph `cell` at position `pos` and the glyphs after it that look like it. Returns the
+/// number of columns that they take.
+#[inline]
+fn gather_glyphs<S: Sink>(
+    sink: &mut S,
+    buffer: &mut Buffer,
+    pen: &mut Pen,
+    flag: &mut bool,
+    pos: Pos,
+    cell: &Cell,
+    cells: &PictureRow<'_>,
+    over: &PictureRow<'_>,
+) -> Result<u16, S::Error>
+    requires other { IsOther pos.col cells.now over.now }
+    requires cell { cell.now ≡ at cells.now.cells pos.col }
+    requires glyph { is_blank cell.now ≡ false }
+    ensures { SettlesOrStops result (S.text sink.old) buffer.old (S.text sink.new) buffer.new
+        pen.new flag.new pos cells.now over.now (cells_over pos pen.old flag.old cells.now over.now) }
+{
+    if cell.contents().len() == 1 && !cell.is_wide() {
+        return gather_short(sink, buffer, pen, *flag, pos, cell, cells, over);
+    }
+    gather_long(sink, buffer, pen, flag, pos, cells, over)
+}
+
+/// Buffers the glyphs or the run of blanks that begin with `cell` at position `pos`. Returns the
+/// number of columns that they take.
 fn write_next<S: Sink>(
     sink: &mut S,
     buffer: &mut Buffer,
     pen: &mut Pen,
     flag: &mut bool,
     pos: Pos,
+    cell: &Cell,
     cells: &PictureRow<'_>,
     over: &PictureRow<'_>,
 ) -> Result<u16, S::Error>
-    requires { IsOther pos.col cells.now over.now }
+    requires other { IsOther pos.col cells.now over.now }
+    requires cell { cell.now ≡ at cells.now.cells pos.col }
     ensures { SettlesOrStops result (S.text sink.old) buffer.old (S.text sink.new) buffer.new
         pen.new flag.new pos cells.now over.now (cells_over pos pen.old flag.old cells.now over.now) }
 {
-    let cell = cells.cell(pos.col);
     if !cell::is_blank(cell) {
-        return gather_glyphs(sink, buffer, pen, flag, pos, cells, over);
+        return gather_glyphs(sink, buffer, pen, flag, pos, cell, cells, over);
     }
     let attrs = cell::attrs(cell);
     let count = cells.run(pos.col, attrs);
@@ -412,8 +457,8 @@ pub fn write_cells<S: Sink>(
     write_others(sink, pen, flag, Pos { row, col: first }, cells, over)
 }
 
-/// Writes the output that the cells of a row need, starting at a column.
-/// Consecutive glyphs are buffered and written together.
+/// Writes the output that the cells of a row need, starting at the position `pos`. Consecutive
+/// glyphs are buffered and written together.
 #[tactic(auto, using(vt_cells::proofs::Buffers::nothing_gathered))]
 fn write_others<S: Sink>(
     sink: &mut S,
@@ -432,11 +477,12 @@ fn write_others<S: Sink>(
     let mut buffer = Buffer::new();
     let mut col = pos.col;
     while col < cols {
-        if stands(cells, over, col) {
+        let cell = cells.cell(col);
+        if stands_at(cell, over, col) {
             col = next_other(cells, over, col + 1);
         } else {
             let next = Pos { row: pos.row, col };
-            col += write_next(sink, &mut buffer, pen, flag, next, cells, over)?;
+            col += write_next(sink, &mut buffer, pen, flag, next, cell, cells, over)?;
         }
     }
     buffer.flush(sink)?;

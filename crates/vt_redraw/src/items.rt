@@ -24,10 +24,10 @@ use crate::picture_row::PictureRow;
 use crate::view::View;
 use vt_cells::{Attrs, Pos, Sink};
 
-/// Erases the first column of a range if the picture's column holds a continuation cell (whose wide
-/// character begins before the range), along with any default blanks that follow it. Writes nothing
-/// if the terminal's column also holds a continuation cell. Returns the first column that has not
-/// been handled. `pos` is the row and the first column of the range.
+/// Erases the first column of a range, along with any default blanks after it, if `cells` holds a
+/// continuation cell there, whose wide character begins before the range. Writes nothing if `over`
+/// also holds a continuation cell there. Returns the first column that has not been handled. `pos`
+/// is the row and the first column of the range.
 fn write_begin<S: Sink>(
     sink: &mut S,
     pen: &mut Pen,
@@ -59,8 +59,9 @@ fn write_begin<S: Sink>(
 }
 
 /// Writes the sequences that turn a range of columns of the terminal's row `over` into those of the
-/// picture's row `cells`. The range extends from the position `pos` to the end of `cells`, which
-/// the caller has cut there. `flag` is true if the terminal's row is wrapped, and is updated.
+/// picture's row `cells`. The range extends from the position `pos` to the end of `cells`; the
+/// caller has cut `cells` where the range ends. `flag` is true if the terminal's row is wrapped,
+/// and is updated.
 fn write_range<S: Sink>(
     sink: &mut S,
     pen: &mut Pen,
@@ -122,12 +123,12 @@ fn write_end<S: Sink>(
 }
 
 /// Writes the sequences that draw columns `start..stop` of a row of `view` on a terminal that
-/// displays the same row of `prev`. If these columns are the whole row, the terminal's row is not
-/// wrapped afterward unless the row of `view` is. If the row of `view` is wrapped and the
-/// terminal's row is not, a wrap is pending on the terminal afterward.
+/// displays the same row of `prev`. If these columns are the whole row and the row of `view` is not
+/// wrapped, neither is the terminal's row afterward. If they are the whole row and only the row of
+/// `view` is wrapped, a wrap is pending on the terminal afterward.
 ///
-/// The terminal's cursor must be in column `start` of the row, and the terminal
-/// must have default attributes.
+/// The terminal's cursor must be in column `start` of the row, and the terminal must have default
+/// attributes.
 ///
 /// # Errors
 ///
@@ -237,10 +238,10 @@ fn needs_link(view: &View<'_>, row: u16, start: u16, stop: u16, cells: &PictureR
 /// Writes the sequences that draw columns `start..stop` of a row of `view` on a blank row of the
 /// terminal.
 ///
-/// The terminal's cursor must be in column `start` of the row, and the terminal
-/// must have default attributes. If these columns are the whole row and the row
-/// above is wrapped, a wrap may instead be pending in the row above, which then
-/// becomes wrapped.
+/// The terminal's cursor must be in column `start` of the row, and the terminal must have default
+/// attributes. If these columns are the whole row and the row above it in `view` is wrapped, the
+/// terminal's cursor may instead be at the end of the row above with a wrap pending; the terminal's
+/// row above then becomes wrapped.
 ///
 /// # Errors
 ///

@@ -26,18 +26,17 @@ ghost use Rattle.vt_redraw.specs.Redraw.{cursor_state, difference, differences, 
 ghost use Rattle.vt_redraw.specs.Steady.{HasNoSelector, IsOfSize, IsSteady, IsSteadyCell, heart_text};
 ghost use Rattle.vt_redraw.specs.Touching.{Touches};
 
-/// States that a plain canvas that displays the first of two pictures displays the second after the
-/// diff between them is drawn on it. The second picture must be steady. Apart from what is
-/// displayed, only the saved cursor, origin mode and attributes may change.
+/// States that drawing the diff between two pictures on a plain canvas that displays the first
+/// picture makes the canvas display the second. The second picture must be steady. Apart from what
+/// is displayed, only the saved cursor, saved origin mode and saved attributes may change.
 pub fn difference_draws()
     ensures { (self prev : Picture) → (any : Canvas) → IsPicture self → IsSteady self →
         IsPicture prev → SamePictureSize self prev → IsPlainPage any.page → picture_of any ≡ prev →
         (saved : Saved) × (drawn_all (difference self prev) any ≡ Some (with_saved saved (with_picture self any))) }
 {}
 
-/// States that the diff from one picture to another touches only positions in
-/// rows that differ or directly below them, and possibly the end of one row.
-/// The second picture must be steady.
+/// States that the diff from one picture to another touches only rows that differ, the rows
+/// directly below them, and possibly the end of one row. The second picture must be steady.
 pub fn difference_local()
     ensures { (self prev : Picture) → (any : Canvas) → IsPicture self → IsSteady self →
         IsPicture prev → SamePictureSize self prev → IsPlainPage any.page →
@@ -56,8 +55,9 @@ pub fn empty_only()
         SamePictureSize self prev → difference self prev ≡ [] → self ≡ prev }
 {}
 
-/// States that drawing the redraw of a steady picture on any plain canvas of
-/// the same size makes the canvas display the picture.
+/// States that a plain canvas displays a steady picture of its size after a redraw of the picture
+/// has been drawn on it. Apart from what is displayed, only the saved cursor, origin mode and
+/// attributes may change.
 pub fn redraw_draws()
     ensures { (self : Picture) → (any : Canvas) → IsPicture self → IsSteady self →
         IsPicture (picture_of any) → IsPlainPage any.page → SamePictureSize self (picture_of any) →
@@ -71,9 +71,10 @@ pub fn redraws_only()
         IsSteady b → SamePictureSize a b → redraw a ≡ redraw b → a ≡ b }
 {}
 
-/// States that drawing the redraw of the first picture of a list and then the
-/// diffs between consecutive pictures makes a plain canvas display the last
-/// picture. All pictures must be steady and have the size of the canvas.
+/// States that a plain canvas displays the last of several pictures after the output for each of
+/// them has been drawn on it in order: for the first picture a redraw, and for each later picture
+/// the diff from the picture before it. All pictures must be steady and have the size of the canvas.
+/// Apart from what is displayed, only the saved cursor, origin mode and attributes may change.
 pub fn chain_draws()
     ensures { (self : Picture) → (nexts : List Picture) → (any : Canvas) →
         IsOfSize any.page.width (length any.page.rows) self →
@@ -103,9 +104,9 @@ pub fn cursor_state_fits()
     ensures { (self : Picture) → IsPicture self → IsColoredPicture self → AllByRecursion Fits (cursor_state self) }
 {}
 
-/// States that drawing the output for the cursor on a plain canvas sets the
-/// cursor position and hides or shows the cursor. The picture must be steady.
-/// The canvas must display the rows of the picture and have default attributes.
+/// States that the output for the cursor gives a plain canvas the picture's cursor position, and hides
+/// or shows the cursor as in the picture. The picture must be steady. The canvas must display the
+/// rows of the picture and have default attributes.
 pub fn cursor_state_draws()
     ensures { (self : Picture) → (any : Canvas) → IsPicture self → IsSteady self → IsPlainPage any.page →
         any.page.rows ≡ self.rows → any.page.width ≡ self.width → any.attrs ≡ default_attrs →
@@ -180,9 +181,9 @@ pub fn redraw_item_draws()
         (item_of_redraw r start stop linked (row_of_picture self r)).pen any) }
 {}
 
-/// States that the redraw for a whole row draws the row and makes the row above
-/// wrapped, if it is drawn while a wrap is pending after a glyph at the end of
-/// the row above. The picture must be steady.
+/// States that the redraw for a whole row, drawn while a wrap is pending after a glyph at the end
+/// of the row above, draws the row and makes the row above wrapped. The canvas row must consist of
+/// default blanks, and the picture must be steady.
 pub fn redraw_item_wraps()
     ensures { (self : Picture) → (r : ℕ) → (above : RowValue) → (any : Canvas) → IsPicture self → IsSteady self →
         AwaitsItem self r self.width above any → ends_blank above.cells ≡ false → r + 1 < length self.rows →

@@ -20,6 +20,7 @@ mod row_guess;
 pub mod row_shift;
 pub mod row_shifts;
 mod script;
+mod shift_counts;
 pub mod steadiness;
 pub mod view;
 

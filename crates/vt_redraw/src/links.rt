@@ -19,9 +19,8 @@ use crate::picture_row::PictureRow;
 use vt_cells::term::{Backspace, BufWrite, EraseChar};
 use vt_cells::{Cell, Pos, Sink, cell};
 
-/// The state of a row of the terminal after the link that makes the terminal wrap into it from the
-/// row above: whether the row is itself wrapped, and how many of its leading cells the link has
-/// already written.
+/// The state of a row of the terminal after the link from the row above: whether the row is itself
+/// wrapped, and how many of its leading cells the link has already written.
 #[derive(Clone, Copy, Debug)]
 pub struct Link {
     /// Whether the terminal's lower row is wrapped.
@@ -59,7 +58,7 @@ pub fn write_last<S: Sink>(
 }
 
 /// Writes the blank `cell` in the first column of a row while a wrap is pending in the row above.
-/// Prints a space, which makes the terminal wrap into the row, and erases it again.
+/// Prints a space, which makes the terminal wrap into the row, and then erases the space.
 fn write_first_blank<S: Sink>(
     sink: &mut S,
     pen: &mut Pen,

@@ -1,21 +1,32 @@
 //! The columns of a row that need no output, because the terminal displays their cells already.
 
-ghost use Rattle.std.specs.Prelude.{◌≡◌, ◌<◌, ◌≤◌, false, length};
+ghost use Rattle.std.specs.Prelude.{◌≡◌, ◌<◌, ◌≤◌, ◌||◌, false, length};
+ghost use Rattle.vt_cells.specs.Cell.{is_right_half, same_cell};
+ghost use Rattle.vt_rows.specs.Cells.{at};
 ghost use Rattle.vt_redraw.specs.Internals.{IsRange, Passes, stands};
 
 use crate::picture_row::PictureRow;
+use vt_cells::Cell;
 
-/// Returns whether the cell at a column needs no output, because the terminal
-/// already displays it or because it is the continuation cell of a wide
-/// character.
+/// Returns whether `cell`, the picture's cell in column `col`, needs no output, because the terminal
+/// already displays it there or because it is the continuation cell of a wide glyph.
 #[inline(always)]
-pub fn stands(cells: &PictureRow<'_>, over: &PictureRow<'_>, col: u16) -> bool
+pub fn stands_at(cell: &Cell, over: &PictureRow<'_>, col: u16) -> bool
+    requires { col < length over.now.cells }
+    ensures { result ≡ (is_right_half cell.now || same_cell cell.now (at over.now.cells col)) }
+{
+    *cell == *over.cell(col) || cell.is_wide_continuation()
+}
+
+/// Returns whether the picture's cell in column `col` needs no output, because the terminal already
+/// displays it or because it is the continuation cell of a wide glyph.
+#[inline(always)]
+fn stands(cells: &PictureRow<'_>, over: &PictureRow<'_>, col: u16) -> bool
     requires inside { col < length cells.now.cells }
     requires over { length cells.now.cells ≤ length over.now.cells }
     ensures { result ≡ stands col cells.now over.now }
 {
-    let cell = cells.cell(col);
-    *cell == *over.cell(col) || cell.is_wide_continuation()
+    stands_at(cells.cell(col), over, col)
 }
 
 /// Returns the first column in `col..stop` whose cell needs output, or the

@@ -1,4 +1,4 @@
-//! What the writer knows about the terminal that reads its output.
+//! The pen: the cursor position and attributes of the terminal that reads the output.
 
 ghost use Rattle.std.specs.Prelude.{◌≡◌, ◌+◌, ◌≤◌, ◌++◌, OnOk, length};
 ghost use Rattle.vt_cells.specs.Attrs.{default_attrs};

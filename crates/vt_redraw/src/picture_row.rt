@@ -67,9 +67,9 @@ impl<'a> PictureRow<'a> {
         cut
     }
 
-    /// Returns whether the row is wrapped after it has been cut. `wrapped` is
-    /// true if it was wrapped before. The last row of a picture (`is_last`) is
-    /// never wrapped.
+    /// Returns whether the row is wrapped after it has been cut. It is wrapped if it was wrapped
+    /// before (`wrapped`), its last column is not blank, and it is not the last row of the picture
+    /// (`is_last`).
     fn keeps_flag(&self, wrapped: bool, is_last: bool) -> bool
         requires { 0 < length self.now.cells }
         ensures { result ≡ (not is_last && (wrapped && not (ends_blank self.now.cells))) }
@@ -153,9 +153,8 @@ impl<'a> PictureRow<'a> {
         }
     }
 
-    /// Returns how many consecutive columns, starting at `col`, were found to hold equal cells in
-    /// this row and `other`. The following columns may also be equal, because only stored cells are
-    /// compared, four at a time.
+    /// Returns a lower bound on the number of consecutive columns, starting at `col`, in which this
+    /// row and `other` have equal cells. Only stored cells are compared, four at a time.
     pub fn same_run(&self, other: &PictureRow<'_>, col: u16) -> usize
         ensures inside { 0 < result → col + result ≤ length self.now.cells }
         ensures same { (k : ℕ) → k < result
@@ -169,9 +168,9 @@ impl<'a> PictureRow<'a> {
         same_run(&self.cells[start..stop], &other.cells[start..stop])
     }
 
-    /// Returns a lower bound on the number of consecutive stored cells, starting
-    /// at column `col`, that equal the blank after the stored cells of `other`.
-    /// Returns 0 if `other` has a stored cell at or after that column.
+    /// Returns a lower bound on the number of consecutive stored cells of this row, starting at column
+    /// `col`, that equal the blank that fills `other` after its last stored cell. Returns 0 if
+    /// `other` has a stored cell at or after `col`.
     pub fn end_run(&self, other: &PictureRow<'_>, col: u16) -> usize
         ensures inside { 0 < result → col + result ≤ length self.now.cells }
         ensures same { (k : ℕ) → k < result

@@ -8,13 +8,13 @@ ghost use Rattle.vt_redraw.specs.Picture.{SamePictureSize};
 
 use crate::picture_row::PictureRow;
 use crate::view::View;
-use vt_cells::{Attrs, cell};
+use vt_cells::{Attrs, Cell, cell};
 
-/// The approximate number of bytes that it takes to move the cursor within a
-/// row.
-const RUN: i32 = 4;
+/// The approximate number of bytes that it takes to move the cursor within a row, or to erase a run
+/// of blanks.
+const RUN: i32 = 3;
 
-/// A number for each examined row.
+/// The cost of each examined row: the approximate number of bytes that it takes to draw the row.
 pub(crate) type Numbers = [i32; 256];
 
 /// Returns, for each row of `view`, the approximate number of bytes that it takes to draw it over
@@ -31,54 +31,97 @@ pub(crate) fn costs(view: &View<'_>, prev: &View<'_>, height: u16) -> Numbers
     costs
 }
 
-/// Returns the approximate number of bytes that it takes to draw the row
-/// `cells` over the row `over`. Counts one byte for each column that differs,
-/// and [`RUN`] bytes for the cursor movement to each run of such columns.
+/// Returns the approximate number of bytes that it takes to draw the row `cells` over the row
+/// `over`. Columns after the stored cells of a row are taken for default blanks.
 pub(crate) fn cost(cells: &PictureRow<'_>, over: &PictureRow<'_>) -> i32 {
-    let cols = cells.cols().min(over.cols());
-    let mut bytes = 0_i32;
-    let mut differed = false;
-    let mut next = same_up_to(cells, over, 0);
-    for col in 0..cols {
-        if col < next {
-            continue;
-        }
-        let differs = *cells.cell(col) != *over.cell(col);
-        if differs {
-            let more = if differed { 1 } else { 1 + RUN };
-            bytes = bytes.saturating_add(more);
+    let own = cells.own_cells();
+    let others = over.own_cells();
+    let stored = own.len().min(others.len());
+    let blank = cell::default_blank();
+    let mut tally = Tally::new();
+    for col in cells.same_run(over, 0)..stored {
+        if own[col] == others[col] {
+            // A continuation cell may be drawn with the glyph before it.
+            if !own[col].is_wide_continuation() {
+                tally.pass();
+            }
         } else {
-            next = same_up_to(cells, over, col);
+            tally.draw(&own[col]);
         }
-        differed = differs;
     }
-    bytes
-}
-
-/// Skips consecutive columns, starting at `col`, in which the cells of the two
-/// rows are equal. Returns the first column that was not skipped; its cells may
-/// still be equal.
-fn same_up_to(cells: &PictureRow<'_>, over: &PictureRow<'_>, col: u16) -> u16 {
-    let same = cells.same_run(over, col);
-    col.saturating_add(u16::try_from(same).unwrap_or(0))
+    tally.draw_over_blanks(&own[stored..]);
+    for cell in &others[stored..] {
+        if cell::has_head_of(cell, &blank) {
+            tally.pass();
+        } else {
+            tally.draw(&blank);
+        }
+    }
+    tally.bytes
 }
 
 /// Returns the approximate number of bytes that it takes to draw a row over default blanks.
-fn fresh_cost(cells: &PictureRow<'_>) -> i32 {
-    let plain = Attrs::new();
-    let mut bytes = 0_i32;
-    let mut drew = false;
-    for cell in cells.own_cells() {
-        let draws = cell.has_contents()
-            || cell.is_wide_continuation()
-            || !cell::has_attrs(cell, &plain);
-        if draws {
-            let more = if drew { 1 } else { 1 + RUN };
-            bytes = bytes.saturating_add(more);
+pub(crate) fn fresh_cost(cells: &PictureRow<'_>) -> i32 {
+    let mut tally = Tally::new();
+    tally.draw_over_blanks(cells.own_cells());
+    tally.bytes
+}
+
+/// The approximate number of bytes that it takes to draw the leading cells of a row.
+#[derive(Drop)]
+struct Tally {
+    bytes: i32,
+
+    /// The number of bytes that it takes, beside those of its text, to draw the next cell if it is
+    /// a glyph.
+    before_glyph: i32,
+
+    /// The number of bytes that it takes to erase the next cell and the blanks after it.
+    before_blank: i32,
+}
+
+impl Tally {
+    /// Creates the tally of a row of which no cell has been counted.
+    fn new() -> Tally {
+        Tally {
+            bytes: 0,
+            before_glyph: RUN,
+            before_blank: 2 * RUN,
         }
-        drew = draws;
     }
-    bytes
+
+    /// Counts a cell that is drawn: one byte, or, if it is blank, [`RUN`] bytes to erase all blanks
+    /// up to the next glyph. Moving the cursor to the first of several cells takes [`RUN`] bytes.
+    #[inline(always)]
+    fn draw(&mut self, cell: &Cell) {
+        if cell::is_blank(cell) {
+            self.bytes = self.bytes.wrapping_add(self.before_blank);
+            self.before_blank = 0;
+        } else {
+            self.bytes = self.bytes.wrapping_add(1).wrapping_add(self.before_glyph);
+            self.before_blank = RUN;
+        }
+        self.before_glyph = 0;
+    }
+
+    /// Counts a cell that the terminal displays already.
+    #[inline(always)]
+    fn pass(&mut self) {
+        self.before_glyph = RUN;
+        self.before_blank = 2 * RUN;
+    }
+
+    /// Counts cells that are drawn over default blanks.
+    fn draw_over_blanks(&mut self, cells: &[Cell]) {
+        let blank = cell::default_blank();
+        for cell in cells {
+            if cell::has_head_of(cell, &blank) {
+                self.pass();
+            } else {
+                self.draw(cell);
+            }
+        }
+    }
 }
 
 /// Returns an array whose element `k` is the number of bytes saved if the first `k` rows of `view`

@@ -1,5 +1,5 @@
 //! A guess at the columns that have moved in a row between two pictures. Correctness does not
-//! depend on the guess: after any columns have moved, the diff draws all remaining changes.
+//! depend on the guess: whichever columns are moved, the diff then draws all remaining changes.
 //!
 //! Throughout this module, `over` is the row that the terminal displays, and `cells` is the row
 //! that it is to display.
@@ -10,6 +10,7 @@ ghost use Rattle.vt_redraw.specs.Shifted.{IsRowShift};
 
 use crate::picture_row::PictureRow;
 use crate::row_shift::RowShift;
+use crate::shift_counts::likely_counts;
 use crate::view::View;
 use vt_cells::{Attrs, Cell, cell};
 
@@ -22,10 +23,6 @@ const CHANGE: i32 = 6;
 
 /// The approximate number of bytes in the escape sequences of a shift.
 const SEQUENCES: i32 = 10;
-
-/// The maximum number of counts that are examined for a shift in one direction. This limit bounds
-/// the time that a row of equal cells takes.
-const MOST_COUNTS: u32 = 8;
 
 /// The best shift so far, and the approximate number of bytes that it takes to
 /// draw the row after that shift.
@@ -46,9 +43,9 @@ struct Estimate {
     attrs: Attrs,
 }
 
-/// Returns the shift of columns in row `row` that most likely happened between
-/// `prev` and `view`, or `None` if a shift is not expected to save output.
-pub fn likely_row_shift(view: &View<'_>, prev: &View<'_>, row: u16) -> Option<RowShift>
+/// Returns the shift of columns in row `row` that most likely happened between `prev` and `view`, or
+/// `None` if no shift is expected to save more than `least` bytes.
+pub fn likely_row_shift(view: &View<'_>, prev: &View<'_>, row: u16, least: i32) -> Option<RowShift>
     requires size { SamePictureSize view.now prev.now }
     requires row { row < length view.now.rows }
     ensures { IfSome result (IsRowShift (length prev.now.rows) prev.now.width) }
@@ -56,7 +53,7 @@ pub fn likely_row_shift(view: &View<'_>, prev: &View<'_>, row: u16) -> Option<Ro
     let cells = view.row(row);
     let over = prev.row(row);
     let col = first_difference(&cells, &over)?;
-    let shift = best_shift(&cells, &over, row, col)?;
+    let shift = best_shift(&cells, &over, row, col, least)?;
     if shift.is_within(prev.rows(), prev.cols()) {
         Some(shift)
     } else {
@@ -64,13 +61,14 @@ pub fn likely_row_shift(view: &View<'_>, prev: &View<'_>, row: u16) -> Option<Ro
     }
 }
 
-/// Returns the first column in which the two rows differ.
+/// Returns the first column in which the two rows differ, or `None` if they are equal.
 fn first_difference(cells: &PictureRow<'_>, over: &PictureRow<'_>) -> Option<u16> {
     let cols = cells.cols().min(over.cols());
     let same = cells.same_run(over, 0);
     let first = u16::try_from(same).unwrap_or(cols);
     for col in first..cols {
-        if *cells.cell(col) != *over.cell(col) {
+        let same = *cells.cell(col) == *over.cell(col);
+        if !same {
             return Some(col);
         }
     }
@@ -78,12 +76,13 @@ fn first_difference(cells: &PictureRow<'_>, over: &PictureRow<'_>) -> Option<u16
 }
 
 /// Returns the shift of the columns of row `row`, starting at column `col`, that saves the most
-/// bytes, or `None` if no such shift saves any.
+/// bytes, or `None` if no such shift saves more than `least` bytes.
 fn best_shift(
     cells: &PictureRow<'_>,
     over: &PictureRow<'_>,
     row: u16,
     col: u16,
+    least: i32,
 ) -> Option<RowShift> {
     let none = RowShift {
         row,
@@ -95,14 +94,16 @@ fn best_shift(
         shift: None,
         bytes: i32::MAX,
     };
-    best.consider_all(cells, over, none);
-    let inserted = RowShift {
-        insert: true,
-        ..none
-    };
-    best.consider_all(cells, over, inserted);
+    let counts = likely_counts(cells.own_cells(), over.own_cells(), usize::from(col));
+    let mut shift = none;
+    shift.count = counts.deleted;
+    best.consider(cells, over, shift);
+    shift.count = counts.inserted;
+    shift.insert = true;
+    best.consider(cells, over, shift);
     let shift = best.shift?;
-    if best.bytes.saturating_add(SEQUENCES) < drawing(cells, over, none) {
+    let after = best.bytes.saturating_add(SEQUENCES).saturating_add(least);
+    if after < drawing(cells, over, none) {
         Some(shift)
     } else {
         None
@@ -110,35 +111,12 @@ fn best_shift(
 }
 
 impl Best {
-    /// Considers shifts with the same row, column and direction as `start` and up to
-    /// [`MOST_COUNTS`] different counts. Skips each count unless the first four cells that the
-    /// shift moves end up in columns where `cells` has equal cells.
-    fn consider_all(&mut self, cells: &PictureRow<'_>, over: &PictureRow<'_>, start: RowShift) {
-        let near = usize::from(start.col);
-        let (own, others) = if start.insert {
-            (over.own_cells(), cells.own_cells())
-        } else {
-            (cells.own_cells(), over.own_cells())
-        };
-        if near >= own.len() || !own[near].has_contents() {
+    /// Makes `shift` the best shift if it leaves fewer bytes to draw in the row than the best shift
+    /// so far. Skips a shift by no columns.
+    fn consider(&mut self, cells: &PictureRow<'_>, over: &PictureRow<'_>, shift: RowShift) {
+        if shift.count == 0 {
             return;
         }
-        let mut left = MOST_COUNTS;
-        for far in near + 1..others.len() {
-            if own[near] == others[far] && begin_alike(&own[near..], &others[far..]) {
-                if left == 0 {
-                    return;
-                }
-                left -= 1;
-                let count = u16::try_from(far - near).unwrap_or(0);
-                self.consider(cells, over, RowShift { count, ..start });
-            }
-        }
-    }
-
-    /// Makes `shift` the best shift if drawing the row after it takes fewer bytes than after the
-    /// best shift so far.
-    fn consider(&mut self, cells: &PictureRow<'_>, over: &PictureRow<'_>, shift: RowShift) {
         let bytes = drawing(cells, over, shift);
         if bytes < self.bytes {
             self.shift = Some(shift);
@@ -147,19 +125,9 @@ impl Best {
     }
 }
 
-/// Returns whether both slices have at least four cells and their first four cells are equal.
-fn begin_alike(own: &[Cell], others: &[Cell]) -> bool {
-    own.len() >= 4
-        && others.len() >= 4
-        && own[0] == others[0]
-        && own[1] == others[1]
-        && own[2] == others[2]
-        && own[3] == others[3]
-}
-
 /// Returns the approximate number of bytes that it takes to draw the row `cells` over the row
-/// `over` after `shift` has been applied to `over`. Only the columns from the first column of the
-/// shift on are counted.
+/// `over` after `shift` has been applied to `over`. Counts only columns at or after the column of
+/// `shift`.
 fn drawing(cells: &PictureRow<'_>, over: &PictureRow<'_>, shift: RowShift) -> i32 {
     let cols = cells.cols().min(over.cols());
     let blank = cell::default_blank();
@@ -171,25 +139,28 @@ fn drawing(cells: &PictureRow<'_>, over: &PictureRow<'_>, shift: RowShift) -> i3
     };
     for col in shift.col..cols {
         let cell = cells.cell(col);
-        let differs = match shift.source(col, cols) {
-            Some(from) => *cell != *over.cell(from),
-            None => *cell != blank,
+        let same = match shift.source(col, cols) {
+            Some(from) => *cell == *over.cell(from),
+            None => cell::has_head_of(cell, &blank),
         };
-        estimate.add(cell, differs);
+        estimate.add(cell, same);
     }
     estimate.bytes
 }
 
 impl Estimate {
-    /// Adds the estimated output size for one cell. `differs` is true if the cell differs from what
-    /// the terminal displays; otherwise, the cell is not drawn.
-    fn add(&mut self, cell: &Cell, differs: bool) {
-        if !differs {
+    /// Adds the estimated output size for one cell. If `same` is true, the terminal displays the cell
+    /// already, and it is not drawn. A continuation cell is drawn with the glyph before it.
+    fn add(&mut self, cell: &Cell, same: bool) {
+        if cell.is_wide_continuation() {
+            return;
+        }
+        if same {
             self.drew = false;
             return;
         }
         let attrs = cell::attrs(cell);
-        if attrs != self.attrs && !cell.is_wide_continuation() {
+        if attrs != self.attrs {
             self.attrs = attrs;
             self.bytes = self.bytes.saturating_add(CHANGE);
         }

@@ -8,9 +8,9 @@ use vt_cells::term::{BufWrite, MoveTo};
 use vt_cells::{Pos, Sink};
 use vt_grid::{CursorMove, Grid};
 
-/// Columns of a row that move right, because blanks are inserted, or left, because columns are
-/// deleted. Columns that move past the end of the row are lost, and default blanks fill the vacated
-/// columns.
+/// A shift of columns in a row: to the right, because blanks are inserted, or to the left, because
+/// columns are deleted. Columns that move past the end of the row are lost, and default blanks fill
+/// the vacated columns.
 #[derive(Clone, Copy, PartialEq, Eq, Debug)]
 pub struct RowShift {
     /// The row, counted from 0.

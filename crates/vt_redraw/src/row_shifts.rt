@@ -1,5 +1,5 @@
-//! The shifts of columns that have most likely happened between two pictures,
-//! each written and applied to a page.
+//! Functions that write the column shifts that most likely happened between two pictures, and apply
+//! them to a page.
 
 ghost use Rattle.std.specs.Prelude.{◌≡◌, ◌++◌, OnOk, length};
 ghost use Rattle.vt_redraw.specs.ShiftInternals.{Shifts};
@@ -23,8 +23,8 @@ fn write_shift<S: Sink>(sink: &mut S, grid: &mut Grid, shift: RowShift) -> Resul
     Ok(())
 }
 
-/// Writes the sequences of the shift `first` and of the most likely shift of each row below it, and
-/// applies these shifts to `grid`, a page that displays `prev`.
+/// Writes the sequences of the shift `first` and then of the most likely shift, if any, of each row
+/// below the row of `first`. Applies these shifts to `grid`, a page that displays `prev`.
 ///
 /// # Errors
 ///
@@ -45,7 +45,7 @@ pub fn write_row_shifts<S: Sink>(
     write_shift(sink, grid, first)?;
     let height = view.rows();
     for row in first.row + 1..height {
-        if let Some(shift) = likely_row_shift(view, prev, row) {
+        if let Some(shift) = likely_row_shift(view, prev, row, 0) {
             write_shift(sink, grid, shift)?;
         }
     }

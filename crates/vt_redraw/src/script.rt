@@ -20,8 +20,8 @@ use crate::view::View;
 use vt_cells::{Pos, Sink};
 
 /// Writes the sequences that turn the terminal's row `over` into the picture's row `cells`, except
-/// for the leading cells that `link` has already written, and then the break after the row, if one
-/// is needed. Returns whether the terminal's row is wrapped afterward.
+/// for the leading cells that `link` has already written. Then writes the break after the row if
+/// one is needed. Returns whether the terminal's row is wrapped afterward.
 #[tactic(auto, using(crate::proofs::CellSteps::range_of))]
 fn write_row<S: Sink>(
     sink: &mut S,

@@ -55,11 +55,10 @@ fn is_steady_at(view: &View<'_>, row: u16) -> bool
     is_steady_row(&view.row(row))
 }
 
-/// Returns whether the text of every stored cell of row `row` is known to be
-/// too short to contain [`SELECTOR`] after its first character.
+/// Returns whether the text of every stored cell of row `row` is too short to contain [`SELECTOR`]
+/// after its first character. Returns `false` if [`View::uncut_cells`] returns `None`.
 ///
-/// The row is not cut to the picture's width, which would take about 60 more
-/// instructions.
+/// The row is not cut to the picture's width, which would take about 60 more instructions.
 #[inline]
 fn is_short_at(view: &View<'_>, row: u16) -> bool
     requires { row < length view.now.rows }
@@ -186,7 +185,8 @@ fn has_selector(cell: &Cell) -> bool
 /// reproduce the glyph.
 ///
 /// The printed glyph starts with the width of its first character. At each [`SELECTOR`], its width
-/// becomes that of its whole text so far. A glyph that becomes narrow leaves a blank after it.
+/// becomes that of its whole text so far. A glyph that becomes narrow leaves a blank after it, so
+/// it is not reproduced.
 fn prints_itself(cell: &Cell, cols: u16) -> bool
     requires glyph { is_glyph cell.now ≡ true }
     requires fits { FitsColumns cols cell.now }

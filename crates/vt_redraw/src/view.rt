@@ -57,7 +57,8 @@ impl<'a> Model for View<'a> {
 }
 
 impl<'a> View<'a> {
-    /// Creates a view of a page with scrollback above it.
+    /// Creates a view of the page `grid` with `above` as its scrollback and `attrs` as the current
+    /// attributes. `hidden` is true if the cursor is hidden.
     pub fn new(above: &'a Scrollback, grid: &'a Grid, attrs: Attrs, hidden: bool) -> View<'a>
         requires above { IsScrollback above.now }
         requires page { IsPage grid.now }
@@ -82,8 +83,8 @@ impl<'a> View<'a> {
         }
     }
 
-    /// Creates a view of a page with scrollback above it, as a terminal displays it after moving a
-    /// band of the displayed rows.
+    /// Creates a view of the page `grid`, with `above` as its scrollback, as a terminal displays it
+    /// after moving the displayed rows of `band`. `hidden` is true if the cursor is hidden.
     pub fn moved(above: &'a Scrollback, grid: &'a Grid, hidden: bool, band: Band) -> View<'a>
         requires above { IsScrollback above.now }
         requires page { IsPage grid.now }
@@ -193,7 +194,8 @@ impl<'a> View<'a> {
 }
 
 /// Returns the displayed row at index `row`, cut or extended to `cols` columns, or a blank row if
-/// there is no such row. If `is_last` is true, the result is not wrapped.
+/// there is no such row. The result is not wrapped if `is_last` is true or `row` is the last row of
+/// the page.
 fn row_seen<'a>(
     above: &'a Scrollback,
     rows: &'a PageRows,

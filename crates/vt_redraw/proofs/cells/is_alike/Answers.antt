@@ -1,4 +1,4 @@
-use Rattle.std.proofs.Common.{◌≡◌, ◌∙◌, ap, arith, sym, true, false}
+use Rattle.std.proofs.Common.{◌≡◌, ◌∙◌, ap, arith, sym}
 use Rattle.vt_cells.proofs.Shapes.{head_of-same}
 use Rattle.vt_cells.specs.Cell.{CellValue, same_cell}
 use Rattle.vt_cells.specs.CellInternals.{head_of_cell}

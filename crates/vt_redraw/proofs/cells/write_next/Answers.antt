@@ -11,18 +11,18 @@ use Rattle.vt_redraw.proofs.cells.write_next.Goals as goal
 pub returns : goal.returns
 returns g c =
     let text = g.S.Sink.text in
-    let blank = ap is_blank (sym c.cell-cell.ensures) ∙ (sym c.is_blank.ensures ∙ c.if-not-is_blank.false) in
-    let same = c.attrs-attrs.ensures ∙ ap attrs_of c.cell-cell.ensures in
+    let blank = ap is_blank (sym c.requires.cell) ∙ (sym c.is_blank.ensures ∙ c.if-not-is_blank.false) in
+    let same = c.attrs-attrs.ensures ∙ ap attrs_of c.requires.cell in
     record {
       leads =
           next_run c.args.pos.row c.args.pos.col c.run-count.result c.args.pen.now c.gather_run.new.pen
           c.args.flag.now c.flag_past.result c.args.cells.now.cells c.args.over.now.cells c.attrs-attrs.result
           (buffered_text (text c.args.sink.now) c.args.buffer.now)
-          (buffered_text (text c.gather_run.new.sink) c.gather_run.new.buffer) c.requires.inside c.requires.range.inside
-          c.requires.other blank same c.run-count.ensures.value c.in_ok-gather_run.ensures.gathers.text
+          (buffered_text (text c.gather_run.new.sink) c.gather_run.new.buffer) c.requires.other.inside c.requires.other.range.inside
+          c.requires.other.other blank same c.run-count.ensures.value c.in_ok-gather_run.ensures.gathers.text
           c.in_ok-gather_run.ensures.pen c.flag_past.ensures;
       nonempty =
-          run_some c.attrs-attrs.result c.args.cells.now.cells c.args.pos.col c.run-count.result c.requires.inside
+          run_some c.attrs-attrs.result c.args.cells.now.cells c.args.pos.col c.run-count.result c.requires.other.inside
           blank same c.run-count.ensures.value;
       inside = search rules;
       grows = c.in_ok-gather_run.ensures.gathers.grows;
@@ -47,9 +47,9 @@ returns-in_err-gather_run g c =
           (buffer_some c.args.buffer.now bytes _
           (start_some bytes _ _
           (next_run row col n c.args.pen.now (pen_at row col attrs) c.args.flag.now
-          (flag_past c.args.flag.now (drop (col + n) ys)) c.args.cells.now.cells ys attrs [] bytes c.requires.inside
-          c.requires.range.inside c.requires.other
-          (ap is_blank (sym c.cell-cell.ensures) ∙ (sym c.is_blank.ensures ∙ c.if-not-is_blank.false))
-          (c.attrs-attrs.ensures ∙ ap attrs_of c.cell-cell.ensures) c.run-count.ensures.value refl refl refl))
+          (flag_past c.args.flag.now (drop (col + n) ys)) c.args.cells.now.cells ys attrs [] bytes c.requires.other.inside
+          c.requires.other.range.inside c.requires.other.other
+          (ap is_blank (sym c.requires.cell) ∙ (sym c.is_blank.ensures ∙ c.if-not-is_blank.false))
+          (c.attrs-attrs.ensures ∙ ap attrs_of c.requires.cell) c.run-count.ensures.value refl refl refl))
           c.in_err-gather_run.ensures.gathers.nonempty);
     }

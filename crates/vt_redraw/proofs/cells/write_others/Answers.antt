@@ -7,8 +7,8 @@ use Rattle.vt_cells.proofs.Sinks.{on_err}
 use Rattle.vt_redraw.proofs.Refusals.{leads_some, some_first}
 use Rattle.vt_redraw.proofs.cells.write_others.Goals as goal
 
-pub loop-col-preserved-then-stands : goal.loop-col-preserved-then-stands
-loop-col-preserved-then-stands g c =
+pub loop-col-preserved-then-stands_at : goal.loop-col-preserved-then-stands_at
+loop-col-preserved-then-stands_at g c =
     let l = c.loop-col in
     let text = g.S.Sink.text in
     let xs = c.args.cells.now.cells in
