@@ -1,38 +1,29 @@
 -- Reading the elements of drawing output: what they do to the cursor, and that they keep plain terminals plain.
-use Rattle.std.proofs.Common.{◌≡◌, ◌≢◌, ℕ, zero, suc, ◌+◌, ◌-◌, ◌<◌, ◌≤◌, ◌^◌, ◌==◌, nat_lt, min, Bool, true, false}
+use Rattle.std.proofs.Common.{◌≡◌, ◌≢◌, ℕ, zero, suc, ◌+◌, ◌-◌, ◌<◌, ◌≤◌, ◌^◌, ◌==◌, min, Bool, true, false}
 use Rattle.std.proofs.Common.{List, [], ◌∷◌, ◌++◌, Option, Some, None, length, refl, sym, ap, subst, ◌∙◌, arith, inl, inr}
-use Rattle.std.specs.Prelude.{IfSome, if◌then◌else◌, encode_utf8_all}
-use Rattle.std.specs.Char.{encode_utf8}
+use Rattle.std.specs.Prelude.{IfSome, if◌then◌else◌}
 use Rattle.std.specs.List.{AllByRecursion}
-use Rattle.std.proofs.lemmas.Bool.Decides.{nat_tests}
 use Rattle.std.proofs.lemmas.List.Elements.{All-from_recursion}
-use Rattle.std.proofs.lemmas.Str.{encode_ascii}
 use Rattle.vt_cells.specs.Attrs.{Attrs}
 use Rattle.vt_cells.specs.Glyph.{columns_of}
-use Rattle.vt_cells.specs.Op.{EraseRest, EraseChars, Hide, MoveTo, MoveRight, NextRow, ClearAttrs, Print, bytes_of, counted, csi, semicolon_list}
+use Rattle.vt_cells.specs.Op.{EraseRest, EraseChars, Hide, MoveTo, MoveRight, NextRow, ClearAttrs, bytes_of, counted, csi, semicolon_list}
 use Rattle.vt_cells.specs.declared.pos.Pos.{Pos}
-use Rattle.vt_cells.proofs.Widths.{columns_of-ascii, columns_of-le}
-use Rattle.vt_grid.specs.Canvas.{and_then}
+use Rattle.vt_cells.proofs.Widths.{columns_of-le}
 use Rattle.vt_grid.specs.Erasing.{erased_columns, erased_rest}
 use Rattle.vt_grid.specs.Moves.{moved, target_row}
 use Rattle.vt_grid.specs.declared.grid.moves.CursorMove.TheVariants.{Return, Right, To}
 use Rattle.vt_grid.specs.Page.{Page}
-use Rattle.vt_grid.specs.Printing.{glyph_put, lacks_room, page_after_print, pushes, room_made}
 use Rattle.vt_grid.specs.declared.page_step.PageStep.TheVariants as page
-use Rattle.vt_grid.proofs.Dispatch.{printed_wide}
-use Rattle.vt_grid.proofs.Texts.{has_room, printed_put}
-use Rattle.vt_redraw.specs.Fits.{IsDrawn, IsDrawnText}
 use Rattle.vt_scan.specs.Automaton.{start}
 use Rattle.vt_scan.proofs.Written.{alone, joined_groups, joined_is_parameter}
 use Rattle.vt_screen.specs.Controls.{counted_step, other_steps, reading_steps, scrolling_steps, sgr_from}
 use Rattle.vt_screen.specs.MadeOf.{Control, Numbered, shortened_controls, shortened_finals}
-use Rattle.vt_screen.specs.Reading.{Terminal, quiet_steps, terminal, terminal_after}
+use Rattle.vt_screen.specs.Reading.{quiet_steps, terminal}
 use Rattle.vt_screen.specs.Screen.{ScreenValue, with_page}
 use Rattle.vt_screen.specs.Sgr.{group_read}
-use Rattle.vt_screen.specs.ShortMoves.{AreHandled, IsAfter, IsAsciiCharacter, IsAt, IsAtPos, IsElement, IsPlainSized, IsSgrText, LeadsTo, Replaces, is_still, with_cursor}
+use Rattle.vt_screen.specs.ShortMoves.{AreHandled, IsAfter, IsAt, IsAtPos, IsElement, IsPlainSized, IsSgrText, LeadsTo, Replaces, is_still, with_cursor}
 use Rattle.vt_screen.specs.Shown.{ReadsTo}
 use Rattle.vt_screen.specs.Steps.{OnPage, display_after}
-use Rattle.vt_screen.specs.Steps as steps
 use Rattle.vt_screen.specs.declared.short_moves.elements.Element.{Element}
 use Rattle.vt_screen.specs.declared.short_moves.elements.Element.TheVariants as elements
 use Rattle.vt_screen.specs.declared.sgr.Reading.{Reading}
@@ -44,8 +35,8 @@ use Rattle.vt_screen.proofs.Framing.{framed, framed_lines_deleted, framed_lines_
 use Rattle.vt_screen.proofs.MadeOf.{made_counted, made_drawn, made_piece, made_place}
 use Rattle.vt_screen.proofs.MovedRead.{deleted_read, inserted_read}
 use Rattle.vt_screen.proofs.PlainAgain.{goes_read, held, op_goes}
-use Rattle.vt_screen.proofs.Readback.{character_read, cleared_read, erased_rest_read, hidden_read, kept, moved_to_read}
-use Rattle.vt_screen.proofs.ReadbackTexts.{csi_read, reads_append, reads_then}
+use Rattle.vt_screen.proofs.Readback.{cleared_read, erased_rest_read, hidden_read, moved_to_read}
+use Rattle.vt_screen.proofs.ReadbackTexts.{csi_read, reads_then}
 use Rattle.vt_screen.proofs.Replacing.{IsTame, copied, copied_blindly, tame_keeps}
 use Rattle.vt_screen.proofs.RoutesRead.{IsShort, down, feed_read, return_read, right_read, right_tame}
 use Rattle.vt_screen.proofs.ShiftedRead.{deleted_chars_read, inserted_chars_read}
@@ -56,155 +47,7 @@ use Rattle.vt_grid.specs.Regions.{in_region}
 use Rattle.vt_grid.specs.Shifts.{lines_deleted, lines_inserted, rows_down}
 use Rattle.std.proofs.Common.{◌||◌, ◌==◌, ◌-◌, min}
 use Rattle.vt_screen.proofs.Readback.{erased_chars_read}
-
--- ---- characters
-
-pub drawn_ascii : (c : ℕ) → IsAsciiCharacter c → IsDrawn c
-drawn_ascii c (low, high) = record {
-  scalar = grind (arith, nat_tests);
-  shown = λ e. let met : Some 1 ≡ None = sym (columns_of-ascii c low high) ∙ e in absurd cc;
-  reported = λ e. absurd (omega (arith, high, e));
-}
-
-all_drawn : (cs : List ℕ) → AllByRecursion IsAsciiCharacter cs → AllByRecursion IsDrawn cs
-all_drawn [] h = tt
-all_drawn (c ∷ cs) h = (drawn_ascii c h.0, all_drawn cs h.1)
-
-ascii_encoded : (cs : List ℕ) → AllByRecursion IsAsciiCharacter cs → encode_utf8_all cs ≡ cs
-ascii_encoded [] h = refl
-ascii_encoded (c ∷ cs) h =
-    let high = h.0.1 in
-    ap (λ (xs : List ℕ). xs ++ encode_utf8_all cs) (encode_ascii c (omega arith))
-    ∙ ap (λ (xs : List ℕ). c ∷ xs) (ascii_encoded cs h.1)
-
-pub ascii_text : (cs : List ℕ) → AllByRecursion IsAsciiCharacter cs → IsDrawnText cs
-ascii_text cs h = record { characters = cs; spelled = ascii_encoded cs h; printable = all_drawn cs h }
-
-other_text : (c : ℕ) (bytes : List ℕ) → IsDrawn c → bytes ≡ encode_utf8 c → IsDrawnText bytes
-other_text c bytes is e = record { characters = c ∷ []; spelled = encoded (encode_utf8 c) ∙ sym e; printable = (is, tt) }
-  where
-    encoded : (xs : List ℕ) → xs ++ [] ≡ xs
-    encoded [] = refl
-    encoded (x ∷ xs) = ap (λ (ys : List ℕ). x ∷ ys) (encoded xs)
-
-pub text_tame : (text : List ℕ) → IsDrawnText text → IsTame text
-text_tame text is reader screen h = op_goes (Print text) false reader screen is tt h
-
--- The cursor has moved right in its row.
-pub record HasMoved (n : ℕ) (after screen : ScreenValue) : Type 0 where
-  pub row : after.page.row ≡ screen.page.row
-  pub column : after.page.column ≡ screen.page.column + n
-  pub width : after.page.width ≡ screen.page.width
-
-pub wide_put : (c : ℕ) (attrs : Attrs) (p : Page) → columns_of c ≡ Some 2 → p.column + 2 ≤ p.width →
-    page_after_print c attrs p ≡ glyph_put (encode_utf8 c) true attrs p
-unfolding room_made
-wide_put c attrs p two h =
-    let wide : nat_lt 1 p.width ≡ true = grind (arith, nat_tests) in
-    let room : lacks_room 2 p ≡ false = grind (arith, nat_tests) in
-    printed_wide c attrs p two ∙ rw (wide, room) refl
-
-pub printed_moves : (c n : ℕ) (screen : ScreenValue) → columns_of c ≡ Some (suc n) → suc n ≤ 2 →
-    screen.page.column + suc n ≤ screen.page.width →
-    (pushes c screen.page ≡ false) × HasMoved (suc n) (display_after (steps.Print c) screen) screen
-printed_moves c zero screen one few room =
-    let put = printed_put c screen.attrs screen.page one (omega arith) in (
-      rw (one, has_room screen.page (omega arith)) refl,
-      record {
-        row = ap (λ (p : Page). p.row) put;
-        column = ap (λ (p : Page). p.column) put;
-        width = ap (λ (p : Page). p.width) put;
-      },
-    )
-printed_moves c (suc zero) screen two few room =
-    let put = wide_put c screen.attrs screen.page two room in
-    let wide : nat_lt 1 screen.page.width ≡ true = grind (arith, nat_tests) in
-    let lacks : lacks_room 2 screen.page ≡ false = grind (arith, nat_tests) in (
-      rw (two, wide, lacks) refl,
-      record {
-        row = ap (λ (p : Page). p.row) put;
-        column = ap (λ (p : Page). p.column) put;
-        width = ap (λ (p : Page). p.width) put;
-      },
-    )
-printed_moves c (suc (suc n)) screen e few room = absurd (omega arith)
-
--- The rest of the output is read after its first part.
-pub rest_read : (a b : List ℕ) (screen next after : ScreenValue) → ReadsTo a screen next → ReadsTo (a ++ b) screen after →
-    ReadsTo b next after
-rest_read a b screen next after first both =
-    sym (ap (and_then (λ (u : Terminal). terminal_after u b)) first) ∙ (sym (reads_append (terminal start screen) a b) ∙ both)
-
-pub same_screen : (a b : ScreenValue) (x : List ℕ) (screen : ScreenValue) → ReadsTo x screen a → ReadsTo x screen b → a ≡ b
-same_screen a b x screen one two =
-    let e : Some (terminal start a) ≡ Some (terminal start b) = sym one ∙ two in
-    let f : terminal start a ≡ terminal start b = cc in ap (λ (t : Terminal). t.screen) f
-
-ascii_moves : (cs : List ℕ) (screen after : ScreenValue) → AllByRecursion IsAsciiCharacter cs →
-    screen.page.column + length cs ≤ screen.page.width → ReadsTo cs screen after → HasMoved (length cs) after screen
-ascii_moves [] screen after h room e =
-    let same : after ≡ screen = same_screen after screen [] screen e refl in
-    subst (λ (s : ScreenValue). HasMoved 0 s screen) (sym same) (record { row = refl; column = omega arith; width = refl })
-ascii_moves (c ∷ cs) screen after h room e =
-    let next = display_after (steps.Print c) screen in
-    let one = columns_of-ascii c h.0.0 h.0.1 in
-    let (unpushed, moved) = printed_moves c 0 screen one (omega arith) (omega arith) in
-    let high = h.0.1 in
-    let first : ReadsTo (c ∷ []) screen next =
-    subst (λ (bytes : List ℕ). ReadsTo bytes screen next) (encode_ascii c (omega arith))
-    (character_read c screen next (drawn_ascii c h.0) (kept (pushes c screen.page) next unpushed)) in
-    let col = moved.column in
-    let wide = moved.width in
-    let rest = ascii_moves cs next after h.1 (omega (arith, col, wide, room)) (rest_read (c ∷ []) cs screen next after first e) in
-    let far = rest.column in
-    record {
-      row = rest.row ∙ moved.row;
-      column = omega (arith, far, col);
-      width = rest.width ∙ moved.width;
-    }
-
-other_moves : (c n : ℕ) (screen after : ScreenValue) → IsDrawn c → columns_of c ≡ Some n → 0 < n → n ≤ 2 →
-    screen.page.column + n ≤ screen.page.width → ReadsTo (encode_utf8 c) screen after → HasMoved n after screen
-other_moves c zero screen after is e some few room reads = absurd (omega arith)
-other_moves c (suc n) screen after is e some few room reads =
-    let next = display_after (steps.Print c) screen in
-    let (unpushed, moved) = printed_moves c n screen e few room in
-    let first = character_read c screen next is (kept (pushes c screen.page) next unpushed) in
-    subst (λ (s : ScreenValue). HasMoved (suc n) s screen)
-    (same_screen next after (encode_utf8 c) screen first reads) moved
-
-moved_at : (n : ℕ) (from to : Pos) (screen after : ScreenValue) → to.row ≡ from.row → to.col ≡ from.col + n →
-    to.col < screen.page.width → IsAtPos from screen → HasMoved n after screen → IsAtPos to after
-moved_at n from to screen after row col inside at moved = record {
-  row = moved.row ∙ (at.row ∙ sym row);
-  column = moved.column ∙ (ap (λ c. c + n) at.column ∙ sym col);
-  inside = subst (λ w. to.col < w) (sym moved.width) inside;
-}
-
-pub ascii_copied : (rows cols : ℕ) (from to : Pos) (text : List ℕ) → AllByRecursion IsAsciiCharacter text →
-    to.row ≡ from.row → to.col ≡ from.col + length text → to.col < cols →
-    Replaces rows cols (Some from) (Some to) text text
-ascii_copied rows cols from to text is row col inside =
-    copied rows cols (Some from) (Some to) text (tame_keeps text (text_tame text (ascii_text text is)))
-    (made_drawn shortened_finals shortened_controls text (ascii_text text is))
-    (λ screen after sized at e.
-    let there = at.column in
-    let wide = sized.width in
-    moved_at (length text) from to screen after row col (omega (arith, inside, wide)) at
-    (ascii_moves text screen after is (omega (arith, there, wide, col, inside)) e))
-
-pub other_copied : (rows cols c n : ℕ) (from to : Pos) (text : List ℕ) → IsDrawn c → text ≡ encode_utf8 c →
-    columns_of c ≡ Some n → 0 < n → n ≤ 2 → to.row ≡ from.row → to.col ≡ from.col + n → to.col < cols →
-    Replaces rows cols (Some from) (Some to) text text
-other_copied rows cols c n from to text is spelled columns some few row col inside =
-    copied rows cols (Some from) (Some to) text (tame_keeps text (text_tame text (other_text c text is spelled)))
-    (made_drawn shortened_finals shortened_controls text (other_text c text is spelled))
-    (λ screen after sized at e.
-    let there = at.column in
-    let wide = sized.width in
-    moved_at n from to screen after row col (omega (arith, inside, wide)) at
-    (other_moves c n screen after is columns some few (omega (arith, there, wide, col, inside))
-    (subst (λ (bytes : List ℕ). ReadsTo bytes screen after) spelled e)))
+use Rattle.vt_screen.proofs.CharactersRead.{ascii_copied, ascii_text, other_copied, other_text, same_screen, text_tame}
 
 -- ---- elements that leave the cursor where it is
 

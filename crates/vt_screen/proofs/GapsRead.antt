@@ -27,7 +27,7 @@ use Rattle.vt_screen.specs.ShortMoves.{IsAsciiCharacter}
 use Rattle.vt_screen.specs.Shown.{ReadsTo}
 use Rattle.vt_screen.specs.Steps.{display_after, last_after}
 use Rattle.vt_screen.specs.Steps as steps
-use Rattle.vt_screen.proofs.ElementsRead.{drawn_ascii, printed_moves}
+use Rattle.vt_screen.proofs.CharactersRead.{drawn_ascii, printed_moves}
 use Rattle.vt_screen.proofs.Readback.{character_read, kept}
 use Rattle.vt_screen.proofs.ReadbackTexts.{reads_then}
 use Rattle.vt_screen.proofs.RoutesRead.{right_read}

@@ -30,7 +30,8 @@ use Rattle.vt_screen.specs.declared.short_moves.elements.Element.{Element}
 use Rattle.vt_screen.specs.declared.short_moves.elements.Element.TheVariants as elements
 use Rattle.vt_screen.specs.declared.short_moves.gaps.Gap.{Gap}
 use Rattle.vt_screen.specs.declared.short_moves.known.Known.{Known}
-use Rattle.vt_screen.proofs.ElementsRead.{ascii_text, right_leads, same_screen, sgr_read, text_tame}
+use Rattle.vt_screen.proofs.CharactersRead.{ascii_text, same_screen, text_tame}
+use Rattle.vt_screen.proofs.ElementsRead.{right_leads, sgr_read}
 use Rattle.vt_screen.proofs.GapsRead.{gap_ascii, gap_length, gap_same, gap_shown}
 use Rattle.vt_screen.proofs.MadeOf.{made_append, made_drawn, made_nothing}
 use Rattle.vt_screen.proofs.Readback.{cleared_read, erased_chars_read, erased_rest_read, hidden_read}

@@ -29,6 +29,7 @@ mod Exchanging
 mod Resized
 mod Reporting
 mod Kept
+pub mod RowStarts
 pub mod TextSteps
 pub mod WideSteps
 pub mod ContentTexts
@@ -74,6 +75,7 @@ mod NoRepeats
 pub mod RepeatedDiffs
 pub mod Replacing
 pub mod RoutesRead
+pub mod CharactersRead
 pub mod ElementsRead
 pub mod Numbers
 pub mod ShortMovesRead

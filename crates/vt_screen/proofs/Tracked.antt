@@ -31,7 +31,7 @@ use Rattle.vt_screen.specs.ShortMoves.{IsAsciiCharacter}
 use Rattle.vt_screen.specs.Shown.{ReadsTo}
 use Rattle.vt_screen.specs.Steps.{display_after}
 use Rattle.vt_screen.specs.Steps as steps
-use Rattle.vt_screen.proofs.ElementsRead.{drawn_ascii, printed_moves, rest_read, same_screen, wide_put}
+use Rattle.vt_screen.proofs.CharactersRead.{drawn_ascii, printed_moves, rest_read, same_screen, wide_put}
 use Rattle.vt_screen.proofs.Readback.{character_read, kept}
 
 -- ---- changes of pages

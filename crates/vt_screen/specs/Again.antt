@@ -10,7 +10,7 @@ use Rattle.vt_screen.specs.Screen.{ScreenValue, IsScreen, above_page}
 use Rattle.vt_screen.specs.Shown.{IsPlain}
 use Rattle.vt_screen.specs.Steps.{Step, CallBack}
 
--- The step invokes no callbacks, except for `on_scroll` when rows scroll off the top and aren't kept.
+-- The step invokes no callbacks, except for `on_scroll` when rows are dropped from the page or from scrollback.
 abbrev pub IsNoCallback : Step → Type 0
 IsNoCallback (CallBack call) = ⊥
 IsNoCallback _ = Unit {0}

@@ -22,8 +22,9 @@ pub record IsReaderInAnyRegion (picture : Picture) (reader : ScreenValue) : Type
   pub offset : (above_page reader).offset ≡ 0
   pub size : SamePictureSize picture (display reader)
 
--- Scrollback and its offset, the inactive page and the modes are unchanged. Everything else may have changed: the
--- active page with its scroll region and origin mode, the saved state, and the last printed character.
+-- Scrollback and its offset, the inactive page, the width and the modes are unchanged, and the same page is active.
+-- Everything else may have changed, including the active page's contents, scroll region and origin mode, the saved
+-- state, and the last printed character.
 pub record KeepsRestButRegion (reader after : ScreenValue) : Type 0 where
   pub other : after.other ≡ reader.other
   pub is_alternate : after.is_alternate ≡ reader.is_alternate

@@ -5,7 +5,7 @@ use Rattle.vt_rows.specs.Row.{RowValue}
 pub data CallValue : Type 0 where
   AudibleBell : CallValue
   VisualBell : CallValue
-  -- A request to resize the terminal, in rows and columns.
+  -- A request to resize the terminal to the given number of rows and columns.
   Resize : (rows cols : ℕ) → CallValue
   SetWindowIconName : (name : List ℕ) → CallValue
   SetWindowTitle : (title : List ℕ) → CallValue
@@ -16,5 +16,6 @@ pub data CallValue : Type 0 where
   UnhandledEscape : (first second : Option ℕ) (byte : ℕ) → CallValue
   UnhandledCsi : (first second : Option ℕ) (groups : List (List ℕ)) (byte : ℕ) → CallValue
   UnhandledOsc : (parts : List (List ℕ)) → CallValue
-  -- A row that scrolled off the top of a page and isn't kept, or that was dropped from scrollback.
+  -- A report of a row that scrolled off the top of a page and isn't kept, or that was dropped from scrollback.
+  -- `alternate` is true if the row comes from the alternate page.
   OnScroll : (row : RowValue) (alternate : Bool) → CallValue

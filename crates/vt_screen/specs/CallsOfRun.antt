@@ -19,12 +19,12 @@ abbrev pub LeavesScreen : {S : Type 0} → CallRelation S → Type 0
 LeavesScreen {S} does =
     (call : CallValue) → (old new : S) → (before after : ScreenValue) → does call old before new after → after ≡ before
 
--- The callbacks receive a call together with some screen, which they leave unchanged.
+-- For some screen, the callbacks receive the given call together with that screen and leave the screen unchanged.
 abbrev pub CalledOnSomeScreen : {S : Type 0} → CallRelation S → S → CallValue → S → Type 0
 CalledOnSomeScreen does old call new = (screen : ScreenValue) × does call old screen new screen
 
 -- The calls to callbacks that a step makes, in order: the step's own call if it has one, and otherwise a report of each
--- row that scrolls off and isn't kept.
+-- row that the step drops from the page or from scrollback.
 abbrev pub calls_of : Step → ScreenValue → List CallValue
 calls_of (CallBack call) screen = call ∷ []
 calls_of step screen = map (λ row. OnScroll row screen.is_alternate) (reports step screen)

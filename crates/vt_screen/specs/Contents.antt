@@ -7,11 +7,11 @@ use Rattle.vt_rows.specs.Row.{RowValue}
 use Rattle.vt_screen.specs.Screen.{ScreenValue, visible_row, visible_rows}
 use Rattle.vt_screen.specs.declared.rows.Rows.{Rows}
 
--- The line end after a row; empty if the row is wrapped.
+-- The newline after a row; empty if the row is wrapped.
 abbrev pub line_end : RowValue → List ℕ
 line_end row = if row.wrapped then [] else 0x0A ∷ []
 
--- The line end written before a row that has no glyphs and follows a wrapped row; empty for any other row.
+-- The newline written before a row that has no glyphs and follows a wrapped row; empty for any other row.
 abbrev pub gap_line : ℕ → Bool → RowValue → List ℕ
 gap_line width is_wrapped row = if is_wrapped && not (has_glyph 0 width row.cells) then 0x0A ∷ [] else []
 
@@ -21,12 +21,12 @@ lines_of width is_wrapped [] = []
 lines_of width is_wrapped (row ∷ rows) =
     gap_line width is_wrapped row ++ (plain_text 0 width row.cells ++ (line_end row ++ lines_of width row.wrapped rows))
 
--- The text with a byte prepended, unless the text is empty and the byte is a line end.
+-- The text with the given byte prepended; empty if the text is empty and the byte is a newline.
 abbrev pub with_byte_before : ℕ → List ℕ → List ℕ
 with_byte_before byte [] = if byte == 0x0A then [] else byte ∷ []
 with_byte_before byte (next ∷ text) = byte ∷ (next ∷ text)
 
--- The text without its trailing line ends.
+-- The text without its trailing newlines.
 abbrev pub without_line_ends : List ℕ → List ℕ
 without_line_ends [] = []
 without_line_ends (byte ∷ text) = with_byte_before byte (without_line_ends text)
@@ -37,8 +37,8 @@ contents_of screen = without_line_ends (lines_of screen.page.width false (visibl
 
 -- ---- text between two positions
 
--- The part of row `r` in the text between two positions. The first row begins at `start_col`, the last row ends at
--- `end_col`, and the rows between them are included in full.
+-- The part of the text between two positions that comes from the given row. The first row begins at `start_col`, the
+-- last row ends at `end_col`, and the rows between them are included in full.
 abbrev pub part_of : (start_row start_col end_row end_col : ℕ) → ScreenValue → ℕ → List ℕ
 part_of start_row start_col end_row end_col screen r =
     plain_text (if r == start_row then start_col else 0)

@@ -1,4 +1,5 @@
--- The steps that each event causes. This defines which control functions exist, and which bytes invoke them.
+-- The steps that each event causes. This module defines which control functions are supported, and which bytes invoke
+-- them.
 use Rattle.std.specs.Prelude.{ℕ, ◌-◌, ◌==◌, ◌&&◌, ◌||◌, not, nat_lt, nat_le, Bool, true, false}
 use Rattle.std.specs.Prelude.{List, [], ◌∷◌, ◌++◌, length, replicate, slice_index_or, slice_get}
 use Rattle.std.specs.Prelude.{Option, Some, None, bytes_eq, codes, if◌then◌else◌}
@@ -45,7 +46,7 @@ pub record Seen : Type 0 where
 abbrev pub seen_of : ScreenValue → Seen
 seen_of screen = record { rows = length screen.page.rows; columns = screen.page.width; last = screen.last }
 
--- ---- numbers
+-- ---- numbers in the parameters of control sequences
 
 -- The first number of the group at the given index; 0 if there is no such number.
 abbrev pub number_at : ℕ → List (List ℕ) → ℕ
@@ -93,14 +94,14 @@ escape_steps [] b =
     else CallBack (UnhandledEscape None None b) ∷ []
 escape_steps (intermediate ∷ intermediates) b = CallBack (UnhandledEscape (Some intermediate) (intermediate_at 0 intermediates) b) ∷ []
 
--- The steps of one SGR group, given its interpretation.
+-- The steps of one SGR group, given all groups of the sequence and the interpretation of this group.
 abbrev pub reading_steps : List (List ℕ) → Reading → List Step
 reading_steps groups Silent = []
 reading_steps groups (Set setting) = Render setting ∷ []
 reading_steps groups Unhandled = CallBack (UnhandledCsi None None groups 0x6D) ∷ []
 
--- The steps of the remaining groups of an SGR sequence. The `Wanted` value determines how the first of these groups is
--- interpreted.
+-- The steps of the remaining groups of an SGR sequence, given all of its groups. The `Wanted` value determines how the
+-- first remaining group is interpreted.
 abbrev pub sgr_from : List (List ℕ) → Wanted → List (List ℕ) → List Step
 sgr_from groups wanted [] = []
 sgr_from groups wanted (group ∷ rest) =
@@ -127,7 +128,8 @@ row_erasing report n =
     else if n == 2 then OnPage EraseRow ∷ []
     else CallBack report ∷ []
 
--- The number of rows or columns of a requested size; the screen's own number if the request has no such group.
+-- The number of rows or columns in a resize request: the number in the group at the given index, or the screen's own
+-- number if the request has no such group.
 abbrev pub size_or : ℕ → ℕ → List (List ℕ) → ℕ
 size_or own i groups = if nat_lt i (length groups) then number_at i groups else own
 
@@ -269,7 +271,7 @@ csi_steps groups (intermediate ∷ intermediates) b seen = intermediate_steps in
 abbrev pub is_clipboard_kind : List ℕ → Bool
 is_clipboard_kind kind = list_all (λ b. list_any (λ c. c == b) (codes "cpqs01234567")) kind
 
--- The byte may occur in base64 text.
+-- Whether the byte may occur in base64 text.
 abbrev pub is_base64 : ℕ → Bool
 is_base64 b =
     (nat_le 0x41 b && nat_le b 0x5A) || ((nat_le 0x61 b && nat_le b 0x7A) || ((nat_le 0x30 b && nat_le b 0x39)
@@ -299,7 +301,7 @@ osc_steps (name ∷ text ∷ []) = named_steps name text
 osc_steps (name ∷ kind ∷ text ∷ []) = clipboard_steps name kind text
 osc_steps parts = CallBack (UnhandledOsc parts) ∷ []
 
--- The steps of an event.
+-- The steps of an event, given the parts of the screen that they depend on.
 abbrev pub steps_of : Event → Seen → List Step
 steps_of (Character c) seen = character_steps c
 steps_of (Executed b) seen = control_steps b

@@ -1,4 +1,4 @@
--- What is known of a diff without REP; only for contracts of private functions and for proofs.
+-- Properties of a diff without REP; only for contracts of private functions and for proofs.
 use Rattle.std.specs.Prelude.{◌≡◌, ◌≤◌, Bool, List, [], ℕ, length}
 use Rattle.vt_screen.specs.Again.{KeepsPlain}
 use Rattle.vt_screen.specs.Diffs.{IsDiff, diff_controls, diff_finals}

@@ -1,4 +1,4 @@
--- Diffs with options: whether rows and columns may move first, and whether runs may be written with REP.
+-- Diffs with options: whether the diff may move rows and columns, and whether runs may be written with REP.
 use Rattle.std.specs.Prelude.{◌≡◌, ◌-◌, ℕ, Bool, true, false, List}
 use Rattle.vt_screen.specs.Again.{LeavesPlain}
 use Rattle.vt_screen.specs.MadeOf.{IsMadeOf, drawing_controls, drawing_finals, shortened_controls, shortened_finals}
@@ -8,23 +8,25 @@ use Rattle.vt_screen.specs.ShortMoves.{IsShortMoving}
 use Rattle.vt_screen.specs.Shown.{IsPlain, IsReaderOf, display, display_change}
 use Rattle.vt_screen.specs.declared.diff_options.DiffOptions.{DiffOptions}
 
--- The output is the ordinary diff or, if rows and columns may move first, a diff that may move them.
+-- If `scroll` is true, the output is a diff that may move rows or columns; otherwise, it is the diff that moves no rows
+-- or columns.
 abbrev pub IsDiff : (scroll : Bool) → (was new : ScreenValue) → List ℕ → Type 0
 IsDiff true was new text = IsShortMoving (display new) (display was) text
 IsDiff false was new text = text ≡ display_change was new
 
--- The final bytes of the control sequences with numbers that may occur in a diff without REP.
+-- The final bytes of the control sequences with numeric parameters that may occur in a diff without REP, given whether
+-- the diff may move rows or columns.
 abbrev pub diff_finals : (scroll : Bool) → List ℕ
 diff_finals true = shortened_finals
 diff_finals false = drawing_finals
 
--- The fixed sequences that may occur in a diff without REP.
+-- The fixed sequences that may occur in a diff without REP, given whether the diff may move rows or columns.
 abbrev pub diff_controls : (scroll : Bool) → List (List ℕ)
 diff_controls true = shortened_controls
 diff_controls false = drawing_controls
 
--- The output `text` is `plain`; if `repeat` is true, runs in it may be written with REP. The terminal has the width and
--- the cursor column of the screen `was`.
+-- If `repeat` is true, the output `text` is `plain` with some runs written with REP, for terminals that have the width
+-- and the cursor column of the screen `was`; otherwise, `text` equals `plain`.
 abbrev pub MayRepeat : (repeat : Bool) → (was : ScreenValue) → (plain text : List ℕ) → Type 0
 MayRepeat true was plain text = Repeats was.page.width (was.page.width - was.page.column) plain text
 MayRepeat false was plain text = text ≡ plain

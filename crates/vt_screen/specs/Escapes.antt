@@ -1,4 +1,5 @@
--- Output whose only control characters are BS, LF, CR, ESC and possibly HT, and the characters that may follow each ESC.
+-- Limits on the characters of output: the only control characters are BS, LF, CR, ESC and possibly HT, and only certain
+-- characters may follow an ESC.
 use Rattle.std.specs.Prelude.{◌≡◌, ◌⊎◌, ◌&&◌, ◌||◌, nat_le, nat_lt, ℕ, Bool, true, List, [], ◌∷◌, encode_utf8_all, ⊤}
 use Rattle.vt_screen.specs.MadeOf.{IsOneOf}
 

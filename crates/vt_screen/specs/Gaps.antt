@@ -1,4 +1,5 @@
--- What is known about a terminal while it reads output, and the gaps whose glyphs are printed instead of skipped.
+-- What is known about a terminal while it reads output, and gaps: columns whose glyphs are printed instead of being
+-- skipped with CUF.
 use Rattle.std.specs.Prelude.{◌≡◌, ◌⊎◌, ℕ, zero, suc, ◌+◌, ◌<◌, ◌≤◌, Bool, true, false, List, [], ◌∷◌, ◌++◌, length}
 use Rattle.std.specs.Prelude.{Option, Some, IfSome}
 use Rattle.vt_cells.specs.Attrs.{default_attrs, same_attrs}
@@ -27,7 +28,7 @@ use Rattle.vt_screen.specs.declared.short_moves.known.Known.{Known}
 abbrev pub IsFrom : Pos → ℕ → ℕ → Type 0
 IsFrom pos r c = (pos.row ≤ r) × (pos.row ≡ r → pos.col ≤ c)
 
--- In reading order, the position `pos` comes at or after both other positions.
+-- In reading order, the position `pos` comes at or after both `a` and `b`.
 abbrev pub IsLater : (a b pos : Pos) → Type 0
 IsLater a b pos = (r c : ℕ) → IsFrom pos r c → IsFrom a r c × IsFrom b r c
 
@@ -35,7 +36,8 @@ abbrev pub is_narrow_glyph : CellValue → Bool
 is_narrow_glyph (glyph text false attrs) = true
 is_narrow_glyph _ = false
 
--- From the position on, the page has the narrow glyphs that the function `cells` maps rows and columns to.
+-- At every row and column at or after the position, the page has the cell that the given function returns if this cell
+-- is a narrow glyph.
 abbrev pub HasGlyphs : (ℕ → ℕ → CellValue) → Pos → Page → Type 0
 HasGlyphs cells pos page =
     (r c : ℕ) → IsFrom pos r c → is_narrow_glyph (cells r c) ≡ true → cell_at page r c ≡ cells r c
@@ -44,22 +46,22 @@ HasGlyphs cells pos page =
 abbrev pub picture_cell : Picture → ℕ → ℕ → CellValue
 picture_cell picture r c = at (row_of_picture picture r).cells c
 
--- From the position on, the terminal displays the narrow glyphs that the function `cells` maps rows and columns to. If
--- `is_default` is true, its attributes are the default ones.
+-- At every row and column at or after the position, the terminal displays the cell that `cells` returns if this cell is
+-- a narrow glyph. If `is_default` is true, the terminal has default attributes.
 pub record StillShows (cells : ℕ → ℕ → CellValue) (is_default : Bool) (pos : Pos) (screen : ScreenValue) : Type 0 where
   pub page : IsPage screen.page
   pub glyphs : HasGlyphs cells pos screen.page
   pub attrs : is_default ≡ true → screen.attrs ≡ default_attrs
 
--- Everything that `known` states is true of the terminal, which is plain and has the given size. `cells` maps rows and
--- columns to the cells that the terminal displayed before.
+-- The terminal is plain, has the given size, and is as `known` describes. `cells` maps a row and column to the cell
+-- that was displayed there before the terminal read the output.
 pub record Tracks (height width : ℕ) (cells : ℕ → ℕ → CellValue) (known : Known) (screen : ScreenValue) : Type 0 where
   pub sized : IsPlainSized height width screen
   pub at : IsAt known.at screen
   pub kept : IfSome known.kept (λ pos. StillShows cells known.is_default pos screen)
 
--- On a terminal about which `known` is known, the output `text` has the same effect as the output `old`, after which
--- `new` is known. On all other plain terminals, `text` at least leaves the terminal plain. It is not longer than `old`.
+-- On every terminal for which `known` is true, the output `text` has the same effect as the output `old`, and `new` is
+-- true afterward. Every other plain terminal stays plain. `text` is not longer than `old`.
 pub record ReplacesTracked (height width : ℕ) (cells : ℕ → ℕ → CellValue) (known new : Known)
     (old text : List ℕ) : Type 0 where
   pub same : (screen : ScreenValue) → Tracks height width cells known screen →
@@ -70,13 +72,13 @@ pub record ReplacesTracked (height width : ℕ) (cells : ℕ → ℕ → CellVal
   pub made : IsMadeOf shortened_finals shortened_controls text
   pub shorter : length text ≤ length old
 
--- On a terminal about which `known` is known, the output `text` has the same effect as the whole output `old`.
+-- The output `text` replaces the output `old` as `ReplacesTracked` describes, whatever is known afterward.
 pub record ReplacesWhole (height width : ℕ) (cells : ℕ → ℕ → CellValue) (known : Known)
     (old text : List ℕ) : Type 0 where
   pub new : Known
   pub stands : ReplacesTracked height width cells known new old text
 
--- The string grew by output that replaces `old`.
+-- The string `after` is `before` followed by output that replaces `old`, as `ReplacesTracked` describes.
 pub record AppendsInstead (height width : ℕ) (cells : ℕ → ℕ → CellValue) (known new : Known)
     (old before after : List ℕ) : Type 0 where
   pub text : List ℕ
@@ -85,7 +87,7 @@ pub record AppendsInstead (height width : ℕ) (cells : ℕ → ℕ → CellValu
 
 -- ---- scrolling diffs
 
--- What is known about a terminal that displays what the screen displays.
+-- What is known, before any output is read, about a terminal that displays the picture of the given screen.
 abbrev pub known_at_start : ScreenValue → Known
 known_at_start screen = record {
   at = known_cursor screen;
@@ -93,27 +95,31 @@ known_at_start screen = record {
   is_default = same_attrs screen.attrs default_attrs;
 }
 
--- The output `text` is `old`, or it can replace `old` on terminals that display what the screen `prev` displays.
+-- Either `text` equals `old`, or `text` is not empty and can replace `old` on terminals that display the picture of the
+-- screen `prev`.
 abbrev pub IsShortVersion : (prev : ScreenValue) (old text : List ℕ) → Type 0
 IsShortVersion prev old text =
     (text ≡ old)
     ⊎ ((0 < length text) × ReplacesWhole (length (display prev).rows) (display prev).width
     (picture_cell (display prev)) (known_at_start prev) old text)
 
--- ---- elements that are copied
+-- ---- elements that are copied unchanged
 
--- Printing the element, whose bytes are given, moves the cursor from the position `known` to `to`.
+-- If the element prints characters, `known` is not `None`, and printing the given bytes moves the cursor from `known`
+-- to `to`, which is in the same row of `cols` columns. For any other element, nothing is required.
 abbrev pub IsPrinted : (cols : ℕ) → Element → (known : Option Pos) → (bytes : List ℕ) → (to : Pos) → Type 0
 IsPrinted cols element.Ascii known bytes to = (from : Pos) × (known ≡ Some from) × IsAfter cols from (length bytes) to
 IsPrinted cols (element.Other c) known bytes to =
     (from : Pos) × (known ≡ Some from) × ((n : ℕ) × (columns_of c ≡ Some n) × (0 < n) × IsAfter cols from n to)
 IsPrinted cols _ known bytes to = Unit {0}
 
--- In reading order, the position comes at or after `changed` and the position from which glyphs were known to be kept.
+-- `IsKeptFrom known changed pos` states that `known.kept` is not `None` and that, in reading order, `pos` comes at or
+-- after both `known.kept` and `changed`.
 abbrev pub IsKeptFrom : Known → Pos → Pos → Type 0
 IsKeptFrom known changed pos = (kept : Pos) × (known.kept ≡ Some kept) × IsLater kept changed pos
 
--- After the element, which leaves the cursor at `to`, glyphs are still kept from the position `pos` on.
+-- After the terminal has read the element, which leaves the cursor at `to`, it still displays its earlier glyphs from
+-- the position `pos` on.
 abbrev pub IsKeptAfter : Known → Element → (to : Option Pos) → (pos : Pos) → Type 0
 IsKeptAfter known element.Ascii to pos = (last : Pos) × (to ≡ Some last) × IsKeptFrom known last pos
 IsKeptAfter known (element.Other c) to pos = (last : Pos) × (to ≡ Some last) × IsKeptFrom known last pos
@@ -126,7 +132,8 @@ IsKeptAfter known element.ClearAttrs to pos = known.kept ≡ Some pos
 IsKeptAfter known element.Attrs to pos = known.kept ≡ Some pos
 IsKeptAfter known _ to pos = ⊥
 
--- After the element, the attributes are known to be the default ones.
+-- After the element, the attributes are known to be the default ones; `known` indicates whether this was known before
+-- the element.
 abbrev pub IsDefaultAfter : (known : Bool) → Element → Type 0
 IsDefaultAfter known element.ClearAttrs = Unit {0}
 IsDefaultAfter known element.Attrs = ⊥
@@ -143,13 +150,13 @@ abbrev pub IsGap : List CellValue → (c n : ℕ) → Type 0
 IsGap cells c zero = Unit {0}
 IsGap cells c (suc n) = IsByteGlyph (at cells c) × IsGap cells (c + 1) n
 
--- The text of the given number of columns from column `c` on.
+-- The text of the `n` columns from column `c` on.
 abbrev pub gap_text : List CellValue → (c n : ℕ) → List ℕ
 gap_text cells c zero = []
 gap_text cells c (suc n) = text_of (at cells c) ++ gap_text cells (c + 1) n
 
--- The gap is in the cursor's row, and the terminal still displays the glyphs in the gap. The terminal's attributes are
--- the default ones.
+-- The gap begins at the cursor and has one to three columns, whose glyphs the terminal still displays. The terminal has
+-- default attributes.
 pub record IsShownGap (picture : Picture) (known : Known) (gap : Gap) : Type 0 where
   pub at : known.at ≡ Some gap.from
   pub kept : (pos : Pos) × (known.kept ≡ Some pos) × IsFrom pos gap.from.row gap.from.col
@@ -161,7 +168,7 @@ pub record IsShownGap (picture : Picture) (known : Known) (gap : Gap) : Type 0 w
   pub narrow : picture.width < 65536
   pub glyphs : IsGap (row_of_picture picture gap.from.row).cells gap.from.col gap.count
 
--- CUF moves the cursor over the gap.
+-- The element `over` is the CUF that moves the cursor over the gap, which is displayed as `IsShownGap` describes.
 pub record IsGapOver (picture : Picture) (known : Known) (over : Element) (gap : Gap) : Type 0 where
   pub shown : IsShownGap picture known gap
   pub right : over ≡ element.Right gap.count

@@ -5,7 +5,8 @@ use Rattle.vt_cells.specs.InputModes.{keypad_text, application_cursor_text, brac
 use Rattle.vt_cells.specs.InputModes.{mouse_mode_change, mouse_encoding_change, cursor_style_change}
 use Rattle.vt_screen.specs.Screen.{Modes, no_modes}
 
--- The output that changes the mouse mode, the mouse encoding and the cursor style.
+-- The output that changes the mouse mode, the mouse encoding and the cursor style from those of `was` to those of
+-- `new`.
 abbrev pub mouse_and_style_text : (was new : Modes) → List ℕ
 mouse_and_style_text was new =
     mouse_mode_change was.mouse_mode new.mouse_mode

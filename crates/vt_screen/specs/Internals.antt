@@ -59,13 +59,14 @@ pub record IsKept (page : Page) (last : Option ℕ) (aside : Aside) : Type 0 whe
 
 -- ---- sizes
 
--- Both cursors and the bottom of the scroll region are on the page.
+-- The rows of the cursor and of the saved cursor, and the bottom of the scroll region, are on the page.
 pub record IsInside (page : Page) : Type 0 where
   pub row : page.row < length page.rows
   pub saved_row : page.saved_row < length page.rows
   pub bottom : page.bottom < length page.rows
 
--- The page has the given size, and its cursors are on it.
+-- The page has the given size; the rows of its cursor and of its saved cursor, and the bottom of its scroll region, are
+-- on the page.
 pub record IsSizedPage (height width : ℕ) (page : Page) : Type 0 where
   pub inside : IsInside page
   pub width_is : page.width ≡ width
@@ -124,8 +125,8 @@ pub record IsColumns (start stop : ℕ) (screen : ScreenValue) : Type 0 where
   pub order : start ≤ stop
   pub inside : stop ≤ screen.page.width
 
--- The effect of writing rows, continuing from the capture state `before`. On success, all rows are written, and the
--- capture state is now `after`. If the call failed, the sink failed within one of the rows.
+-- The effect of writing rows, continuing from the capture state `before`. On success, all rows are written, and `after`
+-- is the capture state after them. On failure, the sink failed within one of the rows.
 pub record WritesRows {A E : Type 0} (refuses : List ℕ → List ℕ → List ℕ → Type 0) (start : List ℕ) (before : Written)
     (rows : List RowValue) (result : Result A E) (bytes : List ℕ) (after : Written) : Type 0 where
   pub text : OnOk result (bytes ≡ start ++ basic_texts before rows)

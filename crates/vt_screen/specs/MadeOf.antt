@@ -44,7 +44,8 @@ pub record IsMadeOf (finals : List ℕ) (controls : List (List ℕ)) (text : Lis
 abbrev pub escapes : List (List ℕ) → List (List ℕ)
 escapes texts = map (λ text. 0x1B ∷ text) texts
 
--- The final bytes of the control sequences with numbers that may occur in drawing output: CUP, CUF, ECH and SGR.
+-- The final bytes of the control sequences with numeric parameters that may occur in drawing output: those of CUP, CUF,
+-- ECH and SGR.
 abbrev pub drawing_finals : List ℕ
 drawing_finals = codes "HCXm"
 
@@ -88,7 +89,7 @@ input_controls =
 abbrev pub state_controls : List (List ℕ)
 state_controls = input_controls ++ drawing_controls
 
--- The control characters that may occur in captures and plain text, namely line ends.
+-- The control characters that may occur in captures and plain text, namely newlines.
 abbrev pub plain_controls : List (List ℕ)
 plain_controls = (0x0A ∷ []) ∷ []
 

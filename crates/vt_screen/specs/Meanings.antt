@@ -1,4 +1,4 @@
--- The values that calls stand for.
+-- The model values that represent calls to callbacks.
 use Rattle.std.specs.Prelude.{map}
 use Rattle.vt_screen.specs.Calls as value
 use Rattle.vt_screen.specs.Calls.{CallValue}

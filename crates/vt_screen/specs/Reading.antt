@@ -34,7 +34,7 @@ quiet_events [] screen = Some screen
 quiet_events (event ∷ events) screen =
     and_then (quiet_events events) (quiet_steps (steps_of event (seen_of screen)) screen)
 
--- Whether a transition may allocate. Only a transition that collects a byte of an operating system command may.
+-- Whether a transition may allocate: only one that collects a byte of an operating system command may do so.
 abbrev pub grows : Transition → Bool
 grows (Collect OscString) = true
 grows _ = false
@@ -47,7 +47,8 @@ pub record Terminal : Type 0 where
 abbrev pub terminal : State → ScreenValue → Terminal
 terminal scan screen = record { scan = scan; screen = screen }
 
--- The terminal after a byte; `None` if the byte would invoke a callback, allocate, or scroll a row off the page.
+-- The terminal after a byte; `None` if the byte would invoke a callback, allocate, scroll a row off the page or erase
+-- scrollback.
 unfoldable pub read_byte : Terminal → ℕ → Option Terminal
 read_byte t b =
     if grows (transition_of t.scan.kind (class_of b)) then None

@@ -1,5 +1,5 @@
--- How far the cursor of a terminal can be in its row while the terminal reads output; only for contracts of private
--- functions and for proofs.
+-- Lower bounds on the number of columns left in the cursor's row while a terminal reads output; only for contracts of
+-- private functions and for proofs.
 use Rattle.std.proofs.Common.{IsUtf8}
 use Rattle.std.specs.Prelude.{◌≡◌, ◌⊎◌, ℕ, suc, true, false, ◌+◌, ◌-◌, ◌<◌, ◌≤◌, List, ◌++◌, drop, length, take}
 use Rattle.std.specs.Char.{encode_utf8}
@@ -18,22 +18,22 @@ use Rattle.vt_screen.specs.declared.repeats.Skipped.{Skipped}
 abbrev pub HasRoom : (width room : ℕ) → ScreenValue → Type 0
 HasRoom width room screen = 0 < room → screen.page.column + room ≤ width
 
--- A terminal in ground state, with no incomplete character, is in that state again after it has read the output. If it
--- had `before` columns left in its row, it has `after` columns left afterward.
+-- A terminal in ground state, with no incomplete character, is in that state again after it has read the output. If at
+-- least `before` columns were left in the cursor's row, at least `after` columns are left afterward.
 pub record KeepsRoom (width before after : ℕ) (text : List ℕ) : Type 0 where
   pub ground : (run start text).state ≡ start
   pub room : (height : ℕ) (screen : ScreenValue) → IsSized height width screen → HasRoom width before screen →
       HasRoom width after (screen_in start screen text)
 
--- The first `skipped.len` bytes are characters, a control or a sequence. If the terminal has `room` columns left in its
--- row before them, it has `skipped.room` columns left after them.
+-- The first `skipped.len` bytes, at least one, leave a terminal in ground state. If at least `room` columns were left
+-- in the cursor's row before these bytes, at least `skipped.room` columns are left after them.
 pub record Skips (width room : ℕ) (bytes : List ℕ) (skipped : Skipped) : Type 0 where
   pub progress : 0 < skipped.len
   pub inside : skipped.len ≤ length bytes
   pub keeps : KeepsRoom width room skipped.room (take skipped.len bytes)
 
--- The text begins with one character and `count` times more of it. It is `front` followed by `tail`, where `front` is
--- the first character, and `back` follows the run. Enough columns are left in the row for all these characters.
+-- The text begins with a run: one character followed by `count` more copies of it. `front` is that character, and
+-- `back` follows the run. Of the `room` columns left in the cursor's row, `left` columns remain after the run.
 pub record BeginsRun (room : ℕ) (text front : List ℕ) (count left : ℕ) (back : List ℕ) : Type 0 where
   pub character : ℕ
   pub narrow : IsNarrow character
@@ -44,8 +44,9 @@ pub record BeginsRun (room : ℕ) (text front : List ℕ) (count left : ℕ) (ba
   pub fits : count ≤ 65535
   pub utf8 : IsUtf8 back
 
--- The text has a run after `before`. `front` ends with the first character of the run, and `back` follows the run.
--- Enough columns are left in the row for all characters of the run, and then `left` columns remain.
+-- The text consists of `before`, a run, and `back`; `front` is `before` followed by the first character of the run, and
+-- `count` more copies of this character follow. If at least `room` columns were left in the cursor's row before the
+-- text, at least `left` columns remain after the run.
 pub record Finds (width room : ℕ) (text front : List ℕ) (count left : ℕ) (back : List ℕ) : Type 0 where
   pub before : List ℕ
   pub character : ℕ
@@ -57,7 +58,8 @@ pub record Finds (width room : ℕ) (text front : List ℕ) (count left : ℕ) (
   pub fits : count ≤ 65535
   pub utf8 : IsUtf8 back
 
--- The bytes from the third one up to the given index are parameter bytes, and the index is inside.
+-- The index `last` is at least 2 and within the bytes, and all bytes from index 2 up to, but not including, `last` are
+-- parameter bytes.
 pub record IsFinalAt (bytes : List ℕ) (last : ℕ) : Type 0 where
   pub past : 2 ≤ last
   pub inside : last < length bytes
@@ -68,14 +70,15 @@ pub record BeginsWithVisibility (bytes : List ℕ) : Type 0 where
   pub inside : 6 ≤ length bytes
   pub is : (take 6 bytes ≡ bytes_of (Hide false)) ⊎ (take 6 bytes ≡ bytes_of (Hide true))
 
--- The output `text` is `plain` with some runs written with REP, and after it at least `left` columns remain in the row.
+-- The output `text` is `plain` with some runs written with REP. If at least `room` columns were left in the cursor's
+-- row before the output, at least `left` columns remain after it.
 pub record Shortens (width room left : ℕ) (plain text : List ℕ) : Type 0 where
   pub runs : HasRuns plain text
   pub keeps : KeepsRoom width room left plain
   pub same : (reader : ScreenValue) → IsScreen reader → ReadsAlike plain text reader
   pub rows : HasNoRepeat plain → (reader : ScreenValue) → IsReaderWithRoom width room reader → RepeatsInRows text reader
 
--- The text `new` is `start` followed by `plain` with some runs written with REP.
+-- The text `new` is `start` followed by `plain` with some runs written with REP, as `Repeats` describes.
 pub record AppendsRepeating (start new : List ℕ) (width room : ℕ) (plain : List ℕ) : Type 0 where
   pub added : List ℕ
   pub bytes : new ≡ start ++ added

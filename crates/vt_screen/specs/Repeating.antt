@@ -25,17 +25,17 @@ pub record IsNarrow (c : ℕ) : Type 0 where
   pub drawn : IsDrawn c
   pub columns : columns_of c ≡ Some 1
 
--- The character `c`, in UTF-8, the given number of times.
+-- The UTF-8 encoding of `count` copies of the character `c`.
 abbrev pub copies : (count c : ℕ) → List ℕ
 copies count c = encode_utf8_all (replicate count c)
 
--- A part of the output that ends in a run: a character that is printed once and then `count` times more.
+-- A part of the output that ends in a run: a character that is printed once, followed by `count` more copies of it.
 pub record Run : Type 0 where
   pub before : List ℕ
   pub character : ℕ
   pub count : ℕ
 
--- The character is printed in one column, and REP is shorter than the characters that it stands for.
+-- The run's character is printed in one column, and REP is shorter than the copies that it replaces.
 pub record IsShortened (run : Run) : Type 0 where
   pub narrow : IsNarrow run.character
   pub shorter : length (repeat_text run.count) < length (copies run.count run.character)
@@ -58,8 +58,9 @@ pub record HasRuns (plain text : List ℕ) : Type 0 where
 
 -- ---- the effect of reading the output
 
--- A terminal in ground state takes the same steps for both outputs and ends in the same state. If it reads one of them
--- without invoking callbacks, allocating, or scrolling rows off the page, it also reads the other one that way.
+-- A terminal in ground state takes the same steps for both outputs and ends in the same state. If it reads one of the
+-- outputs without invoking callbacks, allocating, or scrolling rows off the page, it reads both outputs without doing
+-- so.
 pub record ReadsAlike (plain text : List ℕ) (reader : ScreenValue) : Type 0 where
   pub state : (run start text).state ≡ (run start plain).state
   pub steps : steps_in start reader text ≡ steps_in start reader plain
@@ -82,7 +83,7 @@ RepeatInRows (event ∷ events) screen =
 abbrev pub RepeatsInRows : List ℕ → ScreenValue → Type 0
 RepeatsInRows text reader = RepeatInRows (run start text).events reader
 
--- No event of the output is REP.
+-- The output contains no REP.
 abbrev pub HasNoRepeat : List ℕ → Type 0
 HasNoRepeat text = AllByRecursion (λ event. repetitions event ≡ 0) (run start text).events
 
@@ -93,8 +94,9 @@ pub record IsReaderWithRoom (width room : ℕ) (reader : ScreenValue) : Type 0 w
   pub width_is : reader.page.width ≡ width
   pub columns : 0 < room → reader.page.column + room ≤ width
 
--- The output `text` is `plain` with some runs written with REP. It has the same effect on every terminal, and if
--- `plain` contains no REP, it repeats characters only within rows on terminals that have the given width and room.
+-- The output `text` is `plain` with some runs written with REP; it is not longer and has the same effect on every
+-- terminal in ground state. If `plain` contains no REP, each REP in `text` repeats its character only within the
+-- cursor's row on terminals with `width` columns, at least `room` of which are left in that row.
 pub record Repeats (width room : ℕ) (plain text : List ℕ) : Type 0 where
   pub runs : HasRuns plain text
   pub same : (reader : ScreenValue) → IsScreen reader → ReadsAlike plain text reader

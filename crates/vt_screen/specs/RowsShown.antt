@@ -51,7 +51,7 @@ changed_rows start width screen prev =
     texts_from (changed_text start (range_end start width screen.page.width) (display screen) (display prev)) 0
     (length screen.page.rows)
 
--- The output for the row at the given index in a list of outputs.
+-- The output at the given row index in a list of outputs, or empty output if the index is past the end.
 abbrev pub text_at : List (List ℕ) → ℕ → List ℕ
 text_at texts r = slice_index_or texts r []
 
@@ -71,7 +71,8 @@ pub record IsRowReader (picture : Picture) (r c : ℕ) (stood : RowValue) (reade
 abbrev pub IsBlankReader : Picture → (r c : ℕ) → ScreenValue → Type 0
 IsBlankReader picture r c reader = IsRowReader picture r c (blank_row default_attrs picture.width) reader
 
--- The terminal is plain and has a wrap pending after a glyph at the end of row `r`, and the row below is blank.
+-- The terminal is plain, has default attributes and the picture's size, and has a wrap pending after a glyph at the end
+-- of row `r`. The row below is blank.
 pub record IsWrapReader (picture : Picture) (r : ℕ) (reader : ScreenValue) : Type 0 where
   pub is : IsReader picture reader
   pub row : reader.page.row ≡ r
@@ -80,10 +81,10 @@ pub record IsWrapReader (picture : Picture) (r : ℕ) (reader : ScreenValue) : T
   pub full : ends_blank (row_at reader.page r).cells ≡ false
   pub below : row_at reader.page (r + 1) ≡ blank_row default_attrs picture.width
 
--- ---- the effect of a row's output on them
+-- ---- the effect of a row's output on the terminals that read it
 
--- In the columns `start..stop`, row `r` has the cells of the row `shows`. No other cell has changed, and neither has
--- the wrapped flag of any other row.
+-- In the columns `start..stop`, row `r` has the cells of the row `shows`. All other cells and the wrapped flags of all
+-- other rows are unchanged.
 pub record HasRange (start stop r : ℕ) (shows : RowValue) (reader after : ScreenValue) : Type 0 where
   pub cells : (row_at after.page r).cells ≡ with_range start stop shows.cells (row_at reader.page r).cells
   pub others : (k : ℕ) → k ≢ r → row_at after.page k ≡ row_at reader.page k
@@ -100,16 +101,16 @@ pub record HasLinked (r : ℕ) (shows : RowValue) (reader after : ScreenValue) :
   pub others : (k : ℕ) → k ≢ r → k ≢ r + 1 → row_at after.page k ≡ row_at reader.page k
   pub height : length after.page.rows ≡ length reader.page.rows
 
--- In the `width` columns starting at `start`, the output turns row `r` of a terminal from `stood` into row `r` of the
--- screen.
+-- On every terminal that satisfies `IsRowReader` with `stood` as its row `r` and the cursor in column `start` of that
+-- row, the output turns the `width` columns from `start` on into those of row `r` of the screen.
 abbrev pub DrawsRow : (start width : ℕ) → ScreenValue → (r : ℕ) → (stood : RowValue) → List ℕ → Type 0
 DrawsRow start width screen r stood text =
     Turns (IsRowReader (display screen) r start stood) text
     (HasRange start (range_end start width screen.page.width) r (shown_row screen r))
 
--- ---- the rows to which this applies
+-- ---- the rows and column ranges that clauses are limited to
 
--- The range of columns is the whole row.
+-- The range of `width` columns starting at `start` covers the whole row of `columns` columns.
 abbrev pub IsWholeRow : (start width columns : ℕ) → Type 0
 IsWholeRow start width columns = (start ≡ 0) × (columns ≤ width)
 
@@ -120,7 +121,7 @@ EachUncut start width screen P =
     (r : ℕ) → r < length (display screen).rows
     → CutsNone start (range_end start width screen.page.width) (shown_row screen r).cells → P r
 
--- The given predicate holds for each wrapped row of a screen's picture.
+-- The given predicate holds for each wrapped row of a screen's picture except the last row.
 abbrev pub EachLinked : ScreenValue → (ℕ → Type 0) → Type 0
 EachLinked screen P = (r : ℕ) → r + 1 < length (display screen).rows → (shown_row screen r).wrapped ≡ true → P r
 

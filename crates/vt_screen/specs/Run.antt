@@ -27,17 +27,19 @@ CallRelation S = CallValue → S → ScreenValue → S → ScreenValue → Type 
 abbrev pub CalledOnAnyScreen : {S : Type 0} → CallRelation S → S → CallValue → S → Type 0
 CalledOnAnyScreen does old call new = (screen : ScreenValue) → does call old screen new screen
 
--- The effect of reporting a row to callbacks.
+-- The effect of a call to `on_scroll` that reports a row; `alternate` states whether the row comes from the alternate
+-- page.
 abbrev pub CalledOnScroll : {S : Type 0} → CallRelation S → (alternate : Bool) → S → RowValue → S → Type 0
 CalledOnScroll does alternate old row new = CalledOnAnyScreen does old (OnScroll row alternate) new
 
--- The effect of a step that may scroll rows off the page; the rows that aren't kept are reported one by one.
+-- The effect of a step that may scroll rows off the page or that erases scrollback; the rows that aren't kept are
+-- reported one by one.
 pub record Scrolls {S : Type 0} (does : CallRelation S) (a : State S) (step : Step) (b : State S) : Type 0 where
   pub screen : b.screen ≡ screen_after step a.screen
   pub called : FoldsTo (CalledOnScroll does a.screen.is_alternate) a.callbacks (reports step a.screen) b.callbacks
 
--- The effect of a step. A callback has the effect that the call relation describes, a step that scrolls reports the
--- rows that aren't kept, and any other step only changes the screen.
+-- The effect of a step. A callback has the effect that the call relation describes, a step that scrolls or erases
+-- scrollback reports the rows that aren't kept, and any other step only changes the screen.
 abbrev pub Takes : {S : Type 0} → CallRelation S → State S → Step → State S → Type 0
 Takes does a (CallBack call) b = does call a.callbacks a.screen b.callbacks b.screen
 Takes does a (Print c) b = Scrolls does a (Print c) b

@@ -26,7 +26,7 @@ pub record ScreenValue : Type 0 where
   pub saved_attrs : Attrs
   pub hidden : Bool
   pub modes : Modes
-  -- The last printed character that took columns; REP repeats this character.
+  -- The last printed character that occupied at least one column; REP repeats this character.
   pub last : Option ℕ
 
 abbrev pub no_modes : Modes

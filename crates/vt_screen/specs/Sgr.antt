@@ -1,5 +1,5 @@
--- SGR, one group of parameters at a time (ECMA-48, and xterm for extended colors). A group sets an attribute, begins
--- or continues an extended color, or is unknown.
+-- The interpretation of SGR, one group of parameters at a time (ECMA-48, and xterm for extended colors). A group sets
+-- an attribute, begins or continues an extended color, or is unknown.
 use Rattle.std.specs.Prelude.{ℕ, ◌-◌, ◌==◌, ◌&&◌, nat_lt, true, false, List, [], ◌∷◌, if◌then◌else◌}
 use Rattle.vt_cells.specs.Attrs.{default_attrs, Attrs}
 use Rattle.vt_cells.specs.declared.attrs.Intensity.TheVariants.{Normal, Bold, Dim}
@@ -102,7 +102,7 @@ form_read layer (n ∷ []) =
     else record { reading = Unhandled; wanted = Stopped }
 form_read layer _ = record { reading = Unhandled; wanted = Stopped }
 
--- The interpretation of an SGR group as a color component, which is a single number up to 255 and is passed to the
+-- The interpretation of an SGR group as a palette index or an RGB component: a single number up to 255 is passed to the
 -- given function. After any other group, the rest of the sequence is ignored.
 abbrev pub part_read : List ℕ → (ℕ → GroupRead) → GroupRead
 part_read (n ∷ []) next = if nat_lt n 256 then next n else silent_read Stopped

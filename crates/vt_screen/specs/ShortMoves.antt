@@ -37,21 +37,21 @@ pub record IsAtPos (pos : Pos) (screen : ScreenValue) : Type 0 where
   pub column : screen.page.column ≡ pos.col
   pub inside : pos.col < screen.page.width
 
--- The cursor is at the given position, if one is known.
+-- The cursor is at the given position, and no wrap is pending; `None` imposes no condition.
 abbrev pub IsAt : Option Pos → ScreenValue → Type 0
 IsAt None screen = Unit {0}
 IsAt (Some pos) screen = IsAtPos pos screen
 
--- A terminal in ground state that is plain, has the given size, and has its cursor at the given position, if one is
--- known.
+-- The terminal is plain, is in ground state, and has the given size. If the position `known` is not `None`, the cursor
+-- is at that position.
 pub record EndsAt (height width : ℕ) (known : Option Pos) (t : Terminal) : Type 0 where
   pub ground : t.scan ≡ start
   pub sized : IsPlainSized height width t.screen
   pub at : IsAt known t.screen
 
--- On a plain terminal of the given size whose cursor is at the position `known`, the output `text` has the same effect
--- as the output `old`, which leaves the cursor at the position `new`. On all other plain terminals, `text` at least
--- leaves the terminal plain. It is not longer than `old`.
+-- On every plain terminal of the given size with the cursor at `known`, the output `text` has the same effect as the
+-- output `old`, which leaves the cursor at `new`; a position that is `None` imposes no condition. Every other plain
+-- terminal stays plain. `text` is not longer than `old`.
 pub record Replaces (height width : ℕ) (known new : Option Pos) (old text : List ℕ) : Type 0 where
   pub same : (screen : ScreenValue) → IsPlainSized height width screen → IsAt known screen →
       terminal_after (terminal start screen) text ≡ terminal_after (terminal start screen) old
@@ -65,15 +65,15 @@ pub record Replaces (height width : ℕ) (known new : Option Pos) (old text : Li
 abbrev pub with_cursor : Pos → ScreenValue → ScreenValue
 with_cursor pos screen = record screen { page = record screen.page { row = pos.row; column = pos.col } }
 
--- On a plain terminal of the given size whose cursor is at the position `known`, if one is known, the output moves the
--- cursor to the position `to` and changes nothing else. All other plain terminals stay plain.
+-- On every plain terminal of the given size with the cursor at `known` (anywhere if `known` is `None`), the output
+-- moves the cursor to the position `to` and changes nothing else. All other plain terminals stay plain.
 pub record LeadsTo (height width : ℕ) (known : Option Pos) (to : Pos) (text : List ℕ) : Type 0 where
   pub reads : (screen : ScreenValue) → IsPlainSized height width screen → IsAt known screen →
       ReadsTo text screen (with_cursor to screen)
   pub keeps : KeepsPlain text
   pub made : IsMadeOf shortened_finals shortened_controls text
 
--- The string `after` is `before` followed by output that replaces `old`.
+-- The string `after` is `before` followed by output that replaces `old`, as `Replaces` describes.
 pub record AppendsReplacement (height width : ℕ) (known new : Option Pos) (old before after : List ℕ) : Type 0 where
   pub text : List ℕ
   pub appends : after ≡ before ++ text
@@ -99,14 +99,15 @@ pub record IsShortMoving (self prev : Picture) (text : List ℕ) : Type 0 where
 
 -- ---- the elements of the output
 
--- None of the groups of an SGR sequence, each of which is a single number, is unknown.
+-- SGR handles all of the given numbers, taken as groups of one number each. The `Wanted` value determines how the first
+-- group is interpreted.
 abbrev pub AreHandled : Wanted → List ℕ → Type 0
 AreHandled wanted [] = Unit {0}
 AreHandled wanted (n ∷ ns) =
     ((group_read wanted (n ∷ [])).reading ≢ Unhandled) × AreHandled (group_read wanted (n ∷ [])).wanted ns
 
--- The number, as an SGR group interpreted according to `wanted`, is known, and `next` specifies how the next group is
--- interpreted.
+-- SGR handles the number as a group that is interpreted according to `wanted`, and `next` specifies how the next group
+-- is interpreted.
 abbrev pub IsWantedNext : Wanted → ℕ → Wanted → Type 0
 IsWantedNext wanted n next =
     ((group_read wanted (n ∷ [])).reading ≢ Unhandled) × (next ≡ (group_read wanted (n ∷ [])).wanted)
@@ -147,7 +148,7 @@ pub record IsAfter (cols : ℕ) (from : Pos) (count : ℕ) (to : Pos) : Type 0 w
   pub column : to.col ≡ from.col + count
   pub inside : to.col < cols
 
--- The element leaves the cursor where it is.
+-- Whether the element leaves the cursor where it is.
 abbrev pub is_still : Element → Bool
 is_still element.EraseRest = true
 is_still (element.EraseChars count) = true
@@ -160,15 +161,15 @@ is_still _ = false
 
 -- ---- routes
 
--- The column that the last part of a route leads to.
+-- The column that the last part of a route leads to from the given column.
 abbrev pub column_after_last : (width : ℕ) → Last → ℕ → ℕ
 column_after_last width last.Stay col = col
 column_after_last width (last.Back count) col = col - count
 column_after_last width (last.Right count) col = min (col + count) (width - 1)
 column_after_last width (last.Column target) col = min target (width - 1)
 
--- The last part of a route is valid: a move to the right is by at least one column, and a move to a given column is
--- within a terminal's largest size.
+-- The last part of a route is valid: a move to the right is by 1 to 65535 columns, and the target of a move to a given
+-- column is below 65535.
 abbrev pub IsLastPart : Last → Type 0
 IsLastPart last.Stay = Unit {0}
 IsLastPart (last.Back count) = Unit {0}
@@ -192,13 +193,13 @@ abbrev pub column_after_route : (width : ℕ) → Route → ℕ → ℕ
 column_after_route width route col =
     column_after_last width route.last (column_after_tabs width route.tabs (if route.returns then 0 else col))
 
--- The route leads from one position to the other on a terminal of the given width.
+-- The route leads from the position `from` to the position `to` on a terminal of the given width.
 pub record IsRoute (width : ℕ) (route : Route) (from to : Pos) : Type 0 where
   pub row : to.row ≡ from.row + route.feeds
   pub column : to.col ≡ column_after_route width route from.col
   pub part : IsLastPart route.last
 
--- The bytes of the last part of a route: BS, CUF or CHA.
+-- The bytes of the last part of a route: BS characters, CUF, CHA, or nothing.
 abbrev pub last_text : Last → List ℕ
 last_text last.Stay = []
 last_text (last.Back count) = replicate count 0x08
@@ -210,3 +211,7 @@ abbrev pub route_text : Route → List ℕ
 route_text route =
     replicate route.feeds 0x0A ++ ((if route.returns then 0x0D ∷ [] else [])
     ++ (replicate route.tabs 0x09 ++ last_text route.last))
+
+-- CUP without a column: moves the cursor to the first column of the row, counted from 0.
+abbrev pub row_start_text : ℕ → List ℕ
+row_start_text row = csi (decimal (row + 1)) 0x48

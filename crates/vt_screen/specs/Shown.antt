@@ -41,8 +41,8 @@ pub record IsPlain (screen : ScreenValue) : Type 0 where
   pub page : IsPlainPage screen.page
   pub offset : (above_page screen).offset ≡ 0
 
--- The given terminal after it was changed to display a picture. Its saved state and its last printed character may have
--- changed, too; all other parts are unchanged.
+-- The given terminal after its display is replaced with a picture, and its saved state and last printed character with
+-- the given ones. All other parts are unchanged.
 abbrev pub reader_with_display : Picture → Saved → Option ℕ → ScreenValue → ScreenValue
 reader_with_display picture saved last reader =
     record (with_canvas (with_saved saved (with_picture picture (canvas_of reader))) reader) { last = last }
@@ -86,8 +86,8 @@ ReadsTo text reader after = terminal_after (terminal start reader) text ≡ Some
 abbrev pub IsReadBy : (ScreenValue → Type 0) → List ℕ → Type 0
 IsReadBy Reader text = (reader : ScreenValue) → Reader reader → (after : ScreenValue) × ReadsTo text reader after
 
--- After a terminal with the given property has read all of the output, the given relation holds between the terminal
--- before and the terminal after.
+-- If a terminal with the given property reads the output as `ReadsTo` describes, the given relation holds between its
+-- screens before and after.
 abbrev pub Makes : (ScreenValue → Type 0) → List ℕ → ((reader after : ScreenValue) → Type 0) → Type 0
 Makes Reader text Made = (reader after : ScreenValue) → Reader reader → ReadsTo text reader after → Made reader after
 
@@ -123,8 +123,8 @@ pub record KeepsRest (reader after : ScreenValue) : Type 0 where
   pub but_modes : KeepsRestButModes reader after
   pub modes : after.modes ≡ reader.modes
 
--- On every terminal with the property `Reader`, the output redraws the picture, if the picture is steady. `Kept` states
--- what else in the terminal stays unchanged.
+-- If the picture is steady, the output redraws it on every terminal with the property `Reader`. `Kept` states what the
+-- output leaves unchanged.
 pub record Redraws (picture : Picture) (Reader : ScreenValue → Type 0)
     (Kept : (reader after : ScreenValue) → Type 0) (text : List ℕ) : Type 0 where
   pub quiet : IsSteady picture → IsReadBy Reader text
@@ -137,7 +137,7 @@ pub record Redraws (picture : Picture) (Reader : ScreenValue → Type 0)
 abbrev pub RedrawsFrom : (was new : ScreenValue) → List ℕ → Type 0
 RedrawsFrom was new text = Redraws (display new) (IsReaderOf (display new) (display was)) KeepsRest text
 
--- If the text is empty and the picture of the newer screen is steady, both screens display the same picture.
+-- If the text is empty and the picture of the screen `new` is steady, both screens display the same picture.
 abbrev pub IsSameIfEmpty : (was new : ScreenValue) → List ℕ → Type 0
 IsSameIfEmpty was new text = IsSteady (display new) → text ≡ [] → display new ≡ display was
 
@@ -154,8 +154,9 @@ pub record TakesCursor (picture : Picture) (reader after : ScreenValue) : Type 0
 abbrev pub StaysPlain : (reader after : ScreenValue) → Type 0
 StaysPlain reader after = IsPlain after
 
--- Every terminal with the property `Reader` reads the output without invoking callbacks or allocating. Afterward,
--- `Made` holds, and the terminal is plain. Scrollback and its offset, the inactive page and the modes are unchanged.
+-- Every terminal with the property `Reader` reads the output without invoking callbacks, allocating, or scrolling rows
+-- off the page, and is plain afterward. The relation `Made` holds between the screens before and after. Scrollback and
+-- its offset, the inactive page, the scroll region and the modes are unchanged.
 pub record Turns (Reader : ScreenValue → Type 0) (text : List ℕ)
     (Made : (reader after : ScreenValue) → Type 0) : Type 0 where
   pub quiet : IsReadBy Reader text

@@ -1,5 +1,5 @@
--- The effect of output that sets input modes on the terminals that read it, and output for whole states, which
--- consist of a display and input modes.
+-- Output that sets a whole state (a display and input modes), output that sets only input modes, and the effects of
+-- both on terminals.
 use Rattle.std.specs.Prelude.{◌≡◌, ℕ, List, ◌++◌}
 use Rattle.vt_redraw.specs.Steady.{IsSteady}
 use Rattle.vt_screen.specs.InputTexts.{input_change, input_text}

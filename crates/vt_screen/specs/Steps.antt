@@ -1,4 +1,4 @@
--- The elementary steps that events consist of, and the screen after each.
+-- The elementary steps that events consist of, and the screen after each step.
 use Rattle.std.specs.Prelude.{◌≡◌, ℕ, ◌&&◌, nat_lt, nat_le, Bool, false, List}
 use Rattle.std.specs.Prelude.{[], length, Option, Some, None, if◌then◌else◌}
 use Rattle.vt_cells.specs.Glyph.{columns_of}
@@ -22,12 +22,13 @@ pub data Step : Type 0 where
   Print : (c : ℕ) → Step
   LineFeed : Step
   ScrollUp : (count : ℕ) → Step
-  -- Any other step that only changes the page.
+  -- Takes a page step, which changes only the active page.
   OnPage : PageStep → Step
   SaveCursor : Step
   RestoreCursor : Step
-  -- Steps that switch to the alternate page, as it was or blank, and back to the main page, with or without restoring
-  -- the saved state.
+  -- `EnterAlternate` and `EnterFresh` switch to the alternate page; `EnterFresh` also saves the cursor, origin mode and
+  -- attributes, and makes that page blank. `LeaveAlternate` and `LeaveRestoring` switch to the main page;
+  -- `LeaveRestoring` also restores the saved state.
   EnterAlternate : Step
   EnterFresh : Step
   LeaveAlternate : Step
@@ -43,7 +44,8 @@ pub data Step : Type 0 where
 
 -- ---- the screen after a step, except for its scrollback; `screen_after` includes the scrollback
 
--- Whether a printed character becomes the last printed character: it occupies columns and is not wider than the page.
+-- Whether a printed character that occupies the given number of columns becomes the last printed character: it occupies
+-- at least one column and is not wider than the page.
 abbrev pub becomes_last : ScreenValue → Option ℕ → Bool
 becomes_last screen None = false
 becomes_last screen (Some columns) = nat_lt 0 columns && nat_le columns screen.page.width
@@ -70,7 +72,7 @@ display_after (HideCursor hidden) screen = record screen { hidden = hidden }
 display_after (SetMode step) screen = record screen { modes = modes_after step screen.modes }
 display_after (CallBack call) screen = screen
 
--- ---- the rows that a step scrolls off
+-- ---- the rows that a step scrolls off the page
 
 -- The rows that a step scrolls off the top of the active page.
 abbrev pub rows_scrolled_off : Step → ScreenValue → List RowValue
@@ -100,7 +102,8 @@ abbrev pub reports : Step → ScreenValue → List RowValue
 reports EraseScrollback screen = (above_page screen).rows
 reports step screen = rows_reported (rows_scrolled_off step screen) (above_page screen)
 
--- The step allocates: it moves a row into scrollback, or switches to an alternate page that doesn't exist yet.
+-- The step may allocate: it moves rows into scrollback and cannot reuse the memory of the oldest scrollback row, or
+-- switches to an alternate page that doesn't exist yet.
 abbrev pub Grows : Step → ScreenValue → Type 0
 Grows EnterAlternate screen = screen.other ≡ None
 Grows EnterFresh screen = screen.other ≡ None

@@ -1,5 +1,5 @@
--- The stream of rows that leave the main page: the rows that scroll off it, the rows that are reported, and the text
--- of all of them.
+-- The rows that scroll off the top of the main page, the rows that are reported to callbacks, and the text of the
+-- reported rows followed by a full capture.
 use Rattle.std.specs.Prelude.{◌≡◌, ◌≢◌, ℕ, ◌≤◌, true, false, List, [], ◌∷◌, ◌++◌, length, All, map, if◌then◌else◌}
 use Rattle.std.specs.List.{AllByRecursion}
 use Rattle.vt_rows.specs.Basic.{nothing_written}
@@ -28,7 +28,7 @@ abbrev pub rows_of_calls : List CallValue → List RowValue
 rows_of_calls [] = []
 rows_of_calls (call ∷ calls) = row_of_call call ++ rows_of_calls calls
 
--- ---- the rows that scroll off
+-- ---- the rows that scroll off the main page
 
 -- The rows that a step scrolls off the top of the main page.
 abbrev pub sent_off : Step → ScreenValue → List RowValue
@@ -38,7 +38,7 @@ abbrev pub sent_off_all : List Step → ScreenValue → List RowValue
 sent_off_all [] screen = []
 sent_off_all (step ∷ steps) screen = sent_off step screen ++ sent_off_all steps (screen_after step screen)
 
--- The rows that a run over bytes scrolls off the top of the main page.
+-- The rows that parsing the given bytes scrolls off the top of the main page.
 abbrev pub sent_off_in : State → ScreenValue → List ℕ → List RowValue
 sent_off_in scan screen bytes = sent_off_all (steps_in scan screen bytes) screen
 
@@ -48,7 +48,7 @@ sent_off_in scan screen bytes = sent_off_all (steps_in scan screen bytes) screen
 abbrev pub ris : Event
 ris = EscDispatch [] 0x63
 
--- No event of a run over the bytes is RIS.
+-- Parsing the bytes produces no RIS event.
 abbrev pub HasNoRis : State → List ℕ → Type 0
 HasNoRis scan bytes = AllByRecursion (λ event. event ≢ ris) (run scan bytes).events
 
@@ -64,8 +64,8 @@ without_scrollback screen = record screen { scrollback = no_scrollback 0 }
 
 -- ---- captures
 
--- The text of the rows that the given calls reported one by one, followed by a full capture of the screen that
--- continues from the capture state after these rows.
+-- The text of the main page's rows that the given calls report, followed by a full capture of the screen. The capture
+-- continues from the capture state after those rows.
 abbrev pub streamed_text : List CallValue → ScreenValue → List ℕ
 streamed_text calls screen =
     let gone = rows_of_calls calls in

@@ -1,5 +1,5 @@
--- The positions that reading touches: those that its steps print on, append to or erase, and those of wide characters
--- that they split.
+-- The positions that reading output touches: those that its steps print on, append to or erase, and those of the wide
+-- characters that the steps split.
 use Rattle.std.specs.Prelude.{◌≡◌, ℕ, ◌+◌, ◌-◌, ◌<◌, ◌≤◌, ◌==◌, ◌||◌, min, true, false, List, [], ◌∷◌, length, Some}
 use Rattle.vt_cells.specs.Glyph.{columns_of}
 use Rattle.vt_cells.specs.Attrs.{Attrs}
@@ -35,8 +35,8 @@ TouchesRows May first behind page = (r c : ℕ) → first ≤ r → r < behind �
 abbrev pub FeedTouches : (ℕ → ℕ → Type 0) → Page → Type 0
 FeedTouches May page = at_bottom page ≡ true → TouchesAll May page
 
--- The given predicate holds for every position that printing a character touches, including the line feed if the cursor
--- wraps.
+-- The given predicate holds for every position that printing a character touches, including those that the line feed
+-- touches if the cursor wraps.
 abbrev pub PrintTouches : (ℕ → ℕ → Type 0) → ℕ → Attrs → Page → Type 0
 PrintTouches May c attrs page =
     CharTouches May (columns_of c) c attrs page × (wraps c page ≡ true → FeedTouches May page)
@@ -114,7 +114,7 @@ ReadTouches May t (b ∷ bytes) =
 abbrev pub TouchesOnly : (ScreenValue → Type 0) → List ℕ → (ℕ → ℕ → Type 0) → Type 0
 TouchesOnly Reader text May = (reader : ScreenValue) → Reader reader → ReadTouches May (terminal start reader) text
 
--- If the picture of the newer screen is steady, a plain terminal that displays the older screen and reads the text
+-- If the picture of the screen `new` is steady, a plain terminal that displays the screen `was` and reads the text
 -- touches only positions near a difference between the two screens, as `IsLocal` defines.
 abbrev pub TouchesNear : (was new : ScreenValue) → List ℕ → Type 0
 TouchesNear was new text =

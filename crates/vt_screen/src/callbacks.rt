@@ -22,11 +22,11 @@ pub enum Call<'a> {
     /// A call to [`Callbacks::set_window_title`], with the title.
     SetWindowTitle(&'a [u8]),
 
-    /// A call to [`Callbacks::copy_to_clipboard`], with the clipboards and the
+    /// A call to [`Callbacks::copy_to_clipboard`], with the bytes that name the clipboards, and the
     /// Base64 text.
     CopyToClipboard(&'a [u8], &'a [u8]),
 
-    /// A call to [`Callbacks::paste_from_clipboard`], with the clipboards.
+    /// A call to [`Callbacks::paste_from_clipboard`], with the bytes that name the clipboards.
     PasteFromClipboard(&'a [u8]),
 
     /// A call to [`Callbacks::unhandled_char`], with the character.
@@ -39,7 +39,7 @@ pub enum Call<'a> {
     /// intermediate bytes and the final byte.
     UnhandledEscape(Option<u8>, Option<u8>, u8),
 
-    /// A call to [`Callbacks::unhandled_csi`], with the private marker and
+    /// A call to [`Callbacks::unhandled_csi`], with the first two of the private marker and
     /// intermediate bytes, the parameter groups and the final byte.
     UnhandledCsi(Option<u8>, Option<u8>, &'a [&'a [u16]], char),
 
@@ -95,7 +95,7 @@ pub trait Callbacks {
 
     ghost does: { CallValue → Self → ScreenValue → Self → ScreenValue → Type 0 };
 
-    /// Handles every call whose own method is not implemented.
+    /// Handles each [`Call`] whose method the implementation does not override.
     fn otherwise(&mut self, screen: &mut Screen, call: Call<'_>)
         ensures { does (call_of call.entry) self.old screen.old self.new screen.new };
 
@@ -117,7 +117,8 @@ pub trait Callbacks {
     /// Returns whether [`Callbacks::on_scroll`] must be called. If the result is `false`, a call
     /// would have no effect, so the terminal may skip it and the work of preparing the row.
     ///
-    /// The terminal calls this method each time rows are dropped. By default, all rows are wanted.
+    /// The terminal calls this method only when rows scroll off a page that keeps no scrollback;
+    /// otherwise, it calls `on_scroll` without asking. By default, all rows are wanted.
     fn wants_rows(&self) -> bool
         ensures { result ≡ false → (row : RowValue) (alternate : Bool) (screen : ScreenValue) →
             does (calls.OnScroll row alternate) self.now screen self.now screen }
@@ -188,9 +189,8 @@ pub trait Callbacks {
         self.otherwise(screen, Call::PasteFromClipboard(kind));
     }
 
-    /// Called for a character that is not printed: U+FFFD, which stands for malformed UTF-8
-    /// (Unicode Standard, section 3.9, Table 3-7), or one of U+0080 to U+009F, the C1 controls
-    /// (ECMA-48).
+    /// Called for a character that is not printed: U+FFFD, which replaces malformed UTF-8 (Unicode
+    /// Standard, section 3.9, Table 3-7), or one of U+0080 to U+009F, the C1 controls (ECMA-48).
     fn unhandled_char(&mut self, screen: &mut Screen, code: char)
         ensures { does (calls.UnhandledChar code) self.old screen.old self.new screen.new }
     {

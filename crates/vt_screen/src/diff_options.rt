@@ -2,13 +2,13 @@
 
 ghost use Rattle.std.specs.Prelude.{◌≡◌, false};
 
-/// What a diff may contain besides the sequences of `Screen::contents_diff`.
+/// Options that allow a diff to move rows or columns, or to write runs with REP.
 ///
-/// The default allows nothing else: with it, `Screen::contents_diff_with` returns what
+/// By default, neither is allowed: `Screen::contents_diff_with` then returns what
 /// `Screen::contents_diff` returns.
 #[derive(Clone, Copy, PartialEq, Eq, Debug)]
 pub struct DiffOptions {
-    /// Whether the diff may move rows or columns first, as
+    /// Whether the diff may move rows or columns before it draws the remaining changes, as
     /// `Screen::contents_diff_scrolling` does.
     pub scroll: bool,
 

@@ -76,19 +76,17 @@ pub fn steady_without_selectors()
     ensures { (screen : ScreenValue) → IsScreen screen → ShowsNoSelector screen → IsSteady (display screen) }
 {}
 
-/// States that a screen contains no U+FE0F if no character that was read is
-/// U+FE0F. The clauses are:
+/// States that a screen contains no U+FE0F if no character that was read is U+FE0F. The clauses
+/// are:
 ///
-/// - `fresh`: a fresh screen contains no U+FE0F on either page or in
-///   scrollback.
-/// - `ran`, `sized`, `scrolled_back`: a screen without U+FE0F still contains
-///   none after a resize, after scrolling back, and after a run that reads no
-///   U+FE0F and whose callbacks leave the screen alone.
-/// - `display`: a screen without U+FE0F displays no cell that contains U+FE0F, so
-///   the screen is steady by `steady_without_selectors`.
+/// - `fresh`: a fresh screen contains no U+FE0F on either page or in scrollback.
+/// - `ran`, `sized`, `scrolled_back`: a screen without U+FE0F still contains none after a run that
+///   reads no U+FE0F and whose callbacks leave the screen alone, after a resize, and after
+///   scrolling back.
+/// - `shown`: a screen without U+FE0F displays no cell that contains U+FE0F, so the screen is
+///   steady by `steady_without_selectors`.
 ///
-/// By `vt_scan::laws::selectors`, input without the bytes EF B8 8F contains no
-/// U+FE0F.
+/// By `vt_scan::laws::selectors`, input without the bytes EF B8 8F contains no U+FE0F.
 pub fn no_selectors()
     ensures fresh { (rows cols capacity : ℕ) → HasNoSelectors (fresh_screen rows cols capacity) }
     ensures ran { (scan : State) (screen : ScreenValue) (bytes : List ℕ) → IsScreen screen →

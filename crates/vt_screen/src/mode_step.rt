@@ -1,4 +1,4 @@
-//! The steps that only change modes.
+//! Changes to the modes of a screen.
 
 ghost use Rattle.std.specs.Prelude.{◌≡◌};
 ghost use Rattle.vt_screen.specs.ModeStep.{modes_after};
@@ -38,7 +38,7 @@ pub enum ModeStep {
 }
 
 impl Modes {
-    /// Applies a step to the modes.
+    /// Applies the change `step` to the modes.
     #[inline(always)]
     pub fn apply(&mut self, step: ModeStep)
         ensures { self.new ≡ modes_after step self.old }

@@ -34,7 +34,7 @@ pub(crate) struct CharRun<'a> {
     /// The output up to and including the first character of the run.
     front: &'a str,
 
-    /// The number of times that the character is repeated.
+    /// The number of repetitions of the character, not counting its first occurrence.
     count: u16,
 
     /// The output after the run.
@@ -44,14 +44,13 @@ pub(crate) struct CharRun<'a> {
     room: u16,
 }
 
-/// Characters, a control or an escape sequence that are copied from the text unchanged.
+/// A part of the text that is copied unchanged: characters, a control or an escape sequence.
 #[derive(Clone, Copy)]
 pub(crate) struct Skipped {
-    /// The length in bytes.
+    /// The length of the skipped part, in bytes.
     len: usize,
 
-    /// A lower bound on the number of columns left in the cursor's row after the control or
-    /// sequence.
+    /// A lower bound on the number of columns left in the cursor's row after the skipped part.
     room: u16,
 }
 
@@ -74,8 +73,8 @@ pub fn with_repeats(alloc: Global, text: String, cols: u16, room: u16) -> Result
     }
 }
 
-/// Writes `text` with runs of the same character written with REP. If it has no run
-/// that REP shortens, writes nothing and returns `false`.
+/// Writes `text` with runs of the same character written with REP. If no run that REP shortens is
+/// found, writes nothing and returns `false`.
 fn write_repeating<S: Sink>(
     sink: &mut S,
     text: &str,
@@ -111,8 +110,8 @@ fn write_repeat<S: Sink>(sink: &mut S, count: u16) -> Result<(), S::Error>
     sink.write_str("b")
 }
 
-/// Returns the first run in `text` that REP shortens, or `None` if there is
-/// none before the first character that this module does not recognize.
+/// Returns the first run in `text` that REP shortens. Returns `None` if the search reaches the end
+/// of `text`, or an element that this module does not recognize, without finding such a run.
 fn find_run(text: &str, cols: u16, room: u16) -> Option<CharRun<'_>>
     ensures { IfSome result (λ run.
         Finds cols room text.now run.front.now run.count run.room run.back.now) }
@@ -148,8 +147,9 @@ fn first_run(text: &str, room: u16) -> Option<CharRun<'_>>
     }
 }
 
-/// Returns whether `bytes` may begin with a run that REP shortens. Only the first and the last byte of two of its characters are
-/// compared.
+/// Returns whether `bytes` may begin with a run that REP shortens. Compares only the first and last
+/// bytes of two characters: the first one, and the last of the [`fewest`] repetitions that REP
+/// shortens.
 #[inline(always)]
 fn may_repeat(bytes: &[u8]) -> bool
     requires { 0 < length bytes.now }
@@ -204,8 +204,8 @@ fn repeated(text: &str, room: u16) -> Option<CharRun<'_>>
     })
 }
 
-/// Returns the first character of `text` and its number of columns, if it is
-/// printed.
+/// Returns the first character of `text` and the number of columns that it takes. Returns `None` if
+/// `text` is empty or if the character is not printed.
 fn first_character(text: &str) -> Option<(char, u8)>
     ensures drawn { IfSome result (λ found. IsDrawn found.0) }
     ensures columns { IfSome result (λ found. columns_of found.0 ≡ Some found.1) }
@@ -220,8 +220,8 @@ fn first_character(text: &str) -> Option<(char, u8)>
     Some((character, width))
 }
 
-/// Counts the copies of `character` at the start of `text`, at most `most`.
-/// Returns their number and the text after them.
+/// Counts up to `most` copies of `character` at the start of `text`. Returns their number and the
+/// text after them.
 fn skip_copies(text: &str, character: char, most: u16) -> (u16, &str)
     ensures most { result.0 ≤ most }
     ensures whole { text.now ≡ copies result.0 character ++ result.1.now }
@@ -239,8 +239,9 @@ fn skip_copies(text: &str, character: char, most: u16) -> (u16, &str)
     (count, rest)
 }
 
-/// Skips characters, a control or a sequence. Returns `None` if this module
-/// does not recognize the beginning of `text`.
+/// Skips the element at the beginning of `text`: characters, a control or a sequence. Returns
+/// `None` if this module does not recognize the element. `room` is a lower bound on the number of
+/// columns left in the cursor's row, which has `cols` columns.
 #[inline(always)]
 fn skip(text: &str, cols: u16, room: u16) -> Option<Skipped>
     requires { 0 < length text.now }
@@ -261,7 +262,7 @@ fn skip(text: &str, cols: u16, room: u16) -> Option<Skipped>
     }
 }
 
-/// Skips printable ASCII characters, at least one.
+/// Skips one or more printable ASCII characters at the beginning of `bytes`.
 fn skip_ascii(bytes: &[u8], room: u16) -> Skipped
     requires nonempty { 0 < length bytes.now }
     requires ascii { IsAsciiCharacter (slice_index_or bytes.now 0 0) }
@@ -275,8 +276,8 @@ fn skip_ascii(bytes: &[u8], room: u16) -> Skipped
     }
 }
 
-/// Returns the number of printable ASCII characters at the beginning of `bytes`,
-/// up to the first of two equal bytes or the last byte.
+/// Returns the number of printable ASCII characters at the beginning of `bytes` that come before
+/// the first two equal adjacent bytes and before the last byte.
 fn single_len(bytes: &[u8]) -> usize
     ensures inside { result ≤ length bytes.now }
     ensures ascii { AllByRecursion IsAsciiCharacter (take result bytes.now) }
@@ -296,8 +297,9 @@ fn is_ascii_character(byte: u8) -> bool
     byte >= 0x20 && byte < 0x7F
 }
 
-/// Skips a character that is not ASCII. A combining character is counted as two
-/// columns, because it may make the glyph before the cursor wide.
+/// Skips the non-ASCII character at the beginning of `text`. Returns `None` if the character is not
+/// printed. A combining character is counted as two columns, because it may make the glyph before
+/// the cursor wide.
 fn skip_character(text: &str, room: u16) -> Option<Skipped>
     ensures { IfSome result (λ skipped. (cols : ℕ) → Skips cols room text.now skipped) }
 {
@@ -315,7 +317,8 @@ fn skip_character(text: &str, room: u16) -> Option<Skipped>
     })
 }
 
-/// Skips an escape sequence or a control sequence.
+/// Skips the escape or control sequence at the beginning of `bytes`. Returns `None` if this module
+/// does not recognize the sequence.
 fn skip_escape(bytes: &[u8], cols: u16, room: u16) -> Option<Skipped>
     requires nonempty { 0 < length bytes.now }
     requires escape { slice_index_or bytes.now 0 0 ≡ 0x1B }
@@ -332,7 +335,8 @@ fn skip_escape(bytes: &[u8], cols: u16, room: u16) -> Option<Skipped>
     }
 }
 
-/// Skips a control sequence.
+/// Skips the control sequence at the beginning of `bytes`. Returns `None` if this module does not
+/// recognize the sequence.
 fn skip_sequence(bytes: &[u8], cols: u16, room: u16) -> Option<Skipped>
     requires { Opens bytes.now }
     ensures { IfSome result (Skips cols room bytes.now) }
@@ -347,8 +351,8 @@ fn skip_sequence(bytes: &[u8], cols: u16, room: u16) -> Option<Skipped>
     skip_movement(bytes, cols, room)
 }
 
-/// Returns the index of the final byte of a control sequence that has no other
-/// bytes than parameter bytes before it.
+/// Returns the index of the first byte after the parameter bytes of the control sequence at the
+/// beginning of `bytes`, or `None` if there is no such byte.
 fn final_byte_at(bytes: &[u8]) -> Option<usize>
     requires { Opens bytes.now }
     ensures { IfSome result (IsFinalAt bytes.now) }
@@ -360,7 +364,9 @@ fn final_byte_at(bytes: &[u8]) -> Option<usize>
     if last < bytes.len() { Some(last) } else { None }
 }
 
-/// Skips a control sequence that shows or hides the cursor or moves it.
+/// Skips the control sequence at the beginning of `bytes`, which must show, hide or move the cursor
+/// of a terminal with `cols` columns. `room` is a lower bound on the number of columns left in the
+/// cursor's row. Returns `None` if this module does not recognize the sequence.
 fn skip_movement(bytes: &[u8], cols: u16, room: u16) -> Option<Skipped>
     requires { Opens bytes.now }
     ensures { IfSome result (Skips cols room bytes.now) }
@@ -420,8 +426,8 @@ fn keeps_column(final_byte: u8) -> bool
     }
 }
 
-/// Returns the number of columns from column `number`, counted from 1, to the end of the row. The
-/// number 0 stands for 1.
+/// Returns the number of columns from column `number`, counted from 1, to the end of a row of
+/// `cols` columns. A `number` of 0 is treated as 1.
 fn room_from(number: u16, cols: u16) -> u16
     ensures { result ≡ cols - (max number 1 - 1) }
 {

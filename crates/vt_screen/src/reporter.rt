@@ -3,8 +3,8 @@
 use crate::callbacks::Callbacks;
 use vt_rows::{Leaving, RowContents};
 
-/// An adapter that calls [`Callbacks::on_scroll`] for each row dropped from one
-/// page.
+/// An adapter that calls [`Callbacks::on_scroll`] for each row that a page drops. Each adapter
+/// serves a single page.
 #[derive(Drop)]
 pub struct Reporter<'a, CB: Callbacks> {
     /// The callbacks that receive the rows.

@@ -216,8 +216,8 @@ impl Screen {
         }
     }
 
-    /// Returns the displayed row at a zero-based index: a row of scrollback if
-    /// the display is scrolled back that far, otherwise a row of the page.
+    /// Returns the displayed row at a zero-based index: a row of scrollback if the display is
+    /// scrolled back that far, otherwise a row of the page. Returns `None` if there is no such row.
     #[inline]
     fn visible_row(&self, row: u16) -> Option<RowContents<'_>>
         ensures inside { IsSome result ↔ (row < length self.now.page.rows) }

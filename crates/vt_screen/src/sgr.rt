@@ -1,5 +1,5 @@
 //! Select Graphic Rendition (SGR): the attributes that an SGR sequence sets. A *group* is a
-//! parameter of the sequence with its subparameters: the numbers that `:` separates.
+//! parameter of the sequence with its subparameters; the numbers of a group are separated by `:`.
 
 ghost use Rattle.std.specs.Prelude.{◌≡◌, ℕ, MatchOption};
 ghost use Rattle.vt_screen.specs.Sgr.{attrs_after_setting, color_setting, silent_read, set, unhandled_read, number_read, three_read, five_read};
@@ -117,8 +117,7 @@ impl Setting {
 }
 
 impl Layer {
-    /// Returns the setting that changes the foreground or background color, as the layer specifies,
-    /// to `color`.
+    /// Returns the setting that changes the color of this layer to `color`.
     fn colored(self, color: Color) -> Setting
         ensures { result ≡ color_setting self color }
     {
@@ -236,7 +235,7 @@ fn read_number(number: u16) -> GroupRead
 }
 
 /// Interprets a group of three numbers as an extended color with a palette index. The group is
-/// unknown unless the format `form`, its second number, is 5.
+/// unknown unless its second number, the format `form`, is 5.
 fn read_three(layer: Layer, form: u16, index: u16) -> GroupRead
     ensures { result ≡ three_read layer form index }
 {
@@ -247,7 +246,7 @@ fn read_three(layer: Layer, form: u16, index: u16) -> GroupRead
 }
 
 /// Interprets a group of five numbers as an extended color with RGB components. The group is
-/// unknown unless the format `form`, its second number, is 2.
+/// unknown unless its second number, the format `form`, is 2.
 fn read_five(layer: Layer, form: u16, red: u16, green: u16, blue: u16) -> GroupRead
     ensures { result ≡ five_read layer form red green blue }
 {
@@ -297,8 +296,8 @@ fn read_form(layer: Layer, group: &[u16]) -> GroupRead
     }
 }
 
-/// Returns the color component or palette index that a group holds, if the
-/// group is a single number of at most 255.
+/// Returns the color component or palette index that a group holds. Returns `None` unless the group
+/// is a single number of at most 255.
 #[tactic(auto, using(std::proofs::lemmas::Bool::Decides::nat_tests))]
 fn part_of(group: &[u16]) -> Option<u8>
     ensures { MatchOption result ((next : ℕ → GroupRead) → part_read group.now next ≡ silent_read Wanted.Stopped)

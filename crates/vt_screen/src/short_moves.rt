@@ -1,19 +1,19 @@
-//! Replaces the cursor movements of drawing output by shorter ones.
+//! Replaces the cursor movements of drawing output with shorter ones.
 //!
 //! The writers of `vt_redraw` move the cursor with CUP, CUF, and CR LF. This module reads their
-//! output, keeps track of where the cursor of the terminal is, and replaces a movement by LF, CR,
-//! HT, BS, CUF or CHA if these take fewer bytes. It replaces a short CUF by the glyphs that the
-//! terminal displays already, if their attributes are the current ones. Nothing else in the output
-//! changes.
+//! output, keeps track of the cursor position of the terminal, and replaces a movement with LF, CR,
+//! HT, BS, CUF, CHA or CUP without a column if these take fewer bytes. It replaces a short CUF with
+//! the ASCII glyphs that the terminal already displays there, if their attributes and the current
+//! attributes are the defaults. Nothing else in the output changes.
 
-ghost use Rattle.std.specs.Prelude.{◌≡◌, ◌+◌, ◌++◌, ◌-◌, ◌<◌, IfOk, IfSome, Some, length, ℕ, min, string_bytes, take};
+ghost use Rattle.std.specs.Prelude.{◌≡◌, ◌+◌, ◌++◌, ◌-◌, ◌<◌, IfOk, IfSome, IsTrue, OnOk, Some, length, ℕ, min, string_bytes, take};
 ghost use Rattle.vt_cells.specs.Cell.{CellValue};
 ghost use Rattle.vt_cells.specs.Glyph.{columns_of};
 ghost use Rattle.vt_cells.specs.Refusals.{OnlyOutOfMemory};
 ghost use Rattle.vt_cells.specs.Op.{counted};
 ghost use Rattle.vt_redraw.specs.Refusals.{RefusedOnlyIfSome};
 ghost use Rattle.vt_screen.specs.Gaps.{AppendsInstead, IsLetter, IsPrinted, IsShownGap, ReplacesTracked, ReplacesWhole, picture_cell};
-ghost use Rattle.vt_screen.specs.ShortMoves.{AppendsReplacement, IsAfter, IsElement, LeadsTo, Replaces};
+ghost use Rattle.vt_screen.specs.ShortMoves.{AppendsReplacement, IsAfter, IsElement, LeadsTo, Replaces, row_start_text};
 
 mod elements;
 mod gaps;
@@ -29,13 +29,13 @@ use vt_cells::{Error, Pos, Sink, columns};
 use vt_grid::Size;
 use vt_redraw::View;
 
-/// The length in bytes of the longest output that is shortened. Reading longer output takes more time
-/// than the few bytes that it saves are worth.
+/// The maximum length, in bytes, of output that is shortened. For longer output, the few bytes
+/// saved are not worth the time.
 const LONGEST: usize = 4096;
 
-/// Returns `text` with shorter cursor movements, for a plain terminal that displays `prev` and of
-/// which `start` is known. Returns `None` if `text` is longer than [`LONGEST`], or contains something
-/// other than a known element.
+/// Returns `text` with shorter cursor movements, for a plain terminal that displays `prev`. `start`
+/// is what is known about the terminal before it reads the output. Returns `None` if `text` is
+/// longer than [`LONGEST`] or does not consist of elements that this module recognizes.
 ///
 /// # Errors
 ///
@@ -74,8 +74,9 @@ pub fn with_short_moves(
 }
 
 /// Appends the first element of `rest` to `short`, or shorter output with the same effect. Returns
-/// what is known afterward, and how many bytes of `rest` the output replaces. Returns `None` if
-/// `rest` begins with something other than a known element. `moves` is overwritten.
+/// what is known about the terminal afterward, and how many bytes of `rest` the output replaces.
+/// Returns `None` if `rest` does not begin with an element that this module recognizes. `moves` is
+/// overwritten.
 ///
 /// # Errors
 ///
@@ -123,8 +124,8 @@ fn size_of(view: &View<'_>) -> Size
     }
 }
 
-/// Appends the glyphs of a gap and the character `letter`, which is printed after it. Returns what is
-/// known afterward.
+/// Appends the glyphs that `prev` displays in a gap, and then the character `letter`, which follows
+/// the gap. Returns what is known about the terminal afterward.
 ///
 /// # Errors
 ///
@@ -157,7 +158,7 @@ fn add_gap(
 }
 
 /// Appends an element to `short`, or a shorter movement with the same effect, and returns what is
-/// known afterward. `moves` is overwritten.
+/// known about the terminal afterward. `head` is the text of the element. `moves` is overwritten.
 ///
 /// # Errors
 ///
@@ -187,7 +188,8 @@ fn add_element(
     }
 }
 
-/// Returns what is known after an element that is copied.
+/// Returns what is known about the terminal after it has read an element that is copied unchanged.
+/// `head` is the text of the element.
 #[inline]
 fn known_after(known: Known, element: Element, size: Size, head: &str) -> Known
     requires { IsElement element head.now }
@@ -201,8 +203,8 @@ fn known_after(known: Known, element: Element, size: Size, head: &str) -> Known
     }
 }
 
-/// Returns the position to which an element moves the cursor. Returns `None` if the element is not a
-/// cursor movement, or if it leads to an unknown position.
+/// Returns the position to which an element moves the cursor from `at`. Returns `None` if the
+/// element is not a cursor movement, or if the position is unknown or outside the terminal.
 fn destination(element: Element, size: Size, at: Option<Pos>, head: &str) -> Option<Pos>
     requires { IsElement element head.now }
     ensures leads { IfSome result (λ to. LeadsTo size.rows size.cols at to head.now) }
@@ -223,8 +225,9 @@ fn destination(element: Element, size: Size, at: Option<Pos>, head: &str) -> Opt
     }
 }
 
-/// Returns the position `count` columns to the right of `from`, or in the last column if that is
-/// nearer. Returns `None` if the position is outside the terminal.
+/// Returns the position `count` columns to the right of `from`, but no further than the last
+/// column. Returns `None` if the row of `from` is outside the terminal or the terminal has no
+/// columns.
 fn right_of(from: Pos, count: u16, size: Size) -> Option<Pos>
     ensures row { IfSome result (λ to. (to.row ≡ from.row) × (to.row < size.rows)) }
     ensures col { IfSome result (λ to. (to.col ≡ min (from.col + count) (size.cols - 1)) × (to.col < size.cols)) }
@@ -252,8 +255,9 @@ fn next_row(from: Pos, size: Size) -> Option<Pos>
     }
 }
 
-/// Returns the position of the cursor after an element that is copied unchanged to the output, if
-/// it is known.
+/// Returns the position of the cursor after `element`, which is copied unchanged to the output. The
+/// bytes of the element are `head`, and `at` is the position before it. Returns `None` if the new
+/// position is unknown.
 fn position_after(element: Element, size: Size, at: Option<Pos>, head: &str) -> Option<Pos>
     requires { IsElement element head.now }
     ensures replaces { Replaces size.rows size.cols at result head.now head.now }
@@ -275,7 +279,7 @@ fn position_after(element: Element, size: Size, at: Option<Pos>, head: &str) -> 
     }
 }
 
-/// Returns whether the position is known to be in the first column.
+/// Returns whether the cursor position `at` is known and in the first column.
 fn is_first_column(at: Option<Pos>) -> bool {
     match at {
         Some(pos) => pos.col == 0,
@@ -283,8 +287,8 @@ fn is_first_column(at: Option<Pos>) -> bool {
     }
 }
 
-/// Returns the position after the character `c` is printed at `from`, or `None` if it is past the
-/// last column, or if `c` is a combining character.
+/// Returns the position after the character `c` is printed at `from`. Returns `None` if that
+/// position is past the last column, or if `c` takes no columns.
 fn after_other(from: Pos, c: char, size: Size) -> Option<Pos>
     ensures { IfSome result (λ to. (n : ℕ) × (columns_of c ≡ Some n) × (0 < n) × IsAfter size.cols from n to) }
 {
@@ -336,12 +340,76 @@ fn add_move(
         if route.leads(from, to, size.cols) {
             moves.clear();
             route.write(moves)?;
-            if moves.len() < head.len() {
+            if moves.len() < head.len() && moves.len() <= row_start_len(to) {
                 short.write_str(moves.as_str())?;
                 return Ok(Some(to));
             }
         }
     }
-    short.write_str(head)?;
+    add_place(short, size, at, to, head)?;
     Ok(Some(to))
+}
+
+/// Returns the length in bytes of CUP without a column that moves the cursor to `to`, or
+/// `usize::MAX` if `to` is not in the first column.
+fn row_start_len(to: Pos) -> usize {
+    if to.col > 0 {
+        return usize::MAX;
+    }
+    match to.row {
+        0..=8 => 4,
+        9..=98 => 5,
+        _ => 6,
+    }
+}
+
+/// Appends `head`, which moves the cursor from `at` to `to`. If `to` is in the first column, appends
+/// CUP without a column instead if that is shorter.
+///
+/// # Errors
+///
+/// Returns `Error::OutOfMemory` if the string cannot grow.
+fn add_place(
+    short: &mut String,
+    size: Size,
+    at: Option<Pos>,
+    to: Pos,
+    head: &str,
+) -> Result<(), Error>
+    requires leads { LeadsTo size.rows size.cols at to head.now }
+    requires row { to.row < size.rows }
+    requires col { to.col < size.cols }
+    ensures appends { OnOk result (AppendsReplacement size.rows size.cols at (Some to)
+        head.now (string_bytes short.old) (string_bytes short.new)) }
+    ensures memory { OnlyOutOfMemory result }
+{
+    if to.col == 0 && is_row_start_shorter(to.row, head.len()) {
+        write_row_start(short, to.row)?;
+        return Ok(());
+    }
+    short.write_str(head)
+}
+
+/// Returns whether CUP without a column, which moves the cursor to the first column of row `row`,
+/// has fewer than `len` bytes.
+fn is_row_start_shorter(row: u16, len: usize) -> bool
+    ensures { IsTrue result → length (row_start_text row) < len }
+{
+    let mut buffer = itoa::Buffer::new();
+    buffer.format(u32::from(row) + 1).len() + 3 < len
+}
+
+/// Appends CUP without a column, which moves the cursor to the first column of row `row`.
+///
+/// # Errors
+///
+/// Returns `Error::OutOfMemory` if the string cannot grow.
+fn write_row_start(short: &mut String, row: u16) -> Result<(), Error>
+    ensures text { OnOk result (string_bytes short.new ≡ string_bytes short.old ++ row_start_text row) }
+    ensures memory { OnlyOutOfMemory result }
+{
+    let mut buffer = itoa::Buffer::new();
+    short.write_str("\x1b[")?;
+    short.write_str(buffer.format(u32::from(row) + 1))?;
+    short.write_str("H")
 }

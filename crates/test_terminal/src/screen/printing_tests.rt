@@ -5,7 +5,7 @@ use crate::aids::steps::Step::Text;
 use std::test::Fail;
 
 #[rattlefmt::skip]
-const PRINTED: [((u16, u16), &str, &str); 63] = [
+const PRINTED: [((u16, u16), &str, &str); 73] = [
     // A pending wrap.
     ((2, 4), "abcd", "0:abcd @0,4\n"),
     ((2, 4), "abcd\n", "0:abcd @1,4\n"),
@@ -64,6 +64,32 @@ const PRINTED: [((u16, u16), &str, &str); 63] = [
          \u{301}\u{301}\u{301}\u{301}\u{301}\u{301}\u{301}\u{301}\u{301}\u{301}",
         "0:[中\u{301}\u{301}\u{301}\u{301}\u{301}\u{301}\u{301}\u{301}\u{301}\u{301}\
          \u{301}\u{301}] @0,2\n",
+    ),
+
+    // Glyphs of more than seven bytes that are overwritten: by a letter, a blank and a wide character,
+    // within runs of printable ASCII, of narrow and of wide characters, and by a row that becomes blank.
+    ((1, 4), "e\u{301}\u{301}\u{301}\u{301}\rx", "0:x @0,1\n"),
+    ((1, 4), "é\u{301}\u{301}\u{301}\rx\u{301}", "0:x\u{301} @0,1\n"),
+    ((1, 4), "ae\u{301}\u{301}\u{301}\u{301}b\x1b[1;2H\x1b[X", "0:a.b @0,1\n"),
+    ((1, 4), "e\u{301}\u{301}\u{301}\u{301}\r中", "0:[中] @0,2\n"),
+    ((1, 4), "ae\u{301}\u{301}\u{301}\u{301}\r中", "0:[中] @0,2\n"),
+    (
+        (1, 24),
+        "\x1b[1;6He\u{301}\u{301}\u{301}\u{301}\x1b[1;16He\u{301}\u{301}\u{301}\u{301}\
+         \x1b[1;19He\u{301}\u{301}\u{301}\u{301}\x1b[1;22Hé\u{301}\u{301}\u{301}\rabcdefghijklmnopqrst",
+        "0:abcdefghijklmnopqrst.é\u{301}\u{301}\u{301} @0,20\n",
+    ),
+    (
+        (1, 24),
+        "\x1b[1;6He\u{301}\u{301}\u{301}\u{301}\x1b[1;19He\u{301}\u{301}\u{301}\u{301}x\r\x1b[19X",
+        "0:...................x @0,0\n",
+    ),
+    ((1, 8), "\x1b[1;3He\u{301}\u{301}\u{301}\u{301}\rпривет", "0:привет @0,6\n"),
+    ((1, 8), "e\u{301}\u{301}\u{301}\u{301}\x1b[1;4He\u{301}\u{301}\u{301}\u{301}\r中文字", "0:[中][文][字] @0,6\n"),
+    (
+        (2, 12),
+        "\x1b[1;3He\u{301}\u{301}\u{301}\u{301}\n\n\rx",
+        "1:x @1,1\nscroll 202065cc81cc81cc81cc81 0\n",
     ),
 
     // REP, and a character that prints nothing.

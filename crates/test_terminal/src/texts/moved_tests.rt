@@ -119,7 +119,7 @@ const SHIFTED: [Example; 4] = [
 ];
 
 #[rattlefmt::skip]
-const SHORTENED: [Example; 8] = [
+const SHORTENED: [Example; 11] = [
     // HT moves to the next column that is a multiple of 8.
     ((1, 30), 0, &[Text("\x1b[H")], &[Text("\x1b[1;9Hz")], "\tz"),
 
@@ -148,6 +148,15 @@ const SHORTENED: [Example; 8] = [
 
     // While a wrap is pending, the position is not known.
     ((2, 3), 0, &[Text("abc")], &[Text("abc"), Text("\x1b[2;2Hz")], "\x1b[2;2Hz"),
+
+    // LF and CR move to the beginning of a row if they are not longer than CUP without a column.
+    ((6, 30), 0, &[Text("ab")], &[Text("ab"), Text("\x1b[4;1Hz")], "\n\n\n\rz"),
+
+    // CUP without a column moves to the beginning of a row further down.
+    ((6, 30), 0, &[Text("ab")], &[Text("ab"), Text("\x1b[5;1Hz")], "\x1b[5Hz"),
+
+    // CUP without a column does not need a known position.
+    ((3, 3), 0, &[Text("abc")], &[Text("abc"), Text("\x1b[3;1Hz")], "\x1b[3Hz"),
 ];
 
 /// Input with a row of letters, which leaves the cursor at its beginning.

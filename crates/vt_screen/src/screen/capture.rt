@@ -43,17 +43,15 @@ impl Screen {
         }
     }
 
-    /// Writes the rows of `range` as text with SGR as the only escape
-    /// sequences.
+    /// Writes the rows of `range` as text with SGR as the only escape sequences.
     ///
     /// # Errors
     ///
-    /// Returns the first error of the sink, after which nothing more is
-    /// written. By then, the sink has accepted some number of complete rows and
-    /// possibly part of the next row. The caller's capture state is the state
-    /// after the complete rows. How much of the incomplete row the sink holds
-    /// depends on the sink. A string holds the chunks that it accepted, each of
-    /// them complete.
+    /// Returns the first error of the sink, after which nothing more is written. By then, the sink
+    /// has accepted zero or more complete rows and possibly part of the next row. The capture state
+    /// in `range`, if any, is the state after the complete rows. How much of the incomplete row the
+    /// sink holds depends on the sink; a string holds every chunk that it accepted, and no partial
+    /// chunk.
     pub fn write_contents_formatted_basic<S: Sink>(
         &self,
         sink: &mut S,

@@ -231,9 +231,9 @@ fn text_of(alloc: Global, row: &RowContents<'_>, start: usize, stop: usize) -> R
     }
 }
 
-/// Writes the text of a row, cut to `cols` columns, followed by a newline
-/// unless the row is wrapped. Writes another newline first if no glyph begins
-/// in this row and the previous row is wrapped (`is_wrapped`).
+/// Writes the text of a row, cut to `cols` columns, followed by a newline unless the row is
+/// wrapped. Before the text, writes a newline if no glyph begins in this row and the previous row
+/// is wrapped (`is_wrapped`).
 fn write_line<S: Sink>(
     sink: &mut S,
     row: &RowContents<'_>,

@@ -33,7 +33,7 @@ pub fn set_hidden(screen: &mut Screen, hidden: bool)
     screen.hidden = hidden;
 }
 
-/// Applies a step to the modes.
+/// Applies the change `mode_step` to the modes.
 #[inline(always)]
 pub fn set_mode(screen: &mut Screen, mode_step: ModeStep)
     ensures { screen.new ≡ display_after (step.SetMode mode_step) screen.old }

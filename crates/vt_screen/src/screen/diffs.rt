@@ -15,37 +15,34 @@ use crate::screen::Screen;
 use vt_cells::Error;
 
 impl Screen {
-    /// Returns the escape sequences that turn the display of `prev` into the
-    /// display of this screen, as [`Screen::contents_diff`] does, but with
-    /// options. Both screens must have the same size.
+    /// Returns the escape sequences that turn the display of `prev` into the display of this
+    /// screen, as [`Screen::contents_diff`] does, but with options. Both screens must have the same
+    /// size.
     ///
-    /// With `scroll`, the output may move rows or columns first, as that of
-    /// [`Screen::contents_diff_scrolling`] does. With `repeat`, runs of a
-    /// one-column character may be written as the character followed by
-    /// REP (CSI `n` `b`, ECMA-48, 8.3.103) if that is shorter. Some terminals
-    /// ignore REP, so use `repeat` only if the receiving terminal performs it. Without
-    /// `repeat`, the output is that of `contents_diff` or, with `scroll`, of
+    /// With `scroll`, the output may move rows or columns before it draws the remaining changes, as
+    /// [`Screen::contents_diff_scrolling`] does. With `repeat`, runs of a one-column character may
+    /// be written as the character followed by REP (CSI `n` `b`, ECMA-48, 8.3.103) if that is
+    /// shorter. Some terminals ignore REP, so use `repeat` only if the receiving terminal performs
+    /// it. Without `repeat`, the output is that of `contents_diff` or, with `scroll`, of
     /// `contents_diff_scrolling`.
     ///
-    /// The output is never longer than that of `contents_diff` (clause
-    /// `shorter`). Every terminal in ground state takes the same steps for the
-    /// output with REP as for the output with the runs written out (clause
-    /// `text`). On a plain terminal that displays `prev`, the characters of each
-    /// REP fit in the row (clause `rows`); terminals differ in how they treat
-    /// characters that do not fit.
+    /// The output is never longer than that of `contents_diff` (clause `shorter`). Every terminal
+    /// in ground state takes the same steps for the output with REP as for the output with the runs
+    /// written out (clause `text`). On a plain terminal that displays `prev`, the characters of
+    /// each REP fit in the row (clause `rows`); terminals differ in how they treat characters that
+    /// do not fit.
     ///
-    /// If this screen is steady, a plain terminal that displays `prev` displays
-    /// this screen after reading the output (clause `redraws`). The output is
-    /// empty if both screens have the same display; if this screen is steady, it
-    /// is empty only in that case (clause `empty`). A plain terminal that has
-    /// read the output is plain again, even if this screen is not steady (clause
+    /// If this screen is steady, a plain terminal that displays `prev` displays this screen after
+    /// reading the output (clause `redraws`). The output is empty if both screens have the same
+    /// display; if this screen is steady, it is empty only in that case (clause `empty`). A plain
+    /// terminal that has read the output is plain again, even if this screen is not steady (clause
     /// `again`).
     ///
     /// # Errors
     ///
-    /// Returns `Error::OutOfMemory` if the output, or output that it is made
-    /// from, cannot be allocated. There is no error if both screens have the
-    /// same display (clause `never`).
+    /// Returns `Error::OutOfMemory` if the output, or intermediate output from which it is made,
+    /// cannot be allocated. There is no error if both screens have the same display (clause
+    /// `never`).
     ///
     /// # Examples
     ///
@@ -72,7 +69,8 @@ impl Screen {
         Ok(text)
     }
 
-    /// Returns the ordinary diff or, if rows and columns may move first, the scrolling diff.
+    /// Returns the scrolling diff (see [`Screen::contents_diff_scrolling`]) if `scroll` is true,
+    /// otherwise the ordinary diff.
     ///
     /// # Errors
     ///
@@ -91,7 +89,8 @@ impl Screen {
         Ok(text)
     }
 
-    /// Returns `plain` or, if `repeat` is true, the same output with its runs written with REP.
+    /// Returns the diff `plain` or, if `repeat` is true, the same output in which runs of the same
+    /// character are written with REP. The terminal displays `prev` before it reads the diff.
     ///
     /// # Errors
     ///

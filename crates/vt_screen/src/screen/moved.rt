@@ -1,7 +1,8 @@
-//! Diffs that may move rows or columns first and are never longer than the ordinary diff.
+//! Diffs that may move rows or columns before they draw the remaining changes. They are never
+//! longer than the ordinary diff.
 //!
-//! The module `redraw` defines what a screen displays, when a terminal is
-//! plain, and when a screen is steady.
+//! The module `redraw` defines what a screen displays, when a terminal is plain, and when a screen
+//! is steady.
 
 ghost use Rattle.std.specs.Prelude.{◌≡◌, ◌<◌, ◌≤◌, ◌++◌, [], IsOk, IsTrue, OnOk, length, string_bytes};
 ghost use Rattle.vt_cells.specs.Attrs.{default_attrs};
@@ -30,23 +31,23 @@ use vt_redraw::{
 };
 
 impl Screen {
-    /// Returns the escape sequences that turn the display of `prev` into the
-    /// display of this screen, moving rows or columns first if they have moved.
-    /// The output is never longer than that of [`Screen::contents_diff`]. Both
+    /// Returns the escape sequences that turn the display of `prev` into the display of this
+    /// screen. If rows or columns have moved, the output may move them before it draws the
+    /// remaining changes. The output is never longer than that of [`Screen::contents_diff`]. Both
     /// screens must have the same size.
     ///
     /// If rows have scrolled, even in only a part of the screen, the output may move them with DL
     /// and IL. If text has moved within its row, the output may move it with DCH and ICH. Either
     /// can make the output much shorter. If rows are better erased and drawn anew, DL and IL may
-    /// erase them first. The moves are guesses; moved rows are looked for only among the first 256
+    /// erase them first. The moves are guesses; only the first 256 rows are searched for moved
     /// rows. The output may touch any row.
     ///
-    /// The cursor is moved with LF, CR, BS, HT or CHA where that is shorter. The tty must therefore
+    /// The cursor is moved with LF, CR, BS, HT or CHA if that is shorter. The tty must therefore
     /// not translate output, and the tab stops must be at every eighth column.
     ///
-    /// A terminal is plain if it is in ground state, with the full scroll
-    /// region, origin mode off and no scrollback displayed. A screen is steady
-    /// if each glyph reproduces itself when printed.
+    /// A terminal is plain if it is in ground state, with the full scroll region, origin mode off
+    /// and no scrollback displayed. A screen is steady if each glyph reproduces itself when
+    /// printed.
     ///
     /// If this screen is steady, a plain terminal that displays `prev` displays this screen after
     /// reading the output (clause `redraws`), as with [`Screen::contents_formatted`]. The output is
@@ -86,8 +87,8 @@ impl Screen {
         Ok(short)
     }
 
-    /// Returns the output `text`, meant for a terminal that displays this screen, or shorter output
-    /// that moves the cursor in other ways.
+    /// Returns `text`, which is output for a terminal that displays this screen, or shorter output
+    /// that has the same effect but moves the cursor differently.
     ///
     /// # Errors
     ///
@@ -121,12 +122,11 @@ impl Screen {
         }
     }
 
-    /// Returns the ordinary diff `text`, or shorter output that moves rows or columns first.
+    /// Returns the ordinary diff `text`, or shorter output that begins by moving rows or columns.
     ///
     /// # Errors
     ///
-    /// Returns `Error::OutOfMemory` if the alternative output cannot be
-    /// allocated.
+    /// Returns `Error::OutOfMemory` if the alternative output cannot be allocated.
     fn shortened(&self, prev: &Screen, text: String) -> Result<String, Error>
         requires size { SameSize self.now.page prev.now.page }
         requires text { string_bytes text ≡ display_change prev.now self.now }
@@ -146,8 +146,8 @@ impl Screen {
         }
     }
 
-    /// Returns the shorter of the ordinary diff `text` and the output that moves the rows of `band`
-    /// first.
+    /// Returns the shorter of the ordinary diff `text` and the output that begins by moving the
+    /// rows of `band`.
     ///
     /// # Errors
     ///
@@ -185,8 +185,9 @@ impl Screen {
         write_contents_diff(sink, &self.view(), &prev.moved_view(band))
     }
 
-    /// Returns the shorter of the ordinary diff `text` and the output that shifts columns first,
-    /// beginning with the shift `first`. Returns `text` if scrollback is displayed on `prev`.
+    /// Returns the shorter of the ordinary diff `text` and the output that begins by shifting
+    /// columns, starting with the shift `first`. Returns `text` if scrollback is displayed on
+    /// `prev`.
     ///
     /// # Errors
     ///

@@ -1,4 +1,4 @@
-//! Functions that print characters, one at a time or as a single edit of a row.
+//! Functions that print a single character, or a run of characters in a single edit of a row.
 
 ghost use Rattle.std.specs.Prelude.{◌≡◌, ◌≢◌, ◌+◌, ◌-◌, ◌*◌, ◌<◌, ◌≤◌, IfSome, OnErr, OnOk, Some, length};
 ghost use Rattle.vt_cells.specs.Glyph.{columns_of};
@@ -17,10 +17,9 @@ use vt_cells::{Error, columns};
 
 /// Prints a character.
 ///
-/// A character that is one or two columns wide becomes a glyph with the current
-/// attributes, after a wrap if the row has no room for it. A combining
-/// character is appended to the glyph before the cursor. A control, or a
-/// character wider than the screen, draws nothing. U+FFFD, which stands for
+/// A character that is one or two columns wide becomes a glyph with the current attributes, after a
+/// wrap if the row has no room for it. A combining character is appended to the glyph before the
+/// cursor. A control, or a character wider than the screen, draws nothing. U+FFFD, which replaces
 /// malformed UTF-8, must not be printed.
 ///
 /// A wrap on the bottom row may scroll a row off the page, as a line feed does (see
@@ -28,8 +27,8 @@ use vt_cells::{Error, columns};
 ///
 /// # Errors
 ///
-/// Returns `Error::OutOfMemory` if there is not enough memory to keep a row
-/// that scrolls off the top. On error, the screen is unchanged.
+/// Returns `Error::OutOfMemory` if there is not enough memory to keep a row that scrolls off the
+/// top. On error, the screen is unchanged.
 #[inline(always)]
 pub fn text<CB: Callbacks>(screen: &mut Screen, callbacks: &mut CB, c: char) -> Result<(), Error>
     requires { c ≢ 0xFFFD }
@@ -56,8 +55,8 @@ pub fn text<CB: Callbacks>(screen: &mut Screen, callbacks: &mut CB, c: char) -> 
     Ok(())
 }
 
-/// Returns the character that REP repeats after `c` has been printed. `width`
-/// is the number of columns of `c`.
+/// Returns the character that REP repeats after `c` has been printed, or `None` if there is no such
+/// character. `width` is the number of columns of `c`, or `None` if `c` is a control.
 #[inline(always)]
 fn last_after(screen: &Screen, c: char, width: Option<u8>) -> Option<char>
     requires sound { c ≢ 0xFFFD }

@@ -391,7 +391,8 @@ impl Screen {
     }
 }
 
-/// Writes the output of [`Screen::attributes_formatted`].
+/// Writes the escape sequences that set the attributes `attrs`, as [`Screen::attributes_formatted`]
+/// describes.
 fn write_attrs<S: Sink>(sink: &mut S, attrs: Attrs) -> Result<(), S::Error>
     ensures text { OnOk result (S.text sink.new ≡ S.text sink.old ++ attributes_text attrs) }
 {

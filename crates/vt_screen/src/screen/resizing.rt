@@ -119,12 +119,12 @@ fn resize_pages<CB: Callbacks>(
     done
 }
 
-/// Resizes both pages while the main page is active.
+/// Resizes both pages to `size`. The main page must be active.
 ///
 /// # Errors
 ///
-/// Returns `Error::OutOfMemory` if an allocation fails. On error, the screen is
-/// unchanged and no callbacks are invoked.
+/// Returns `Error::OutOfMemory` if an allocation fails. On error, the screen is unchanged and no
+/// callbacks are invoked.
 fn resize_below<CB: Callbacks>(
     screen: &mut Screen,
     callbacks: &mut CB,
@@ -150,14 +150,13 @@ fn resize_below<CB: Callbacks>(
     remove_rows(screen, size, callbacks)
 }
 
-/// Shrinks both pages to the height of `size` while the main page is active.
-/// The width of `size` must be that of the pages, and the height at most that
-/// of the pages.
+/// Shrinks both pages to the height of `size`. The main page must be active. `size` must have the
+/// width of the pages and at most their height.
 ///
 /// # Errors
 ///
-/// Returns `Error::OutOfMemory` if an allocation fails. On error, the screen is
-/// unchanged and no callbacks are invoked.
+/// Returns `Error::OutOfMemory` if an allocation fails. On error, the screen is unchanged and no
+/// callbacks are invoked.
 fn remove_rows<CB: Callbacks>(
     screen: &mut Screen,
     size: Size,
@@ -190,9 +189,9 @@ fn remove_rows<CB: Callbacks>(
 }
 
 /// Shrinks the alternate page, if there is one, to the height of `size`, and reports the rows that
-/// scroll off its top. The width of `size` must be the page's width, and the height at most the
-/// page's height. `nothing` is an empty scrollback with a capacity of 0. Allocates nothing, since
-/// rows of that page are never kept in scrollback.
+/// scroll off its top. `size` must have the page's width and at most its height. `nothing` must be
+/// an empty scrollback with a capacity of 0. This function never allocates, because rows of the
+/// alternate page are not kept in scrollback.
 fn remove_alternate_rows<CB: Callbacks>(
     page: &mut Option<Grid>,
     size: Size,
@@ -220,14 +219,12 @@ fn remove_alternate_rows<CB: Callbacks>(
     let _ = done;
 }
 
-/// Extends both pages to the height of `size` while the main page is active.
-/// The width of `size` must be that of the pages, and the height at least that
-/// of the pages. No row scrolls off.
+/// Extends both pages to the height of `size`. The main page must be active. `size` must have the
+/// width of the pages and at least their height. No row scrolls off.
 ///
 /// # Errors
 ///
-/// Returns `Error::OutOfMemory` if an allocation fails. On error, the screen is
-/// unchanged.
+/// Returns `Error::OutOfMemory` if an allocation fails. On error, the screen is unchanged.
 fn add_rows(screen: &mut Screen, size: Size) -> Result<(), Error>
     requires more { length screen.old.page.rows ≤ size.rows }
     requires width { size.cols ≡ screen.old.page.width }
@@ -247,12 +244,11 @@ fn add_rows(screen: &mut Screen, size: Size) -> Result<(), Error>
     Ok(())
 }
 
-/// Resizes both pages to the width of `size` in place while the main page is
-/// active. The height of `size` must be that of the pages, and the width a
-/// different one. No row scrolls off.
+/// Resizes both pages to the width of `size` in place. The main page must be active. `size` must
+/// have the height of the pages and a different width. No row scrolls off.
 ///
-/// Returns `false` and changes nothing if a page stores its rows without room
-/// for that many columns.
+/// Returns `false` and changes nothing if, on either page, the new width exceeds the number of
+/// cells stored for each row or is less than half of that number (rounded down).
 fn set_cols(screen: &mut Screen, size: Size) -> bool
     requires size { IsPageSize size.rows size.cols }
     requires height { size.rows ≡ length screen.old.page.rows }
@@ -274,13 +270,12 @@ fn set_cols(screen: &mut Screen, size: Size) -> bool
     true
 }
 
-/// Resizes both pages to a size with a different width while the main page is
-/// active.
+/// Resizes both pages to `size` by moving their rows into new pages. The main page must be active.
 ///
 /// # Errors
 ///
-/// Returns `Error::OutOfMemory` if an allocation fails. On error, the screen is
-/// unchanged and no callbacks are invoked.
+/// Returns `Error::OutOfMemory` if an allocation fails. On error, the screen is unchanged and no
+/// callbacks are invoked.
 fn refit_pages<CB: Callbacks>(
     screen: &mut Screen,
     size: Size,
@@ -313,8 +308,7 @@ fn refit_pages<CB: Callbacks>(
     Ok(())
 }
 
-/// Creates a blank page of the new size to replace `page`, or returns `None` if
-/// `page` is `None`.
+/// Creates a blank page of size `size` to replace `page`, or returns `None` if `page` is `None`.
 ///
 /// # Errors
 ///
@@ -330,9 +324,10 @@ fn fresh_page(page: &Option<Grid>, alloc: Global, size: Size) -> Result<Option<G
     }
 }
 
-/// Resizes the alternate page, if there is one, by moving its rows into the blank page `fresh`, and
-/// reports the rows that scroll off its top. `nothing` is an empty scrollback with a capacity of 0.
-/// Allocates nothing, since rows of that page are never kept in scrollback.
+/// Resizes the alternate page, if there is one, to `size` by moving its rows into the blank page
+/// `fresh`, and reports the rows that scroll off its top. `nothing` must be an empty scrollback
+/// with a capacity of 0. This function never allocates, because rows of the alternate page are not
+/// kept in scrollback.
 fn resize_alternate<CB: Callbacks>(
     page: &mut Option<Grid>,
     fresh: Option<Grid>,

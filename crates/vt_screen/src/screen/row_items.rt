@@ -142,13 +142,12 @@ impl Screen {
         start + width.min(cols.get() - start)
     }
 
-    /// Returns the output that draws the columns `start..stop` of a row on a
-    /// blank row.
+    /// Returns the output that draws the columns `start..stop` of row `row` on a blank row.
     ///
     /// # Errors
     ///
-    /// Returns `Error::OutOfMemory` if the output cannot be allocated. Empty
-    /// output needs no allocation.
+    /// Returns `Error::OutOfMemory` if the output cannot be allocated. Empty output needs no
+    /// allocation.
     pub(crate) fn row_formatted(&self, row: u16, start: u16, stop: u16) -> Result<String, Error>
         requires inside { row < length self.now.page.rows }
         requires columns { IsColumns start stop self.now }
@@ -161,13 +160,13 @@ impl Screen {
         }
     }
 
-    /// Returns the output that turns a row of `prev` into the corresponding row of this screen in
-    /// the columns `start..stop`.
+    /// Returns the output that turns the columns `start..stop` of row `row` of `prev` into those of
+    /// this screen.
     ///
     /// # Errors
     ///
-    /// Returns `Error::OutOfMemory` if the output cannot be allocated. Empty
-    /// output needs no allocation.
+    /// Returns `Error::OutOfMemory` if the output cannot be allocated. Empty output needs no
+    /// allocation.
     pub(crate) fn row_diff(
         &self,
         prev: &Screen,

@@ -108,7 +108,8 @@ impl Screen {
         }
     }
 
-    /// Writes the output of [`Screen::state_formatted`].
+    /// Writes the output of [`Screen::state_formatted`] to `sink`. Stops at the first error of the
+    /// sink and returns it.
     fn write_state_formatted<S: Sink>(&self, sink: &mut S) -> Result<(), S::Error>
         ensures whole { IsScreen self.now }
         ensures colored { IsColored self.now }
@@ -118,7 +119,8 @@ impl Screen {
         self.write_input_mode_formatted(sink)
     }
 
-    /// Writes the output of [`Screen::state_diff`].
+    /// Writes the output of [`Screen::state_diff`] to `sink`. Stops at the first error of the sink
+    /// and returns it.
     fn write_state_diff<S: Sink>(&self, sink: &mut S, prev: &Screen) -> Result<(), S::Error>
         requires { SameSize self.now.page prev.now.page }
         ensures whole { IsScreen self.now }

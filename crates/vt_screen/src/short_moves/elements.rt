@@ -1,4 +1,4 @@
-//! The elements of drawing output, in the form in which the writers of `vt_redraw` make them.
+//! The elements of drawing output, in the form that the writers of `vt_redraw` produce.
 
 ghost use Rattle.std.specs.Prelude.{◌≡◌, ◌<◌, ◌≤◌, ◌++◌, ◌∷◌, [], IfSome, IsTrue, decimal, length, take, slice_index_or};
 ghost use Rattle.std.specs.List.{AllByRecursion};
@@ -8,7 +8,7 @@ ghost use Rattle.vt_screen.specs.ShortMoves.{IsAsciiCharacter, IsElement, IsSgrT
 use crate::sgr::{Reading, Wanted};
 use vt_cells::{Pos, columns};
 
-/// The maximum count of numbers in an SGR sequence.
+/// The maximum number of parameters in an SGR sequence that is recognized as an element.
 const MOST_NUMBERS: u8 = 32;
 
 /// An element of drawing output.
@@ -20,29 +20,30 @@ pub enum Element {
     /// A printed character that is not ASCII.
     Other(char),
 
-    /// A movement to this position (CUP).
+    /// A cursor movement to the given position (CUP).
     Place(Pos),
 
-    /// A movement right by this many columns (CUF).
+    /// A cursor movement to the right by the given number of columns (CUF).
     Right(u16),
 
-    /// A movement to the first column of the next row (CR LF).
+    /// A cursor movement to the first column of the next row (CR LF).
     NextRow,
 
     /// An erasure from the cursor to the end of the row (EL without a parameter).
     EraseRest,
 
-    /// An erasure of this many columns, beginning at the cursor (ECH).
+    /// An erasure of the given number of columns, beginning at the cursor (ECH).
     EraseChars(u16),
 
-    /// The deletion of this many rows (DL) or, if the flag is set, their insertion (IL).
+    /// An insertion (IL) of the given number of rows if the flag is `true`, otherwise a deletion
+    /// (DL) of that many rows.
     Lines(u16, bool),
 
-    /// The deletion of this many columns of a row (DCH) or, if the flag is set, their insertion
-    /// (ICH).
+    /// An insertion (ICH) of the given number of columns in the cursor's row if the flag is `true`,
+    /// otherwise a deletion (DCH) of that many columns.
     Chars(u16, bool),
 
-    /// The sequence that hides the cursor if the flag is set, and shows it otherwise (DECTCEM).
+    /// The sequence that hides the cursor if the flag is `true`, or shows it otherwise (DECTCEM).
     Hide(bool),
 
     /// A reset of all attributes (SGR without a parameter).
@@ -103,7 +104,8 @@ fn ascii_len(bytes: &[u8]) -> usize
     len
 }
 
-/// Returns CR LF if `bytes` begins with it.
+/// Returns [`Element::NextRow`] and its length in bytes if `bytes` begins with CR LF, otherwise
+/// `None`.
 fn next_row(bytes: &[u8]) -> Option<(Element, usize)>
     ensures nonempty { IfSome result (λ found. 0 < found.1) }
     ensures inside { IfSome result (λ found. found.1 ≤ length bytes.now) }
@@ -116,7 +118,8 @@ fn next_row(bytes: &[u8]) -> Option<(Element, usize)>
     }
 }
 
-/// Returns the first character of `text` if it is printed and is not ASCII.
+/// Returns the first character of `text` as an element, and its length in bytes. Returns `None` if
+/// `text` is empty, or if the character is ASCII or is not printed.
 fn other_character(text: &str) -> Option<(Element, usize)>
     ensures nonempty { IfSome result (λ found. 0 < found.1) }
     ensures inside { IfSome result (λ found. found.1 ≤ length text.now) }
@@ -130,7 +133,8 @@ fn other_character(text: &str) -> Option<(Element, usize)>
     Some((Element::Other(c), c.len_utf8()))
 }
 
-/// Returns the control sequence at the beginning of `bytes`.
+/// Returns the element and the length in bytes of the control sequence at the beginning of `bytes`.
+/// Returns `None` if there is no such sequence, or if it is not an element.
 fn sequence(bytes: &[u8]) -> Option<(Element, usize)>
     ensures nonempty { IfSome result (λ found. 0 < found.1) }
     ensures inside { IfSome result (λ found. found.1 ≤ length bytes.now) }
@@ -148,7 +152,8 @@ fn sequence(bytes: &[u8]) -> Option<(Element, usize)>
     }
 }
 
-/// Returns the control sequence without parameters that ends with `last`.
+/// Returns the element whose control sequence has no parameters and ends with `last`, or `None` if
+/// there is no such element.
 fn short_sequence(last: u8) -> Option<Element>
     ensures { IfSome result (λ element. IsElement element (0x1B ∷ 0x5B ∷ last ∷ [])) }
 {
@@ -160,7 +165,8 @@ fn short_sequence(last: u8) -> Option<Element>
     }
 }
 
-/// Returns the control sequence that has the single parameter `count` (not 0) and ends with `last`.
+/// Returns the element whose control sequence has the single parameter `count` (omitted if it is 1)
+/// and ends with `last`, or `None` if there is no such element. `count` must not be 0.
 fn counted_sequence(count: u16, last: u8) -> Option<Element>
     requires { 0 < count }
     ensures { IfSome result (λ element. IsElement element (counted count last)) }
@@ -176,7 +182,8 @@ fn counted_sequence(count: u16, last: u8) -> Option<Element>
     }
 }
 
-/// Returns the sequence that hides or shows the cursor if `bytes` begins with it.
+/// Returns [`Element::Hide`] and its length in bytes if `bytes` begins with the sequence that hides
+/// or shows the cursor, otherwise `None`.
 fn hide(bytes: &[u8]) -> Option<(Element, usize)>
     ensures nonempty { IfSome result (λ found. 0 < found.1) }
     ensures inside { IfSome result (λ found. found.1 ≤ length bytes.now) }
@@ -189,8 +196,9 @@ fn hide(bytes: &[u8]) -> Option<(Element, usize)>
     }
 }
 
-/// Returns the control sequence at the beginning of `bytes` if its parameters are numbers, and the
-/// number of its bytes.
+/// Returns the element and the length in bytes of the control sequence with numeric parameters at
+/// the beginning of `bytes`, or `None` if there is no such element. `bytes` must begin with `ESC
+/// [`.
 fn numbered_sequence(bytes: &[u8]) -> Option<(Element, usize)>
     requires long { 2 ≤ length bytes.now }
     requires introduced { take 2 bytes.now ≡ 0x1B ∷ 0x5B ∷ [] }
@@ -203,8 +211,9 @@ fn numbered_sequence(bytes: &[u8]) -> Option<(Element, usize)>
     Some((element, len + 2))
 }
 
-/// Returns the control sequence whose parameters and final byte are at the beginning of `bytes`, and
-/// the number of these bytes.
+/// Parses the parameters and the final byte that follow `ESC [` in a control sequence, at the
+/// beginning of `bytes`. Returns the element and the number of bytes parsed, or `None` if the
+/// sequence is not an element.
 fn numbered(bytes: &[u8]) -> Option<(Element, usize)>
     ensures inside { IfSome result (λ found. found.1 ≤ length bytes.now) }
     ensures element { IfSome result (λ found. IsElement found.0 (0x1B ∷ 0x5B ∷ take found.1 bytes.now)) }
@@ -228,8 +237,9 @@ fn numbered(bytes: &[u8]) -> Option<(Element, usize)>
     Some((element, len + 1))
 }
 
-/// Returns the position of a CUP whose second parameter and final byte are at the beginning of
-/// `bytes`, and the number of these bytes. `row` is the first parameter.
+/// Returns the position in a CUP sequence and the number of bytes read. The first parameter is
+/// `row`; the second parameter and the final byte are at the beginning of `bytes`. Returns `None`
+/// if `bytes` does not complete a CUP sequence, if a parameter is 0, or if both are 1.
 fn place(row: u16, bytes: &[u8]) -> Option<(Pos, usize)>
     ensures inside { IfSome result (λ found. found.1 ≤ length bytes.now) }
     ensures element { IfSome result (λ found.
@@ -249,9 +259,10 @@ fn place(row: u16, bytes: &[u8]) -> Option<(Pos, usize)>
     Some((pos, len + 1))
 }
 
-/// Returns the length of the SGR parameters at the beginning of `bytes`. Returns `None` if they are
-/// not followed by the final byte `m`, if there are more than `most` numbers, or if a number is
-/// unknown.
+/// Returns the length of the SGR parameters at the beginning of `bytes`, without the final byte
+/// `m`. The first parameter is interpreted as `wanted` specifies. Returns `None` if there are more
+/// than `most` parameters, if one of them is missing, has a leading zero, is above 65535 or is
+/// unknown, or if no `m` follows them.
 fn sgr_len(bytes: &[u8], wanted: Wanted, most: u8) -> Option<usize>
     ensures inside { IfSome result (λ len. len < length bytes.now) }
     ensures last { IfSome result (λ len. slice_index_or bytes.now len 0 ≡ 0x6D) }
@@ -276,7 +287,8 @@ fn sgr_len(bytes: &[u8], wanted: Wanted, most: u8) -> Option<usize>
 }
 
 /// Returns how the number after `number` in an SGR sequence is interpreted, or `None` if `number`
-/// is unknown. Most numbers are handled without a lookup in the SGR table.
+/// is unknown. `number` itself is interpreted as `wanted` specifies. Most numbers are handled
+/// without a lookup in the SGR table.
 #[inline]
 fn wanted_next(wanted: Wanted, number: u16) -> Option<Wanted>
     ensures { IfSome result (IsWantedNext wanted number) }
@@ -291,8 +303,8 @@ fn wanted_next(wanted: Wanted, number: u16) -> Option<Wanted>
     Some(read.wanted)
 }
 
-/// Returns whether `number`, which is interpreted as `wanted` says, sets one of the first 16 colors
-/// of the palette.
+/// Returns whether `wanted` is [`Wanted::Any`] and `number` selects one of the first 16 colors of
+/// the palette.
 #[inline]
 #[tactic(auto, using(crate::proofs::Numbers::foreground_known, crate::proofs::Numbers::background_known, crate::proofs::Numbers::bright_known, crate::proofs::Numbers::bright_background_known))]
 fn is_palette_number(wanted: Wanted, number: u16) -> bool
@@ -301,8 +313,9 @@ fn is_palette_number(wanted: Wanted, number: u16) -> bool
     matches!(wanted, Wanted::Any) && matches!(number, 30..=37 | 40..=47 | 90..=97 | 100..=107)
 }
 
-/// Returns the decimal number at the beginning of `bytes`, and the number of its digits. Returns
-/// `None` if there is none, or if it has leading zeros.
+/// Returns the decimal number at the beginning of `bytes`, and the number of its digits. A leading
+/// 0 is a number by itself, whatever follows it. Returns `None` if `bytes` does not begin with a
+/// digit, or if the number is above 65535.
 #[tactic(auto, using(crate::proofs::Numbers::number_first, crate::proofs::Numbers::number_next))]
 fn number(bytes: &[u8]) -> Option<(u16, usize)>
     ensures inside { IfSome result (λ found. found.1 ≤ length bytes.now) }

@@ -1,7 +1,7 @@
-//! Gaps between changed columns whose glyphs are printed instead of skipped.
+//! Short gaps between changed columns: their glyphs are printed again instead of being skipped.
 //!
-//! CUF takes three or four bytes, so printing one to three glyphs that the terminal already displays
-//! is shorter.
+//! CUF takes three or four bytes, so printing one to three glyphs that the terminal already
+//! displays is shorter.
 
 ghost use Rattle.std.specs.Prelude.{◌≡◌, ◌<◌, ◌≤◌, ◌+◌, ◌++◌, IfSome, IsTrue, OnOk, length, string_bytes, take};
 ghost use Rattle.vt_cells.specs.Refusals.{OnlyOutOfMemory};
@@ -12,10 +12,11 @@ use crate::short_moves::known::Known;
 use vt_cells::{Attrs, Cell, Error, Pos, Sink, cell};
 use vt_redraw::{PictureRow, View};
 
-/// The largest number of columns over which CUF takes more bytes than their glyphs.
+/// The number of columns in the longest gap whose glyphs take fewer bytes to print than to skip
+/// with CUF.
 const LONGEST_GAP: u16 = 3;
 
-/// Columns of the cursor's row, beginning at the cursor, over which the cursor moves.
+/// A range of columns in the cursor's row, beginning at the cursor, that a cursor movement skips.
 #[derive(Clone, Copy, PartialEq, Eq, Debug)]
 pub struct Gap {
     /// The position of the first column.
@@ -25,9 +26,13 @@ pub struct Gap {
     pub count: u16,
 }
 
-/// Returns the gap over which `element` moves the cursor of a terminal that displayed `prev`, if the
-/// terminal still displays glyphs there that can be printed. They are printable ASCII characters with
-/// the terminal's attributes.
+/// Returns the gap that `element` skips on a terminal that displayed `prev` before it read the
+/// output. Returns `None` if `element` is not a movement to the right, or if the gap's glyphs
+/// cannot be printed instead.
+///
+/// They can be printed if the gap has at most three columns and ends before the last column, the
+/// terminal is known to have default attributes, and each column of the gap is known to still
+/// display a printable ASCII character with default attributes.
 #[inline]
 pub fn gap_over(prev: &View<'_>, known: Known, element: Element) -> Option<Gap>
     ensures { IfSome result (IsGapOver prev.now known element) }
@@ -56,7 +61,8 @@ fn is_from(first: Pos, pos: Pos) -> bool
     first.row < pos.row || (first.row == pos.row && first.col <= pos.col)
 }
 
-/// Returns whether each of the `count` columns from `col` on has a glyph that [`gap_over`] accepts.
+/// Returns whether each of the `count` columns from `col` on has a glyph of one printable ASCII
+/// character with default attributes.
 #[tactic(auto, using(crate::proofs::GapsRead::gap_more))]
 fn is_gap(row: &PictureRow<'_>, col: u16, count: u16) -> bool
     requires inside { col + count ≤ length row.now.cells }
@@ -81,7 +87,7 @@ fn is_byte_glyph(cell: &Cell) -> bool
     cell::has_attrs(cell, &Attrs::new())
 }
 
-/// Appends the text of `count` columns from `col` on.
+/// Appends the text of the `count` columns of `row` that begin at column `col` to `short`.
 ///
 /// # Errors
 ///
@@ -105,7 +111,8 @@ pub fn write_gap(
     write_gap(short, row, col + 1, count - 1)
 }
 
-/// Returns the first character of `text` if it is printable ASCII.
+/// Returns the first character of `text`, or `None` if `text` does not begin with a printable ASCII
+/// character.
 pub fn first_letter(text: &str) -> Option<&str>
     ensures letter { IfSome result (λ letter. IsLetter letter.now) }
     ensures first { IfSome result (λ letter. letter.now ≡ take 1 text.now) }

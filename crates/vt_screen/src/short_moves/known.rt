@@ -1,4 +1,4 @@
-//! What is known about a terminal while it reads drawing output.
+//! The facts that are known about a terminal while it reads drawing output.
 
 ghost use Rattle.std.specs.Prelude.{IfSome, IsTrue};
 ghost use Rattle.vt_screen.specs.Gaps.{IsDefaultAfter, IsKeptAfter, IsKeptFrom, IsLater};
@@ -6,7 +6,8 @@ ghost use Rattle.vt_screen.specs.Gaps.{IsDefaultAfter, IsKeptAfter, IsKeptFrom, 
 use crate::short_moves::elements::Element;
 use vt_cells::Pos;
 
-/// What is known about a terminal that displayed a certain picture before it read the output.
+/// The facts that are known about a terminal that displayed a certain picture and has since read
+/// drawing output.
 #[derive(Clone, Copy, PartialEq, Eq, Debug)]
 pub struct Known {
     /// The position of the cursor. `None` if it is unknown or a wrap is pending.
@@ -16,14 +17,15 @@ pub struct Known {
     /// glyphs of the picture. `None` if the output may have changed any cell.
     pub kept: Option<Pos>,
 
-    /// Whether the attributes are known to be the default ones, if `kept` is not `None`.
+    /// Whether the attributes are known to be the default ones. Meaningful only if `kept` is not
+    /// `None`.
     pub is_default: bool,
 }
 
 impl Known {
-    /// Returns the position at and after which the terminal still displays the narrow glyphs of the
-    /// picture once it has read an element that is copied unchanged. The element leaves the cursor
-    /// at `to`.
+    /// Returns the value of `kept` after the terminal has read `element`, or `None` if no such
+    /// position is known. `element` is copied to the output unchanged. `to` is the position of the
+    /// cursor after `element`, or `None` if it is unknown or a wrap is pending.
     #[inline]
     pub fn kept_after(self, element: Element, to: Option<Pos>) -> Option<Pos>
         ensures { IfSome result (IsKeptAfter self element to) }
@@ -58,8 +60,8 @@ impl Known {
         }
     }
 
-    /// Returns the position at and after which glyphs are kept if the cells before `changed`, in
-    /// reading order, may have changed.
+    /// Returns the later of `kept` and `changed` in reading order, which is the new value of `kept`
+    /// if the cells before `changed` may have changed. Returns `None` if `kept` is `None`.
     #[inline]
     pub fn kept_from(self, changed: Pos) -> Option<Pos>
         ensures { IfSome result (IsKeptFrom self changed) }
@@ -68,8 +70,8 @@ impl Known {
         Some(later(kept, changed))
     }
 
-    /// Returns whether the attributes are known to be the default ones after an element that is
-    /// copied unchanged.
+    /// Returns whether the attributes are known to be the default ones after the terminal has read
+    /// `element`, which is copied to the output unchanged.
     #[inline]
     pub fn is_default_after(self, element: Element) -> bool
         ensures { IsTrue result → IsDefaultAfter self.is_default element }

@@ -13,13 +13,13 @@ pub enum Last {
     /// The cursor is already at the destination.
     Stay,
 
-    /// The cursor moves left by this many columns (BS).
+    /// The cursor moves left by the given number of columns (BS).
     Back(u16),
 
-    /// The cursor moves right by this many columns (CUF).
+    /// The cursor moves right by the given number of columns (CUF).
     Right(u16),
 
-    /// The cursor moves to a column, counted from 0 (CHA).
+    /// The cursor moves to the given column, counted from 0 (CHA).
     Column(u16),
 }
 
@@ -36,13 +36,12 @@ pub struct Route {
     /// The number of tabs.
     pub tabs: u16,
 
-    /// The last part.
+    /// The part of the route after the tabs.
     pub last: Last,
 }
 
 impl Route {
-    /// Returns whether the route leads from one position to the other on a terminal with `cols`
-    /// columns.
+    /// Returns whether the route leads from `from` to `to` on a terminal with `cols` columns.
     pub fn leads(&self, from: Pos, to: Pos, cols: u16) -> bool
         ensures { IsTrue result → IsRoute cols self.now from to }
     {
@@ -54,7 +53,7 @@ impl Route {
         self.last.column_after(stop, cols) == Some(to.col)
     }
 
-    /// Appends the bytes of the route.
+    /// Appends the route's output to `text`.
     ///
     /// # Errors
     ///
@@ -71,7 +70,7 @@ impl Route {
         self.last.write(text)
     }
 
-    /// Returns the approximate number of bytes of the route.
+    /// Returns the approximate length of the route's output, in bytes.
     fn cost(&self) -> u32 {
         u32::from(self.feeds)
             .saturating_add(u32::from(self.returns))
@@ -79,7 +78,7 @@ impl Route {
             .saturating_add(self.last.cost())
     }
 
-    /// Returns the cheaper of two routes.
+    /// Returns the cheaper of this route and `other`, or this route if both cost the same.
     fn or(self, other: Route) -> Route {
         if other.cost() < self.cost() {
             other
@@ -90,8 +89,9 @@ impl Route {
 }
 
 impl Last {
-    /// Returns the column to which the part leads from column `col`, or `None` if the part is empty
-    /// or the terminal has no columns.
+    /// Returns the column to which this part of a route moves the cursor from column `col` on a
+    /// terminal with `cols` columns. Returns `None` if `cols` is 0, if the part is `Right(0)`, or
+    /// if it is `Column` with a column that the terminal does not have.
     fn column_after(self, col: u16, cols: u16) -> Option<u16>
         ensures { IfSome result (λ after. IsLast cols self col after) }
     {
@@ -108,7 +108,7 @@ impl Last {
         }
     }
 
-    /// Appends the bytes of the part.
+    /// Appends the output of this part of a route to `text`.
     ///
     /// # Errors
     ///
@@ -125,7 +125,7 @@ impl Last {
         }
     }
 
-    /// Returns the number of bytes of the part.
+    /// Returns the length of the output of this part of a route, in bytes.
     fn cost(self) -> u32 {
         match self {
             Last::Stay => 0,
@@ -137,7 +137,7 @@ impl Last {
     }
 }
 
-/// Appends a string of one byte `count` times.
+/// Appends `byte`, a string of one byte, to `text` `count` times.
 ///
 /// # Errors
 ///
@@ -154,7 +154,7 @@ fn write_repeated(text: &mut String, byte: &str, count: u16) -> Result<(), Error
     Ok(())
 }
 
-/// Appends CUF.
+/// Appends the sequence that moves the cursor right by `count` columns (CUF) to `text`.
 ///
 /// # Errors
 ///
@@ -169,7 +169,8 @@ fn write_right(text: &mut String, count: u16) -> Result<(), Error>
     }
 }
 
-/// Appends CHA.
+/// Appends the sequence that moves the cursor to column `target` (CHA) to `text`. `target` is
+/// counted from 0.
 ///
 /// # Errors
 ///
@@ -184,7 +185,8 @@ fn write_column(text: &mut String, target: u16) -> Result<(), Error>
     text.write_str("G")
 }
 
-/// Returns the column that a tab leads to from column `col` on a terminal with `cols` columns.
+/// Returns the column to which a tab moves the cursor from column `col` on a terminal with `cols`
+/// columns.
 fn next_stop(col: u16, cols: u16) -> u16
     ensures { result ≡ next_stop cols col }
 {
@@ -196,7 +198,8 @@ fn next_stop(col: u16, cols: u16) -> u16
     }
 }
 
-/// Returns the column that `count` tabs lead to from column `col` on a terminal with `cols` columns.
+/// Returns the column to which `count` tabs move the cursor from column `col` on a terminal with
+/// `cols` columns.
 #[tactic(auto, using(crate::proofs::Numbers::next_tab))]
 fn column_after_tabs(col: u16, count: u16, cols: u16) -> u16
     ensures { result ≡ column_after_tabs cols count col }
@@ -208,7 +211,8 @@ fn column_after_tabs(col: u16, count: u16, cols: u16) -> u16
     stop
 }
 
-/// Returns the route that probably has the fewest bytes.
+/// Returns the route from `from` to `to` whose output is probably the shortest on a terminal with
+/// `cols` columns. If `to` is in a row above `from`, the returned route does not lead to `to`.
 pub fn likely_route(from: Pos, to: Pos, cols: u16) -> Route {
     let feeds = to.row.saturating_sub(from.row);
     let returned = forward(feeds, true, 0, to.col, cols);
@@ -229,8 +233,9 @@ pub fn likely_route(from: Pos, to: Pos, cols: u16) -> Route {
     }
 }
 
-/// Returns the route to the right that probably has the fewest bytes. The route begins with line
-/// feeds and, if `returns`, a carriage return, after which the cursor is in column `start`.
+/// Returns the route to column `col` whose output is probably the shortest on a terminal with
+/// `cols` columns. The route begins with `feeds` line feeds and, if `returns` is true, a carriage
+/// return, after which the cursor is in column `start`. `start` must not be to the right of `col`.
 fn forward(feeds: u16, returns: bool, start: u16, col: u16, cols: u16) -> Route {
     let still = Route {
         feeds,

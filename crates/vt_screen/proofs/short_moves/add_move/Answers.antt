@@ -3,8 +3,8 @@ use Rattle.vt_screen.specs.ShortMoves.{route_text}
 use Rattle.vt_screen.proofs.RoutesRead.{move_appended}
 use Rattle.vt_screen.proofs.short_moves.add_move.Goals as goal
 
-pub returns-then-len-head-clause-appends : goal.returns-then-len-head-clause-appends
-returns-then-len-head-clause-appends c =
+pub returns-then-len-row_start_len-clause-appends : goal.returns-then-len-row_start_len-clause-appends
+returns-then-len-row_start_len-clause-appends c =
     let shorter : length (string_bytes c.write.new.text) < length c.args.head.now = search rules in
     move_appended c.args.size.rows c.args.size.cols c.args.at c.in-Some.from c.args.to c.likely_route-route.result
     c.args.head.now (string_bytes c.write.new.text) (string_bytes c.args.short.now) (string_bytes c.write_str.new.self)
