@@ -13,7 +13,7 @@ use Rattle.vt_screen.specs.Run.{CallRelation, Breaks, Performs, Refuses, State, 
 use Rattle.vt100.specs.Parser.{ParserValue, Ran, Stopped, StoppedAt}
 use Rattle.vt100.specs.declared.sequence.Sequence.{Sequence}
 
--- Taking all of the given steps in order turns the first callbacks and screen into the second.
+-- The effect of taking all of the given steps, in order, on the callbacks and the screen.
 abbrev pub Does : {S : Type 0} → CallRelation S → S → ScreenValue → List Step → S → ScreenValue → Type 0
 Does does old before steps new after = FoldsTo (Takes does) (state old before) steps (state new after)
 
@@ -61,7 +61,7 @@ abbrev pub report_of : Sequence → CallValue
 report_of sequence =
     UnhandledCsi sequence.first sequence.second sequence.parameters.now.groups sequence.byte
 
--- Whether a step never invokes callbacks, allocates, or scrolls rows off the page.
+-- Whether a step is of a kind that never invokes callbacks, never allocates, and never scrolls rows off the page.
 abbrev pub is_own : Step → Bool
 is_own (CallBack call) = false
 is_own (Print c) = false

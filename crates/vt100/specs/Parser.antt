@@ -1,4 +1,4 @@
--- The effect of `process`: it parses all bytes passed to it, or stops at a byte whose allocation fails.
+-- The effect of `process`: it parses all bytes passed to it, or stops when an allocation fails.
 use Rattle.std.specs.Prelude.{◌≡◌, ◌⊎◌, ℕ, ◌<◌, ◌-◌, Bool, false, List, [], ◌∷◌, ◌++◌, length, take, slice_index_or}
 use Rattle.std.specs.List.{FoldsTo}
 use Rattle.vt_scan.specs.Automaton.{State, step_in}
@@ -35,9 +35,9 @@ HasFreshScreen rows cols capacity callbacks parser =
 abbrev pub stage : {S : Type 0} → ParserValue S → screen.State S
 stage parser = screen.state parser.callbacks parser.screen
 
--- Parsing the given bytes turns the first parser into the second. For every state that the first parser's scanner
--- stands for, the second parser's scanner stands for the state after the bytes, and the callbacks and the screen take
--- the steps of all events in order.
+-- Parsing the given bytes turns the first parser into the second. For every state that the first parser's scanner can
+-- be in, the second parser's scanner can be in the state after the bytes, and the second parser's callbacks and screen
+-- are those after the steps of all events, taken in order.
 abbrev pub Ran : {S : Type 0} → CallRelation S → ParserValue S → List ℕ → ParserValue S → Type 0
 Ran does old bytes new =
     (state : State) → StandsFor old.scanner state
@@ -78,8 +78,8 @@ does_nothing call old before new after = (new ≡ old) × (after ≡ before)
 abbrev pub Stopped : {S : Type 0} → CallRelation S → ParserValue S → List ℕ → ParserValue S → Type 0
 Stopped does old bytes new = StoppedBefore does old bytes new ⊎ StoppedWithin does old bytes new
 
--- An allocation for the given byte fails in the given state of the scanner: either the allocation that appends the byte
--- to a command's text, or one made by a step of one of the byte's events.
+-- An allocation for the given byte fails in the given state of the scanner: either the one for appending the byte to a
+-- command's text, or one required by a step of the byte's events.
 abbrev pub IsRefused : {S : Type 0} → CallRelation S → screen.State S → State → ℕ → screen.State S → Type 0
 IsRefused does old state byte new =
     ((new ≡ old) × (transition_of state.kind (class_of byte) ≡ Collect OscString))

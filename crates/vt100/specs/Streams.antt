@@ -1,5 +1,5 @@
--- Lists of calls to a parser that also change which scrollback rows are displayed: the callbacks they invoke, and the
--- single text formed by all reported and captured rows.
+-- Lists of calls to a parser, including calls that change which scrollback rows are displayed: the callbacks that these
+-- calls invoke, and the single text formed by all reported and captured rows.
 use Rattle.std.specs.Prelude.{◌≡◌, ℕ, ◌<◌, ◌^◌, Bool, true, List, [], ◌∷◌, ◌++◌}
 use Rattle.vt_rows.specs.Basic.{Written, nothing_written}
 use Rattle.vt_scan.specs.Automaton.{State, start}
@@ -41,7 +41,8 @@ screen_by scan screen [] = screen
 screen_by scan screen (Process bytes ∷ calls) = screen_by (run scan bytes).state (screen_in scan screen bytes) calls
 screen_by scan screen (SetScrollback rows ∷ calls) = screen_by scan (scrolled_back rows screen) calls
 
--- The parser has read nothing yet, and has a blank screen of the given size and scrollback capacity.
+-- The parser is in ground state and has a blank screen of the given size and scrollback capacity. The numbers of rows
+-- and columns are from 1 to 65535.
 pub record IsFreshParser {S : Type 0} (rows cols capacity : ℕ) (parser : ParserValue S) : Type 0 where
   pub has_rows : 0 < rows
   pub few_rows : rows < 2 ^ 16
@@ -57,8 +58,8 @@ whole_text rows cols bytes =
     let fresh = fresh_screen rows cols 0 in
     basic_texts nothing_written (sent_off_in start fresh bytes ++ (screen_in start fresh bytes).page.rows)
 
--- The callbacks append each reported row of the main page to their output, using a single capture state. The output is
--- complete unless its sink rejected a part of it.
+-- The callbacks leave the screen unchanged. While `is_whole` is true, they append each reported row of the main page to
+-- the text `text_of`, continuing from the capture state `state_of`; once false, `is_whole` stays false.
 pub record IsRecorder {S : Type 0} (does : CallRelation S)
     (text_of : S → List ℕ) (state_of : S → Written) (is_whole : S → Bool) : Type 0 where
   pub leaves : LeavesScreen does

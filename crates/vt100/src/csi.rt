@@ -156,8 +156,9 @@ fn scrolling<CB: Callbacks>(
     }
 }
 
-/// Returns the step of the control sequence with the final byte `byte` if its
-/// only parameter is a count, and `None` otherwise. `count` must be at least 1.
+/// Returns the page step that the control sequence with the final byte `byte` and the parameter
+/// `count` performs, or `None` if this function does not handle the sequence. `count` must be at
+/// least 1.
 #[inline(always)]
 #[tactic(auto, using(std::proofs::lemmas::Bool::Decides::nat_tests), unfolding(vt_screen::specs::Controls::counted_step))]
 fn counted(byte: u8, count: u16) -> Option<PageStep>

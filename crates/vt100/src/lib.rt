@@ -1,5 +1,5 @@
-//! An in-memory terminal emulator: it parses the bytes that a program writes
-//! and maintains the screen that a user would see.
+//! An in-memory terminal emulator: it parses the bytes that a program writes and maintains the
+//! screen that a user would see.
 //!
 //! ```text
 //! use std::num::NonZeroU16;
@@ -27,9 +27,9 @@
 //! }
 //! ```
 //!
-//! The example prints that `R` is red, then a redraw of the screen for any
-//! terminal of the same size, and finally an update for a terminal that still
-//! displays the earlier screen.
+//! The example prints that `R` is red, then a redraw of the screen for any plain terminal of the
+//! same size (in ground state, with the full scroll region, origin mode off and no scrollback
+//! displayed), and finally an update for such a terminal that still displays the earlier screen.
 #![tactic(auto)]
 
 pub mod capture;

@@ -5,7 +5,7 @@ ghost use Rattle.vt_screen.specs.Controls.{intermediate_at, number_or};
 
 use vt_scan::Parameters;
 
-/// Returns the first number of group `i`, or `default` if it is 0 or missing.
+/// Returns the first number of parameter group `i`, or `default` if that number is 0 or missing.
 #[inline(always)]
 pub fn number_or(default: u16, parameters: &Parameters, i: usize) -> u16
     ensures value { result ≡ number_or default i parameters.now.groups }

@@ -25,9 +25,9 @@ pub fn perform<CB: Callbacks>(screen: &mut Screen, callbacks: &mut CB, parts: &[
     callbacks.unhandled_osc(screen, parts);
 }
 
-/// Performs a two-part operating system command: OSC 0, 1 or 2, which set the icon name, the title
-/// or both. Any other command is reported as unhandled. `name` is the first part, the number of the
-/// command.
+/// Performs a two-part operating system command: OSC 0 sets the icon name and the title, OSC 1 only
+/// the icon name, and OSC 2 only the title. Any other command is reported as unhandled. `parts`
+/// holds `name`, the number of the command, and `text`.
 #[tactic(auto, using(crate::proofs::Stepping::steps_called), unfolding(vt_screen::specs::Controls::named_steps))]
 fn title<CB: Callbacks>(
     screen: &mut Screen,
@@ -55,9 +55,10 @@ fn title<CB: Callbacks>(
     callbacks.unhandled_osc(screen, parts);
 }
 
-/// Performs a three-part operating system command: OSC 52, which requests or sets the contents of a
-/// clipboard. Any other command is reported as unhandled. `name` is the first part, the number of
-/// the command.
+/// Performs a three-part operating system command: OSC 52, which requests or sets the contents of
+/// clipboards. An OSC 52 with invalid parts and any other command are reported as unhandled.
+/// `parts` holds `name` (the number of the command), `kind` (the bytes that name the clipboards)
+/// and `text` (`?` for a request, otherwise the contents in Base64).
 #[tactic(auto, using(crate::proofs::Stepping::steps_called), unfolding(vt_screen::specs::Controls::clipboard_steps))]
 fn clipboard<CB: Callbacks>(
     screen: &mut Screen,

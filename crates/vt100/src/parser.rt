@@ -1,4 +1,4 @@
-//! The parser, which owns a screen and callbacks and parses input into them.
+//! The parser, which parses input, applies it to the screen that it owns, and invokes callbacks.
 
 ghost use Rattle.std.specs.Borrow.{sem, Lends, LendsBoth};
 ghost use Rattle.std.specs.Prelude.{◌≡◌, ◌<◌, IfOk, IsErr, OnErr, OnOk, false, length};
@@ -79,8 +79,7 @@ impl Parser {
         Parser::new_with_callbacks(alloc, rows, cols, scrollback_capacity, ())
     }
 
-    /// Creates a parser with 24 rows and 80 columns, without scrollback or
-    /// callbacks.
+    /// Creates a parser whose screen has 24 rows and 80 columns, without scrollback or callbacks.
     ///
     /// # Errors
     ///

@@ -97,13 +97,13 @@ pub fn command<CB: Callbacks>(scanner: &Scanner, screen: &mut Screen, callbacks:
     osc::perform(screen, callbacks, scanner.parts().as_slice());
 }
 
-/// Prints a character, or reports it if it is a C1 control or U+FFFD, which
-/// stands for malformed UTF-8.
+/// Prints a character, or reports it if it is a C1 control or U+FFFD (the replacement character for
+/// malformed UTF-8).
 ///
 /// # Errors
 ///
-/// Returns `Error::OutOfMemory` if there is not enough memory to keep a row
-/// that scrolls off the top. On error, the screen is unchanged.
+/// Returns `Error::OutOfMemory` if there is not enough memory to keep a row that scrolls off the
+/// top. On error, the screen is unchanged.
 #[inline(always)]
 #[tactic(auto, using(crate::proofs::Stepping::called_or_refused), unfolding(vt_screen::specs::Controls::character_steps))]
 pub fn print<CB: Callbacks>(
@@ -122,8 +122,7 @@ pub fn print<CB: Callbacks>(
     Ok(())
 }
 
-/// Prints or reports a character, as [`print`] does. Called only on code paths that few characters
-/// take.
+/// Prints or reports a character, as [`print`] does, on code paths that are rarely taken.
 ///
 /// This function is never inlined, because inlining it would slow down the loop over the input
 /// bytes.
@@ -144,8 +143,8 @@ pub fn print_apart<CB: Callbacks>(
     print(screen, callbacks, character)
 }
 
-/// Returns whether a character is reported instead of printed: one of U+0080 to
-/// U+009F (the C1 controls), or U+FFFD, which stands for malformed UTF-8.
+/// Returns whether a character is reported instead of printed: one of U+0080 to U+009F (the C1
+/// controls), or U+FFFD (the replacement character for malformed UTF-8).
 #[inline]
 #[tactic(auto, using(crate::proofs::Stepping::tested_steps))]
 fn is_reported(character: char) -> bool

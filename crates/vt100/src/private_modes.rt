@@ -13,13 +13,13 @@ use vt_grid::PageStep;
 use vt_screen::screen::{controls, pages};
 use vt_screen::{Callbacks, ModeStep, Screen};
 
-/// Sets (if `on` is true) or resets each private mode that a sequence names,
-/// and reports each parameter group that names no known mode.
+/// Sets (if `on` is true) or resets each private mode that a sequence names, and reports the
+/// sequence once for each parameter group that names no known mode.
 ///
 /// # Errors
 ///
-/// Returns `Error::OutOfMemory` if the alternate page cannot be allocated. The
-/// modes handled before the failing mode stay set or reset.
+/// Returns `Error::OutOfMemory` if the alternate page cannot be allocated. The modes handled before
+/// the failing mode stay set or reset.
 pub fn perform<CB: Callbacks>(
     screen: &mut Screen,
     callbacks: &mut CB,
@@ -42,13 +42,13 @@ pub fn perform<CB: Callbacks>(
     Ok(())
 }
 
-/// Sets (if `on` is true) or resets the private mode that a parameter group
-/// names, or reports the group if it is not a single number.
+/// Sets (if `on` is true) or resets the private mode that a parameter group names, or reports the
+/// sequence if the group names no known mode.
 ///
 /// # Errors
 ///
-/// Returns `Error::OutOfMemory` if the alternate page cannot be allocated. On
-/// error, the screen is unchanged.
+/// Returns `Error::OutOfMemory` if the alternate page cannot be allocated. On error, the screen is
+/// unchanged.
 #[tactic(auto, using(crate::proofs::Stepping::called, crate::proofs::Remaining::groups_met))]
 fn perform_group<CB: Callbacks>(
     screen: &mut Screen,
@@ -67,13 +67,13 @@ fn perform_group<CB: Callbacks>(
     set_mode(screen, callbacks, on, sequence, group[0])
 }
 
-/// Sets (if `on` is true) or resets the private mode with the given number, or
-/// reports an unknown mode.
+/// Sets (if `on` is true) or resets the private mode with the given number, or reports the sequence
+/// if the mode is unknown.
 ///
 /// # Errors
 ///
-/// Returns `Error::OutOfMemory` if the alternate page cannot be allocated. On
-/// error, the screen is unchanged.
+/// Returns `Error::OutOfMemory` if the alternate page cannot be allocated. On error, the screen is
+/// unchanged.
 #[tactic(auto, using(crate::proofs::Stepping::pages_exchanged), unfolding(vt_screen::specs::Controls::mode_step))]
 fn set_mode<CB: Callbacks>(
     screen: &mut Screen,
@@ -93,8 +93,8 @@ fn set_mode<CB: Callbacks>(
     Ok(())
 }
 
-/// Sets (if `on` is true) or resets a private mode other than 47 and 1049,
-/// which switch pages. Reports an unknown mode.
+/// Sets (if `on` is true) or resets a private mode other than 47 and 1049, which switch pages.
+/// Reports the sequence if the mode is unknown.
 #[tactic(auto, using(crate::proofs::Stepping::tested_steps), unfolding(vt_screen::specs::Controls::mode_step))]
 fn set_other_mode<CB: Callbacks>(
     screen: &mut Screen,
@@ -164,8 +164,8 @@ fn show_fresh_alternate(screen: &mut Screen, on: bool) -> Result<(), Error>
     Ok(())
 }
 
-/// Returns the step that sets the mouse mode to `mode` if `on` is true, and
-/// otherwise turns mouse reporting off if `mode` is the active mode.
+/// Returns the step that sets (if `on` is true) or resets the mouse mode `mode`. Resetting `mode`
+/// turns mouse reporting off if `mode` is the active mode.
 fn mouse_step(on: bool, mode: MouseProtocolMode) -> ModeStep
     ensures { result ≡ mouse_step on mode }
 {
@@ -175,8 +175,8 @@ fn mouse_step(on: bool, mode: MouseProtocolMode) -> ModeStep
     ModeStep::ClearMouseMode(mode)
 }
 
-/// Returns the step that sets the mouse encoding to `encoding` if `on` is true,
-/// and otherwise restores the default encoding if `encoding` is the active one.
+/// Returns the step that sets (if `on` is true) or resets the mouse encoding `encoding`. Resetting
+/// `encoding` restores the default encoding if `encoding` is the active one.
 fn encoding_step(on: bool, encoding: MouseProtocolEncoding) -> ModeStep
     ensures { result ≡ encoding_step on encoding }
 {

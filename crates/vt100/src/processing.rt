@@ -157,12 +157,11 @@ fn end_sequence<CB: Callbacks>(
 }
 
 /// Parses and applies the complete multibyte character at the start of `bytes`, and returns its
-/// length in bytes. If there is none, does the same as [`process_rest`].
+/// length in bytes. If there is no such character, does the same as [`process_rest`].
 ///
 /// # Errors
 ///
-/// If an allocation fails, returns the number of bytes read before the byte
-/// that required it.
+/// If an allocation fails, returns the number of bytes read before the byte that required it.
 #[inline(always)]
 fn process_one<CB: Callbacks>(
     scanner: &mut Scanner,
@@ -263,14 +262,13 @@ fn print_some<CB: Callbacks>(
     Ok(count)
 }
 
-/// Parses and applies a run of wide characters or of narrow characters at the start of `bytes`. If
-/// there is none, does the same as [`process_one`]. The first byte must be at least 0x80. Returns
-/// the number of bytes read.
+/// Parses and applies a run of wide characters, or a run of narrow characters, at the start of
+/// `bytes`. If there is no such run, does the same as [`process_one`]. The first byte must be at
+/// least 0x80. Returns the number of bytes read.
 ///
 /// # Errors
 ///
-/// If an allocation fails, returns the number of bytes read before the byte
-/// that required it.
+/// If an allocation fails, returns the number of bytes read before the byte that required it.
 #[inline(always)]
 fn process_high<CB: Callbacks>(
     scanner: &mut Scanner,
@@ -293,7 +291,7 @@ fn process_high<CB: Callbacks>(
 
 /// Prints a run of three-byte wide characters, or a run of narrow characters below U+3000, from the
 /// start of `bytes`, stopping at the end of the cursor's row. Returns the number of bytes read,
-/// which is 0 if nothing was printed.
+/// which is 0 if nothing was printed. Never returns an error.
 #[inline(always)]
 fn print_run<CB: Callbacks>(
     scanner: &Scanner,
@@ -318,10 +316,9 @@ fn print_run<CB: Callbacks>(
 }
 
 /// Prints a run of three-byte wide characters from the start of `bytes`, for [`print_run`], which
-/// has examined only the first byte. Returns the number of bytes read.
+/// has examined only the first byte. Returns the number of bytes read. Never returns an error.
 ///
-/// It is never inlined, so that its buffer takes up stack space only when there
-/// are wide characters.
+/// This function is never inlined, so that its buffer takes up stack space only while it runs.
 #[inline(never)]
 fn print_wide_run<CB: Callbacks>(
     scanner: &Scanner,
@@ -337,7 +334,8 @@ fn print_wide_run<CB: Callbacks>(
 }
 
 /// Prints a run of three-byte wide characters from the start of `bytes`, at most as many as fit in
-/// the buffer `text` and on the cursor's row. Returns the number of bytes read.
+/// the buffer `text` and on the cursor's row. Returns the number of bytes read. Never returns an
+/// error.
 #[inline(always)]
 fn print_wide_some<CB: Callbacks>(
     scanner: &Scanner,
@@ -359,10 +357,10 @@ fn print_wide_some<CB: Callbacks>(
 }
 
 /// Prints a run of narrow characters below U+3000 from the start of `bytes`, for [`print_run`],
-/// which has examined only the first byte. Returns the number of bytes read.
+/// which has examined only the first byte. Returns the number of bytes read. Never returns an
+/// error.
 ///
-/// It is never inlined, so that its buffer takes up stack space only when there
-/// are such characters.
+/// This function is never inlined, so that its buffer takes up stack space only while it runs.
 #[inline(never)]
 fn print_narrow_run<CB: Callbacks>(
     scanner: &Scanner,
@@ -378,7 +376,8 @@ fn print_narrow_run<CB: Callbacks>(
 }
 
 /// Prints a run of narrow characters below U+3000 from the start of `bytes`, at most as many as fit
-/// in the buffer `text` and on the cursor's row. Returns the number of bytes read.
+/// in the buffer `text` and on the cursor's row. Returns the number of bytes read. Never returns an
+/// error.
 #[inline(always)]
 fn print_narrow_some<CB: Callbacks>(
     scanner: &Scanner,
@@ -394,9 +393,9 @@ fn print_narrow_some<CB: Callbacks>(
     print_narrow_fitting(scanner, screen, callbacks, bytes, &mut text[..most])
 }
 
-/// Prints a run of at most `text.len()` narrow characters below U+3000 from the start of `bytes`,
-/// using `text` as a buffer. The cursor's row must have room for that many. Returns the number of
-/// bytes read.
+/// Prints a run of narrow characters below U+3000 from the start of `bytes`, at most as many as fit
+/// in the buffer `text`. The cursor's row must have room for `text.len()` characters. Returns the
+/// number of bytes read. Never returns an error.
 #[inline(always)]
 fn print_narrow_fitting<CB: Callbacks>(
     scanner: &Scanner,
@@ -439,12 +438,12 @@ fn perform_each<CB: Callbacks>(
     Ok(())
 }
 
-/// Applies an event, if there is one.
+/// Applies `event`, or does nothing if it is `None`.
 ///
 /// # Errors
 ///
-/// Returns `Error::OutOfMemory` if an allocation fails. The steps before the
-/// failing one remain in effect.
+/// Returns `Error::OutOfMemory` if an allocation fails. The steps before the failing one remain in
+/// effect.
 #[inline(always)]
 fn perform_some<CB: Callbacks>(
     scanner: &Scanner,

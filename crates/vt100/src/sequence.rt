@@ -5,8 +5,7 @@ ghost use Rattle.vt100.specs.Internals.{report_of};
 use vt_scan::Parameters;
 use vt_screen::{Callbacks, Screen};
 
-/// A control sequence: the first two of its private marker and intermediate
-/// bytes, its parameter groups and its final byte.
+/// A control sequence. Only the first two of its private marker and intermediate bytes are stored.
 #[derive(Clone, Copy)]
 pub struct Sequence<'a> {
     /// The private marker or the first intermediate byte, if there is one.

@@ -11,7 +11,7 @@ use vt_screen::screen::controls;
 use vt_screen::sgr::{Reading, Wanted};
 use vt_screen::{Callbacks, Screen};
 
-/// Applies the settings of an SGR sequence, group by group, and reports each
+/// Applies the settings of an SGR sequence, group by group, and reports the sequence once for each
 /// unknown group.
 #[inline(never)]
 pub fn perform<CB: Callbacks>(screen: &mut Screen, callbacks: &mut CB, parameters: &Parameters)

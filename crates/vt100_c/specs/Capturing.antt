@@ -34,14 +34,14 @@ OnCapture None state Holds = ⊥
 OnCapture (Some value) None Holds = ⊥
 OnCapture (Some value) (Some state) Holds = Holds value state
 
--- ---- two handles; `of` selects the value in the first
+-- ---- two handles; the function `of` selects the value in the first handle
 
 abbrev pub due_at_capture : {A : Type 0} → (Source → Option A) → (A → ℕ) → Option Object → Option Object → ℕ
 due_at_capture of due None capture = no_object
 due_at_capture of due (Some object) None = no_object
 due_at_capture of due (Some object) (Some capture) = due_behind due (of object.source) (state_in capture.source)
 
--- The status of a call on a handle and a capture that was taken out of its own handle. If the first handle is then
+-- The status of a call on a handle and a capture that was taken out of a second handle. If the first handle is then
 -- empty, the caller passed the same handle twice, and the status is `bad_argument`.
 abbrev pub due_beside_capture : {A : Type 0} → (Source → Option A) → (A → ℕ) → Option Object → Object → ℕ
 due_beside_capture of due None capture = bad_argument

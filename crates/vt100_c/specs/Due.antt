@@ -1,5 +1,5 @@
--- The status that a call returns, depending on what its handles hold; it is `ok` if the call can fail only by running
--- out of memory. Also, statements about the screens of handles.
+-- The status that a call returns, depending on what its handles hold, and statements about the screens of handles. The
+-- status is `ok` if the call can fail only by running out of memory.
 use Rattle.std.specs.Prelude.{◌≡◌, ◌⊎◌, ◌==◌, ◌&&◌, ℕ, nat_lt, nat_le, length, List, []}
 use Rattle.std.specs.Prelude.{Bool, Option, Some, None, Result, Ok, Err, IfErr, OnErr, if◌then◌else◌, string_bytes}
 use Rattle.vt_grid.specs.Page.{Page}
@@ -113,13 +113,13 @@ HoldBoth (Some object) (Some prev) Holds = OnBoth (screen_in object.source) (scr
 abbrev pub IsAnswer : (due status : ℕ) → Type 0
 IsAnswer due status = (status ≡ due) ⊎ ((due ≡ ok) × (status ≡ out_of_memory))
 
--- The status that a result stands for: `ok` for a value, and the error itself for an error.
+-- The status of a result: `ok` for a value, and the error itself for an error.
 abbrev pub status_in : {A : Type 0} → Result A ℕ → ℕ
 status_in (Ok value) = ok
 status_in (Err status) = status
 
--- The result has the status `due` or reports a failed allocation. An error is never `ok`, and if the result is an
--- error, `Stays` holds.
+-- The result has the status `due`; if `due` is `ok`, it may also report a failed allocation. An error is never `ok`,
+-- and if the result is an error, `Stays` holds.
 pub record AnswersOrStays {A : Type 0} (due : ℕ) (result : Result A ℕ) (Stays : Type 0) : Type 0 where
   pub answer : IsAnswer due (status_in result)
   pub refused : IfErr result (λ status. ¬ (status ≡ ok))

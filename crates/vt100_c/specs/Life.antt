@@ -14,7 +14,8 @@ use Rattle.vt_scan.specs.Scanner.{StandsFor}
 use Rattle.vt_screen.specs.Screen.{ScreenValue, fresh_screen}
 use Rattle.vt_screen.specs.Shown.{display}
 
--- The value is a parser that has read nothing, with a blank screen and an empty log.
+-- The value is a new parser with a blank screen of the given size and scrollback capacity, and an empty log of the
+-- requested kinds of calls.
 abbrev pub IsNewParser : (rows cols capacity wanted : ℕ) → Source → Type 0
 IsNewParser rows cols capacity wanted (Parser parser) =
     StandsFor parser.scanner start
@@ -38,13 +39,14 @@ saved_from (Screen screen) = Some (Screen screen)
 saved_from (Mirror mirror) = None
 saved_from (Capture written) = Some (Capture written)
 
--- The copy of an object is stored in an empty handle; if the object cannot be copied, the status is `wrong_kind`.
+-- The effect of copying an object into an empty handle: the handle holds the copy or, if the object cannot be copied,
+-- stays empty, and the status is `wrong_kind`.
 abbrev pub SavesAs : Option Source → ℕ → Option Object → Type 0
 SavesAs None status new = (status ≡ wrong_kind) × (new ≡ None)
 SavesAs (Some copy) status new = Fills (λ source. source ≡ copy) status new
 
--- If the second handle is empty, a copy of what the first handle holds is stored in it; otherwise the second handle is
--- unchanged.
+-- A copy of what the first handle holds is stored in the second handle. If the first handle is empty or the second
+-- handle already holds an object, the second handle is unchanged.
 abbrev pub Saves : Option Object → (old : Option Object) → ℕ → (new : Option Object) → Type 0
 Saves None old status new = (status ≡ no_object) × (new ≡ old)
 Saves (Some object) (Some old) status new = (status ≡ in_use) × (new ≡ Some old)
@@ -80,7 +82,7 @@ abbrev pub refusal_on : Option ScreenValue → ℕ
 refusal_on None = wrong_kind
 refusal_on (Some screen) = out_of_memory
 
--- The value after its screen, if any, is replaced with the given screen, if any.
+-- The value with its screen replaced by the given one if both screens exist; otherwise, the unchanged value.
 abbrev pub with_other : Option ScreenValue → Source → Source
 with_other other (Parser parser) = Parser (record parser { screen = unwrap_or other parser.screen })
 with_other other (Screen screen) = Screen (unwrap_or other screen)
@@ -93,8 +95,7 @@ swap_status (Some own) (Some other) = ok
 swap_status (Some own) None = wrong_kind
 swap_status None other = wrong_kind
 
--- The object after the screen that it contains, if any, is replaced with the given screen, if any. The object's text is
--- unchanged.
+-- The object with its screen replaced by the given one, if both screens exist. The object's text is unchanged.
 abbrev pub held_with_other : Option ScreenValue → Object → Object
 held_with_other other object = record object { source = with_other other object.source }
 

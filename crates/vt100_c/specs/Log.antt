@@ -1,4 +1,4 @@
--- The log of a handle; only a parser has one.
+-- The log of the parser that a handle holds; other kinds of values have no log.
 use Rattle.std.specs.Prelude.{◌≡◌, ℕ, List, [], Option, Some, None}
 use Rattle.vt100_c.specs.Records.{Logged, bit_of, log_after_clear, nothing_logged}
 use Rattle.vt100_c.specs.Status.{ok, no_object, wrong_kind}

@@ -17,8 +17,8 @@ abbrev pub GivesNumber : Result ℕ Error → (status before after : ℕ) → Ty
 GivesNumber (Ok number) status before after = (status ≡ ok) × (after ≡ number)
 GivesNumber (Err error) status before after = (status ≡ status_of error) × (after ≡ before)
 
--- A viewer joins the mirror, and the viewer's number is stored in the caller's variable. The same viewers as before are
--- up to date.
+-- The effect of joining a mirror: the new viewer's number is stored in the caller's variable, which is unchanged if the
+-- call fails. The same viewers as before are up to date.
 pub record Joins (status before after : ℕ) (old new : MirrorValue) : Type 0 where
   pub answer : Result ℕ Error
   pub parser : new.parser ≡ old.parser

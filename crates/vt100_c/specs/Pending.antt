@@ -21,7 +21,8 @@ abbrev pub due_to : Option (ParserValue Logged) → ℕ
 due_to None = wrong_kind
 due_to (Some parser) = ok
 
--- The status of a call that requires a parser in the given handle, which may be empty.
+-- The status of a call that requires a parser in the given handle: `no_object` if the handle is empty, `wrong_kind` if
+-- it holds no parser, and otherwise `ok`.
 abbrev pub due_to_parser : Option Object → ℕ
 due_to_parser None = no_object
 due_to_parser (Some object) = due_to (parser_in object.source)

@@ -51,12 +51,12 @@ Reads bytes old status new = ⊥
 abbrev pub batch : ℕ
 batch = 65536
 
--- Whether records that take `bytes` bytes in total are exactly the records of `rows` rows without text.
+-- Whether `bytes` is the total size of the records of `rows` rows without text.
 abbrev pub are_bare_rows : (bytes rows : ℕ) → Bool
 are_bare_rows bytes rows = (bytes / 17 == rows) && (bytes % 17 == 0)
 
--- Whether reading continues: since the given mark, the log has recorded only rows without text, these rows take less
--- than a batch, and the log has neither reached its limit nor lost a record.
+-- Whether reading continues: since the given mark, the log has recorded only rows without text, these rows take fewer
+-- than `batch` bytes, and the log has neither reached its limit nor lost a record.
 abbrev pub is_quiet : Mark → Logged → Bool
 is_quiet mark log =
     are_bare_rows (length log.records - mark.len) (length log.rows - mark.rows)
@@ -123,8 +123,9 @@ pub record StopsUnread (mark : Mark) (old : ParserValue Logged) (bytes : List �
 
 -- ---- reading unit by unit
 
--- On success, the first `count` bytes are read, and if an event was recorded, only the last of these bytes produces
--- events. On failure, the byte at index `count` is not read, and the bytes before it produce no events.
+-- The effect of reading one unit, as `Parser::process_unit` does. On success, the first `count` bytes are read, and if
+-- an event was recorded, only the last of these bytes produces events. On failure, the byte at index `count` is not
+-- read, and the bytes before it produce no events.
 pub record ReadsUnit (old : ParserValue Logged) (bytes : List ℕ) (count status : ℕ) (new : ParserValue Logged) : Type 0 where
   pub nonempty : status ≡ ok → 0 < count
   pub inside : count ≤ length bytes

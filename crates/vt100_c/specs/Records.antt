@@ -1,4 +1,4 @@
--- The binary record of a callback's call, as C reads it: the kind in one byte, two numbers of four bytes each, the
+-- The binary record of a call to a callback, as C reads it: the kind in one byte, two numbers of four bytes each, the
 -- length of the text in eight bytes, and the text. All numbers are little-endian.
 use Rattle.std.specs.Prelude.{◌≡◌, ◌⊎◌, ◌==◌, ◌&&◌, ◌<◌, ◌-◌, ◌*◌, ◌/◌, ◌%◌, ◌^◌, ℕ, Bool, true, false}
 use Rattle.std.specs.Prelude.{List, [], ◌∷◌, ◌++◌, length, min, Option, Some, None}

@@ -80,8 +80,9 @@ pub record MakesRows (texts : ScreenValue → List (List ℕ)) (old : Option Obj
   pub made : status ≡ ok → HoldsScreen old (λ screen. GivesRows screen (texts screen) (text_at new) before after)
   pub refused : ¬ (status ≡ ok) → after ≡ before
 
--- For each row, output is generated that turns this row of the screen of `prev` into the same row of the screen of
--- `old`; the end positions of these outputs are stored.
+-- For each row, the call generates the output that turns this row of the screen of `prev` into the same row of the
+-- screen of `old`, and stores the end positions of these outputs. If the call fails, the stored end positions are
+-- unchanged.
 pub record ChangesRows (start width : ℕ) (old prev : Option Object) (status : ℕ) (new : Option Object)
     (before after : List ℕ) : Type 0 where
   pub source : source_at new ≡ source_at old

@@ -56,7 +56,7 @@ cell_for_c cell = record {
 abbrev pub shown_cell : (row col : ℕ) → ScreenValue → CellValue
 shown_cell row col screen = at (visible_row screen row).cells col
 
--- The cell at an index of a list of cells for C, or a default blank if the index is past the end.
+-- The cell at the given index of a list of `VtCell`s, or a default blank if the index is past the end.
 abbrev pub cell_in : List VtCell → ℕ → VtCell
 cell_in cells k = slice_index_or cells k (cell_for_c default_blank)
 

@@ -20,14 +20,14 @@ mirror_in (Screen screen) = None
 mirror_in (Mirror mirror) = Some mirror
 mirror_in (Capture written) = None
 
--- The number that stands for a value's kind in the C interface.
+-- The number that represents a value's kind in the C interface.
 abbrev pub kind_of : Source → ℕ
 kind_of (Parser parser) = 1
 kind_of (Screen screen) = 2
 kind_of (Mirror mirror) = 3
 kind_of (Capture written) = 4
 
--- The number that stands for the kind of a handle's value in the C interface; 0 if the handle is empty.
+-- The number that represents the kind of a handle's value in the C interface; 0 if the handle is empty.
 abbrev pub kind_held : Option Object → ℕ
 kind_held None = 0
 kind_held (Some object) = kind_of object.source

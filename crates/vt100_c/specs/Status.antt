@@ -30,7 +30,7 @@ in_use = 7
 abbrev pub no_number : ℕ
 no_number = 8
 
--- The status that is returned for an error.
+-- The status that a call returns for an error.
 abbrev pub status_of : Error → ℕ
 status_of OutOfMemory = 1
 status_of Failed = 2

@@ -44,7 +44,7 @@ due_for _ screen = any_screen screen
 
 -- ---- two screens
 
--- The text is a diff that may move rows or columns first and is never longer than the diff that moves nothing. It
+-- The text is a diff that may move rows or columns and is never longer than the diff that moves no rows or columns. It
 -- contains only drawing sequences and leaves every plain terminal plain.
 pub record IsScrollingDiff (screen prev : ScreenValue) (text : List ℕ) : Type 0 where
   pub draws : IsShortMoving (display screen) (display prev) text
@@ -52,12 +52,12 @@ pub record IsScrollingDiff (screen prev : ScreenValue) (text : List ℕ) : Type 
   pub again : KeepsPlain text
   pub shorter : length text ≤ length (bytes_of_all (difference (display screen) (display prev)))
 
--- The options that the bits of a number select: bit 0 allows moving rows or columns first, and bit 1 allows REP.
+-- The options that the bits of a number select: bit 0 allows moving rows or columns, and bit 1 allows REP.
 abbrev pub options_of : ℕ → DiffOptions
 options_of bits = record { scroll = bits % 2 == 1; repeat = bits / 2 % 2 == 1 }
 
--- The text is a diff with the given options and is never longer than the diff that moves nothing. It repeats characters
--- only within rows and leaves every plain terminal plain.
+-- The text is a diff with the given options and is never longer than the diff that moves no rows or columns. It repeats
+-- characters only within rows and leaves every plain terminal plain.
 pub record IsDiffWithOptions (options : DiffOptions) (screen prev : ScreenValue) (text : List ℕ) : Type 0 where
   pub draws : IsDiffWith options prev screen text
   pub rows : RepeatsOnlyInRows prev screen text

@@ -17,7 +17,7 @@ use Rattle.vt100_c.specs.declared.object.Object.{Object}
 use Rattle.vt100_c.specs.declared.object.Source.{Source}
 use Rattle.vt100_c.specs.declared.object.Source.TheVariants.{Parser, Screen, Mirror, Capture}
 
--- The value is a mirror that has read nothing, with a blank screen and no viewers.
+-- The value is a new mirror with a blank screen of the given size and scrollback capacity, and no viewers.
 abbrev pub IsNewMirror : (rows cols capacity : ℕ) → Source → Type 0
 IsNewMirror rows cols capacity (Mirror mirror) =
     StandsFor mirror.parser.scanner start
@@ -67,7 +67,7 @@ abbrev pub UpdatesObject : Kind → (viewer : ℕ) → (before after : UpdateNum
 UpdatesObject kind viewer before after old status new =
     UpdatesSource kind viewer before after (string_bytes old.text) (string_bytes new.text) old.source status new.source
 
--- ---- Whether a viewer is up to date
+-- ---- whether a viewer is up to date
 
 -- The status of a call that requires a mirror: `ok` if there is a mirror, otherwise `wrong_kind`.
 abbrev pub due_to : Option MirrorValue → ℕ
@@ -87,8 +87,8 @@ abbrev pub HoldsMirror : Option Object → (MirrorValue → Type 0) → Type 0
 HoldsMirror None Holds = ⊥
 HoldsMirror (Some object) Holds = OnMirror (mirror_in object.source) Holds
 
--- The number is 1 if the viewer is up to date, and otherwise 0. If the number is 1, the screen recorded for the viewer
--- is the mirror's screen.
+-- `out` is 1 if the viewer is up to date, and 0 otherwise. If `out` is 1, the screen recorded for the viewer is the
+-- mirror's screen.
 pub record TellsCurrent (viewer out : ℕ) (mirror : MirrorValue) : Type 0 where
   pub exact : out ≡ bit 1 (is_current mirror viewer)
   pub noted : out ≡ 1 → note_of mirror.viewers viewer ≡ Some mirror.parser.screen

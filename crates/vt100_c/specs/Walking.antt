@@ -1,15 +1,15 @@
--- Sequences of calls that read a capture from beginning to end, each from where the previous one ended.
+-- Sequences of calls that read a capture from beginning to end, each call starting where the previous one ended.
 use Rattle.std.specs.Prelude.{◌≡◌, ◌≢◌, ◌<◌, ◌+◌, ℕ, List, [], ◌∷◌, drop, length, map}
 use Rattle.vt_rows.specs.CaptureRows.{AreRowsOf}
 use Rattle.vt_rows.specs.Pieces.{ArePiecesOf, Piece, piece_end}
 use Rattle.vt100_c.specs.Captures.{IsFirstPiece, IsFirstRow, IsPlace, no_place}
 
--- The start and end positions, in the whole text, of a slice whose index is relative to the given byte index.
+-- The start and end positions, in the whole text, of a piece whose index is relative to the given byte index.
 abbrev pub place_from : ℕ → Piece → ℕ × ℕ
 place_from at piece = (at + piece.0, at + piece_end piece)
 
 -- The positions that `vt100_next_plain` stores: the first piece found at or after byte `at` begins at `start` and ends
--- at `end`.
+-- at `end`; both are the text's length if there is no piece.
 abbrev pub FindsPlain : List ℕ → (at start end : ℕ) → Type 0
 FindsPlain text at start end =
     (pieces : List Piece) × ArePiecesOf (drop at text) pieces × IsFirstPiece (length text) at pieces start end
@@ -22,7 +22,7 @@ FindAllPlain text at (place ∷ places) =
     (place.0 < length text) × FindsPlain text at place.0 place.1 × FindAllPlain text place.1 places
 
 -- The positions that `vt100_next_row` stores: the row at byte `at` ends at `end`, and the row after it begins at
--- `next`.
+-- `next`, which is `no_place` if there is no such row.
 abbrev pub FindsRow : List ℕ → (width at end next : ℕ) → Type 0
 FindsRow text width at end next =
     (rows : List Piece) × AreRowsOf width (drop at text) rows × IsFirstRow at rows end next

@@ -1,4 +1,4 @@
-//! Reading captures: the chunks outside SGR sequences, and the rows.
+//! Functions that find the rows of a capture, and its chunks of text outside SGR sequences.
 
 ghost use Rattle.std.specs.Prelude.{◌≡◌, ◌+◌, ◌<◌, ◌≤◌, ◌↔◌, List, IfSome, IsSome, drop, length};
 ghost use Rattle.vt_rows.specs.CaptureRows.{AreRowsOf};
@@ -10,7 +10,7 @@ use crate::status::{BAD_ARGUMENT, OK};
 use std::str;
 use vt100::capture::{basic_formatted_rows, basic_formatted_to_plain_indexed};
 
-/// The index that is stored if there is no next row.
+/// The index of the next row if there is no next row: no capture has this index.
 const NO_PLACE: usize = usize::MAX;
 
 /// Finds the first chunk of text outside SGR sequences in a capture, searching
@@ -85,9 +85,9 @@ fn text_from(text: &[u8], at: usize) -> Option<&str>
     }
 }
 
-/// Returns the start and the end of the first chunk of `text` outside SGR
-/// sequences, as indices into the capture. `text` is the part of the capture
-/// from byte `at` on. If there is no such chunk, both indices are `stop`.
+/// Returns the start and the end of the first chunk of `text` outside SGR sequences, as indices
+/// into the capture. `text` is the part of the capture from byte `at` on, and `stop` is the length
+/// of the capture. If there is no such chunk, both indices are `stop`.
 fn next_plain(text: &str, at: usize, stop: usize) -> (usize, usize)
     requires { at + length text.now ≤ stop }
     ensures { (pieces : List Piece) × ArePiecesOf text.now pieces

@@ -1,5 +1,5 @@
-//! Writing captures: the text of rows, with SGR sequences as the only escape
-//! sequences.
+//! Functions that write captures, which contain the text of rows with SGR sequences as the only
+//! escape sequences.
 
 ghost use Rattle.std.specs.Prelude.{◌≡◌, IfErr, IfOk, OnErr, OnOk, Some, string_bytes};
 ghost use Rattle.std.specs.List.{slice_get};
@@ -79,7 +79,8 @@ pub extern "C" fn vt100_capture_screen(
     status
 }
 
-/// Appends all rows of the screen in `handle` to the capture `object`.
+/// Appends all rows of the screen in `handle` to the capture `object`. Stores the new text in the
+/// object and its length in `len`.
 ///
 /// While a capture is being written to, its handle is empty. So if `handle` is empty, the caller
 /// passed the same handle twice, and the function returns `BAD_ARGUMENT`.
@@ -100,8 +101,9 @@ fn screen_beside(alloc: Global, object: &mut Object, handle: &mut Handle, len: &
     status
 }
 
-/// Appends all rows of the screen of `from` to the capture `object`. Returns
-/// `WRONG_KIND` if `from` has no screen or `object` is not a capture.
+/// Appends all rows of the screen of `from` to the capture `object`. Stores the new text in the
+/// object and its length in `len`. Returns `WRONG_KIND` if `from` has no screen or `object` is not
+/// a capture, or `OUT_OF_MEMORY` if the text cannot be allocated.
 fn write_screen(alloc: Global, object: &mut Object, from: &Source, len: &mut usize) -> u8
     ensures answer { IsAnswer
         (due_behind any_screen_is_due (screen_in from.now) (state_in object.old.source)) result }
@@ -118,8 +120,9 @@ fn write_screen(alloc: Global, object: &mut Object, from: &Source, len: &mut usi
     keep(&mut object.text, made, len)
 }
 
-/// Returns the text to append to `capture` for all rows of a screen, or
-/// `WRONG_KIND` if `capture` is not a capture.
+/// Returns the text to append to `capture` for all rows of a screen, and updates the state of the
+/// capture. Returns `WRONG_KIND` if `capture` is not a capture, or `OUT_OF_MEMORY` if the text
+/// cannot be allocated.
 fn screen_text(alloc: Global, screen: &Screen, capture: &mut Source) -> Result<String, u8>
     ensures text { IfOk result (λ text. OnCapture (Some screen.now) (state_in capture.old)
         (λ screen state. string_bytes text ≡ basic_texts state (all_rows screen))) }
@@ -200,7 +203,8 @@ pub extern "C" fn vt100_capture_row(
     status
 }
 
-/// Appends row `index` of the log in the handle `parser` to the capture `object`.
+/// Appends the reported row at `index` from the log in the handle `parser` to the capture `object`.
+/// Stores the new text in the object and its length in `len`.
 ///
 /// While a capture is being written to, its handle is empty. So if `parser` is empty, the caller
 /// passed the same handle twice, and the function returns `BAD_ARGUMENT`.
@@ -225,9 +229,10 @@ fn row_beside(
     status
 }
 
-/// Appends row `index` of the log of `from` to the capture `object`. Returns
-/// `WRONG_KIND` if `from` has no log or `object` is not a capture, and
-/// `BAD_ARGUMENT` if there is no such row.
+/// Appends the reported row at `index` from the log of `from` to the capture `object`. Stores the
+/// new text in the object and its length in `len`. Returns `WRONG_KIND` if `from` has no log or
+/// `object` is not a capture, `BAD_ARGUMENT` if there is no such row, or `OUT_OF_MEMORY` if the
+/// text cannot be allocated.
 fn write_row(alloc: Global, object: &mut Object, from: &Source, index: usize, len: &mut usize) -> u8
     ensures answer { IsAnswer
         (due_behind (has_reported index) (log_in from.now) (state_in object.old.source)) result }
@@ -242,9 +247,9 @@ fn write_row(alloc: Global, object: &mut Object, from: &Source, index: usize, le
     keep(&mut object.text, made, len)
 }
 
-/// Returns the text to append to `capture` for the reported row with index
-/// `index`. Returns `WRONG_KIND` if `capture` is not a capture, and
-/// `BAD_ARGUMENT` if there is no such row.
+/// Returns the text to append to `capture` for the reported row at `index`, and updates the state
+/// of the capture. Returns `WRONG_KIND` if `capture` is not a capture, `BAD_ARGUMENT` if there is
+/// no such row, or `OUT_OF_MEMORY` if the text cannot be allocated.
 fn reported_text(
     alloc: Global,
     log: &Events,
@@ -266,9 +271,9 @@ fn reported_text(
     }
 }
 
-/// Returns the text to append to a capture in state `state` for the reported
-/// row with index `index`, and updates the state. Returns `BAD_ARGUMENT` if
-/// there is no such row.
+/// Returns the text to append to a capture in state `state` for the reported row at `index`, and
+/// updates the state. Returns `BAD_ARGUMENT` if there is no such row, or `OUT_OF_MEMORY` if the
+/// text cannot be allocated.
 fn event_text(
     alloc: Global,
     log: &Events,

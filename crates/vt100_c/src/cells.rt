@@ -10,9 +10,9 @@ pub struct VtColor {
     pub kind: u8,
     /// The palette index or the red component; 0 for the default color.
     pub red: u8,
-    /// The green component; 0 unless the kind is 2.
+    /// The green component of an RGB color; 0 unless `kind` is 2 (RGB).
     pub green: u8,
-    /// The blue component; 0 unless the kind is 2.
+    /// The blue component of an RGB color; 0 unless `kind` is 2 (RGB).
     pub blue: u8,
 }
 

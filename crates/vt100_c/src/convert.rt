@@ -94,7 +94,7 @@ fn style_flags(screen: &Screen) -> u8
         + bit(16, screen.inverse())
 }
 
-/// Returns the number of a mouse mode.
+/// Returns the number of a mouse mode in the C interface, from 0 to 4.
 fn mouse_mode_number(mode: MouseProtocolMode) -> u8
     ensures { result ≡ mouse_mode_number mode }
 {
@@ -107,7 +107,7 @@ fn mouse_mode_number(mode: MouseProtocolMode) -> u8
     }
 }
 
-/// Returns the number of a mouse encoding.
+/// Returns the number of a mouse encoding in the C interface, from 0 to 2.
 fn mouse_encoding_number(encoding: MouseProtocolEncoding) -> u8
     ensures { result ≡ mouse_encoding_number encoding }
 {
@@ -118,7 +118,7 @@ fn mouse_encoding_number(encoding: MouseProtocolEncoding) -> u8
     }
 }
 
-/// Returns the number of a cursor style.
+/// Returns the number of a cursor style in the C interface, from 0 to 6.
 fn cursor_style_number(style: CursorStyle) -> u8
     ensures { result ≡ cursor_style_number style }
 {

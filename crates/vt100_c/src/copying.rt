@@ -6,8 +6,8 @@ ghost use Rattle.vt100_c.specs.Due.{text_at};
 use crate::handle::Handle;
 use std::alloc::Global;
 
-/// Copies as much of the text last stored in a handle as fits into `out`, and
-/// returns the number of bytes copied. The rest of `out` is unchanged.
+/// Copies as much of the text last stored in a handle as fits into `out`, and returns the number of
+/// bytes copied, which is 0 if the handle is empty. The rest of `out` is unchanged.
 #[unsafe(no_mangle)]
 pub extern "C" fn vt100_copy(alloc: Global, handle: &mut Handle, out: &mut [u8]) -> usize
     ensures same { handle.new.held ≡ handle.old.held }

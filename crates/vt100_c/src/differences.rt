@@ -39,17 +39,15 @@ pub extern "C" fn vt100_contents_diff(
     make(alloc, handle, prev, Difference::Contents, len)
 }
 
-/// Generates the escape sequences that turn the display of `prev` into that of
-/// `handle`'s screen, moving rows first if they have scrolled
-/// ([`vt100::Screen::contents_diff_scrolling`]). Stores them in `handle` and
-/// their length in `len`.
+/// Generates the escape sequences that turn the display of `prev` into that of `handle`'s screen.
+/// The output may begin by moving rows or columns ([`vt100::Screen::contents_diff_scrolling`]).
+/// Stores the output in `handle` and its length in `len`.
 ///
 /// # Errors
 ///
-/// Returns `NO_OBJECT` if a handle is empty, `WRONG_KIND` if a handle holds
-/// neither a parser nor a saved screen, `OTHER_SIZE` if the two screens differ
-/// in size, `BAD_ARGUMENT` if the same handle is passed twice, or
-/// `OUT_OF_MEMORY` if the output cannot be allocated. On error, nothing is
+/// Returns `NO_OBJECT` if a handle is empty, `WRONG_KIND` if a handle holds neither a parser nor a
+/// saved screen, `OTHER_SIZE` if the two screens differ in size, `BAD_ARGUMENT` if the same handle
+/// is passed twice, or `OUT_OF_MEMORY` if the output cannot be allocated. On error, nothing is
 /// changed.
 #[unsafe(no_mangle)]
 pub extern "C" fn vt100_contents_diff_scrolling(
@@ -65,18 +63,16 @@ pub extern "C" fn vt100_contents_diff_scrolling(
     make(alloc, handle, prev, Difference::Scrolling, len)
 }
 
-/// Generates the escape sequences that turn the display of `prev` into that of
-/// `handle`'s screen, with options ([`vt100::Screen::contents_diff_with`]).
-/// Bit 0 of `options` allows moving rows or columns first, and bit 1 allows
-/// REP; the other bits are ignored. Stores the output in `handle` and its
-/// length in `len`.
+/// Generates the escape sequences that turn the display of `prev` into that of `handle`'s screen,
+/// with options ([`vt100::Screen::contents_diff_with`]). Bit 0 of `options` allows the output to
+/// begin by moving rows or columns, and bit 1 allows REP; the other bits are ignored. Stores the
+/// output in `handle` and its length in `len`.
 ///
 /// # Errors
 ///
-/// Returns `NO_OBJECT` if a handle is empty, `WRONG_KIND` if a handle holds
-/// neither a parser nor a saved screen, `OTHER_SIZE` if the two screens differ
-/// in size, `BAD_ARGUMENT` if the same handle is passed twice, or
-/// `OUT_OF_MEMORY` if the output cannot be allocated. On error, nothing is
+/// Returns `NO_OBJECT` if a handle is empty, `WRONG_KIND` if a handle holds neither a parser nor a
+/// saved screen, `OTHER_SIZE` if the two screens differ in size, `BAD_ARGUMENT` if the same handle
+/// is passed twice, or `OUT_OF_MEMORY` if the output cannot be allocated. On error, nothing is
 /// changed.
 #[unsafe(no_mangle)]
 pub extern "C" fn vt100_contents_diff_with(
@@ -165,7 +161,8 @@ fn make(
     status
 }
 
-/// Generates a diff of the given kind from the screen in `prev` to the screen of `object`.
+/// Generates a diff of the given kind from the screen in `prev` to the screen of `object`. Stores
+/// it in the object and its length in `len`.
 ///
 /// While output is being stored in an object, its handle is empty. So if `prev` is empty, the
 /// caller passed the same handle twice, and the function returns `BAD_ARGUMENT`.

@@ -196,9 +196,8 @@ fn shown_cell(screen: &Screen, row: u16, col: u16) -> VtCell
     }
 }
 
-/// Stores whether a displayed row of a source's screen is wrapped, as 1 or 0.
-/// Returns `WRONG_KIND` if the source has no screen, and `BAD_ARGUMENT` if
-/// there is no such row.
+/// Stores 1 in `out` if a displayed row of a source's screen is wrapped, otherwise 0. Returns
+/// `WRONG_KIND` if the source has no screen, and `BAD_ARGUMENT` if there is no such row.
 fn write_wrapped(source: &Source, row: u16, out: &mut u8) -> u8
     ensures status { result ≡ due_on (has_row row) (screen_in source.now) }
     ensures wrapped { result ≡ ok → OnScreen (screen_in source.now)
@@ -211,8 +210,8 @@ fn write_wrapped(source: &Source, row: u16, out: &mut u8) -> u8
     }
 }
 
-/// Stores whether a displayed row of a screen is wrapped, as 1 or 0. Returns
-/// `BAD_ARGUMENT` if there is no such row.
+/// Stores 1 in `out` if a displayed row of a screen is wrapped, otherwise 0. Returns `BAD_ARGUMENT`
+/// if there is no such row.
 fn write_goes_on(screen: &Screen, row: u16, out: &mut u8) -> u8
     ensures status { result ≡ has_row row screen.now }
     ensures wrapped { result ≡ ok → out.new ≡ bit 1 (visible_row screen.now row).wrapped }

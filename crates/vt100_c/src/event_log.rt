@@ -1,4 +1,4 @@
-//! The log that records a terminal's callbacks until C reads them.
+//! The log that records the calls to a terminal's callbacks until C code reads the records.
 
 ghost use Rattle.std.specs.Prelude.{◌≡◌, ◌&&◌, ◌<◌, OnErr, OnOk, length};
 ghost use Rattle.std.specs.List.{slice_get};
@@ -13,7 +13,7 @@ use vt_rows::Row;
 use vt100::capture::RowContents;
 use vt100::{Call, Callbacks, Screen};
 
-/// The size limit of a new log, in bytes, after which records are lost: 1 MiB.
+/// The default size limit of a log, in bytes (1 MiB). Records that would exceed the limit are lost.
 pub(crate) const DEFAULT_LIMIT: usize = 1_048_576;
 
 /// A log of callback invocations. It contains, in order, a record of each wanted call made since the
@@ -62,8 +62,8 @@ impl Model for Events {
 }
 
 impl Events {
-    /// Creates an empty log with a size limit of `limit` bytes. Bit `k` of
-    /// `wanted` is set if calls of kind `k` are recorded.
+    /// Creates an empty log with a size limit of `limit` bytes. Calls of kind `k` are recorded if
+    /// bit `k` of `wanted` is set, and rows are recorded without their text if bit 13 is set.
     pub(crate) fn new(alloc: Global, wanted: u16, limit: usize) -> Events
         ensures { result ≡ nothing_logged wanted limit }
     {

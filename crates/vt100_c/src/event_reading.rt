@@ -46,8 +46,8 @@ pub extern "C" fn vt100_events(
     status
 }
 
-/// Copies as many bytes of a parser's event records as fit into `out`, and
-/// returns the number of bytes copied. The rest of `out` and the log are
+/// Copies as many bytes of a parser's event records as fit into `out`, and returns the number of
+/// bytes copied, which is 0 if the handle holds no parser. The rest of `out` and the log are
 /// unchanged.
 #[unsafe(no_mangle)]
 pub extern "C" fn vt100_copy_events(alloc: Global, handle: &mut Handle, out: &mut [u8]) -> usize

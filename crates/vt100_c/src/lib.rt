@@ -1,5 +1,5 @@
-//! The C interface of the terminal: functions that take handles, each the size
-//! of a pointer, and return a status code.
+//! The C interface of the terminal. Most of its functions take pointer-sized handles and return a
+//! status code.
 #![tactic(auto)]
 
 mod capture_reading;

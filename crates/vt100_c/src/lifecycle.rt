@@ -18,14 +18,13 @@ use std::mem;
 use std::num::NonZeroU16;
 use vt100::{Parser, Screen};
 
-/// Creates a parser with a fresh screen in the empty handle `out`. Bit `k` of
-/// `wanted` is set if events of kind `k` are recorded.
+/// Creates a parser with a fresh screen in the empty handle `out`. Events of kind `k` are recorded
+/// if bit `k` of `wanted` is set, and rows are recorded without their text if bit 13 is set.
 ///
 /// # Errors
 ///
-/// Returns `IN_USE` if `out` is not empty, `BAD_ARGUMENT` if `rows` or `cols`
-/// is 0, or `OUT_OF_MEMORY` if an allocation fails. On error, nothing is
-/// changed.
+/// Returns `IN_USE` if `out` is not empty, `BAD_ARGUMENT` if `rows` or `cols` is 0, or
+/// `OUT_OF_MEMORY` if an allocation fails. On error, nothing is changed.
 #[unsafe(no_mangle)]
 pub extern "C" fn vt100_parser_new(
     alloc: Global,
@@ -146,8 +145,8 @@ pub extern "C" fn vt100_free(alloc: Global, handle: &mut Handle)
     }
 }
 
-/// Returns the kind of the object that a handle holds, or 0 if the handle is
-/// empty.
+/// Returns the kind of the object that a handle holds: 1 for a parser, 2 for a saved screen, 3 for
+/// a mirror, and 4 for a capture. Returns 0 if the handle is empty.
 #[unsafe(no_mangle)]
 pub extern "C" fn vt100_kind(alloc: Global, handle: &mut Handle) -> u8
     ensures same { handle.new.held ≡ handle.old.held }

@@ -1,5 +1,4 @@
-//! Mirrors: terminals with viewers, which display the same screen as the
-//! terminal.
+//! Mirrors: terminals whose viewers display the same screen.
 
 ghost use Rattle.std.specs.Prelude.{◌≡◌, IfSome, None, Some};
 ghost use Rattle.vt100_c.specs.Calls.{OnObject, OnSource};
@@ -153,11 +152,10 @@ pub extern "C" fn vt100_update_scrolling(
     status
 }
 
-/// Generates the next update for a viewer, as [`vt100_update`] does, with
-/// options for a diff ([`Mirror::update_with`]). Bit 0 of `options` allows
-/// moving rows or columns first, and bit 1 allows REP; the other bits are
-/// ignored. With bit 0, the update may be a full one, as with
-/// [`vt100_update_scrolling`].
+/// Generates the next update for a viewer, as [`vt100_update`] does, with options for a diff
+/// ([`Mirror::update_with`]). Bit 0 of `options` allows a diff to begin by moving rows or columns,
+/// and bit 1 allows REP; the other bits are ignored. With bit 0, the update may be a full one, as
+/// with [`vt100_update_scrolling`].
 ///
 /// # Errors
 ///
@@ -186,13 +184,12 @@ pub extern "C" fn vt100_update_with(
     status
 }
 
-/// Stores 1 in `out` if a viewer is known to be up to date, otherwise 0
-/// ([`Mirror::is_current`]).
+/// Stores 1 in `out` if a viewer is up to date, as defined by [`Mirror::is_current`], otherwise 0.
 ///
 /// # Errors
 ///
-/// Returns `NO_OBJECT` if the handle is empty, or `WRONG_KIND` if it holds no
-/// mirror. On error, `out` is unchanged.
+/// Returns `NO_OBJECT` if the handle is empty, or `WRONG_KIND` if it holds no mirror. On error,
+/// `out` is unchanged.
 #[unsafe(no_mangle)]
 pub extern "C" fn vt100_mirror_is_current(
     alloc: Global,
@@ -214,8 +211,8 @@ pub extern "C" fn vt100_mirror_is_current(
     status
 }
 
-/// Adds a viewer to a mirror. Returns `WRONG_KIND` if the source is not a
-/// mirror.
+/// Adds a viewer to a mirror, and stores the number of the viewer in `viewer`. Returns `WRONG_KIND`
+/// if the source is not a mirror.
 fn join(source: &mut Source, viewer: &mut u64) -> u8
     ensures call { JoinsSource viewer.old viewer.new source.old result source.new }
     ensures refused { ¬ (result ≡ ok) → viewer.new ≡ viewer.old }
@@ -323,7 +320,7 @@ fn mirror_of(source: &Source) -> Option<&Mirror>
     }
 }
 
-/// Stores 1 in `out` if a viewer is known to be up to date, otherwise 0.
+/// Stores 1 in `out` if a viewer is up to date, as defined by [`Mirror::is_current`], otherwise 0.
 /// Returns `WRONG_KIND` if the source is not a mirror.
 fn write_current(source: &Source, viewer: u64, out: &mut u8) -> u8
     ensures status { result ≡ due_to (mirror_in source.now) }

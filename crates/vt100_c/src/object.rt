@@ -8,7 +8,7 @@ use vt_mirror::Mirror;
 use vt100::capture::BasicFormattedCaptureState;
 use vt100::{Parser, Screen};
 
-/// The value of an object: a parser, a saved screen, a mirror or a capture.
+/// What a handle holds: a parser, a saved screen, a mirror or a capture.
 #[derive(Drop)]
 pub enum Source {
     /// A parser, with its screen and its log of events.
@@ -48,7 +48,8 @@ pub(crate) fn screen_of(source: &Source) -> Option<&Screen>
     }
 }
 
-/// Returns the number of a source's kind.
+/// Returns the kind of a source: 1 for a parser, 2 for a saved screen, 3 for a mirror, and 4 for a
+/// capture.
 pub(crate) fn kind_of(source: &Source) -> u8
     ensures { result ≡ kind_of source.now }
 {

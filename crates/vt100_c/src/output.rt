@@ -1,4 +1,4 @@
-//! Generating the texts and the output of screens.
+//! Generation of text and escape sequences from screens.
 
 ghost use Rattle.std.specs.Prelude.{◌≡◌, ◌<◌, ◌≤◌, ◌&&◌, IfErr, IfOk, IsErr, Ok, false, length};
 ghost use Rattle.std.specs.Prelude.{nat_lt, string_bytes, true};
@@ -55,11 +55,10 @@ pub enum Difference {
     /// The escape sequences that change the display.
     Contents,
 
-    /// The escape sequences that change the display, possibly by moving rows
-    /// first.
+    /// The escape sequences that change the display. They may begin by moving rows or columns.
     Scrolling,
 
-    /// The escape sequences that change the display, with options.
+    /// The escape sequences that change the display, generated with the given options.
     With(DiffOptions),
 
     /// The escape sequences that change the display and the input modes.
@@ -217,13 +216,13 @@ fn contents_diff(screen: &Screen, prev: &Screen) -> Result<String, u8>
     or_status(screen.contents_diff(prev))
 }
 
-/// Returns the escape sequences that turn the display of `prev` into that of
-/// `screen`, moving rows first if they have scrolled.
+/// Returns the escape sequences that turn the display of `prev` into that of `screen`. The output
+/// may begin by moving rows or columns.
 ///
 /// # Errors
 ///
-/// Returns `OTHER_SIZE` if the two screens differ in size, or `OUT_OF_MEMORY`
-/// if an allocation fails.
+/// Returns `OTHER_SIZE` if the two screens differ in size, or `OUT_OF_MEMORY` if an allocation
+/// fails.
 #[tactic(auto, using(crate::proofs::Refused::where_some))]
 fn contents_diff_scrolling(screen: &Screen, prev: &Screen) -> Result<String, u8>
     ensures text { IfOk result (λ made. IsDifference between.Scrolling screen.now prev.now (string_bytes made)) }
@@ -293,8 +292,8 @@ fn input_mode_diff(screen: &Screen, prev: &Screen) -> Result<String, u8>
     or_status(screen.input_mode_diff(prev))
 }
 
-/// Returns the options that `bits` selects: bit 0 allows moving rows or columns first, and bit 1
-/// allows REP.
+/// Returns the options that `bits` selects: bit 0 allows a diff to begin by moving rows or columns,
+/// and bit 1 allows REP. The other bits are ignored.
 pub(crate) fn options_in(bits: u8) -> DiffOptions
     ensures { result ≡ options_of bits }
 {

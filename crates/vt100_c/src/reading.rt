@@ -155,8 +155,8 @@ fn read_from(parser: &mut Parser<Events>, bytes: &[u8], mark: Mark) -> (u8, usiz
     (OK, at)
 }
 
-/// Parses the longest prefix of `bytes` in which only the last byte can cause
-/// an event. Returns the status code and the number of bytes parsed.
+/// Parses one unit of `bytes`, in which only the last byte can cause an event (see
+/// [`Parser::process_unit`]). Returns the status code and the number of bytes parsed.
 #[inline(always)]
 fn read_unit(parser: &mut Parser<Events>, bytes: &[u8]) -> (u8, usize)
     requires { 0 < length bytes.now }
@@ -178,9 +178,9 @@ fn mark_of(log: &Events) -> Mark
     }
 }
 
-/// Returns whether parsing continues: only rows without text were recorded
-/// since `mark`, these rows take less than [`BATCH`] bytes, and the log has
-/// neither reached its limit nor lost a record since then.
+/// Returns whether parsing continues, which is the case if only rows without text were recorded
+/// since `mark`, these rows take less than [`BATCH`] bytes, and the log has neither reached its
+/// limit nor lost a record since then.
 #[inline(always)]
 fn is_quiet(mark: Mark, log: &Events) -> bool
     ensures { result ≡ is_quiet mark log.now }

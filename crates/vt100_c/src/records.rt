@@ -43,7 +43,8 @@ pub(crate) fn is_bare(wanted: u16) -> bool
     is_wanted(wanted, 13)
 }
 
-/// Returns the number of bytes that the cells take in a copy of the row.
+/// Returns the number of bytes that the cells of a row take in its copy, which omits the default
+/// blanks at the end.
 pub(crate) fn cells_size(row: &RowContents<'_>) -> usize
     ensures { result ≡ min (length (trimmed_row row.now).cells * 40) (2 ^ 64 - 1) }
 {
@@ -71,12 +72,11 @@ pub(crate) fn kind_of(call: Call<'_>) -> u8
     }
 }
 
-/// Appends the record of a call.
+/// Appends the record of a call to `records`.
 ///
 /// # Errors
 ///
-/// Returns an error if an allocation fails. On error, the records are
-/// unchanged.
+/// Returns an error if an allocation fails. On error, the records are unchanged.
 pub(crate) fn write_call(
     alloc: Global,
     records: &mut Vec<u8>,
@@ -112,12 +112,11 @@ pub(crate) fn write_call(
     }
 }
 
-/// Appends the record of a row, with its plain text unless `is_bare` is true.
+/// Appends the record of a row to `records`, with its plain text unless `is_bare` is true.
 ///
 /// # Errors
 ///
-/// Returns an error if an allocation fails. On error, the records are
-/// unchanged.
+/// Returns an error if an allocation fails. On error, the records are unchanged.
 pub(crate) fn write_row(
     alloc: Global,
     records: &mut Vec<u8>,
@@ -161,9 +160,8 @@ fn kept_row(alloc: Global, row: &RowContents<'_>) -> Result<Row, AllocError>
     }
 }
 
-/// Stores a copy of a row after the first `count` rows. The default blanks at
-/// the end of the row are not copied. If a row is already stored there, its
-/// memory is reused.
+/// Stores a copy of `row` at index `count` of `rows`. The default blanks at the end of the row are
+/// not copied. If a row is already stored there, it is overwritten and its memory is reused.
 ///
 /// # Errors
 ///
@@ -230,12 +228,11 @@ fn text_of(alloc: Global, row: &RowContents<'_>) -> Result<String, AllocError>
     }
 }
 
-/// Appends a record with the given kind, numbers and text.
+/// Appends a record with the given kind, numbers and text to `records`.
 ///
 /// # Errors
 ///
-/// Returns an error if an allocation fails. On error, the records are
-/// unchanged.
+/// Returns an error if an allocation fails. On error, the records are unchanged.
 fn write(
     records: &mut Vec<u8>,
     kind: u8,
@@ -281,7 +278,8 @@ fn parts(alloc: Global, texts: &[&[u8]]) -> Result<Vec<u8>, AllocError>
     Ok(joined)
 }
 
-/// Returns the code of a character, followed by groups of numbers, each preceded by its length.
+/// Returns the code of the character `code`, followed by `groups`, each preceded by its length. All
+/// numbers are little-endian.
 ///
 /// # Errors
 ///
@@ -298,7 +296,7 @@ fn code_and_groups(alloc: Global, code: char, groups: &[&[u16]]) -> Result<Vec<u
     Ok(joined)
 }
 
-/// Appends the length of a group, followed by its numbers.
+/// Appends the length of a group to `joined`, followed by the numbers of the group.
 ///
 /// # Errors
 ///

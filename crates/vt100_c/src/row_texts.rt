@@ -102,8 +102,8 @@ pub(crate) fn changed(
     Ok(joined)
 }
 
-/// Appends the text of a row to `joined`, and stores the index at which it
-/// ends.
+/// Appends `text`, the text of a row, to `joined`, and stores in `ends[row]` the index at which the
+/// text ends.
 ///
 /// # Errors
 ///

@@ -1,4 +1,4 @@
-//! Resizing screens, and scrolling back.
+//! Resizing screens, scrolling their displays back, and erasing their scrollback.
 
 ghost use Rattle.vt100_c.specs.Calls.{OnSource};
 ghost use Rattle.vt100_c.specs.Sizes.{Clears, OnScreen, ResizesMirror, ResizesParser, ResizesScreen};
@@ -61,14 +61,13 @@ pub extern "C" fn vt100_screen_set_size(
     status
 }
 
-/// Scrolls the display back by `rows` rows, clamped to the number of scrollback
-/// rows.
+/// Scrolls the display of a parser or a saved screen back by `rows` rows, clamped to the number of
+/// scrollback rows.
 ///
 /// # Errors
 ///
-/// Returns `NO_OBJECT` if the handle is empty, `WRONG_KIND` if it holds neither
-/// a parser nor a saved screen, or `OUT_OF_MEMORY` if an allocation fails. On
-/// error, nothing is changed.
+/// Returns `NO_OBJECT` if the handle is empty, `WRONG_KIND` if it holds neither a parser nor a
+/// saved screen, or `OUT_OF_MEMORY` if an allocation fails. On error, nothing is changed.
 #[unsafe(no_mangle)]
 pub extern "C" fn vt100_set_scrollback(alloc: Global, handle: &mut Handle, rows: usize) -> u8
     ensures { OnSource (OnScreen (ScrollsBack rows)) handle.old.held result handle.new.held }
@@ -126,7 +125,7 @@ fn resize(source: &mut Source, rows: NonZeroU16, cols: NonZeroU16) -> u8
     }
 }
 
-/// Resizes the screen of a parser.
+/// Resizes the screen of a parser, and returns the status code.
 fn resize_parser(parser: &mut Parser<Events>, rows: NonZeroU16, cols: NonZeroU16) -> u8
     ensures { ResizesParser rows.value cols.value parser.old result parser.new }
 {
@@ -136,7 +135,7 @@ fn resize_parser(parser: &mut Parser<Events>, rows: NonZeroU16, cols: NonZeroU16
     }
 }
 
-/// Resizes a screen.
+/// Resizes a screen, and returns the status code.
 fn resize_screen(screen: &mut Screen, rows: NonZeroU16, cols: NonZeroU16) -> u8
     ensures { ResizesScreen rows.value cols.value screen.old result screen.new }
 {
@@ -146,7 +145,7 @@ fn resize_screen(screen: &mut Screen, rows: NonZeroU16, cols: NonZeroU16) -> u8
     }
 }
 
-/// Resizes the screen of a mirror.
+/// Resizes the screen of a mirror, and returns the status code.
 fn resize_mirror(mirror: &mut Mirror, rows: NonZeroU16, cols: NonZeroU16) -> u8
     ensures { ResizesMirror rows.value cols.value mirror.old result mirror.new }
 {
@@ -190,7 +189,7 @@ fn set_scrollback(source: &mut Source, rows: usize) -> u8
     }
 }
 
-/// Scrolls the display of a screen back by `rows` rows.
+/// Scrolls the display of a screen back by `rows` rows, and returns the status code.
 fn scroll_back(screen: &mut Screen, rows: usize) -> u8
     ensures { ScrollsBack rows screen.old result screen.new }
 {
@@ -213,7 +212,7 @@ fn clear_scrollback(source: &mut Source) -> u8
     }
 }
 
-/// Erases the scrollback of a screen.
+/// Erases the scrollback of a screen, and returns `OK`.
 fn clear(screen: &mut Screen) -> u8
     ensures { Clears screen.old result screen.new }
 {

@@ -16,14 +16,13 @@ use crate::status::{NO_OBJECT, OK, WRONG_KIND};
 use std::alloc::Global;
 use vt100::Screen;
 
-/// Stores the state of a screen in `out`: its size, its cursor, its modes, the
-/// attributes of newly printed text, and the size and position of its
-/// scrollback.
+/// Stores the state of a screen in `out`: its size, its cursor, its modes, the attributes of newly
+/// printed text, and the position, length and capacity of its scrollback.
 ///
 /// # Errors
 ///
-/// Returns `NO_OBJECT` if the handle is empty, or `WRONG_KIND` if it holds
-/// neither a parser nor a saved screen. On error, nothing is stored.
+/// Returns `NO_OBJECT` if the handle is empty, or `WRONG_KIND` if it holds neither a parser nor a
+/// saved screen. On error, nothing is stored.
 #[unsafe(no_mangle)]
 pub extern "C" fn vt100_get_state(alloc: Global, handle: &mut Handle, out: &mut VtState) -> u8
     ensures same { handle.new.held ≡ handle.old.held }

@@ -9,7 +9,8 @@ use crate::status::{BAD_ARGUMENT, OK, status_of};
 use vt_mirror::{Mirror, Update};
 use vt100::Error;
 
-/// Adds a viewer to a mirror, and stores the number of the viewer in `viewer`.
+/// Adds a viewer to a mirror, and stores the number of the viewer in `viewer`. Returns `NO_NUMBER`
+/// if no viewer number is left, or `OUT_OF_MEMORY` if an allocation fails.
 pub(crate) fn join(mirror: &mut Mirror, viewer: &mut u64) -> u8
     ensures call { Joins result viewer.old viewer.new mirror.old mirror.new }
     ensures refused { ¬ (result ≡ ok) → viewer.new ≡ viewer.old }
@@ -35,7 +36,7 @@ pub(crate) fn leave(mirror: &mut Mirror, viewer: u64) -> u8
     }
 }
 
-/// Returns 1 if a viewer is known to be up to date, otherwise 0.
+/// Returns 1 if a viewer is up to date, as defined by [`Mirror::is_current`], otherwise 0.
 pub(crate) fn current_bit(mirror: &Mirror, viewer: u64) -> u8
     ensures { TellsCurrent viewer result mirror.now }
 {

@@ -23,12 +23,13 @@ abbrev pub drawn_char : ℕ → Canvas → Option Canvas
 drawn_char c canvas =
     if pushes c canvas.page then None else Some (record canvas { page = page_after_print c canvas.attrs canvas.page })
 
--- The result of a step after an earlier step; `None` if either step has no result.
+-- The result of applying a function to the value of an option; `None` if there is no value or the function returns
+-- `None`.
 abbrev pub and_then : {A B : Type 0} → (A → Option B) → Option A → Option B
 and_then f (Some a) = f a
 and_then f None = None
 
--- The canvas after a text is drawn character by character; `None` if drawing it scrolls a row off the page.
+-- The canvas after a string is drawn character by character; `None` if drawing it scrolls a row off the page.
 abbrev pub drawn_text : List ℕ → Canvas → Option Canvas
 drawn_text [] canvas = Some canvas
 drawn_text (c ∷ cs) canvas = and_then (drawn_text cs) (drawn_char c canvas)

@@ -11,8 +11,8 @@ abbrev pub erased_columns : ℕ → ℕ → Attrs → Page → Page
 erased_columns c n attrs page =
     with_row page.row (with_cells (cursor_row page) (cells_after_erase c n attrs (cursor_row page).cells)) page
 
--- The page after the given number of columns of the cursor's row, starting at the cursor, are erased (ECH), or all
--- columns from the cursor on if there are fewer. The page is unchanged if a wrap is pending or the number is 0.
+-- The page after ECH erases the given number of columns of the cursor's row, starting at the cursor, but at most up to
+-- the end of the row. The page is unchanged if a wrap is pending or the number is 0.
 unfoldable pub erased_chars : ℕ → Attrs → Page → Page
 erased_chars n attrs page =
     if (n == 0) || (page.column == page.width) then page

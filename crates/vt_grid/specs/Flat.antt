@@ -1,4 +1,4 @@
--- The rows of a page as one list of cells, divided into places that hold one row each, and a table with the place, the
+-- The rows of a page as one list of cells, divided into slots that hold one row each, and a table with the slot, the
 -- number of used columns and the wrapped flag of each row.
 use Rattle.std.specs.Prelude.{◌≡◌, ℕ, ◌+◌, ◌*◌, ◌<◌, ◌≤◌, false, List, length, map, slice_index_or}
 use Rattle.std.specs.Prelude.{if◌then◌else◌, min, nat_lt, take, vec_capacity}
@@ -10,28 +10,29 @@ use Rattle.vt_grid.specs.declared.flat.Line.{Line}
 use Rattle.vt_grid.specs.declared.flat.Columns.{Columns}
 use Rattle.vt_grid.specs.declared.flat.Flat.{Flat}
 
--- The cells at the place with the given index, if each place has `stored` cells.
+-- The cells at the slot with the given index, if each slot has `stored` cells.
 abbrev pub cells_at : (stored : ℕ) → List CellValue → ℕ → List CellValue
 cells_at stored cells place = slice_range cells (place * stored) (place * stored + stored)
 
--- The row that a table entry stands for: the first cells at its place.
+-- The row that a table entry describes: the cells in the displayed columns of the entry's slot, and the entry's wrapped
+-- flag.
 abbrev pub row_in : Columns → List CellValue → Line → RowValue
 row_in columns cells line =
     record { cells = take columns.shown (cells_at columns.stored cells line.place); wrapped = line.wrapped }
 
--- The rows that a table stands for, from top to bottom.
+-- The rows that a table describes, from top to bottom, given the cells that the table refers to.
 unfoldable pub rows_in : Columns → List CellValue → List Line → List RowValue
 rows_in columns cells lines = map (row_in columns cells) lines
 
--- The default entry, used for a row that is not in the table.
+-- The default table entry, used for a row that is not in the table.
 abbrev pub no_line : Line
 no_line = record { place = 0; used = 0; wrapped = false }
 
--- The table entry of a row.
+-- The table entry of the row at the given index, or the default entry if the index is past the end.
 abbrev pub line_at : List Line → ℕ → Line
 line_at lines r = slice_index_or lines r no_line
 
--- The table is valid: the cells are divided into as many places as there are rows, and each row has its own place.
+-- The table is valid: the cells are divided into as many slots as there are rows, and each row has its own slot.
 pub record IsTable (stored : ℕ) (cells : List CellValue) (lines : List Line) : Type 0 where
   pub filled : length cells ≡ length lines * stored
   pub inside : (r : ℕ) → r < length lines → (line_at lines r).place < length lines
@@ -42,13 +43,13 @@ pub record IsTable (stored : ℕ) (cells : List CellValue) (lines : List Line) :
 abbrev pub IsBlankFrom : ℕ → List CellValue → Type 0
 IsBlankFrom used cells = (k : ℕ) → used ≤ k → at cells k ≡ default_blank
 
--- The number of used columns that a table entry stands for in a row of the given width. The entry counts groups of
--- eight columns, and 255 groups stand for the whole row.
+-- The number of used columns in a row of the given width, given the number of groups of eight columns in the row's
+-- table entry; 255 groups mean the whole row.
 abbrev pub used_columns : (width groups : ℕ) → ℕ
 used_columns width groups = if nat_lt groups 255 then min (8 * groups) width else width
 
--- The cells and the table store a page: the table is valid, each place has room for a row, and all cells after the used
--- columns of a row, up to the end of its place, are default blanks.
+-- The cells and the table store a page: the table is valid, each slot has room for a row, and all cells after the used
+-- columns of a row, up to the end of its slot, are default blanks.
 pub record IsStored (columns : Columns) (cells : List CellValue) (lines : List Line) : Type 0 where
   pub table : IsTable columns.stored cells lines
   pub fits : columns.shown ≤ columns.stored
@@ -60,15 +61,16 @@ pub record IsStored (columns : Columns) (cells : List CellValue) (lines : List L
 abbrev pub rows_of : Flat → List RowValue
 rows_of flat = rows_in flat.columns flat.cells.items flat.lines.items
 
--- The invariant of a page's storage.
+-- The invariant of a page's storage: the cells and the table store a page.
 abbrev pub IsFlat : Flat → Type 0
 IsFlat flat = IsStored flat.columns flat.cells.items flat.lines.items
 
--- The table of `n` rows in which row `k` is at place `k` and no row is wrapped.
+-- The table of `n` rows with no used columns, in which row `k` is at slot `k` and no row is wrapped.
 abbrev pub in_order : ℕ → List Line
 in_order n = map (λ place. record { place = place; used = 0; wrapped = false }) (range_with_len 0 n)
 
--- The table entries of `n` rows that are not wrapped and are stored at consecutive places, starting at index `first`.
+-- The table entries of `n` rows that have no used columns, are not wrapped, and are stored at consecutive slots,
+-- starting at index `first`.
 abbrev pub lines_from : (first n : ℕ) → List Line
 lines_from first n = map (λ place. record { place = place; used = 0; wrapped = false }) (range_with_len first n)
 

@@ -68,7 +68,7 @@ wide_printed c attrs page =
 abbrev pub mark_out : ℕ → Attrs → Page → List RowValue
 mark_out mark attrs page = if carries mark page then fed_out (left_by (Some zero) attrs page) else []
 
--- The cells of a row that is truncated to the given width, with default blanks in the place of the others.
+-- The cells of a row truncated to the given width, followed by a default blank for each cell that was cut off.
 abbrev pub cells_cut : ℕ → List CellValue → List CellValue
 cells_cut width cells = cells_after_resize width cells ++ blanks default_attrs (length cells - width)
 

@@ -36,7 +36,7 @@ position_after (To r c) page = (target_row r page, min c (page.width - 1))
 position_after (ToColumn c) page = (page.row, min c (page.width - 1))
 position_after (ToRow r) page = (min r (last_row page), page.column)
 
--- The page after a movement of the cursor.
+-- The page after the given cursor movement.
 abbrev pub moved : CursorMove → Page → Page
 moved move page = record page { row = (position_after move page).0; column = (position_after move page).1 }
 

@@ -17,7 +17,7 @@ abbrev pub fed_out : Page → List RowValue
 fed_out page = if feeds_out page then take 1 page.rows else []
 
 -- The page just before the cursor wraps for a character of the given width. If the character is a combining character,
--- the glyph before the cursor moves to the next row too, and a blank replaces it.
+-- a blank has replaced the glyph before the cursor, because that glyph moves to the next row.
 abbrev pub left_by : Option ℕ → Attrs → Page → Page
 left_by (Some zero) attrs page = lifted_page (mark_column page) attrs page
 left_by _ attrs page = page

@@ -94,8 +94,8 @@ blank_page height width = record {
 abbrev pub by_row : ℕ → (ℕ → RowValue) → List RowValue
 by_row n f = map f (range_with_len 0 n)
 
--- The rows after they have moved; the given function maps each row's index to the index that the row had before. A
--- former index past the end stands for a blank row of the given width.
+-- The rows after they have moved; the given function maps each row's index to the index that the row had before. If the
+-- former index is past the end, the row is a blank row of the given width.
 unfoldable pub moved_rows : ℕ → (ℕ → ℕ) → List RowValue → List RowValue
 moved_rows width source rows = by_row (length rows) (λ r. row_or width rows (source r))
 

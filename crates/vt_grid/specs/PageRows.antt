@@ -1,4 +1,4 @@
--- The rows of a page without its cursor: edits of single rows, and moves of rows.
+-- The rows and width of a page, without the cursor: edits to single rows, and moves of rows.
 use Rattle.std.specs.Prelude.{◌≡◌, ℕ, ◌-◌, ◌≤◌, List, ◌++◌, length, map, slice_set, replicate, All, Bool, Option, Some, None}
 use Rattle.vt_cells.specs.Attrs.{default_attrs}
 use Rattle.vt_cells.specs.Cell.{CellValue}

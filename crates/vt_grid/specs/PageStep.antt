@@ -1,4 +1,4 @@
--- The effects of the steps of a page.
+-- The effect of each `PageStep` on a page.
 use Rattle.vt_cells.specs.Attrs.{Attrs}
 use Rattle.vt_grid.specs.Page.{Page}
 use Rattle.vt_grid.specs.declared.page_step.PageStep.{PageStep}

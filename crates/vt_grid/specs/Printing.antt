@@ -31,7 +31,7 @@ abbrev pub goes_down : Page → Bool
 goes_down page = if at_bottom page then true else nat_lt (page.row + 1) (length page.rows)
 
 -- The page after the wrapped flag of the given row, if any, is set to the given value. The row is the one that the
--- cursor left in a wrap.
+-- cursor left when it wrapped.
 abbrev pub flagged_left : Option ℕ → Bool → Page → Page
 flagged_left (Some r) is_wrapped page = page_with_wrapped r is_wrapped page
 flagged_left None is_wrapped page = page

@@ -1,4 +1,5 @@
--- Resizing a page: which rows scroll off, which return from scrollback, and where the cursors end up (xterm).
+-- Resizing a page: which rows scroll off, which return from scrollback, and where the cursor and the saved cursor end
+-- up (xterm).
 use Rattle.std.specs.Prelude.{ℕ, ◌+◌, ◌-◌, nat_lt, List, ◌++◌, length, take, map, min, if◌then◌else◌}
 use Rattle.vt_cells.specs.Attrs.{default_attrs}
 use Rattle.vt_rows.specs.Row.{RowValue, blank_row, resized_row}
@@ -29,7 +30,8 @@ window width height down up above rows =
 abbrev pub rows_resized : ℕ → List RowValue → List RowValue
 rows_resized width rows = unflagged width (length rows - 1) (map (resized_row width) rows)
 
--- The new index of a row after `down` rows scrolled off above it and `up` rows returned, limited to the last row.
+-- The index of a row after a resize in which `down` rows scroll off the top and `up` rows come back from scrollback,
+-- clamped to the last row.
 abbrev pub row_resized : (height down up : ℕ) → ℕ → ℕ
 row_resized height down up row = min (row - down + up) (height - 1)
 

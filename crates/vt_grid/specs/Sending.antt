@@ -25,8 +25,8 @@ pub record FailsUnchanged {P S : Type 0} (before : P) (old : S) (after : P) (new
   pub err : OnErr result ((after ≡ before) × (new ≡ old))
   pub memory : OnlyOutOfMemory result
 
--- The rows `gone` are moved to the scrollback `above`. If an allocation fails, the scrollback is `before`, and no
--- rows are reported.
+-- The rows `gone` are moved to the scrollback `above`, which becomes `after`. If an allocation fails, `after` equals
+-- `before`, and no rows are reported.
 pub record SendsOrFails {S : Type 0} (leaves : S → RowValue → S → Type 0) (height width : ℕ) (gone : List RowValue)
     (above : Scrollback) (old : S) (before after : Scrollback) (new : S)
     (result : Result (Unit {0}) Error) : Type 0 where
@@ -45,8 +45,7 @@ pub record ResizesPage {S : Type 0} (leaves : S → RowValue → S → Type 0) (
   pub grows : IsErr result → TakesMemory (take (leaving_count height before) before.rows) (out_of_view was)
   pub memory : OnlyOutOfMemory result
 
--- The page is resized to `height` rows, and `height` is at least the page's height. If an allocation fails, nothing is
--- changed.
+-- A page that has at most `height` rows is resized to `height` rows. If an allocation fails, nothing is changed.
 pub record AddsRows (height : ℕ) (before : Page) (was : Scrollback) (after : Page) (kept : Scrollback)
     (result : Result (Unit {0}) Error) : Type 0 where
   pub page : OnOk result (after ≡ page_resized height before.width was before)
@@ -54,7 +53,7 @@ pub record AddsRows (height : ℕ) (before : Page) (was : Scrollback) (after : P
   pub err : OnErr result ((after ≡ before) × (kept ≡ was))
   pub memory : OnlyOutOfMemory result
 
--- The page is resized to the given width, or, if its rows have no room in their places, nothing is changed.
+-- If the result is true, the page is resized to the given width; otherwise, nothing is changed.
 pub record SetsColumns (width : ℕ) (before : Page) (was : Scrollback) (after : Page) (kept : Scrollback)
     (result : Bool) : Type 0 where
   pub page : IsTrue result → after ≡ page_resized (length before.rows) width was before

@@ -9,7 +9,7 @@ use Rattle.vt_grid.specs.Scrollback.{Scrollback, grown_row, narrow_rows}
 abbrev pub AreRows : List RowValue → Type 0
 AreRows rows = All (λ row. IsRow (length row.cells) row) rows
 
--- Up to `height` of the rows, starting at row `first`.
+-- Up to `height` rows of the list, starting at row `first`.
 abbrev pub window_from : (first height : ℕ) → List RowValue → List RowValue
 window_from first height rows = take height (drop first rows)
 
@@ -23,7 +23,7 @@ grown_from first height width rows =
 abbrev pub in_view : ℕ → Scrollback → List RowValue
 in_view height above = window_from (length above.rows - above.offset) height above.rows
 
--- In `OldestIsShorter gone rows`, the oldest of the scrollback rows `rows` is shorter than the first row of `gone`
+-- `OldestIsShorter gone rows` holds if the oldest of the scrollback rows `rows` is shorter than the first row of `gone`
 -- without its trailing default blanks.
 abbrev pub OldestIsShorter : List RowValue → List RowValue → Type 0
 OldestIsShorter gone rows = (d : RowValue) →

@@ -6,12 +6,12 @@ use Rattle.vt_rows.specs.Texts.{put_text}
 use Rattle.vt_grid.specs.Page.{Page, cursor_row}
 use Rattle.vt_grid.specs.Printing.{page_after_print, with_cursor_cells}
 
--- The page after the characters of a text are printed one by one.
+-- The page after the characters of a string are printed one by one.
 abbrev pub printed_text : List ℕ → Attrs → Page → Page
 printed_text [] attrs page = page
 printed_text (c ∷ text) attrs page = printed_text text attrs (page_after_print c attrs page)
 
--- The page after the narrow glyphs of a text are written at the cursor, which then moves past them.
+-- The page after the characters of a string are written at the cursor as narrow glyphs. The cursor moves past them.
 abbrev pub text_put : List ℕ → Attrs → Page → Page
 text_put text attrs page =
     record (with_cursor_cells (put_text page.column text attrs (cursor_row page).cells) page)

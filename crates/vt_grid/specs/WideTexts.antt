@@ -5,7 +5,7 @@ use Rattle.vt_rows.specs.WideTexts.{put_wide_text}
 use Rattle.vt_grid.specs.Page.{Page, cursor_row}
 use Rattle.vt_grid.specs.Printing.{with_cursor_cells}
 
--- The page after the wide glyphs of a text are written at the cursor, which then moves past them.
+-- The page after the characters of a string are written at the cursor as wide glyphs. The cursor moves past them.
 abbrev pub wide_text_put : List ℕ → Attrs → Page → Page
 wide_text_put text attrs page =
     record (with_cursor_cells (put_wide_text page.column text attrs (cursor_row page).cells) page)

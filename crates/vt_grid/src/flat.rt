@@ -1,5 +1,5 @@
 //! The storage of a page: one vector with the cells of all rows, and a table that maps each row to
-//! its place in the vector.
+//! its slot in the vector.
 
 ghost use Rattle.std.specs.Prelude.{◌≡◌, ◌≢◌, ◌+◌, ◌*◌, ◌<◌, ◌≤◌, ℕ, IfOk};
 ghost use Rattle.std.specs.Prelude.{false, length, slice_set, take};
@@ -19,12 +19,12 @@ use vt_rows::cells;
 use vt_rows::copies::{blank_cells, copied};
 use vt_rows::shifts::turn;
 
-/// The number of groups of used columns that stands for the whole row.
+/// The group count with which a [`Line`] marks all columns of its row as used.
 pub const WHOLE_ROW: u8 = 255;
 
-/// An entry of the row table: the place of the row's cells, whether the row is wrapped (its text
-/// continues on the next row), and the number of used columns in groups of eight, 255 for the whole
-/// row.
+/// An entry of the row table: the slot of the row's cells, whether the row is wrapped (its text
+/// continues on the next row), and how many columns are used, in groups of eight (255 means the
+/// whole row).
 ///
 /// All cells after the used columns are default blanks, so blanking a row writes only its used
 /// columns. An entry takes four bytes, which the compiler moves with vector instructions when the
@@ -38,16 +38,16 @@ pub struct Line {
 
 /// The number of columns of a page, and the number of cells that are stored for each row.
 ///
-/// A place can have more cells than its row has columns. The additional cells are default blanks, so
-/// that a page becomes wider, up to its places, without moving a cell.
+/// More cells can be stored for a row than it has columns. The additional cells are default blanks,
+/// so the page can be widened to the number of stored cells without moving any cell.
 #[derive(Clone, Copy, Debug)]
 pub struct Columns {
     pub(crate) shown: u16,
     pub(crate) stored: u16,
 }
 
-/// The rows of a page as one vector of cells, ordered by place, and a table with the place and the
-/// wrapped flag of each row.
+/// The rows of a page: a vector of cells, divided into one slot per row, and a table with the slot,
+/// the used columns and the wrapped flag of each row.
 #[derive(Debug, Drop)]
 pub struct Flat {
     pub(crate) cells: Vec<Cell>,
@@ -59,7 +59,7 @@ impl Flat {
     ghost use Rattle.vt_grid.specs.Flat.{IsBlankFrom, IsFlat, cells_at, in_order, rows_of};
     ghost use Rattle.vt_grid.specs.Page.{row_or};
 
-    /// Creates rows of default blanks, with row `k` at place `k`.
+    /// Creates rows of default blanks, with row `k` at slot `k`.
     ///
     /// # Errors
     ///
@@ -81,7 +81,7 @@ impl Flat {
         })
     }
 
-    /// Returns a copy in which each row has the same place as in `self`.
+    /// Returns a copy in which each row has the same slot as in `self`.
     ///
     /// # Errors
     ///
@@ -101,8 +101,7 @@ impl Flat {
         })
     }
 
-    /// Returns the range of a row's cells in the vector, as the index of the first cell and the
-    /// index after the last.
+    /// Returns the range of a row's cells in the vector, as its start and its end (exclusive).
     #[tactic(auto, using(crate::proofs::Flats::rows_counted))]
     #[inline]
     pub fn part(&self, row: usize) -> (usize, usize)
@@ -129,7 +128,7 @@ impl Flat {
         self.lines[row].wrapped
     }
 
-    /// Sets the wrapped flag of a row. The cells are unchanged.
+    /// Sets the wrapped flag of a row to `wrapped`. The cells are unchanged.
     #[inline]
     pub fn wrap(&mut self, row: usize, wrapped: bool)
         requires { row < length self.old.lines.items }
@@ -204,7 +203,8 @@ impl Flat {
         self.set_entry(row, WHOLE_ROW, false);
     }
 
-    /// Sets the number of used groups of columns and the wrapped flag of a row.
+    /// Sets the number of used column groups of a row to `used` ([`WHOLE_ROW`] for all columns),
+    /// and the wrapped flag of the row to `wrapped`.
     #[inline]
     pub fn set_entry(&mut self, row: usize, used: u8, wrapped: bool)
         requires { row < length self.old.lines.items }
@@ -222,7 +222,7 @@ impl Flat {
         };
     }
 
-    /// Creates the row table in which row `k` is at place `k`.
+    /// Creates the row table in which row `k` is at slot `k`.
     ///
     /// # Errors
     ///
@@ -243,7 +243,8 @@ impl Flat {
     }
 }
 
-/// Returns the number of used columns of a row of `width` columns whose table entry holds `groups`.
+/// Returns the number of used columns of a row of `width` columns: those in the first `groups`
+/// groups of eight, or all columns if `groups` is [`WHOLE_ROW`].
 #[inline]
 pub fn used_columns(groups: u8, width: u16) -> usize
     ensures { result ≡ used_columns width groups }

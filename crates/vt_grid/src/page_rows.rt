@@ -118,7 +118,7 @@ impl PageRows {
         self.flat.wrapped(usize::from(row))
     }
 
-    /// Returns the cell at a column of a row.
+    /// Returns the cell at column `col` of row `row`.
     #[inline]
     pub fn cell(&self, row: u16, col: u16) -> &Cell
         requires inside { row < length self.now.rows }
@@ -139,7 +139,7 @@ impl PageRows {
         cells::ends_blank(&self.flat.cells[start..end])
     }
 
-    /// Sets the wrapped flag of a row.
+    /// Sets the wrapped flag of a row to `wrapped`.
     #[inline]
     #[tactic(auto, using(crate::proofs::Flats::rows_counted))]
     pub fn wrap(&mut self, row: usize, wrapped: bool)
@@ -195,7 +195,7 @@ impl PageRows {
         self.flat.set_entry(row, WHOLE_ROW, is_wrapped);
     }
 
-    /// Puts a narrow glyph at a column of a row, as [`cells::put_narrow`] does.
+    /// Puts the narrow glyph for `c` at column `col` of row `row`, as [`cells::put_narrow`] does.
     #[inline(always)]
     pub fn put_narrow(&mut self, row: u16, col: u16, c: char, attrs: Attrs)
         requires inside { row < length self.old.rows }
@@ -213,7 +213,8 @@ impl PageRows {
         self.note_used(row, groups, usize::from(col) + 1);
     }
 
-    /// Puts a wide glyph at a column of a row and the next column, as [`cells::put_wide`] does.
+    /// Puts the wide glyph for `c` at columns `col` and `col + 1` of row `row`, as
+    /// [`cells::put_wide`] does.
     #[inline(always)]
     pub fn put_wide(&mut self, row: u16, col: u16, c: char, attrs: Attrs)
         requires inside { row < length self.old.rows }
@@ -231,7 +232,8 @@ impl PageRows {
         self.note_used(row, groups, usize::from(col) + 2);
     }
 
-    /// Adds a combining character to the cell at a column of a row, as [`cells::append`] does.
+    /// Adds a combining character to the cell at column `col` of row `row`, as [`cells::append`]
+    /// does.
     pub fn append(&mut self, row: u16, col: u16, mark: char)
         requires inside { row < length self.old.rows }
         requires column { col < length (page_row self.old row).cells }
@@ -244,7 +246,7 @@ impl PageRows {
         self.note_used(row, groups, usize::from(col) + 1);
     }
 
-    /// Makes the glyph at a column of a row wide, as [`cells::widen`] does.
+    /// Makes the glyph at column `col` of row `row` wide, as [`cells::widen`] does.
     pub fn widen(&mut self, row: u16, col: u16, attrs: Attrs)
         requires inside { row < length self.old.rows }
         requires paired { IsPaired (page_row self.old row).cells }
@@ -259,7 +261,7 @@ impl PageRows {
         self.note_used(row, groups, usize::from(col) + 2);
     }
 
-    /// Makes the glyph at a column of a row narrow, as [`cells::narrow`] does.
+    /// Makes the glyph at column `col` of row `row` narrow, as [`cells::narrow`] does.
     pub fn narrow(&mut self, row: u16, col: u16, attrs: Attrs)
         requires inside { row < length self.old.rows }
         requires paired { IsPaired (page_row self.old row).cells }
@@ -273,7 +275,7 @@ impl PageRows {
         self.note_used(row, groups, usize::from(col) + 1);
     }
 
-    /// Removes the cell at a column of a row and returns it, as [`cells::lift`] does.
+    /// Removes the cell at column `col` of row `row` and returns it, as [`cells::lift`] does.
     pub fn lift(&mut self, row: u16, col: u16, attrs: Attrs) -> Cell
         requires inside { row < length self.old.rows }
         requires paired { IsPaired (page_row self.old row).cells }
@@ -287,7 +289,7 @@ impl PageRows {
         lifted
     }
 
-    /// Puts a removed cell back at a column of a row, and sets the row's wrapped flag to
+    /// Puts a removed cell back at column `col` of row `row`, and sets the row's wrapped flag to
     /// `is_wrapped`. The other cells are unchanged.
     pub fn put_back(&mut self, row: u16, col: u16, cell: Cell, is_wrapped: bool)
         requires inside { row < length self.old.rows }
@@ -301,7 +303,7 @@ impl PageRows {
         });
     }
 
-    /// Puts a wide glyph at a column of a row and its continuation cell at the next column, as
+    /// Puts the wide glyph `cell` at columns `col` and `col + 1` of row `row`, as
     /// [`cells::put_wide_cell`] does.
     pub fn put_wide_cell(&mut self, row: u16, col: u16, cell: Cell)
         requires inside { row < length self.old.rows }
@@ -334,8 +336,8 @@ impl PageRows {
         self.note_used(row, groups, erased_reach(to, attrs));
     }
 
-    /// Inserts default blanks at a column of a row, as [`shifts::insert`] does, and clears the
-    /// row's wrapped flag.
+    /// Inserts `count` default blanks at column `col` of row `row`, as [`shifts::insert`] does, and
+    /// clears the row's wrapped flag.
     pub fn insert(&mut self, row: u16, col: u16, count: u16)
         requires inside { row < length self.old.rows }
         requires paired { IsPaired (page_row self.old row).cells }
@@ -347,7 +349,8 @@ impl PageRows {
         });
     }
 
-    /// Deletes columns of a row, as [`shifts::delete`] does, and clears the row's wrapped flag.
+    /// Deletes `count` columns of a row, starting at `col`, as [`shifts::delete`] does, and clears
+    /// the row's wrapped flag.
     pub fn delete(&mut self, row: u16, col: u16, count: u16)
         requires inside { row < length self.old.rows }
         requires paired { IsPaired (page_row self.old row).cells }
@@ -359,7 +362,8 @@ impl PageRows {
         });
     }
 
-    /// Blanks a row and clears its wrapped flag.
+    /// Turns all cells of a row into blanks with attributes `attrs`, and clears the row's wrapped
+    /// flag.
     pub fn clear_row(&mut self, row: usize, attrs: Attrs)
         requires inside { row < length self.old.rows }
         ensures { self.new ≡ with_page_row row (blank_row attrs self.old.width) self.old }
@@ -371,7 +375,8 @@ impl PageRows {
         }
     }
 
-    /// Blanks all rows and clears their wrapped flags.
+    /// Turns all cells of the page into blanks with attributes `attrs`, and clears all wrapped
+    /// flags.
     pub fn clear_all(&mut self, attrs: Attrs)
         requires sound { All (IsRow self.old.width) self.old.rows }
         ensures { self.new
@@ -380,7 +385,8 @@ impl PageRows {
         self.clear_rows(0, self.len(), attrs);
     }
 
-    /// Blanks the rows above `row` and clears their wrapped flags.
+    /// Turns all cells of the rows above `row` into blanks with attributes `attrs`, and clears the
+    /// wrapped flags of these rows.
     pub fn clear_above(&mut self, row: u16, attrs: Attrs)
         requires inside { row < length self.old.rows }
         requires sound { All (IsRow self.old.width) self.old.rows }
@@ -390,7 +396,8 @@ impl PageRows {
         self.clear_rows(0, usize::from(row), attrs);
     }
 
-    /// Blanks the rows below `row` and clears their wrapped flags.
+    /// Turns all cells of the rows below `row` into blanks with attributes `attrs`, and clears the
+    /// wrapped flags of these rows.
     pub fn clear_below(&mut self, row: u16, attrs: Attrs)
         requires inside { row < length self.old.rows }
         requires sound { All (IsRow self.old.width) self.old.rows }
@@ -440,8 +447,9 @@ impl PageRows {
         self.wrap(usize::from(bottom), false);
     }
 
-    /// Moves rows `0..=bottom` up by `count`, as [`PageRows::scroll_up`] does, and passes the rows
-    /// that scroll off to scrollback. `size` must be the size of the page.
+    /// Moves rows `0..=bottom` up by `count`, as [`PageRows::scroll_up`] does. The rows that scroll
+    /// off are appended to `above`, the scrollback, and rows that it does not keep are reported to
+    /// `leaving`. `size` must be the size of the page.
     ///
     /// # Errors
     ///
@@ -466,7 +474,8 @@ impl PageRows {
         Ok(())
     }
 
-    /// Blanks rows `from..to` and clears their wrapped flags.
+    /// Turns all cells of rows `from..to` into blanks with attributes `attrs`, and clears the
+    /// wrapped flags of these rows.
     fn clear_rows(&mut self, from: usize, to: usize, attrs: Attrs)
         requires in_order { from ≤ to }
         requires inside { to ≤ length self.old.rows }

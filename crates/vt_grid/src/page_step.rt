@@ -17,8 +17,8 @@ pub enum PageStep {
     /// the scroll region or of the page, the region scrolls down instead.
     ReverseIndex,
 
-    /// Sets the scroll region and moves the cursor to its home position (DECSTBM). If the region
-    /// would have fewer than two rows, it becomes the whole page.
+    /// Sets the scroll region and moves the cursor to the first column of the region's first row
+    /// (DECSTBM). If the region would have fewer than two rows, the whole page becomes the region.
     SetRegion {
         /// The first row of the region.
         top: u16,
@@ -50,7 +50,7 @@ pub enum PageStep {
     /// Erases the cursor's row (EL 2).
     EraseRow,
 
-    /// Erases a number of columns, starting at the cursor and stopping at the end of the row (ECH).
+    /// Erases this many columns, starting at the cursor and stopping at the end of the row (ECH).
     /// If a wrap is pending, nothing is erased.
     EraseChars(u16),
 
@@ -62,15 +62,15 @@ pub enum PageStep {
     /// the row with default blanks (DCH).
     DeleteChars(u16),
 
-    /// Inserts a number of default blank rows at the cursor's row (IL). Rows pushed past the bottom
+    /// Inserts this many default blank rows at the cursor's row (IL). Rows pushed past the bottom
     /// of the scroll region are lost. If the cursor is outside the region, nothing happens.
     InsertLines(u16),
 
-    /// Deletes a number of rows, starting at the cursor's row, and fills the bottom of the scroll
+    /// Deletes this many rows, starting at the cursor's row, and fills the bottom of the scroll
     /// region with default blank rows (DL). If the cursor is outside the region, nothing happens.
     DeleteLines(u16),
 
-    /// Scrolls the scroll region down by a number of rows and fills its top with default blank rows
+    /// Scrolls the scroll region down by this many rows and fills its top with default blank rows
     /// (SD).
     ScrollDown(u16),
 }

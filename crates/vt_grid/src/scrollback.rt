@@ -126,10 +126,10 @@ impl Scrollback {
     /// first. The default blanks at the end of each row are not copied. `size` must be the size of
     /// the page.
     ///
-    /// Rows in excess of the capacity are reported, oldest first. If the offset is not 0, it grows
-    /// by `count`, clamped to the number of rows kept, so that the displayed rows stay in place as
-    /// long as they are kept. Displayed rows that are narrower than the page are extended to its
-    /// width.
+    /// Rows in excess of the capacity are reported to `leaving`, oldest first. If the offset is not
+    /// 0, it grows by `count`, clamped to the number of rows kept, so that the displayed rows stay
+    /// in place as long as they are kept. Displayed rows that are narrower than the page are
+    /// extended to its width.
     ///
     /// No memory is allocated if `count` or the capacity is 0, or if the offset is 0 and a single
     /// row replaces a row that is at least as wide.
@@ -211,8 +211,9 @@ impl Scrollback {
         give_rows(&mut self.rows, page, up);
     }
 
-    /// Reports the first `count` rows of a page, which are about to scroll off.
-    /// [`Scrollback::push`] calls this function if the capacity is 0.
+    /// Reports the first `count` rows of a page, which are about to scroll off, to `leaving`, and
+    /// counts them in [`Scrollback::theoretical_len`]. [`Scrollback::push`] calls this function if
+    /// the capacity is 0.
     fn pass<L: Leaving>(&mut self, page: &PageRows, count: usize, leaving: &mut L)
         requires none { self.old.capacity ≡ 0 }
         requires nonempty { 0 < count }
@@ -343,8 +344,8 @@ impl Scrollback {
         self.rows.len() + page.len()
     }
 
-    /// Returns the row at `index`, where the scrollback rows are counted first, from the oldest to
-    /// the newest, followed by the rows of the page.
+    /// Returns the row at `index` in the list of all scrollback rows, oldest first, followed by the
+    /// rows of the page.
     pub fn stacked_row<'a>(&'a self, page: &'a PageRows, index: usize) -> RowContents<'a>
         requires inside { index < length self.now.rows + length page.now.rows }
         requires sound { All (IsRow page.now.width) page.now.rows }
@@ -359,7 +360,7 @@ impl Scrollback {
     }
 }
 
-/// Appends each row of `gone` to the kept rows, as [`push_row`] does.
+/// Appends each row of `gone` to `kept`, the rows in scrollback, as [`push_row`] does.
 fn push_rows<L: Leaving>(gone: Vec<Row>, kept: &mut VecDeque<Row>, capacity: usize, leaving: &mut L)
     requires nonempty { 0 < capacity }
     requires inside { length kept.old.items ≤ capacity }
@@ -375,8 +376,8 @@ fn push_rows<L: Leaving>(gone: Vec<Row>, kept: &mut VecDeque<Row>, capacity: usi
     }
 }
 
-/// Appends a row to `kept`, the rows in scrollback. If there are already `capacity` rows, the
-/// oldest row is removed and reported.
+/// Appends a row to `kept`, the rows in scrollback. If `kept` already has `capacity` rows, first
+/// removes its oldest row and reports it to `leaving`.
 fn push_row<L: Leaving>(row: Row, kept: &mut VecDeque<Row>, capacity: usize, leaving: &mut L)
     requires nonempty { 0 < capacity }
     requires inside { length kept.old.items ≤ capacity }
@@ -396,8 +397,8 @@ fn push_row<L: Leaving>(row: Row, kept: &mut VecDeque<Row>, capacity: usize, lea
     kept.push_back_reserved(row);
 }
 
-/// Moves the newest `up` rows into the first rows of a page, as [`Scrollback::give_back`]
-/// describes.
+/// Moves the newest `up` rows of `kept` into the first `up` rows of a page, as
+/// [`Scrollback::give_back`] describes.
 fn give_rows(kept: &mut VecDeque<Row>, page: &mut PageRows, up: usize)
     requires inside { up ≤ length page.old.rows }
     requires blank { (k : ℕ) (d : RowValue) → k < up → slice_index_or page.old.rows k d
@@ -419,8 +420,8 @@ fn give_rows(kept: &mut VecDeque<Row>, page: &mut PageRows, up: usize)
     }
 }
 
-/// Returns the offset after `count` rows have been appended. `offset` is the offset before, and
-/// `len` is the number of rows kept.
+/// Returns the new offset after `count` rows have been appended: 0 if `offset`, the previous
+/// offset, is 0, otherwise `offset + count`, clamped to `len`, the number of rows now kept.
 fn followed(offset: usize, count: usize, len: usize) -> usize
     ensures { result ≡ (if offset == 0 then 0 else min (offset + count) len) }
 {
@@ -453,9 +454,9 @@ fn narrow(row: &Row, columns: usize) -> usize
     if row.cols() < columns { 1 } else { 0 }
 }
 
-/// Extends each displayed scrollback row that is narrower than the screen to the screen's width.
-/// The displayed rows are those that a screen of the given size displays at the given offset. The
-/// rows in `spare` must be blank and as wide as the screen.
+/// Extends displayed scrollback rows that are narrower than the screen to its width. The displayed
+/// rows are those that a screen of the given size displays at the given offset. `spare` must hold a
+/// blank row as wide as the screen for each row that is extended.
 fn grow_in_view(rows: &mut VecDeque<Row>, offset: usize, size: Size, mut spare: Vec<Row>)
     requires inside { offset ≤ length rows.old.items }
     requires sound { AreRows rows.old.items }
@@ -471,8 +472,8 @@ fn grow_in_view(rows: &mut VecDeque<Row>, offset: usize, size: Size, mut spare: 
     }
 }
 
-/// Replaces a row that has fewer than `columns` columns with a spare row into which its cells are
-/// moved. Any other row is unchanged.
+/// Widens a row that has fewer than `columns` columns: takes a blank row from `spare`, moves the
+/// cells into it, and replaces the row with it. A row that is already wide enough is unchanged.
 fn grow_row(row: &mut Row, columns: usize, spare: &mut Vec<Row>)
     requires sound { IsRow (length row.old.cells) row.old }
     requires spare { AreSpare columns (row.old ∷ []) spare.old.items }

@@ -90,14 +90,14 @@ pub record IsDiff (self prev : ScreenValue) (text : List ℕ) : Type 0 where
   pub empty : IsSameIfEmpty prev self text
   pub again : KeepsPlain text
 
--- The kind of a diff: one that moves nothing, one that may first move rows or columns, or one of these in which runs may
--- be written with REP.
+-- The kind of a diff: one that moves no rows or columns, one that may move rows or columns, or one of these in which
+-- runs may be written with REP.
 pub data Kind : Type 0 where
   Drawn : Kind
   Scrolling : Kind
   Repeating : (scroll : Bool) → Kind
 
--- The kind of a diff without REP.
+-- The kind of a diff without REP, given whether the diff may move rows or columns.
 abbrev pub kind_without_repeats : (scroll : Bool) → Kind
 kind_without_repeats true = Scrolling
 kind_without_repeats false = Drawn
@@ -106,16 +106,16 @@ kind_without_repeats false = Drawn
 abbrev pub kind_with : DiffOptions → Kind
 kind_with options = if options.repeat then Repeating options.scroll else kind_without_repeats options.scroll
 
--- The text is a diff that moves no rows. If the screen `self` is steady, the diff touches only positions near rows that
--- differ, as `IsLocal` defines.
+-- The text is a diff that moves no rows or columns. If the screen `self` is steady, the diff touches only positions
+-- near rows that differ, as `IsLocal` defines.
 pub record IsDrawn (self prev : ScreenValue) (text : List ℕ) : Type 0 where
   pub diff : IsDiff self prev text
   pub is : text ≡ bytes_of_all (difference (display self) (display prev))
   pub controls : IsMadeOf drawing_finals drawing_controls text
   pub touches : TouchesNear prev self text
 
--- The text is a diff that may move rows or columns first, with shortened cursor movements. The diff starts from a steady
--- screen and is never longer than the diff that moves nothing.
+-- The text is a diff that may move rows or columns, with shortened cursor movements. The diff starts from a steady
+-- screen and is never longer than the diff that moves no rows or columns.
 pub record Scrolls (self prev : ScreenValue) (text : List ℕ) : Type 0 where
   pub diff : IsDiff self prev text
   pub from_steady : IsSteady (display prev)
@@ -123,12 +123,13 @@ pub record Scrolls (self prev : ScreenValue) (text : List ℕ) : Type 0 where
   pub controls : IsMadeOf shortened_finals shortened_controls text
   pub shorter : length text ≤ length (bytes_of_all (difference (display self) (display prev)))
 
--- The text is a diff without REP.
+-- The text is a diff without REP, which may move rows or columns if `scroll` is true.
 abbrev pub IsWithoutRepeats : (scroll : Bool) → (self prev : ScreenValue) → (text : List ℕ) → Type 0
 IsWithoutRepeats true self prev text = Scrolls self prev text
 IsWithoutRepeats false self prev text = IsDrawn self prev text
 
--- The text is `plain`, except that runs may be written with REP, for a terminal that displays the screen `prev`.
+-- The output `text` equals `plain`, except that runs of a repeated character may be written with REP. Both outputs are
+-- meant for a terminal that displays the screen `prev`.
 abbrev pub RepeatsFrom : (prev : ScreenValue) → (plain text : List ℕ) → Type 0
 RepeatsFrom prev plain text = Repeats prev.page.width (prev.page.width - prev.page.column) plain text
 
@@ -162,7 +163,7 @@ IsUpdate kind self (Some prev) (Diff text) = IsOfKind kind self prev (string_byt
 IsUpdate kind self (Some prev) (Full rows cols text) = IsFullAfter kind self prev rows cols (string_bytes text)
 IsUpdate kind self None update = IsFullUpdate self update
 
--- The viewer gets an update, and the mirror's screen is recorded for this viewer. The screen is valid.
+-- The viewer gets an update of the given kind, and the mirror's screen, which is valid, is recorded for this viewer.
 pub record GivesUpdate (kind : Kind) (old : MirrorValue) (viewer : ℕ) (update : Update) (new : MirrorValue) : Type 0 where
   pub is : is_viewer old.viewers viewer ≡ true
   pub whole : IsScreen old.parser.screen
@@ -178,8 +179,8 @@ abbrev pub Answers : Kind → (old : MirrorValue) → ℕ → Option Update → 
 Answers kind old viewer None new = (is_viewer old.viewers viewer ≡ false) × (new ≡ old)
 Answers kind old viewer (Some update) new = GivesUpdate kind old viewer update new
 
--- The effect of `update`, `update_scrolling` or `update_with`. If no viewer has the given number, the result is always `Ok(None)`. On
--- error, nothing is changed.
+-- The effect of `update`, `update_scrolling` or `update_with`. If no viewer has the given number, the result is
+-- `Ok(None)`. On error, nothing is changed.
 pub record Asks (kind : Kind) (old : MirrorValue) (viewer : ℕ)
     (answer : Result (Option Update) Error) (new : MirrorValue) : Type 0 where
   pub nobody : is_viewer old.viewers viewer ≡ false → answer ≡ Ok None

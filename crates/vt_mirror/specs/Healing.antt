@@ -1,5 +1,5 @@
--- A viewer that applies updates in which rows or columns may move first to a terminal, with no restriction on what is
--- displayed.
+-- A viewer whose terminal applies updates that may move rows or columns, with no restriction on what the mirror's
+-- screen displays.
 use Rattle.std.specs.Prelude.{◌≡◌, ◌≢◌, ℕ, Bool, false, true, List, Some, None, Ok, Err, IfSome, string_bytes}
 use Rattle.std.specs.List.{FoldsTo}
 use Rattle.vt_redraw.specs.Steady.{IsSteady}
@@ -13,7 +13,7 @@ use Rattle.vt_mirror.specs.Watching.{Ask, IsLeft, Join, Leave, MirrorCall, Mirro
 use Rattle.vt_mirror.specs.declared.update.Update.{Update}
 use Rattle.vt_mirror.specs.declared.update.Update.TheVariants.{Diff, Full}
 
--- Whether a diff of the given kind may first move rows or columns.
+-- Whether a diff of the given kind may move rows or columns.
 abbrev pub may_move : Kind → Bool
 may_move Drawn = false
 may_move Scrolling = true
@@ -35,8 +35,8 @@ TakesFine {S} does (Diff text) old new = ReadsFine does (string_bytes text) old 
 TakesFine {S} does (Full rows cols text) old new =
     (sized : ParserValue S) × TakesSize rows cols old sized × ReadsFine does (string_bytes text) sized new
 
--- A terminal applies an update from `Mirror::update_scrolling`, or from `Mirror::update_with` with `scroll`; nothing is
--- assumed about the mirror's screen.
+-- A terminal applies an update from `Mirror::update_scrolling`, or from `Mirror::update_with` with the option `scroll`
+-- set; nothing is assumed about the mirror's screen.
 pub record SeesAny {S : Type 0} (does : CallRelation S) (kind : Kind) (update : Update) (old new : Watching S) : Type 0 where
   pub scrolling : may_move kind ≡ true
   pub takes : TakesFine does update old.viewer new.viewer

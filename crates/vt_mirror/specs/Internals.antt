@@ -29,7 +29,7 @@ RepeatsUpdate (Some prev) (Full rows cols text) new = new ≡ Full rows cols tex
 RepeatsUpdate (Some prev) (Diff text) (Full rows cols short) = ⊥
 RepeatsUpdate (Some prev) (Diff text) (Diff short) = RepeatsFrom prev (string_bytes text) (string_bytes short)
 
--- The update is not a diff with output.
+-- The update is a full redraw or an empty diff.
 abbrev pub HasNoDiff : Update → Type 0
 HasNoDiff (Full rows cols text) = Unit {0}
 HasNoDiff (Diff text) = string_bytes text ≡ []
@@ -88,7 +88,7 @@ pub record ReadsAtMost (every : ℕ) (left rest : Option (List ℕ)) : Type 0 wh
   pub few : length bytes ≤ every
   pub reads : Consumes left rest bytes
 
--- The mirror has read nothing, and the viewer has not received an update yet.
+-- The mirror's parser is in ground state, the given viewer exists, and no screen is recorded for this viewer.
 pub record IsBegun (mirror : MirrorValue) (viewer : ℕ) : Type 0 where
   pub scanner : StandsFor mirror.parser.scanner start
   pub views : is_viewer mirror.viewers viewer ≡ true

@@ -27,10 +27,10 @@ pub record KeptValue : Type 0 where
   pub scrolling : Option DiffFrom
   -- The text of the current screen's redraw, if stored.
   pub redraw : Option (List ℕ)
-  -- The viewers that received an update since the screen last changed.
+  -- The numbers of the viewers that received an update since the last input and the last resize.
   pub current_viewers : List ℕ
 
--- The recorded screens with their viewer numbers, without the versions of the copies.
+-- The recorded screens with their viewer numbers. The version number of each recorded copy is omitted.
 abbrev pub screens_of : List (ℕ × Note) → List (ℕ × ScreenValue)
 screens_of notes = map (λ (e : ℕ × Note). (e.0, e.1.screen)) notes
 
@@ -51,11 +51,11 @@ from_of (Some diff) = Some diff.from
 abbrev pub noted_at : List (ℕ × Note) → ℕ → Option Note
 noted_at notes viewer = lookup (is_at (nat_cmp viewer)) notes
 
--- Whether two notes have the same version, which is not 0; version 0 means that a note has no version.
+-- Whether two copies share a version number other than 0; a copy with the number 0 has no version.
 abbrev pub have_one_version : (one other : Note) → Bool
 have_one_version one other = nat_lt 0 one.version && (one.version == other.version)
 
--- Whether a note has the same version as the kept copy of the current screen, and is therefore known to be a copy of
+-- Whether a copy has the same version as the kept copy of the current screen, and is therefore known to be a copy of
 -- that screen.
 abbrev pub is_of_current : (current note : Option Note) → Bool
 is_of_current None _ = false
@@ -83,18 +83,18 @@ IsKept copies note =
     ((viewer : ℕ) × (noted_at copies.notes viewer ≡ Some note))
     ⊎ ((copies.current ≡ Some note) ⊎ ((copies.diff ≡ Some note) ⊎ (copies.scrolling ≡ Some note)))
 
--- The two copies have the same version, which is not 0; version 0 means that a copy has no version.
+-- The two copies share a version number other than 0; a copy with the number 0 has no version.
 pub record AreOfOneVersion (one other : Note) : Type 0 where
   pub numbered : 0 < one.version
   pub equal : one.version ≡ other.version
 
 pub record AreShared (copies : Copies) (version : ℕ) : Type 0 where
-  -- `version` is the last version that was assigned to a copy.
+  -- No kept copy has a version above `version`, the last one that was assigned to a copy.
   pub below : (note : Note) → IsKept copies note → note.version ≤ version
   pub agree : (one other : Note) → IsKept copies one → IsKept copies other →
       AreOfOneVersion one other → one.screen ≡ other.screen
 
--- If a copy of the current screen is kept, it has a version; otherwise, another version number is available.
+-- If a copy of the current screen is kept, it has a version; otherwise, a version number above `version` is available.
 abbrev pub HasVersion : Option Note → (version : ℕ) → Type 0
 HasVersion None version = version < greatest
 HasVersion (Some note) version = 0 < note.version
@@ -104,12 +104,12 @@ pub record AreKept (value : ViewersValue) (copies : Copies) (version : ℕ) : Ty
   pub shared : AreShared copies version
   pub numbered : HasVersion copies.current version
 
--- The notes with their versions reset to 0.
+-- The copies recorded for viewers, with their versions reset to 0.
 abbrev pub without_versions : List (ℕ × Note) → List (ℕ × Note)
 without_versions notes = map (λ (e : ℕ × Note). (e.0, record (e.1) { version = 0 })) notes
 
--- There is a next version number: either the number and the notes are unchanged, or numbering starts again from 0 and
--- no note keeps its version number.
+-- There is a next version number: either the number and the recorded copies are unchanged, or numbering starts again
+-- from 0 and all recorded copies lose their versions.
 abbrev pub HaveNext : (version : ℕ) (notes : List (ℕ × Note)) (after : ℕ) (renewed : List (ℕ × Note)) → Type 0
 HaveNext version notes after renewed =
     ((after ≡ version) × (renewed ≡ notes) × (version < greatest))
@@ -123,7 +123,7 @@ IsRenewed screen version current after renewed =
     ⊎ ((note : Note) × (renewed ≡ Some note) × (note.version ≡ after)
     × (after ≡ suc version) × (note.screen ≡ screen) × (current ≡ None))
 
--- The note is the kept copy of the current screen.
+-- The copy `note` is the kept copy of the current screen `self`.
 pub record IsCurrentNote (self : ScreenValue) (current : Option Note) (note : Note) : Type 0 where
   pub screen : note.screen ≡ self
   pub kept : current ≡ Some note

@@ -1,5 +1,5 @@
--- The output of a run over an input for its single viewer: an update at the start, one after each interval of `every`
--- bytes, and one at the end.
+-- The output of a run of `vtmirror` for its single viewer: an update at the start, one after each interval of `every`
+-- bytes of the input, and one at the end.
 use Rattle.std.specs.Prelude.{◌≡◌, ℕ, zero, suc, ◌*◌, ◌/◌, ◌<◌, ◌≤◌, ◌⊎◌, List, [], ◌∷◌, ◌++◌, length, map, take, Err, OnOk}
 use Rattle.std.specs.Io.KnownBytes.{Appends, Consumes, IsAtEnd, Keeps}
 use Rattle.std.specs.List.{AllByRecursion}
@@ -16,7 +16,7 @@ use Rattle.vt_show.specs.declared.faults.Fault.{Fault}
 use Rattle.vt_show.specs.declared.faults.Fault.TheVariants.{Memory, Read, Write}
 use Rattle.vt_show.specs.Shown.{AppendsPart}
 
--- ---- the screens after the first one for which the viewer gets an update
+-- ---- the screens for which the viewer gets an update, except the first screen
 
 -- The first `count` positive multiples of `number`.
 abbrev pub multiples : (number count : ℕ) → List ℕ
@@ -38,7 +38,7 @@ pub record IsUpdatedAfter (first screen : ScreenValue) : Type 0 where
   pub colored : IsColored screen
   pub size : SameSize screen.page first.page
 
--- ---- the texts of these updates: what `Screen::contents_formatted` returns for the first screen, and
+-- ---- the texts of the updates: what `Screen::contents_formatted` returns for the first screen, and
 -- `Screen::contents_diff` for each later one
 
 abbrev pub text_on_way : (first : ScreenValue) (every : ℕ) → List ℕ → List ℕ

@@ -18,8 +18,8 @@ pub record IsRedraw (self : ScreenValue) (text : List ℕ) : Type 0 where
   pub controls : IsMadeOf drawing_finals drawing_controls text
   pub again : KeepsPlain text
 
--- The recorded screens have the mirror's size, and the copy of the current screen and the stored texts belong to the
--- mirror's screen.
+-- The recorded screens have the mirror's size, the copy of the current screen equals the mirror's screen, and the
+-- stored texts are diffs to that screen or its redraw.
 pub record IsSharing (parser : ParserValue (Unit {0})) (kept : KeptValue) : Type 0 where
   pub sized : IsMirror (record { parser = parser; viewers = kept.viewers; current = kept.current_viewers })
   pub current : IfSome kept.current (λ screen. screen ≡ parser.screen)

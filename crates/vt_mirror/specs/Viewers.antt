@@ -21,12 +21,13 @@ is_viewer viewers viewer = list_any (is_at (nat_cmp viewer)) viewers.numbers
 abbrev pub is_among : (numbers : List ℕ) → ℕ → Bool
 is_among numbers viewer = list_any (is_at (nat_cmp viewer)) numbers
 
--- The change to a set of viewer numbers: `is` is true if `viewer` is now in the set. All other numbers are unaffected.
+-- The viewer numbers after a change: they include `viewer` if and only if `is` is true. All other numbers are
+-- unaffected.
 pub record PutsAmong (old : List ℕ) (viewer : ℕ) (is : Bool) (new : List ℕ) : Type 0 where
   pub here : is_among new viewer ≡ is
   pub others : (other : ℕ) → other ≢ viewer → is_among new other ≡ is_among old other
 
--- The screen recorded for a viewer number.
+-- The screen recorded for a viewer number; `None` if no screen is recorded.
 abbrev pub note_of : ViewersValue → ℕ → Option ScreenValue
 note_of viewers viewer = lookup (is_at (nat_cmp viewer)) viewers.notes
 

@@ -1,4 +1,4 @@
-//! Copies of a screen that viewers share.
+//! Copies of what a screen displays, which are shared by viewers.
 
 ghost use Rattle.std.specs.Prelude.{◌≡◌, ◌↔◌, IfOk, IfSome, IsTrue, true};
 ghost use Rattle.vt_cells.specs.Refusals.{OnlyOutOfMemory};
@@ -66,8 +66,7 @@ impl DisplayCopy {
         &self.copy
     }
 
-    /// Returns whether the screen that was copied is steady, which was
-    /// determined when the copy was made.
+    /// Returns whether the copied screen was steady, as determined when the copy was made.
     fn is_steady(&self) -> bool
         ensures { IsTrue result ↔ IsSteady (display self.now) }
     {
@@ -126,8 +125,7 @@ impl SharedCopy {
         self.shared.screen()
     }
 
-    /// Returns whether the screen that was copied is steady, without reading
-    /// its cells.
+    /// Returns whether the copied screen was steady, without reading any cells.
     pub(crate) fn is_steady(&self) -> bool
         ensures { IsTrue result ↔ IsSteady (display self.now) }
     {
@@ -140,8 +138,8 @@ impl SharedCopy {
     }
 }
 
-/// A copy of a screen, along with a version number. Copies with the same
-/// version are copies of the same screen.
+/// A copy of a screen, along with a version number. Copies with the same nonzero version are copies
+/// of the same screen.
 #[derive(Drop)]
 pub(crate) struct Note {
     /// The version number, or 0 if the copy has none.
@@ -165,8 +163,8 @@ impl Note {
         })
     }
 
-    /// Returns whether the two notes have the same version, which means that
-    /// they are copies of the same screen. Notes without a version never match.
+    /// Returns whether this note and `other` have the same version, which means that both hold
+    /// copies of the same screen. A note without a version matches no other.
     pub(crate) fn is_of_version(&self, other: &Note) -> bool
         ensures test { result ≡ have_one_version self.now other.now }
         ensures equal { result ≡ true ↔ AreOfOneVersion self.now other.now }

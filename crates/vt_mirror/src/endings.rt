@@ -5,8 +5,8 @@ ghost use Rattle.vt_mirror.specs.Endings.{line_of, status_of};
 
 use vt_show::Fault;
 
-/// Returns the message for standard error (without a trailing newline) and the
-/// exit status for a fault. `None` stands for invalid command-line arguments.
+/// Returns the message for standard error (without a trailing newline) and the exit status for a
+/// fault. `None` means that the command-line arguments are invalid.
 ///
 /// # Examples
 ///

@@ -120,8 +120,9 @@ fn run_viewer<R: Read, W: Write>(
     Err(Fault::Read)
 }
 
-/// Reads `every` bytes into the mirror, or all remaining bytes if there are
-/// fewer. Returns whether `every` bytes were read.
+/// Reads `every` bytes into the mirror, or all remaining bytes if there are fewer. Returns whether
+/// `every` bytes were read. Returns `Fault::Read` if a read fails, and `Fault::Memory` if an
+/// allocation fails.
 fn read_stretch<R: Read>(
     mirror: &mut Mirror,
     reader: &mut R,
@@ -155,7 +156,8 @@ fn read_stretch<R: Read>(
     Err(Fault::Read)
 }
 
-/// Writes the viewer's next update and flushes the writer.
+/// Writes the viewer's next update and flushes the writer. Returns `Fault::Memory` if an allocation
+/// fails, and `Fault::Write` if the update cannot be written.
 fn write_update<W: Write>(mirror: &mut Mirror, viewer: u64, writer: &mut W) -> Result<(), Fault>
     requires { is_viewer mirror.old.viewers viewer ≡ true }
     ensures writes { OnOk result

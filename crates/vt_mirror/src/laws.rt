@@ -1,4 +1,4 @@
-//! Laws about sequences of calls. These functions do nothing when called; their
+//! Laws about sequences of calls. The functions of this module do nothing when called; their
 //! clauses state what is proved.
 
 ghost use Rattle.std.specs.List.{AllByRecursion, FoldsTo};

@@ -177,8 +177,8 @@ impl Mirror {
     /// row and one column. Every other update is a diff from the screen at the viewer's last update
     /// to the current screen. The diff is empty if the display has not changed since that update.
     /// If the screen is steady (each glyph reproduces itself when printed), the diff is empty only
-    /// in that case, and reading the diff touches only what is near a change, as with
-    /// `Screen::contents_diff`.
+    /// in that case, and reading the diff touches only rows that differ, the rows directly below
+    /// them, and possibly the end of one row, as with `Screen::contents_diff`.
     ///
     /// A plain terminal is one in ground state, with the full scroll region, origin mode off and no
     /// scrollback displayed. Suppose that such a terminal reads all updates of one viewer in order,
@@ -188,10 +188,9 @@ impl Mirror {
     ///
     /// # Errors
     ///
-    /// Returns `Error::OutOfMemory` if the text of the update or the copy of
-    /// the screen that is recorded cannot be allocated. On error, nothing is
-    /// changed, and the same update can be requested again. There is no error
-    /// if the viewer is up to date (clause `never`; see
+    /// Returns `Error::OutOfMemory` if the text of the update or the copy of the screen that is
+    /// recorded cannot be allocated. On error, nothing is changed, and the same update can be
+    /// requested again. There is no error if the viewer is up to date (clause `never`; see
     /// [`is_current`](Mirror::is_current)).
     pub fn update(&mut self, viewer: u64) -> Result<Option<Update>, Error>
         ensures call { Asks Drawn self.old viewer result self.new }
@@ -206,7 +205,7 @@ impl Mirror {
     }
 
     /// Returns the viewer's next update, as [`update`](Mirror::update) does, except that a diff may
-    /// move rows or columns first.
+    /// begin by moving rows or columns.
     ///
     /// As with `Screen::contents_diff_scrolling`, the diff is never longer than the one that
     /// `update` would return, may be much shorter after text has scrolled, and may touch any row.
@@ -217,10 +216,9 @@ impl Mirror {
     ///
     /// # Errors
     ///
-    /// Returns `Error::OutOfMemory` if an allocation fails, as `update` does.
-    /// On error, nothing is changed, and the same update can be requested
-    /// again. There is no error if the viewer is up to date and the screen is
-    /// steady (clause `never`).
+    /// Returns `Error::OutOfMemory` if an allocation fails, as `update` does. On error, nothing is
+    /// changed, and the same update can be requested again. There is no error if the viewer is up
+    /// to date and the screen is steady (clause `never`).
     pub fn update_scrolling(&mut self, viewer: u64) -> Result<Option<Update>, Error>
         ensures call { Asks Scrolling self.old viewer result self.new }
         ensures never { is_current self.old viewer ≡ true → IsSteady (display self.old.parser.screen) → IsOk result }
@@ -235,9 +233,9 @@ impl Mirror {
 
     /// Returns whether the viewer is up to date, which means that it has had an update since the
     /// last call to [`process`](Mirror::process) and the last change of size. The next update of
-    /// such a viewer cannot fail and is an empty diff, unless the screen is not steady and rows may
-    /// move first (`update_scrolling`, or `update_with` with `scroll`): then it is a full update.
-    /// The test allocates nothing and reads no cells.
+    /// such a viewer cannot fail and is an empty diff. If the screen is not steady, this does not
+    /// apply to `update_scrolling` or to `update_with` with `scroll`, which then return a full
+    /// update. This function allocates nothing and reads no cells.
     ///
     /// Returns `false` if there is no viewer whose number is `viewer`. After each call to
     /// `process`, returns `false` for every viewer until that viewer's next update, even if the
@@ -306,8 +304,8 @@ impl Mirror {
     }
 
     /// Returns the diff from the screen recorded for a viewer to the current screen. The diff may
-    /// move rows or columns first. Returns the full redraw instead if no screen is recorded or the recorded
-    /// screen is not steady.
+    /// begin by moving rows or columns. Returns the full redraw instead if no screen is recorded or
+    /// the recorded screen is not steady.
     ///
     /// # Errors
     ///
@@ -347,12 +345,11 @@ impl Mirror {
         Ok(Update::Diff(text))
     }
 
-    /// Records the current screen for a viewer.
+    /// Records the current screen as the screen at a viewer's last update.
     ///
     /// # Errors
     ///
-    /// Returns `Error::OutOfMemory` if an allocation fails. On error, nothing
-    /// is changed.
+    /// Returns `Error::OutOfMemory` if an allocation fails. On error, nothing is changed.
     fn note(&mut self, viewer: u64) -> Result<(), Error>
         requires { is_viewer self.old.viewers viewer ≡ true }
         ensures parser { self.new.parser ≡ self.old.parser }

@@ -41,9 +41,8 @@ impl DiffCache {
         }
     }
 
-    /// Stores `text` if other viewers share the copy in `note`. `text` is the
-    /// text of the diff that starts from the copied screen. If an allocation
-    /// fails, the cache is unchanged.
+    /// Stores `text`, the diff that starts from the screen copied in `note`, if the copy has other
+    /// holders. If an allocation fails, the cache is unchanged.
     pub(crate) fn keep(&mut self, note: &Note, text: &str, alloc: Global)
         ensures { (self.new ≡ self.old) ⊎ ((diff : KeptDiff) × (self.new.last ≡ Some diff)
             × (diff.from ≡ note.now) × (string_bytes diff.text ≡ text.now)) }

@@ -177,9 +177,8 @@ impl Viewers {
         Some(text)
     }
 
-    /// Stores `text` if other viewers may need it and memory can be allocated.
-    /// `text` is the text of a viewer's diff. The diff leads from the screen
-    /// recorded for the viewer to the current screen.
+    /// Stores `text`, the diff from the screen recorded for a viewer to the current screen, if
+    /// other viewers may need it and memory can be allocated.
     pub(crate) fn keep_diff(&mut self, viewer: u64, text: &str, alloc: Global)
         ensures rest { self.new ≡ record self.old { diff = self.new.diff } }
         ensures diff { (self.new.diff ≡ self.old.diff) ⊎ ((screen : ScreenValue)
@@ -203,9 +202,8 @@ impl Viewers {
         Some(text)
     }
 
-    /// Stores `text` if other viewers may need it and memory can be allocated.
-    /// `text` is the text of a viewer's scrolling diff. The diff leads from the
-    /// screen recorded for the viewer to the current screen.
+    /// Stores `text`, the scrolling diff from the screen recorded for a viewer to the current
+    /// screen, if other viewers may need it and memory can be allocated.
     pub(crate) fn keep_scrolling(&mut self, viewer: u64, text: &str, alloc: Global)
         ensures rest { self.new ≡ record self.old { scrolling = self.new.scrolling } }
         ensures scrolling { (self.new.scrolling ≡ self.old.scrolling) ⊎ ((screen : ScreenValue)
@@ -227,8 +225,8 @@ impl Viewers {
         }
     }
 
-    /// Stores `text` if there are other viewers and memory can be allocated.
-    /// `text` is the redraw of the current screen.
+    /// Stores `text`, the redraw of the current screen, if there are at least two viewers and
+    /// memory can be allocated.
     pub(crate) fn keep_redraw(&mut self, text: &str, alloc: Global)
         ensures { (self.new ≡ self.old) ⊎ (self.new ≡ record self.old { redraw = Some text.now }) }
     {
@@ -241,12 +239,12 @@ impl Viewers {
         self.redraw = Some(text);
     }
 
-    /// Records the current screen for a viewer.
+    /// Records `screen`, the current screen, as the screen at a viewer's last update.
     ///
     /// # Errors
     ///
-    /// Returns `Error::OutOfMemory` if an allocation fails. On error, the
-    /// records are unchanged. There is no error if the viewer is up to date.
+    /// Returns `Error::OutOfMemory` if an allocation fails. On error, the records are unchanged.
+    /// There is no error if the viewer is up to date.
     pub(crate) fn note(&mut self, viewer: u64, screen: &Screen, alloc: Global) -> Result<(), Error>
         requires viewer { is_viewer self.old.viewers viewer ≡ true }
         requires current { IfSome self.old.current (λ current. current ≡ screen.now) }
@@ -309,8 +307,8 @@ impl Viewers {
     }
 }
 
-/// Restarts the version numbers if `u64::MAX` has been assigned, so that the next copy can have a
-/// version. The recorded copies, `notes`, then lose their versions.
+/// Resets the last version number, `version`, if it has reached `u64::MAX`, so that there is a number
+/// for the next copy. The recorded copies, `notes`, then have no version numbers any more.
 fn leave_a_version(version: &mut u64, notes: &mut BTreeMap<u64, Note>)
     ensures { HaveNext version.old notes.old.entries version.new notes.new.entries }
 {

@@ -1,4 +1,4 @@
--- The calls and rows that notes stand for.
+-- The calls that notes record, and the values of stored rows.
 use Rattle.std.specs.Prelude.{◌≡◌, map, string_bytes}
 use Rattle.vt_notes.specs.declared.note.KeptRow.{KeptRow}
 use Rattle.vt_notes.specs.declared.note.Note.{Note}
@@ -12,7 +12,7 @@ use Rattle.vt_screen.specs.Calls.{CallValue}
 abbrev pub row_of : KeptRow → RowValue
 row_of row = record { cells = row.cells.items; wrapped = row.wrapped }
 
--- The call to a callback that a note stands for.
+-- The call to a callback that a note records.
 abbrev pub value_of : Note → CallValue
 value_of note.AudibleBell = value.AudibleBell
 value_of note.VisualBell = value.VisualBell
@@ -29,7 +29,7 @@ value_of (note.UnhandledCsi first second groups byte) =
 value_of (note.UnhandledOsc parts) = value.UnhandledOsc (map (λ part. part.items) parts.items)
 value_of (note.OnScroll row alternate) = value.OnScroll (row_of row) alternate
 
--- If the note is about a reported row, the note stores the text that this row has as the first row of a capture.
+-- If the note records a call to `on_scroll`, the stored text is that of a capture that consists of the reported row.
 abbrev pub HasText : Note → Type 0
 HasText (note.OnScroll row alternate) = string_bytes row.text ≡ basic_text nothing_written (row_of row)
 HasText _ = Unit {0}

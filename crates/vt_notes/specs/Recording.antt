@@ -13,7 +13,7 @@ pub record Recorded : Type 0 where
   pub state : Written
   pub is_whole : Bool
 
--- The initial state: an empty capture with nothing missing.
+-- The initial state of a recording, which is empty and complete.
 abbrev pub nothing_recorded : Recorded
 nothing_recorded = record { text = []; state = nothing_written; is_whole = true }
 

@@ -13,9 +13,9 @@ ghost use Rattle.vt_screen.specs.Capture.{all_rows, basic_texts};
 ghost use Rattle.vt_screen.specs.Streamed.{HasNoRis};
 ghost use Rattle.vt_screen.specs.CallsOfRun.{calls_in, screen_in};
 
-/// States the result of a run whose callbacks note each call. The screen is the one that the bytes
-/// produce. If no note is missing, the new notes are exactly the calls that the bytes cause, each
-/// once and in order.
+/// States the result of a run whose callbacks record each call in a note. After the run, the screen
+/// is the one that the bytes produce. If no note is missing, the new notes record exactly the calls
+/// that the bytes cause, each once and in order.
 pub fn runs()
     ensures shown { (old new : ParserValue Noted) (bytes : List ℕ) (scan : State) → Ran NotesIt old bytes new →
         StandsFor old.scanner scan → new.screen ≡ screen_in scan old.screen bytes }

@@ -1,5 +1,5 @@
-//! Callbacks that note each call with all its arguments, for tests and for replaying recorded
-//! cases. The notes after a run are proved to be exactly the calls of that run.
+//! Callbacks that record each call with all its arguments in a note, for tests and for replaying
+//! recorded cases. The notes after a run are proved to record exactly the calls of that run.
 #![tactic(auto)]
 
 pub mod laws;

@@ -1,11 +1,12 @@
-//! Notes as lines of text.
+//! Conversion of notes to lines of text.
 
 use crate::note::Note;
 use std::alloc::AllocError;
 use std::convert::AsSlice;
 
 impl Note {
-    /// Appends the noted call to `lines` as one line, including a trailing newline.
+    /// Appends the recorded call to `lines` as one line, including a trailing newline. Returns
+    /// [`AllocError`] if an allocation fails.
     pub(crate) fn write_line(&self, lines: &mut String) -> Result<(), AllocError> {
         match self {
             Note::AudibleBell => writeln!(lines, "audible_bell()"),
@@ -49,8 +50,8 @@ fn write_texts<T: AsSlice<u8>>(
     writeln!(lines, ")")
 }
 
-/// Appends the line for a row that scrolled off: its text in hexadecimal (a dot if the text is
-/// empty), and 1 if the row was on the alternate page, otherwise 0.
+/// Appends the line for a row that scrolled off: `scroll`, the row's text in hexadecimal (a dot if
+/// the text is empty), and 1 if the row was on the alternate page, otherwise 0.
 fn write_scroll(lines: &mut String, text: &[u8], alternate: bool) -> Result<(), AllocError> {
     write!(lines, "scroll ")?;
     if text.is_empty() {

@@ -43,7 +43,7 @@ pub enum Note {
 }
 
 impl Note {
-    /// Creates a note of a call.
+    /// Creates a record of a callback call, with copies of its arguments.
     ///
     /// # Errors
     ///
@@ -81,8 +81,8 @@ impl Note {
         }
     }
 
-    /// Creates a note of a row that scrolled off. `alternate` is true if the row was on the
-    /// alternate page.
+    /// Creates a note that records a row that scrolled off. `alternate` is true if the row was on
+    /// the alternate page.
     ///
     /// # Errors
     ///
@@ -111,7 +111,7 @@ impl Note {
     }
 }
 
-/// Returns a list with a copy of each slice.
+/// Returns a list with a copy of each slice, or [`AllocError`] if an allocation fails.
 fn owned<T: Copy>(alloc: Global, lists: &[&[T]]) -> Result<Vec<Vec<T>>, AllocError>
     ensures { IfOk result (λ copies. map (λ copy. copy.items) copies.items ≡ map (λ list. list.now) lists.now) }
 {

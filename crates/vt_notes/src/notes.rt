@@ -1,4 +1,4 @@
-//! Callbacks that note each call.
+//! Callbacks that record each call in a note.
 
 ghost use Rattle.std.specs.Prelude.{◌≡◌, ◌⊎◌, map, true, All, IfOk, OnErr, OnOk};
 ghost use Rattle.vt_notes.specs.Meanings.{HasText, value_of};
@@ -54,8 +54,8 @@ impl Notes {
         }
     }
 
-    /// Returns the calls noted so far, in order. The note of a row contains the row's text with SGR
-    /// sequences and no other escape sequences.
+    /// Returns the calls noted so far, in order. The note that records a row contains the row's
+    /// text with SGR sequences and no other escape sequences.
     pub fn calls(&self) -> &[Note]
         ensures calls { map value_of result.now ≡ self.now.calls }
         ensures texts { All HasText result.now }
@@ -110,7 +110,8 @@ impl Notes {
     }
 }
 
-/// Callbacks that note each call once, with all its arguments, and do not change the screen.
+/// Callbacks that record each call in one note, with all its arguments, and do not change the
+/// screen.
 impl Callbacks for Notes {
     ghost use Rattle.vt_notes.specs.Noting.{NotesIt};
 

@@ -1,4 +1,4 @@
-//! A parser that notes all calls.
+//! A function that feeds input to a parser whose callbacks record each call in a note.
 
 ghost use Rattle.std.specs.Prelude.{◌≡◌, map, true, IfOk};
 ghost use Rattle.vt100.specs.Parser.{pieces_joined};
@@ -12,7 +12,7 @@ use std::num::NonZeroU16;
 use vt100::{Error, Parser};
 
 /// Creates a parser with a new screen of the given size, without scrollback, and feeds the chunks
-/// in `pieces` to it one by one. Its notes are exactly the calls that the bytes cause.
+/// in `pieces` to it one by one. The parser's notes record exactly the calls that the bytes cause.
 ///
 /// # Errors
 ///

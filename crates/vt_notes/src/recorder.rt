@@ -53,7 +53,7 @@ impl Recorder {
         }
     }
 
-    /// Returns the capture so far.
+    /// Returns the text captured so far.
     pub fn text(&self) -> &str
         ensures { result.now ≡ self.now.text }
     {

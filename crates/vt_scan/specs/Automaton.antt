@@ -29,7 +29,7 @@ pub data Event : Type 0 where
   EscDispatch : (intermediates : List ℕ) (byte : ℕ) → Event
   -- A control sequence, with its groups of numbers, its private marker and intermediates, and its final byte.
   CsiDispatch : (groups : List (List ℕ)) (intermediates : List ℕ) (byte : ℕ) → Event
-  -- An operating system command, with its parts.
+  -- An operating system command, with its first 16 parts; parts are separated by `;`.
   OscDispatch : (parts : List (List ℕ)) → Event
 
 -- The result of a step of the automaton: the next state and the events issued.
@@ -57,8 +57,9 @@ intermediates_of text = take 2 (filter (λ b. not (is_parameter b)) text)
 abbrev pub parts_of : List ℕ → List (List ℕ)
 parts_of text = take 16 (slice_split (λ b. b == 0x3B) text)
 
--- The events issued when a byte ends a collected sequence. The ending determines them: no event; the byte itself, as a
--- character or a control; the complete sequence; or the complete command, possibly followed by the last byte as a control character.
+-- The events issued when a byte ends a collected sequence. Depending on the ending, these are no events; the byte
+-- itself, as a character or a control character; the complete sequence; or the complete command, possibly followed by
+-- the byte as a control character.
 abbrev pub events_at_end : ending.Ending → List ℕ → ℕ → List Event
 events_at_end ends.Nothing text b = []
 events_at_end ends.Character text b = Character b ∷ []

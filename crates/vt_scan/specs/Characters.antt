@@ -2,16 +2,16 @@
 -- 3-6.
 use Rattle.std.specs.Prelude.{ℕ, ◌+◌, ◌*◌, ◌%◌, Bool, false, ◌&&◌, ◌==◌, nat_le, List, [], ◌∷◌, if◌then◌else◌}
 
--- In `is_within low high byte`, the byte is in the inclusive range from `low` to `high`.
+-- `is_within low high byte` holds if `byte` is in the inclusive range from `low` to `high`.
 abbrev pub is_within : ℕ → ℕ → ℕ → Bool
 is_within low high byte = nat_le low byte && nat_le byte high
 
--- The byte can continue a UTF-8 character: it can be the third or fourth byte, and after most first bytes also the
--- second.
+-- The byte is a UTF-8 continuation byte: it can be the third or fourth byte of a character and, after most first bytes,
+-- the second byte.
 abbrev pub continues : ℕ → Bool
 continues byte = is_within 0x80 0xBF byte
 
--- The second of the two bytes can follow the first one at the beginning of a character.
+-- The second byte can follow the first byte in the encoding of a character, if the first byte can begin a character.
 abbrev pub is_second : ℕ → ℕ → Bool
 is_second first byte =
     if first == 0xE0 then is_within 0xA0 0xBF byte

@@ -96,7 +96,8 @@ abbrev pub Ascends : ℕ → List ℕ → ℕ → Type 0
 Ascends from [] len = from < len
 Ascends from (to ∷ ends) len = (from < to) × Ascends to ends len
 
--- The events that the scanner returns when a byte ends the collected sequence with the given ending.
+-- The events that the scanner returns when the given byte ends the collected sequence. The ending says whether the
+-- sequence, the byte or both cause an event.
 abbrev pub answer_of : Ending → ℕ → Events
 answer_of ending.Nothing b = record { first = None; second = None }
 answer_of ending.Character b = record { first = Some (event.Character b); second = None }

@@ -1,4 +1,4 @@
--- Runs of narrow characters.
+-- Runs of narrow characters in the scanner's input.
 use Rattle.std.specs.Prelude.{◌≡◌, ◌≢◌, ℕ, ◌<◌, true, List, map, Some, All}
 use Rattle.std.specs.Char.{IsScalar}
 use Rattle.vt_cells.specs.Glyph.{columns_of}
@@ -11,7 +11,8 @@ use Rattle.vt_scan.specs.Texts.{back_with}
 abbrev pub IsNarrowCharacter : ℕ → Type 0
 IsNarrowCharacter c = IsScalar c × ((c ≢ 0xFFFD) × (columns_of c ≡ Some 1))
 
--- In the ground state, the bytes are parsed as the characters of `text`, each of which takes one column.
+-- In the ground state, the bytes are parsed as the characters of `text`, each of which takes one column and is not
+-- U+FFFD.
 pub record AreNarrow (bytes text : List ℕ) : Type 0 where
   pub read : run start bytes ≡ back_with (map Character text)
   pub narrow : All IsNarrowCharacter text

@@ -8,7 +8,7 @@ use Rattle.std.specs.Int.Digits.{number_from_digits}
 abbrev pub digit_of : ℕ → ℕ
 digit_of byte = byte - 0x30
 
--- The value of a string of decimal digits: 0 if the string is empty, and at most 65535.
+-- The value of a string of decimal digits, clamped to 65535; 0 if the string is empty.
 unfoldable pub number_of : List ℕ → ℕ
 number_of digits = min 65535 (number_from_digits 10 (map digit_of digits))
 

@@ -1,5 +1,5 @@
 -- The data that a scanner holds about the bytes that it has read, the states of the automaton that this data can
--- stand for, and the meaning of the events that it returns.
+-- represent, and the meaning of the events that the scanner returns.
 use Rattle.std.specs.Prelude.{◌≡◌, ◌≢◌, ℕ, ◌<◌, ◌≤◌, ◌==◌, ◌&&◌, ◌||◌, nat_le, Bool, false, List, [], ◌++◌, length, map, option_to_list}
 use Rattle.vt_scan.specs.Parameters.{GroupTable, table_of}
 use Rattle.vt_scan.specs.Automaton as automaton
@@ -51,8 +51,8 @@ abbrev pub unfinished_command : Kind → List ℕ → List ℕ
 unfinished_command OscString text = text
 unfinished_command _ text = []
 
--- The event of the automaton that corresponds to an event of the scanner. Its lists are taken from the data that the
--- scanner holds.
+-- The automaton's event that corresponds to an event of the scanner, with lists taken from the data that the scanner
+-- holds.
 abbrev pub event_of : ScannerValue → event.Event → automaton.Event
 event_of held (given.Character c) = automaton.Character c
 event_of held (given.Executed b) = automaton.Executed b
@@ -60,13 +60,12 @@ event_of held (given.Escape b) = automaton.EscDispatch held.intermediates b
 event_of held (given.Csi b) = automaton.CsiDispatch held.table.groups held.intermediates b
 event_of held given.Osc = automaton.OscDispatch (parts_of held.text)
 
--- The events of the automaton that correspond to the scanner's events, in the same order. `held` is what the scanner
--- stores.
+-- The automaton's events that correspond to events of a scanner with the given value, in the same order.
 abbrev pub events_in : ScannerValue → Events → List automaton.Event
 events_in held events = map (event_of held) (option_to_list events.first ++ option_to_list events.second)
 
--- The scanner can be in the state after the step, and the events that the scanner returned stand for exactly the events
--- of the step.
+-- The scanner can be in the state after the step, and the events that the scanner returned correspond exactly to the
+-- events of the step.
 pub record Follows (new : ScannerValue) (answer : Events) (step : Step) : Type 0 where
   pub stands : StandsFor new step.state
   pub means : events_in new answer ≡ step.events
@@ -96,7 +95,7 @@ abbrev pub FeedsAll : ScannerValue → List ℕ → ScannerValue → List automa
 FeedsAll old bytes new events =
     (state : State) → StandsFor old state → StandsFor new (run state bytes).state × ((run state bytes).events ≡ events)
 
--- Reading the given bytes produces no events, whatever state the scanner is in.
+-- From every state that the scanner can be in, reading the given bytes produces no events.
 abbrev pub HasNoEvent : ScannerValue → List ℕ → Type 0
 HasNoEvent held bytes = (state : State) → StandsFor held state → (run state bytes).events ≡ []
 
@@ -131,17 +130,18 @@ is_introducer _ unfinished b = false
 abbrev pub is_final : ℕ → Bool
 is_final b = nat_le 0x40 b && nat_le b 0x7E
 
--- The byte ends a control sequence without intermediates, which is then dispatched.
+-- In a state of the given kind, the byte ends a control sequence without intermediates, and the sequence is dispatched.
 abbrev pub ends_sequence : Kind → ℕ → Bool
 ends_sequence CsiEntry b = is_final b
 ends_sequence CsiParam b = is_final b
 ends_sequence _ b = false
 
--- The byte ends an escape sequence, which is then dispatched.
+-- In a state of the given kind, the byte ends an escape sequence, which is then dispatched.
 abbrev pub EndsEscape : Kind → ℕ → Type 0
 EndsEscape kind b = transition_of kind (class_of b) ≡ End Ground EscDispatch
 
--- The byte ends an operating system command; dispatching that command is the only event the byte causes.
+-- In a state of the given kind, the byte ends an operating system command; dispatching that command is the only event
+-- that the byte causes.
 abbrev pub ends_command : Kind → ℕ → Bool
 ends_command OscString b = (b == 0x07) || (b == 0x1B)
 ends_command _ b = false

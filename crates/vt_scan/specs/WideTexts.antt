@@ -15,7 +15,7 @@ pub record IsWideThree (bytes : List ℕ) (c : ℕ) : Type 0 where
   pub low : c < 0xFFFD
   pub wide : columns_of c ≡ Some 2
 
--- The bytes of the character at the given index in the encoding of a text whose characters take three bytes each.
+-- The bytes of the character at the given index in the encoding of a string whose characters take three bytes each.
 abbrev pub three_at : List ℕ → ℕ → List ℕ
 three_at bytes k =
     slice_index_or bytes (3 * k) 0 ∷ slice_index_or bytes (3 * k + 1) 0 ∷ slice_index_or bytes (3 * k + 2) 0 ∷ []

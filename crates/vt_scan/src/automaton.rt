@@ -28,10 +28,10 @@ use vt_cells::Error;
 /// A parser that reads terminal output byte by byte and returns events.
 ///
 /// It follows Paul Williams' parser for ANSI terminals, with UTF-8 as in Table 3-7 of the Unicode
-/// Standard. For a control sequence it returns the first 32 numbers, each clamped to 65535. Of a
-/// sequence's private marker and intermediate bytes, it returns the first two. For an operating
-/// system command it returns the first 16 parts. Memory is allocated only for the text of such a
-/// command.
+/// Standard. It returns the first 32 numbers of a control sequence, each clamped to 65535; the
+/// first two bytes among the private marker and the intermediates of a sequence; and the first 16
+/// parts of an operating system command. Memory is allocated only for the text of operating system
+/// commands.
 pub struct Scanner {
     kind: Kind,
     unfinished: Unfinished,
@@ -142,8 +142,8 @@ impl Scanner {
     /// Returns the number of bytes stored for an incomplete operating system command, not counting
     /// its introducer.
     ///
-    /// Returns 0 outside such a command: other strings are dropped as they are read, and other
-    /// sequences take a fixed amount of memory.
+    /// Returns 0 outside such a command: other control strings are dropped as they are read, and
+    /// other sequences take a fixed amount of memory.
     #[inline]
     pub fn pending_len(&self) -> usize
         ensures held { result ≡ length (unfinished_command self.now.kind self.now.text) }
@@ -296,7 +296,8 @@ impl Scanner {
 /// command (OSC) to the next.
 const KEPT_CAPACITY: usize = 4096;
 
-/// Empties `text`. Also frees its memory if its capacity exceeds [`KEPT_CAPACITY`].
+/// If the capacity of `text` exceeds [`KEPT_CAPACITY`], empties it and frees its memory. Otherwise
+/// leaves it unchanged.
 #[inline]
 fn release(text: &mut Vec<u8>)
     ensures bounded { vec_capacity text.new ≤ 4096 }
@@ -311,7 +312,7 @@ fn release(text: &mut Vec<u8>)
     text.shrink_to_fit();
 }
 
-/// Returns the events of `ending`, where `byte` is the byte that caused it.
+/// Converts `ending` to events. `byte` is the byte that caused the ending.
 #[inline]
 fn answer(ending: Ending, byte: u8) -> Events
     ensures { result ≡ answer_of ending byte }

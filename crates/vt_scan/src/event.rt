@@ -4,8 +4,8 @@ ghost use Rattle.std.specs.Prelude.{◌≡◌, None, Some};
 
 /// An event of the scanner: a character, a control character, or a complete sequence.
 ///
-/// The numbers, intermediates and parts of a sequence can be read from the scanner until it parses
-/// the next byte.
+/// The parameters, intermediates and parts of a sequence can be read from the scanner until it
+/// parses the next byte.
 #[derive(Clone, Copy, PartialEq, Eq, Debug)]
 pub enum Event {
     /// A character to print.
@@ -17,7 +17,7 @@ pub enum Event {
     /// An escape sequence, with its final byte. The scanner holds its intermediates.
     Escape(u8),
 
-    /// A control sequence, with its final byte. The scanner holds its numbers and intermediates.
+    /// A control sequence, with its final byte. The scanner holds its parameters and intermediates.
     Csi(u8),
 
     /// An operating system command. The scanner holds its parts.

@@ -7,8 +7,8 @@ use std::marker::Model;
 /// The maximum number of intermediates kept, including the private marker.
 const MAX_MARKS: usize = 2;
 
-/// A list of the first two intermediates that were pushed, including the
-/// private marker.
+/// A list that keeps the first two intermediates pushed to it. The private marker counts as an
+/// intermediate.
 #[derive(Drop)]
 pub struct Intermediates {
     bytes: [u8; MAX_MARKS],

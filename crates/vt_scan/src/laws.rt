@@ -25,9 +25,9 @@ pub fn pieces()
 
 /// States that the contents of a scanner determine how it parses all further input.
 ///
-/// All states that a scanner represents yield the same events for the same bytes. A scanner that
-/// represents the state reached from one of them also represents the states reached from the other
-/// states.
+/// From any two states that a scanner represents, the same bytes yield the same events. A scanner
+/// that represents the state reached from one of the two also represents the state reached from the
+/// other.
 pub fn futures()
     ensures events { (held : ScannerValue) (s t : State) (bytes : List ℕ) → StandsFor held s →
         StandsFor held t → (run s bytes).events ≡ (run t bytes).events }

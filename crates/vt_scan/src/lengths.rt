@@ -1,4 +1,4 @@
-//! Searches for the end of a run of bytes.
+//! Functions that find the end of a run of bytes.
 
 ghost use Rattle.std.specs.Prelude.{◌≡◌, ◌≢◌, ◌<◌, ◌≤◌, All, false, length, map, slice_index_or, take, true, ℕ};
 ghost use Rattle.std.specs.List.{AllByRecursion};
@@ -19,7 +19,7 @@ pub fn printable_len(bytes: &[u8]) -> usize
     len_before(bytes, 0x7F, 0xA0)
 }
 
-/// Returns the number of leading bytes before the first C0 control character.
+/// Returns the number of leading bytes that are not C0 control characters.
 #[inline]
 pub fn text_len(bytes: &[u8]) -> usize
     ensures inside { result ≤ length bytes.now }
@@ -29,7 +29,7 @@ pub fn text_len(bytes: &[u8]) -> usize
     len_before(bytes, 0x00, 0x1F)
 }
 
-/// Returns the number of leading bytes before the first `;`.
+/// Returns the number of leading bytes other than `;`.
 #[inline]
 pub fn part_len(bytes: &[u8]) -> usize
     ensures inside { result ≤ length bytes.now }
@@ -39,7 +39,7 @@ pub fn part_len(bytes: &[u8]) -> usize
     len_before(bytes, b';', 0)
 }
 
-/// Returns the number of leading bytes before the first CAN, SUB or ESC, the bytes that can end an
+/// Returns the number of leading bytes other than CAN, SUB and ESC, the bytes that can end an
 /// ignored control string.
 ///
 /// The fast search also stops at EM (0x19), which lies between CAN and SUB; it is then resumed.
@@ -71,8 +71,8 @@ pub fn escapes_len(bytes: &[u8]) -> usize
     len
 }
 
-/// Returns the number of leading bytes before the first byte in the range from `low` to `low +
-/// width`, which wraps around from 0xFF to 0.
+/// Returns the number of leading bytes outside the inclusive range from `low` to `low + width`,
+/// which wraps around from 0xFF to 0.
 #[inline(always)]
 fn len_before(bytes: &[u8], low: u8, width: u8) -> usize
     ensures inside { result ≤ length bytes.now }
@@ -93,7 +93,7 @@ fn len_before(bytes: &[u8], low: u8, width: u8) -> usize
     len
 }
 
-/// Returns a mask in which a bit is set for each lane whose byte is in the range from `low` to
+/// Returns a mask in which bit `k` is set if the byte in lane `k` is in the range from `low` to
 /// `low + width` (see [`is_in_range`]).
 #[inline(always)]
 fn lanes_in_range(lanes: u8x16, low: u8, width: u8) -> u64
@@ -104,8 +104,8 @@ fn lanes_in_range(lanes: u8x16, low: u8, width: u8) -> u64
         .to_bitmask()
 }
 
-/// Returns whether `byte` is in the range from `low` to `low + width`, which wraps around from 0xFF
-/// to 0.
+/// Returns whether `byte` is in the inclusive range from `low` to `low + width`, which wraps around
+/// from 0xFF to 0.
 #[inline(always)]
 fn is_in_range(byte: u8, low: u8, width: u8) -> bool
     ensures { result ≡ is_in_range low width byte }

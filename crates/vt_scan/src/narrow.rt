@@ -1,4 +1,4 @@
-//! Runs of narrow characters.
+//! Functions that decode runs of narrow characters.
 
 ghost use Rattle.std.specs.Prelude.{◌≡◌, ◌≤◌, ◌<◌, ◌∷◌, [], IfSome, IsTrue, Some, length, slice_index_or, take};
 ghost use Rattle.vt_cells.specs.Glyph.{columns_of};
@@ -9,8 +9,8 @@ use crate::unfinished::{join_three, join_two, may_be_second, may_continue};
 use vt_cells::columns;
 
 /// Decodes the narrow characters below U+3000 at the start of `bytes` into `text`, as many as fit.
-/// Stops before a stretch of three or more ASCII characters. Returns the number of characters
-/// decoded and the number of bytes that they take.
+/// Stops before three or more ASCII characters in a row and before an ASCII character in the last
+/// two bytes. Returns the number of characters decoded and the number of bytes that they take.
 #[inline]
 pub fn narrow_characters(bytes: &[u8], text: &mut [char]) -> (usize, usize)
     ensures same { length text.new ≡ length text.old }
@@ -55,8 +55,8 @@ fn narrow_character(bytes: &[u8]) -> Option<(char, usize)>
 }
 
 /// Returns whether `bytes` starts with a printable ASCII character followed by at least two bytes,
-/// of which the first or the second is not ASCII. A longer stretch of ASCII ends a run of narrow
-/// characters, because it is cheaper to print as a run of its own.
+/// the first or second of which is not ASCII. Three or more ASCII characters in a row end a run of
+/// narrow characters, because they are cheaper to print as a run of their own.
 #[inline(always)]
 fn is_between(bytes: &[u8]) -> bool
     requires { 0 < length bytes.now }

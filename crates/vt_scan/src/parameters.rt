@@ -1,5 +1,5 @@
-//! The parameters of a control sequence. A *group* is a parameter with its subparameters: the
-//! numbers that `:` separates. Groups are separated by `;`.
+//! The parameters of a control sequence. A *group* is a parameter with its subparameters. Groups
+//! are separated by `;`, and the numbers of a group by `:`.
 
 ghost use Rattle.std.specs.Prelude.{◌≡◌, ℕ, ◌+◌, ◌*◌, ◌<◌, ◌≤◌, List, [], ◌∷◌, ◌++◌};
 ghost use Rattle.std.specs.Prelude.{IfSome, None, false, if◌then◌else◌, length, map, min, nat_lt};
@@ -19,7 +19,7 @@ pub struct Parameters {
     numbers: [u16; MAX_NUMBERS],
     len: usize,
 
-    /// The indices at which the groups end, except for the last group.
+    /// For each group except the last, the index in `numbers` at which the group ends.
     ends: [usize; MAX_NUMBERS],
     closed: usize,
 
@@ -89,7 +89,8 @@ impl Parameters {
         self.numbers[last] = with_digit(self.numbers[last], byte - b'0');
     }
 
-    /// Ends the last number and begins a new one in the same group, if there is room.
+    /// Ends the last number and begins a new one in the same group. If there is no room for another
+    /// number, sets `is_cut` instead.
     fn end_number(&mut self)
         ensures { (text : List ℕ) → self.old ≡ table_of text → self.new ≡ table_of (text ++ 0x3A ∷ []) }
     {
@@ -101,7 +102,8 @@ impl Parameters {
         self.len += 1;
     }
 
-    /// Ends the last group and begins a new one with a new number, if there is room.
+    /// Ends the last group and begins a new one whose first number is 0. If there is no room for
+    /// another number, sets `is_cut` instead.
     fn end_group(&mut self)
         ensures { (text : List ℕ) → self.old ≡ table_of text → self.new ≡ table_of (text ++ 0x3B ∷ []) }
     {
@@ -134,8 +136,8 @@ impl Parameters {
     }
 
     /// Parses the parameter byte `byte` and then the leading digits of `bytes`, and returns the
-    /// number of digits parsed. If `byte` begins a new group and there is no room for its number,
-    /// the digits may be left unparsed.
+    /// number of digits parsed. If the sequence has more than 32 numbers, the digits are left
+    /// unparsed, because they belong to a dropped number.
     #[inline(always)]
     fn push_some(&mut self, byte: u8, bytes: &[u8]) -> usize
         requires from { 0x30 ≤ byte }
@@ -152,8 +154,9 @@ impl Parameters {
         self.push_digits(bytes)
     }
 
-    /// Ends the last group and begins a new one with a new number, if there is room, and parses the
-    /// digits of that number from the start of `bytes`. Returns how many digits it parsed.
+    /// Ends the last group, begins a new one, and parses the digits of its first number from the
+    /// start of `bytes`. Returns how many digits it parsed. If there is no room for another number,
+    /// sets `is_cut` instead and returns 0.
     ///
     /// The group is stored only after its number is complete.
     #[inline(always)]
@@ -212,7 +215,7 @@ impl Parameters {
         self.closed + 1
     }
 
-    /// Returns the numbers of group `i`, counted from 0.
+    /// Returns the numbers of the group at index `i`, which must exist.
     #[inline]
     pub fn group(&self, i: usize) -> &[u16]
         requires { i < length self.now.groups }
@@ -223,7 +226,7 @@ impl Parameters {
         &self.numbers[start..end]
     }
 
-    /// Returns the first number of group `i`, counted from 0, or 0 if there is no such group.
+    /// Returns the first number of the group at index `i`, or 0 if there is no such group.
     #[inline]
     pub fn number(&self, i: usize) -> u16
         ensures { result ≡ slice_index_or (slice_index_or self.now.groups i []) 0 0 }
@@ -263,7 +266,7 @@ impl Parameters {
     }
 }
 
-/// Returns the index at which group `i` begins.
+/// Returns the index at which group `i` begins. `ends` holds the indices at which the groups end.
 #[inline(always)]
 fn group_start(ends: &[usize; MAX_NUMBERS], i: usize) -> usize
     requires { i < 32 }

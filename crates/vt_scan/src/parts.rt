@@ -1,4 +1,4 @@
-//! The parts of an operating system command as slices.
+//! The `;`-separated parts of an operating system command, as slices of its text.
 
 ghost use Rattle.std.specs.Prelude.{◌≡◌, ℕ, ◌≤◌, List, [], ◌∷◌, ◌++◌, length, map, nat_le, take};
 ghost use Rattle.vt_scan.specs.Automaton.{parts_of};
@@ -9,7 +9,7 @@ use std::marker::Model;
 /// The maximum number of parts kept for an operating system command.
 const MAX_PARTS: usize = 16;
 
-/// The parts of an operating system command as slices, at most 16.
+/// The first 16 of the `;`-separated parts of an operating system command, as slices of its text.
 ///
 /// The slices are stored in a fixed-size array, so no memory is allocated.
 #[derive(Drop)]
@@ -64,7 +64,7 @@ impl<'a> Parts<'a> {
         }
     }
 
-    /// Returns the parts in order.
+    /// Returns the parts as a slice, in the order in which they appear in the command.
     #[inline]
     pub fn as_slice(&self) -> &[&'a [u8]]
         ensures { map (λ r. r.now) result.now ≡ self.now }

@@ -1,10 +1,10 @@
-//! The transition table of the automaton.
+//! The transition table of the scanner's automaton.
 
 ghost use Rattle.std.specs.Prelude.{◌≡◌};
 ghost use Rattle.vt_scan.specs.Internals.{Fits};
 ghost use Rattle.vt_scan.specs.Table.{class_of, transition_of};
 
-/// A state of the automaton.
+/// A state of the scanner's automaton.
 #[derive(Clone, Copy, PartialEq, Eq, Debug)]
 pub enum Kind {
     /// The state outside any sequence.
@@ -105,7 +105,7 @@ pub enum Ending {
     OscDispatchAndExecuted,
 }
 
-/// A transition of the automaton.
+/// A transition of the scanner's automaton: what it does with one byte.
 #[derive(Clone, Copy, PartialEq, Eq, Debug)]
 pub enum Transition {
     /// Collects the byte and enters the given state.
@@ -144,7 +144,7 @@ pub fn classify(byte: u8) -> Class
     }
 }
 
-/// Returns the transition for a byte in the state `kind`.
+/// Returns the transition that `byte` causes in the state `kind`.
 #[inline(always)]
 #[tactic(auto, using(std::proofs::lemmas::Bool::Decides::nat_tests), unfolding(crate::specs::Table::class_of))]
 pub fn transition_at(kind: Kind, byte: u8) -> Transition
@@ -157,7 +157,7 @@ pub fn transition_at(kind: Kind, byte: u8) -> Transition
     }
 }
 
-/// Returns the transition for a class of bytes in the state `kind`.
+/// Returns the transition that a byte of the class `class` causes in the state `kind`.
 #[inline]
 pub fn look_up(kind: Kind, class: Class) -> Transition
     ensures turn { result ≡ transition_of kind class }

@@ -10,7 +10,7 @@ ghost use Rattle.vt_scan.specs.WideTexts.{AreWideThrees, IsWideThree};
 use std::marker::Model;
 use vt_cells::columns;
 
-/// The bytes of an incomplete character read so far.
+/// The bytes read so far of an incomplete character.
 #[derive(Clone, Copy, PartialEq, Eq, Debug)]
 enum Bytes {
     Zero,
@@ -32,7 +32,8 @@ pub enum Extended {
     Broken,
 }
 
-/// The bytes of an incomplete UTF-8 character read so far; empty if no character is incomplete.
+/// The bytes read so far of an incomplete UTF-8 character. There are none if no character is
+/// incomplete.
 #[derive(Drop)]
 pub struct Unfinished {
     bytes: Bytes,
@@ -47,7 +48,7 @@ impl Model for Unfinished {
 }
 
 impl Unfinished {
-    /// Creates a value without bytes: no character is incomplete.
+    /// Creates an empty `Unfinished`, for when there is no incomplete character.
     pub fn new() -> Self
         ensures { result ≡ [] }
     {
@@ -62,7 +63,7 @@ impl Unfinished {
         self.bytes = Bytes::Zero;
     }
 
-    /// Returns whether no character is incomplete.
+    /// Returns `true` if there is no incomplete character.
     #[inline]
     pub fn is_empty(&self) -> bool
         ensures { result ≡ (length self.now == 0) }
@@ -87,8 +88,8 @@ impl Unfinished {
         is_first
     }
 
-    /// Adds `byte` to the incomplete character. No bytes are left if `byte` completes the character
-    /// or cannot continue it.
+    /// Adds `byte` to the incomplete character. If `byte` completes the character or cannot
+    /// continue it, the stored bytes are cleared.
     pub fn extend(&mut self, byte: u8) -> Extended
         requires { self.old ≢ [] }
         ensures { Extends self.old byte result self.new }
@@ -125,10 +126,10 @@ pub fn first_character(bytes: &[u8]) -> Option<(char, usize)>
     Some((join_four(bytes[0], bytes[1], bytes[2], bytes[3]), 4))
 }
 
-/// Decodes the leading characters of `bytes` that take three bytes and two columns each into
-/// `text`, as many as fit, and returns how many it decoded.
+/// Decodes the wide characters from U+3000 to U+D7FF at the start of `bytes` into `text`, as many
+/// as fit, and returns how many it decoded. Each of them takes three bytes.
 ///
-/// Stops before a character below U+3000, even a wide one.
+/// Stops before any other character, even a wide one.
 #[inline]
 pub fn wide_characters(bytes: &[u8], text: &mut [char]) -> usize
     ensures same { length text.new ≡ length text.old }
@@ -150,7 +151,7 @@ pub fn wide_characters(bytes: &[u8], text: &mut [char]) -> usize
 }
 
 /// Decodes the three-byte UTF-8 character with the bytes `a`, `b` and `c`. Returns `None` unless
-/// the character is U+3000 or above and takes two columns.
+/// the bytes are valid and the character is in the range U+3000 to U+D7FF and takes two columns.
 #[inline(always)]
 fn wide_character(a: u8, b: u8, c: u8) -> Option<char>
     ensures { IfSome result (IsWideThree (a ∷ b ∷ c ∷ [])) }
@@ -165,8 +166,8 @@ fn wide_character(a: u8, b: u8, c: u8) -> Option<char>
     }
 }
 
-/// Adds `byte` to the bytes of an incomplete character. Returns the bytes of the character that is
-/// still incomplete, if any, and the result.
+/// Adds `byte` to the bytes of an incomplete character. Returns the bytes of the character if it is
+/// still incomplete, or no bytes otherwise, together with the result of adding `byte`.
 fn extend_bytes(bytes: Bytes, byte: u8) -> (Bytes, Extended)
     requires begun { is_beginning (bytes_in bytes) ≡ true }
     ensures extends { Extends (bytes_in bytes) byte result.1 (bytes_in result.0) }
@@ -180,7 +181,8 @@ fn extend_bytes(bytes: Bytes, byte: u8) -> (Bytes, Extended)
     }
 }
 
-/// Adds `byte` to an incomplete character of which one byte has been read.
+/// Adds `byte` to the incomplete character that has the byte `first`. Returns the character's bytes
+/// if it is still incomplete, or no bytes otherwise, together with the result of adding `byte`.
 fn extend_one(first: u8, byte: u8) -> (Bytes, Extended)
     requires { is_beginning (first ∷ []) ≡ true }
     ensures extends { Extends (first ∷ []) byte result.1 (bytes_in result.0) }
@@ -195,7 +197,9 @@ fn extend_one(first: u8, byte: u8) -> (Bytes, Extended)
     (Bytes::Two(first, byte), Extended::Further)
 }
 
-/// Adds `byte` to an incomplete character of which two bytes have been read.
+/// Adds `byte` to the incomplete character that has the bytes `first` and `second`. Returns the
+/// character's bytes if it is still incomplete, or no bytes otherwise, together with the result of
+/// adding `byte`.
 fn extend_two(first: u8, second: u8, byte: u8) -> (Bytes, Extended)
     requires { is_beginning (first ∷ second ∷ []) ≡ true }
     ensures extends { Extends (first ∷ second ∷ []) byte result.1 (bytes_in result.0) }
@@ -213,7 +217,9 @@ fn extend_two(first: u8, second: u8, byte: u8) -> (Bytes, Extended)
     (Bytes::Three(first, second, byte), Extended::Further)
 }
 
-/// Adds `byte` to an incomplete character of which three bytes have been read.
+/// Adds `byte` to the incomplete character that has the bytes `first`, `second` and `third`.
+/// Returns no bytes, together with the result of adding `byte`: a fourth byte never leaves the
+/// character incomplete.
 fn extend_three(first: u8, second: u8, third: u8, byte: u8) -> (Bytes, Extended)
     requires { is_beginning (first ∷ second ∷ third ∷ []) ≡ true }
     ensures extends { Extends (first ∷ second ∷ third ∷ []) byte result.1 (bytes_in result.0) }

@@ -1,4 +1,4 @@
--- Auxiliary definitions, cited only by the proofs of private functions.
+-- Auxiliary definitions that are cited only by the contracts and proofs of private functions.
 use Rattle.std.specs.Prelude.{◌≡◌, ℕ, List, ◌++◌}
 use Rattle.std.specs.Io.KnownBytes.{Appends, Consumes}
 use Rattle.std.specs.declared.option.Option.{Option}

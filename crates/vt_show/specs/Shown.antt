@@ -1,4 +1,4 @@
--- The output for an input. It shows the screen of a new terminal that has parsed the input.
+-- The output of `vtshow` for an input: it shows the screen of a new terminal that has parsed the input.
 use Rattle.std.specs.Prelude.{◌≡◌, ◌≢◌, ℕ, List, [], ◌++◌, Err, IsErr, OnOk}
 use Rattle.std.specs.List.{FoldsTo}
 use Rattle.std.specs.Io.KnownBytes.{Appends, Consumes, IsAtEnd, Keeps}
@@ -32,8 +32,8 @@ screen_text Plain screen = contents_of screen
 screen_text Formatted screen = shown_text screen
 screen_text Basic screen = basic_texts nothing_written (visible_rows screen)
 
--- The output has only the control characters and sequences that the given mode allows: line ends for `Plain`, drawing
--- sequences for `Formatted`, and line ends and SGR for `Basic`.
+-- The output has only the control characters and sequences that the given mode allows: newlines for `Plain`, drawing
+-- sequences for `Formatted`, and newlines and SGR for `Basic`.
 abbrev pub IsOfMode : Mode → List ℕ → Type 0
 IsOfMode Plain text = IsMadeOf [] plain_controls text
 IsOfMode Formatted text = IsMadeOf drawing_finals drawing_controls text

@@ -100,7 +100,8 @@ fn read_all<R: Read>(parser: &mut Parser, reader: &mut R) -> Result<(), Fault>
     Err(Fault::Read)
 }
 
-/// Returns the output that `mode` selects.
+/// Returns the output for `screen` that `mode` selects, or [`Fault::Memory`] if an allocation
+/// fails.
 fn text(screen: &Screen, mode: Mode) -> Result<String, Fault>
     ensures text { IfOk result (λ text. string_bytes text ≡ screen_text mode screen.now) }
     ensures controls { IfOk result (λ text. IsOfMode mode (string_bytes text)) }
@@ -132,8 +133,9 @@ pub fn write_text<W: Write>(writer: &mut W, text: &str) -> Result<(), Fault>
     Ok(())
 }
 
-/// Writes all of `bytes`. This function is used instead of `Write::write_all`, whose contract does
-/// not state what a writer holds after an error.
+/// Writes all of `bytes`. Returns [`Fault::Write`] if a write fails or the writer accepts no bytes;
+/// an interrupted write is retried. This function is used instead of `Write::write_all`, whose
+/// contract does not state what a writer holds after an error.
 fn write_bytes<W: Write>(writer: &mut W, bytes: &[u8]) -> Result<(), Fault>
     ensures all { OnOk result (Appends (W.contents writer.old) (W.contents writer.new) bytes.now) }
     ensures part { OnErr result (AppendsPart (W.contents writer.old) (W.contents writer.new) bytes.now) }

@@ -17,7 +17,7 @@ pub enum Fault {
 }
 
 /// Returns the message for standard error (without a trailing newline) and the exit status for a
-/// fault. `None` stands for invalid command-line arguments.
+/// fault. `None` means that the command-line arguments are invalid.
 ///
 /// ```text
 /// assert_eq!(ending(Some(Fault::Read)), ("vtshow: read failed", 1));

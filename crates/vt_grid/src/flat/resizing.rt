@@ -12,7 +12,7 @@ use vt_cells::{Error, cell};
 impl Flat {
     ghost use Rattle.vt_grid.specs.Flat.{HasRoom, IsFlat, row_in};
 
-    /// Reserves memory for `rows` rows. The rows are unchanged.
+    /// Reserves memory for a total of `rows` rows. The existing rows are unchanged.
     ///
     /// # Errors
     ///
@@ -52,8 +52,8 @@ impl Flat {
         push_lines(&mut self.lines, rows);
     }
 
-    /// Keeps the first `rows` rows and removes the others. Only rows whose place is past the new
-    /// end are moved.
+    /// Removes all rows after the first `rows` rows. Of the remaining rows, only those whose slot
+    /// is past the new end of the vector are moved.
     pub fn truncate(&mut self, rows: usize)
         requires flat { IsFlat self.old }
         requires inside { rows ≤ length self.old.lines.items }
@@ -69,8 +69,8 @@ impl Flat {
         self.cells.truncate(rows * usize::from(self.columns.stored));
     }
 
-    /// Sets the number of columns of the page, up to the number of cells at each place, and clears
-    /// all wrapped flags. The cells are unchanged.
+    /// Sets the number of columns of the page, which must not exceed the number of cells stored for
+    /// each row, and clears all wrapped flags. The cells are unchanged.
     pub fn set_columns(&mut self, columns: u16)
         ensures cells { self.new.cells ≡ self.old.cells }
         ensures columns { self.new.columns ≡ record { shown = columns; stored = self.old.columns.stored } }
@@ -84,7 +84,7 @@ impl Flat {
         self.columns.shown = columns;
     }
 
-    /// Moves the first `rows` rows to the first `rows` places.
+    /// Moves the first `rows` rows to the first `rows` slots.
     fn pack(&mut self, rows: usize)
         requires flat { IsFlat self.old }
         requires inside { rows ≤ length self.old.lines.items }
@@ -105,7 +105,7 @@ impl Flat {
         }
     }
 
-    /// Copies the cells of `row` to the place of `other`, and swaps the places of the two rows. The
+    /// Copies the cells of `row` to the slot of `other`, and swaps the slots of the two rows. The
     /// cells of `other` are lost: it becomes a copy of `row`.
     fn trade(&mut self, row: usize, other: usize)
         requires flat { IsFlat self.old }
@@ -135,7 +135,7 @@ impl Flat {
     }
 }
 
-/// Appends entries to the table until it has `rows` entries. The place of each new entry is its own
+/// Appends entries to the table until it has `rows` entries. The slot of each new entry is its own
 /// index. Memory for the new entries must already be reserved.
 fn push_lines(lines: &mut Vec<Line>, rows: u16)
     requires room { rows ≤ vec_capacity lines.old }
@@ -151,8 +151,8 @@ fn push_lines(lines: &mut Vec<Line>, rows: u16)
     }
 }
 
-/// Returns the index of the first row, starting at index `from`, that is at one of the first `rows`
-/// places. There is such a row because one of the first `rows` rows is at a later place.
+/// Returns the index of the first row at or after index `from` whose slot is one of the first
+/// `rows` slots. Such a row exists because one of the first `rows` rows is at a later slot.
 fn free_row(lines: &[Line], from: usize, rows: usize) -> usize
     requires after { rows ≤ from }
     requires later { (k : ℕ) → rows ≤ k → k < from → rows ≤ (line_at lines.now k).place }

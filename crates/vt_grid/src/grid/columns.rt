@@ -12,10 +12,11 @@ use crate::size::Size;
 impl Grid {
     /// Resizes this page and `other`, if there is one, to `cols` columns in place. Both pages must
     /// have the same number of columns. The rules are those of [`Grid::set_size`], with `above` as
-    /// the scrollback of this page and `other_above` as that of the other page.
+    /// this page's scrollback and `other_above` as the other page's.
     ///
-    /// Returns `false` and changes nothing if one of the pages stores its rows without room for
-    /// that many columns.
+    /// Returns `false` and changes nothing if, on either page, `cols` exceeds the number of cells
+    /// stored for each row, or would narrow the page to less than half of that number (rounded
+    /// down).
     pub fn set_cols(
         &mut self,
         other: &mut Option<Grid>,
@@ -40,7 +41,7 @@ impl Grid {
         self.set_cols_of_both(page, cols, above, other_above)
     }
 
-    /// Resizes this page alone, as [`Grid::set_cols`] does.
+    /// Resizes this page to `cols` columns, as [`Grid::set_cols`] does if there is no other page.
     fn set_own_cols(&mut self, cols: u16, above: &mut Scrollback) -> bool
         requires nonempty { 0 < cols }
         requires different { cols ≢ self.old.width }

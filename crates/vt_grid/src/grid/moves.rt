@@ -11,49 +11,52 @@ use vt_cells::Pos;
 /// A movement of the cursor. Rows and columns are counted from 0.
 #[derive(Clone, Copy, PartialEq, Eq, Debug)]
 pub enum CursorMove {
-    /// To the first column (CR).
+    /// Moves the cursor to the first column (CR).
     Return,
 
-    /// Up by a number of rows, keeping the column (CUU). The cursor stops at the top of the scroll
-    /// region if it starts inside the region, and at the first row otherwise.
+    /// Moves the cursor up by this many rows, keeping the column (CUU). The cursor stops at the top
+    /// of the scroll region if it starts inside the region, and at the first row otherwise.
     Up(u16),
 
-    /// Down by a number of rows, keeping the column (CUD). The cursor stops at the bottom of the
-    /// scroll region if it starts inside the region, and at the last row otherwise.
+    /// Moves the cursor down by this many rows, keeping the column (CUD). The cursor stops at the
+    /// bottom of the scroll region if it starts inside the region, and at the last row otherwise.
     Down(u16),
 
-    /// Right by a number of columns, stopping at the last column (CUF). If a wrap is pending, the
-    /// cursor moves to the last column.
+    /// Moves the cursor right by this many columns, stopping at the last column (CUF). If a wrap is
+    /// pending, the cursor moves to the last column.
     Right(u16),
 
-    /// Left by a number of columns, stopping at the first column (BS, CUB). If a wrap is pending,
-    /// the columns are counted from one past the last column.
+    /// Moves the cursor left by this many columns, stopping at the first column (BS, CUB). If a
+    /// wrap is pending, the columns are counted from one past the last column.
     Left(u16),
 
-    /// To the first column, and down by a number of rows as [`CursorMove::Down`] does (CNL).
+    /// Moves the cursor to the first column, and down by this many rows as [`CursorMove::Down`]
+    /// does (CNL).
     NextLine(u16),
 
-    /// To the first column, and up by a number of rows as [`CursorMove::Up`] does (CPL).
+    /// Moves the cursor to the first column, and up by this many rows as [`CursorMove::Up`] does
+    /// (CPL).
     PreviousLine(u16),
 
-    /// To the next column that is a multiple of 8, or to the last column if there is no such column
-    /// (HT).
+    /// Moves the cursor to the next column that is a multiple of 8, or to the last column if there
+    /// is no such column (HT).
     Tab,
 
-    /// To a row and a column, clamped to the last row and the last column (CUP, HVP). In origin
-    /// mode, the row is relative to the top of the scroll region and clamped to the region.
+    /// Moves the cursor to a row and a column, clamped to the last row and the last column (CUP,
+    /// HVP). In origin mode, the row is relative to the top of the scroll region and clamped to the
+    /// region.
     To {
-        /// The row.
+        /// The row to move to, counted from 0.
         row: u16,
 
-        /// The column.
+        /// The column to move to, counted from 0.
         col: u16,
     },
 
-    /// To a column, clamped to the last one (CHA, HPA).
+    /// Moves the cursor to a column, clamped to the last column (CHA, HPA).
     ToColumn(u16),
 
-    /// To a row, clamped to the last one (VPA).
+    /// Moves the cursor to a row, clamped to the last row (VPA).
     ToRow(u16),
 }
 
@@ -184,8 +187,9 @@ impl Grid {
         }
     }
 
-    /// Returns the row of the page to which CUP moves the cursor for its parameter `row`, taking
-    /// origin mode into account.
+    /// Returns the row of the page to which CUP with the row parameter `row`, counted from 0, moves
+    /// the cursor. In origin mode, `row` is relative to the top of the scroll region, and the
+    /// result is clamped to the region; otherwise it is clamped to the page.
     #[inline]
     fn target_row(&self, row: u16) -> u16
         ensures { result ≡ target_row row self.now }

@@ -69,7 +69,7 @@ impl Grid {
         self.size.cols - self.pos.col
     }
 
-    /// Prints a character that takes one column.
+    /// Prints a character that takes one column, as [`Grid::print_columns`] does.
     #[inline(always)]
     fn print_narrow<L: Leaving>(
         &mut self,
@@ -163,8 +163,8 @@ impl Grid {
         self.takes_mark(col) && !self.is_wide(col) && self.is_wide_with(col, mark)
     }
 
-    /// Returns whether the cell at a column of the cursor's row takes more than one column once the
-    /// combining character `mark` is added.
+    /// Returns whether the cell at column `col` of the cursor's row takes more than one column once
+    /// the combining character `mark` is added.
     fn is_wide_with(&self, col: u16, mark: char) -> bool
         requires mark { columns_of mark ≡ Some 0 }
         requires inside { col < length (cursor_row self.now).cells }
@@ -214,7 +214,8 @@ impl Grid {
         }
     }
 
-    /// Returns whether the cell at a column of the cursor's row has room for a combining character.
+    /// Returns whether the cell at column `col` of the cursor's row has room for a combining
+    /// character.
     fn takes_mark(&self, col: u16) -> bool
         requires { col < length (cursor_row self.now).cells }
         ensures { result ≡ takes_mark (at (cursor_row self.now).cells col) }
@@ -222,7 +223,7 @@ impl Grid {
         self.page_rows.cell(self.pos.row, col).contents().len() < usize::from(MARK_LIMIT)
     }
 
-    /// Adds a combining character to the cell at a column of the cursor's row.
+    /// Adds a combining character to the cell at column `col` of the cursor's row.
     fn put_mark(&mut self, col: u16, mark: char)
         requires mark { columns_of mark ≡ Some 0 }
         requires inside { col < length (cursor_row self.old).cells }
@@ -232,8 +233,8 @@ impl Grid {
         self.page_rows.append(self.pos.row, col, mark);
     }
 
-    /// Returns whether the text of the glyph at a column of the cursor's row takes more than one
-    /// column, and the page has more than one column.
+    /// Returns whether the text of the glyph at column `col` of the cursor's row takes more than
+    /// one column, and the page has more than one column.
     fn wants_wide(&self, col: u16) -> bool
         requires { col < length (cursor_row self.now).cells }
         ensures { result ≡ (is_wide_text (text_of (at (cursor_row self.now).cells col)) && nat_lt 1 self.now.width) }
@@ -241,7 +242,7 @@ impl Grid {
         cell::is_wide_text(self.page_rows.cell(self.pos.row, col)) && self.size.cols > 1
     }
 
-    /// Returns whether the cell at a column of the cursor's row is a wide glyph.
+    /// Returns whether the cell at column `col` of the cursor's row is a wide glyph.
     fn is_wide(&self, col: u16) -> bool
         requires { col < length (cursor_row self.now).cells }
         ensures { result ≡ is_wide (at (cursor_row self.now).cells col) }
@@ -249,7 +250,7 @@ impl Grid {
         self.page_rows.cell(self.pos.row, col).is_wide()
     }
 
-    /// Makes the glyph at a column of the cursor's row as wide as its text. On a page of one
+    /// Makes the glyph at column `col` of the cursor's row as wide as its text. On a page of one
     /// column, the glyph stays narrow.
     #[tactic(auto, unfolding(crate::specs::Printing::width_followed, crate::specs::Printing::made_wide))]
     fn follow_width(&mut self, col: u16, attrs: Attrs)
@@ -297,7 +298,8 @@ impl Grid {
         Ok(())
     }
 
-    /// Removes the cell at a column of the cursor's row and returns it, leaving a blank.
+    /// Removes the cell at column `col` of the cursor's row and returns it, leaving a blank with
+    /// attributes `attrs`.
     fn lift(&mut self, col: u16, attrs: Attrs) -> Cell
         requires { col < length (cursor_row self.old).cells }
         ensures lifted { result ≡ at (cursor_row self.old).cells col }
@@ -306,8 +308,8 @@ impl Grid {
         self.page_rows.lift(self.pos.row, col, attrs)
     }
 
-    /// Puts a removed cell back at a column of the cursor's row, and sets the row's wrapped flag to
-    /// `is_wrapped`.
+    /// Puts a removed cell back at column `col` of the cursor's row, and sets the row's wrapped
+    /// flag to `is_wrapped`.
     fn put_back(&mut self, col: u16, cell: Cell, is_wrapped: bool)
         requires inside { col < length (cursor_row self.old).cells }
         requires page { IsPage (with_row self.old.row
@@ -331,7 +333,7 @@ impl Grid {
         self.pos.col += 2;
     }
 
-    /// Makes the glyph at a column of the cursor's row narrow. The cursor does not move.
+    /// Makes the glyph at column `col` of the cursor's row narrow. The cursor does not move.
     fn make_narrow(&mut self, col: u16, attrs: Attrs)
         requires { IsSelected self.old col }
         ensures { self.new ≡ made_narrow col attrs self.old }
@@ -365,7 +367,8 @@ impl Grid {
         self.pos.col += 1;
     }
 
-    /// Prints a character that takes two columns. Prints nothing on a page of one column.
+    /// Prints a character that takes two columns, as [`Grid::print_columns`] does. Prints nothing
+    /// on a page of one column.
     #[inline(always)]
     fn print_wide<L: Leaving>(
         &mut self,

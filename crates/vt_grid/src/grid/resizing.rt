@@ -48,9 +48,8 @@ impl Grid {
         Ok(())
     }
 
-    /// Shrinks the page to `rows` rows, which must not exceed its current number of rows. The width
-    /// is unchanged, and the rows that are kept stay in place. The rules are those of
-    /// [`Grid::set_size`].
+    /// Shrinks the page in place to `rows` rows, which must not exceed its current number of rows.
+    /// The width is unchanged. The rules are those of [`Grid::set_size`].
     ///
     /// # Errors
     ///
@@ -83,10 +82,10 @@ impl Grid {
         Ok(())
     }
 
-    /// Extends this page and `other`, if there is one, to `rows` rows. Neither page may have more
-    /// rows than that. The widths are unchanged, and the rows stay in place. The rules are those of
-    /// [`Grid::set_size`], with `above` as the scrollback of this page and `other_above` as that of
-    /// the other page.
+    /// Extends this page and `other`, if there is one, to `rows` rows in place. Neither page may
+    /// have more than `rows` rows. The widths are unchanged. The rules are those of
+    /// [`Grid::set_size`], with `above` as this page's scrollback and `other_above` as the other
+    /// page's.
     ///
     /// # Errors
     ///
@@ -116,7 +115,7 @@ impl Grid {
         Ok(())
     }
 
-    /// Extends this page alone, as [`Grid::add_rows`] does.
+    /// Extends this page to `rows` rows, as [`Grid::add_rows`] does if there is no other page.
     ///
     /// # Errors
     ///
@@ -233,9 +232,9 @@ fn at_most(rows: u16, count: usize) -> u16
     usize::from(rows).min(count) as u16
 }
 
-/// Returns the position of a cursor that was at `pos` before `down` rows scrolled off the top of
-/// the page and `up` rows returned there. The cursor moves with its row and is clamped to the new
-/// size.
+/// Returns the new position of a cursor that was at `pos` before `down` rows scrolled off the top
+/// of the page and `up` rows returned to the top. The cursor moves with its row and is clamped to
+/// `size`, the new size of the page.
 pub(super) fn resized(pos: Pos, down: u16, up: u16, size: Size) -> Pos
     ensures row { result.row ≡ row_resized size.rows down up pos.row }
     ensures col { result.col ≡ min pos.col (size.cols - 1) }

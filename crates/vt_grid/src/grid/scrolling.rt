@@ -88,6 +88,11 @@ impl Grid {
     ///
     /// That row is wrapped afterward if its last cell is not a blank and the cursor has moved to
     /// the row below it; otherwise it is not wrapped.
+    ///
+    /// # Errors
+    ///
+    /// Returns [`Error::OutOfMemory`] if memory for scrollback cannot be allocated. On error,
+    /// nothing is changed and no row is reported.
     #[tactic(auto, using(crate::proofs::Prints::page_left), unfolding(crate::specs::Printing::wrapped_page))]
     #[inline(never)]
     pub(super) fn wrap<L: Leaving>(
@@ -125,9 +130,9 @@ impl Grid {
     }
 }
 
-/// Returns the new index of the row from which the cursor wraps; its index before the wrap is
-/// `row`. If the scroll region (rows `top..=bottom`) scrolls, the new index is `row - 1`. If the
-/// region consists of that row alone, the row scrolls off, and the result is `None`.
+/// Returns the index that row `row`, from which the cursor wraps, has after the wrap. If `row` is
+/// the bottom row of the scroll region (rows `top..=bottom`), the region scrolls, and the result is
+/// `row - 1`, or `None` if the region consists of that row alone. Otherwise the result is `row`.
 fn left_row(row: u16, top: u16, bottom: u16) -> Option<u16>
     requires { top ≤ bottom }
     ensures { result ≡ (if row == bottom then (if row == top then None else Some (row - 1)) else Some row) }

@@ -11,7 +11,7 @@ use crate::flat::used_columns;
 use vt_cells::{Attrs, Cell};
 
 impl PageRows {
-    /// Returns the cells of a row up to its used columns; all cells after them are default blanks.
+    /// Returns the cells in the used columns of a row. All cells after them are default blanks.
     #[inline]
     pub fn used_cells(&self, row: usize) -> &[Cell]
         requires { row < length self.now.rows }
@@ -22,7 +22,8 @@ impl PageRows {
         &self.flat.cells[start..start + used]
     }
 
-    /// Returns the number of used columns of a row in groups of eight, as its table entry holds it.
+    /// Returns the number of used groups of eight columns in the table entry of a row; 255 means
+    /// the whole row.
     #[inline]
     pub(super) fn groups(&self, row: u16) -> u8
         requires { row < length self.now.rows }
@@ -41,8 +42,8 @@ impl PageRows {
     }
 
     /// Marks the first `groups` groups of eight columns of a row as used, or as many groups as are
-    /// needed to cover `reach` columns if that is more. The cells are unchanged. Those after the
-    /// used columns must be default blanks.
+    /// needed to cover `reach` columns if that is more. The cells are unchanged. All cells after
+    /// the marked columns must be default blanks.
     #[inline]
     pub(super) fn note_used(&mut self, row: u16, groups: u8, reach: usize)
         requires inside { row < length self.old.rows }
@@ -56,8 +57,8 @@ impl PageRows {
     }
 }
 
-/// Returns the column at and after which an erasure of columns up to `to` writes only default
-/// blanks.
+/// Returns how many leading columns an erasure up to column `to` (exclusive) marks as used: `to`,
+/// or 0 if `attrs` are the default attributes, because the erased cells are then default blanks.
 pub(super) fn erased_reach(to: u16, attrs: Attrs) -> usize
     ensures { result ≡ (if is_default_blank (blank attrs) then 0 else to) }
 {

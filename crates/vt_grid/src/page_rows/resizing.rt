@@ -135,8 +135,8 @@ impl PageRows {
         self.edit_row_and_flag(row, is_wrapped, |cells| trimming::refit(cells, from));
     }
 
-    /// Copies the rows of `rows`, starting at row `down`, into the blank rows of this page,
-    /// starting at row `up`, as many as fit.
+    /// Copies the rows of `rows`, starting at row `down`, into this page, starting at row `up`.
+    /// Copies as many rows as fit. The rows of this page at and after `up` must be blank.
     fn take_rows(&mut self, rows: &PageRows, down: usize, up: usize)
         requires blank { (k : ℕ) (d : RowValue) → up ≤ k → k < length self.old.rows →
             slice_index_or self.old.rows k d
@@ -159,7 +159,7 @@ impl PageRows {
 }
 
 /// Fills `fresh`, a page of blank rows, with the newest `up` scrollback rows and, below them, the
-/// rows of `rows` after its first `down` rows.
+/// rows of the page `rows`, starting at row `down`.
 fn fill(fresh: &mut PageRows, rows: &PageRows, down: usize, up: usize, above: &mut Scrollback)
     requires blank { fresh.old ≡ blank_page_rows (length fresh.old.rows) fresh.old.width }
     requires inside { up ≤ length fresh.old.rows }

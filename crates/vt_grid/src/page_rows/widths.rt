@@ -14,8 +14,8 @@ use vt_rows::{cells, trimming};
 
 impl PageRows {
     /// Truncates or extends each row to `width` columns in place, and clears all wrapped flags.
-    /// Returns `false` and changes nothing if the rows are stored without room for that many
-    /// columns, or would fill less than half of their places.
+    /// Returns `false` and changes nothing if `width` exceeds the number of cells stored for each
+    /// row, or would narrow the rows to less than half of that number (rounded down).
     pub fn set_width(&mut self, width: u16) -> bool
         requires other { width ≢ self.old.width }
         requires height { length self.old.rows < 2 ^ 16 }
@@ -37,9 +37,9 @@ impl PageRows {
         true
     }
 
-    /// Truncates or extends each row of this page and of `other`, which must be as wide, as
-    /// [`PageRows::set_width`] does. Returns `false` and changes nothing if that returns `false` for
-    /// one of the pages.
+    /// Truncates or extends each row of this page and of `other` to `width` columns, as
+    /// [`PageRows::set_width`] does. Both pages must have the same width. Returns `false` and
+    /// changes nothing if `set_width` would return `false` for either page.
     pub fn set_width_of_both(&mut self, other: &mut PageRows, width: u16) -> bool
         requires equal { other.old.width ≡ self.old.width }
         requires other { width ≢ self.old.width }
@@ -68,8 +68,8 @@ impl PageRows {
         true
     }
 
-    /// Returns whether rows of `width` columns would fill less than half of their places, which
-    /// would take too much memory if the page became higher.
+    /// Returns whether rows of `width` columns would use less than half (rounded down) of the cells
+    /// stored for each row. Adding rows to such a page would take too much memory.
     fn wastes_places(&self, width: u16) -> bool {
         width < self.flat.columns.stored / 2
     }

@@ -38,8 +38,8 @@ impl Scrollback {
         self.add(page)
     }
 
-    /// Appends a copy of the first row of a page. There must be room for it, and the offset must be
-    /// 0.
+    /// Appends a copy of the first row of a page. Scrollback must be below capacity, and the offset
+    /// must be 0.
     ///
     /// # Errors
     ///

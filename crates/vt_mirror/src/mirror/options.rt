@@ -1,4 +1,4 @@
-//! Updates with options.
+//! Viewer updates with options for diffs.
 
 ghost use Rattle.std.specs.Prelude.{◌≡◌, IfOk, IsOk, true};
 ghost use Rattle.vt_cells.specs.Refusals.{OnlyOutOfMemory};
@@ -48,8 +48,9 @@ impl Mirror {
         Ok(Some(update))
     }
 
-    /// Returns the diff from the screen recorded for a viewer to the current screen with the given
-    /// options, or a full redraw.
+    /// Returns the diff, with the given options, from the screen recorded for a viewer to the
+    /// current screen. Returns the full redraw instead if no screen is recorded, or if
+    /// `options.scroll` is true and the recorded screen is not steady.
     ///
     /// # Errors
     ///
@@ -72,7 +73,9 @@ impl Mirror {
         Ok(update)
     }
 
-    /// Returns the viewer's next update, written without REP.
+    /// Returns the viewer's next update, written without REP. If `scroll` is true, the update is
+    /// the one that [`update_scrolling`](Mirror::update_scrolling) would return, otherwise the one
+    /// that [`update`](Mirror::update) would return.
     ///
     /// # Errors
     ///
@@ -96,8 +99,8 @@ impl Mirror {
         Ok(update)
     }
 
-    /// Returns the viewer's update `plain`. If it is a diff, its runs of a character are written
-    /// with REP.
+    /// Returns `plain`, the viewer's next update, with runs of the same character in a diff written
+    /// with REP. A full update is returned unchanged.
     ///
     /// # Errors
     ///

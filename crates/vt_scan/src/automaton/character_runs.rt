@@ -11,8 +11,9 @@ use crate::narrow::narrow_characters;
 use crate::unfinished::wide_characters;
 
 impl Scanner {
-    /// Decodes the three-byte wide characters at the start of `bytes` into `text`, as many as fit,
-    /// and returns how many it decoded. Decodes none if a sequence or a character is incomplete.
+    /// Decodes the wide characters from U+3000 to U+D7FF at the start of `bytes` into `text`, as
+    /// many as fit, and returns how many it decoded. Decodes none if a sequence or a character is
+    /// incomplete.
     ///
     /// Feeding the decoded bytes would only report these characters and leave the scanner
     /// unchanged, so the caller can skip them.
@@ -32,9 +33,9 @@ impl Scanner {
     }
 
     /// Decodes the narrow characters below U+3000 at the start of `bytes` into `text`, as many as
-    /// fit. Stops before a stretch of three or more ASCII characters. Returns the number of
-    /// characters decoded and the number of bytes that they take. Decodes none if a sequence or a
-    /// character is incomplete.
+    /// fit. Stops before three or more ASCII characters in a row and before an ASCII character in
+    /// the last two bytes. Returns the number of characters decoded and the number of bytes that
+    /// they take. Decodes none if a sequence or a character is incomplete.
     ///
     /// Feeding the decoded bytes would only report these characters and leave the scanner
     /// unchanged, so the caller can skip them.

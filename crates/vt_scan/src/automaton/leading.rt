@@ -16,11 +16,11 @@ use crate::lengths::escapes_len;
 use crate::table::{Ending, Kind, Transition, transition_at};
 
 impl Scanner {
-    /// Parses the leading bytes that introduce a sequence, and returns how many it parsed. Such
-    /// bytes are ESC in the ground state, any number of ESC after it, and then an intermediate, a
-    /// byte that introduces a control string, or `[` with a private marker and parameter bytes.
-    /// Parsing them causes no event and allocates nothing. If all bytes are parsed, the next call
-    /// continues where this one stopped.
+    /// Parses the leading bytes that introduce a sequence, and returns how many it parsed. These
+    /// are an ESC in the ground state, any number of further ESCs, and then an intermediate, a byte
+    /// that introduces a control string, or `[` with an optional private marker and any number of
+    /// parameter bytes. Parsing them causes no event and allocates nothing. If all bytes are
+    /// parsed, the next call continues where this one stopped.
     #[inline]
     pub fn take_introducer(&mut self, bytes: &[u8]) -> usize
         ensures inside { result ≤ length bytes.now }
@@ -87,7 +87,7 @@ impl Scanner {
     }
 
     /// Parses the leading bytes that introduce a sequence, starting from the ground state, and
-    /// returns how many it parsed. Tests for ESC and `[` together first.
+    /// returns how many it parsed.
     #[inline(always)]
     fn take_introducer_in_ground(&mut self, bytes: &[u8]) -> usize
         requires { self.old.kind ≡ Kind.Ground }
@@ -139,8 +139,8 @@ impl Scanner {
         escapes + more
     }
 
-    /// Parses the bytes that follow the last of several ESCs and introduce a sequence, and returns
-    /// how many it parsed.
+    /// Parses the bytes that follow the last ESC and introduce a sequence, and returns how many it
+    /// parsed. `bytes` must not begin with another ESC.
     #[inline(always)]
     fn lead_after_escapes(&mut self, bytes: &[u8]) -> usize
         requires kind { self.old.kind ≡ Kind.Escape }
@@ -166,9 +166,9 @@ impl Scanner {
         1 + more
     }
 
-    /// Parses the private marker and the parameter bytes at the start of `bytes`, after `[`, and
-    /// returns how many bytes it parsed. Tests for a marker only if there are no parameter bytes,
-    /// since most sequences have no marker.
+    /// Parses the optional private marker and the parameter bytes of a control sequence whose `[`
+    /// has already been parsed. Returns how many bytes it parsed. Tests for a marker only if there
+    /// are no parameter bytes, since most sequences have no marker.
     #[inline(always)]
     fn lead_from_entry(&mut self, bytes: &[u8]) -> usize
         requires { self.old.kind ≡ Kind.CsiEntry }
@@ -184,8 +184,9 @@ impl Scanner {
         self.lead_from_marker(bytes)
     }
 
-    /// Parses the private marker and the parameter bytes at the start of `bytes`, after `[`, and
-    /// returns how many bytes it parsed. `bytes` must not begin with a parameter byte.
+    /// Parses the private marker, if any, and the parameter bytes after it in a control sequence
+    /// whose `[` has already been parsed. Returns how many bytes it parsed. `bytes` must not begin
+    /// with a parameter byte.
     #[inline(always)]
     fn lead_from_marker(&mut self, bytes: &[u8]) -> usize
         requires kind { self.old.kind ≡ Kind.CsiEntry }
@@ -362,8 +363,8 @@ impl Scanner {
         is_skipped
     }
 
-    /// Parses the ESCs at the start of `bytes`, after another ESC, and returns how many it parsed.
-    /// Each of them abandons the sequence before it.
+    /// Parses the ESCs at the start of `bytes`, which follow another ESC, and returns how many it
+    /// parsed. Each ESC abandons the sequence that the previous one introduced.
     #[inline(always)]
     fn takes_escapes(&mut self, bytes: &[u8]) -> usize
         requires { self.old.kind ≡ Kind.Escape }

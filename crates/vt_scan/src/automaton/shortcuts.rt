@@ -21,9 +21,9 @@ use crate::unfinished::first_character;
 use vt_cells::Error;
 
 impl Scanner {
-    /// Returns whether `byte` is printable ASCII and would be parsed as that character, because no
-    /// sequence or character is incomplete. Feeding such a byte leaves the scanner unchanged, so
-    /// the caller can skip it.
+    /// Returns whether feeding `byte` would only report it as a character: `byte` is printable
+    /// ASCII, and no sequence or character is incomplete. Feeding such a byte leaves the scanner
+    /// unchanged, so the caller can skip it.
     #[inline(always)]
     pub fn is_text(&self, byte: u8) -> bool
         ensures feeds { IsTrue result
@@ -33,9 +33,9 @@ impl Scanner {
         is_printable(byte) && self.is_fresh()
     }
 
-    /// Returns the number of leading bytes that are printable ASCII and would each be parsed as
-    /// that character. Returns 0 if a sequence or a character is incomplete. Feeding these bytes
-    /// leaves the scanner unchanged, so the caller can skip them.
+    /// Returns the number of leading bytes that are printable ASCII and would each be reported as a
+    /// character. Returns 0 if a sequence or a character is incomplete. Feeding these bytes leaves
+    /// the scanner unchanged, so the caller can skip them.
     #[inline]
     pub fn text_len(&self, bytes: &[u8]) -> usize
         ensures inside { result ≤ length bytes.now }
