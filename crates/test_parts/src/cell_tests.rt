@@ -86,52 +86,6 @@ fn heart(wide: bool) -> Cell {
     }
 }
 
-/// Texts of zero, one, seven, eight, nine and 27 bytes, two of which are wide.
-const OVERWRITTEN: [&str; 7] = [
-    "",
-    "e",
-    "e\u{301}\u{301}\u{301}",
-    "\u{e9}\u{301}\u{301}\u{301}",
-    "\u{4e2d}\u{301}\u{301}\u{301}",
-    THIRTEEN,
-    WIDE_TWELVE,
-];
-
-#[test]
-fn overwrites_texts_of_all_lengths(rt: HostRuntime) {
-    let mut bold = Attrs::new();
-    bold.set_intensity(Intensity::Bold);
-    for text in &OVERWRITTEN {
-        let mut cell = cell_of_text(text);
-        assert_eq!(rt; cell.contents(), *text);
-        assert_eq!(rt; cell::are_short(&[cell_of_text("e"), cell]), text.len() < 8);
-        cell::set_ascii(&mut cell, b'x', bold);
-        assert!(rt;
-            cell.contents() == "x" && !cell.is_wide() && cell.bold(),
-            "at {text}"
-        );
-        cell = cell_of_text(text);
-        cell::set_glyph(&mut cell, '\u{4e2d}', true, bold);
-        assert!(rt;
-            cell.contents() == "\u{4e2d}" && cell.is_wide() && cell.bold(),
-            "at {text}"
-        );
-        cell = cell_of_text(text);
-        cell::clear(&mut cell, bold);
-        assert!(rt;
-            cell == cell::blank(bold) && cell.contents() == "",
-            "at {text}"
-        );
-        cell = cell_of_text(text);
-        cell::set_right_half(&mut cell);
-        assert!(rt;
-            cell.is_wide_continuation() && cell.contents() == "",
-            "at {text}"
-        );
-        assert!(rt; !cell.is_wide() && !cell.bold(), "at {text}");
-    }
-}
-
 #[test]
 fn compares_text_width_flags_and_attributes(rt: HostRuntime) {
     let mut bold = Attrs::new();
