@@ -41,7 +41,7 @@
  *     the call only reads. Calls with different handles may run in parallel; handles share nothing.
  *
  *     The library allocates memory with malloc, realloc and free. Therefore, none of its functions
- *     may be called in a signal handler, or between fork and exec in the child of a multithreaded
+ *     may be called from a signal handler, or between fork and exec in the child of a multithreaded
  *     process.
  *
  * MEMORY AND TEXT
@@ -170,7 +170,7 @@ enum {
     VT100_EVENT_ON_SCROLL = 12
 };
 
-/* For `wanted` of vt100_parser_new: the bit of one kind of event, and the bits of all kinds. */
+/* For `wanted` of vt100_parser_new: the bit for one kind of event, and the bits for all kinds. */
 #define VT100_WANTS(kind) (1u << (kind))
 #define VT100_WANTS_ALL 0x1fffu
 
@@ -185,7 +185,7 @@ typedef struct vt100_color {
     uint8_t kind, red, green, blue;
 } vt100_color;
 
-/* Bits of `flags`. Only cells have the last two: a wide character, and its continuation cell. */
+/* Bits of `flags`. Only cells use the last two, for a wide character and its continuation cell. */
 enum {
     VT100_BOLD = 1,
     VT100_DIM = 2,
@@ -466,16 +466,18 @@ vt100_status vt100_contents_diff_scrolling(vt100_handle *handle, vt100_handle *p
 /*
  * Options of a diff, which can be combined with `|`; other bits are ignored. VT100_DIFF_SCROLL: the
  * diff may begin by moving rows or columns. VT100_DIFF_REPEAT: runs of a one-column character within
- * a row may be written with REP (ECMA-48, 8.3.103). Use it only for a terminal that performs REP;
- * some terminals ignore REP.
+ * a row may be written with REP (ECMA-48, 8.3.103). VT100_DIFF_REPEAT_ASCII: runs of a printable
+ * ASCII character may be, but no other runs; it has no effect with VT100_DIFF_REPEAT. Some terminals
+ * ignore REP, and tmux 3.3a performs it only after ASCII characters.
  */
 #define VT100_DIFF_SCROLL 1
 #define VT100_DIFF_REPEAT 2
+#define VT100_DIFF_REPEAT_ASCII 4
 
 /*
  * Generates a diff with options, which is never longer than that of vt100_contents_diff. Without
- * VT100_DIFF_REPEAT, it is the diff of vt100_contents_diff or, with VT100_DIFF_SCROLL, of
- * vt100_contents_diff_scrolling.
+ * VT100_DIFF_REPEAT and VT100_DIFF_REPEAT_ASCII, it is the diff of vt100_contents_diff or, with
+ * VT100_DIFF_SCROLL, of vt100_contents_diff_scrolling.
  * Statuses: as for vt100_contents_diff.
  */
 vt100_status vt100_contents_diff_with(vt100_handle *handle, vt100_handle *prev, uint8_t options,
@@ -575,11 +577,11 @@ vt100_status vt100_next_row(const uint8_t *text, size_t len, uint16_t width, siz
 
 /* ---- EVENTS: for a parser
  *
- * Events are what a program asks of its terminal besides drawing, unsupported sequences, and rows
- * that scroll off and are not kept. A parser logs the events of the requested kinds as records, in
- * order. A record consists of the kind of the event (1 byte), two numbers (4 bytes each, 0 if the
- * event has none), the length of the event's text (8 bytes) and the text. All numbers are
- * little-endian.
+ * The events are a program's requests other than drawing (bells, titles, sizes and the clipboard),
+ * unsupported sequences, and rows that scroll off and are not kept. A parser logs the events of the
+ * requested kinds as records, in order. A record consists of the kind of the event (1 byte), two
+ * numbers (4 bytes each, 0 if the event has none), the length of the event's text (8 bytes) and the
+ * text. All numbers are little-endian.
  *
  *      0  audible_bell
  *      1  visual_bell

@@ -1,11 +1,11 @@
-"""Looks up what docs/THEOREMS.md names as the contract of each promise.
+"""Looks up the contracts that docs/THEOREMS.md names for each promise.
 
-A promise is a line of a list or table. Its contract is what stands between backquotes after the dash, or in the last
-column. Names are read from left to right: a function, or several, and then clauses, each of which must be one of
-those functions' or a field of the definitions that their clauses name. After a semicolon, and in a line that names no
-function, clauses may be those of all functions before in the section. A name alone is looked up beside the function
-before it. If a name can be read in several ways, one of them must make the whole line come out. The clauses of traits
-of the kit are not looked up.
+A promise is a line of a list or table. Its contract consists of the names between backquotes after the dash, or in the
+last column. They are read from left to right: one or more functions, and then clauses, each of which must be a clause
+of one of those functions, or a field of a definition that their clauses name. After a semicolon, and in a line that
+names no function, clauses may belong to any function named earlier in the section. An unqualified name is looked up
+next to the function before it. If names can be read in several ways, one reading must fit the whole line. Clauses of
+the kit's traits are not looked up.
 """
 import re
 import sys
@@ -19,7 +19,7 @@ DEPTH = 3
 
 
 def ends_with(path, parts):
-    """Whether a path ends in these parts, where some before the last one may be left out."""
+    """Returns whether a path ends with these parts, some of which, except the last, may be omitted."""
     rest = iter(path[:-1])
     return path[-1:] == parts[-1:] and all(any(it == part for it in rest) for part in parts[:-1])
 
@@ -44,7 +44,7 @@ class Names:
         return [it for it in self.named.get(parts[-1], []) if ends_with(it.path().split("::"), parts)]
 
     def at_place(self, name):
-        """All functions of a place."""
+        """Returns all functions of a place."""
         if name not in self.places:
             parts = name.split("::")
             found = [it for it in self.functions if name in (it.owner, crate_of(it), it.block and it.block.trait)]
@@ -52,7 +52,7 @@ class Names:
         return self.places[name]
 
     def fields(self, function, label):
-        """The names of the fields of the definitions that a clause names, and of what those name."""
+        """Returns the names of the fields of the definitions that a clause names, directly or indirectly."""
         key = function.path(), label
         if key not in self.fields_of:
             walk = Walk(self.walk.root, self.walk)
@@ -65,18 +65,18 @@ class Names:
         return any(crate_of(it) in crates and name in it.labels() for it in self.functions)
 
     def subject(self, state, said):
-        """The state at the dash of a line, after the functions that the promise itself names by their paths."""
+        """Returns the state at the dash of a line, after the functions that the promise itself names by their paths."""
         named = [it for path in words_of(said) if "::" in path for it in self.functions_at(path)]
         return state.after_semicolon().with_functions(named) if named else state.after_semicolon()
 
     def has_field(self, functions, labels, name):
-        """Whether a name is a field in one of these clauses of the functions, or in one without a label."""
+        """Returns whether a name is a field in one of these clauses of the functions, or in an unlabeled clause."""
         return any(name in self.fields(it, label) for it in functions for label in ("", *labels))
 
 
 class State:
-    """What a reading has come to: the functions whose clauses follow, with the clauses that were named, the functions
-    before, the functions beside them, and whether the section has named a function and not only types or modules."""
+    """The state of a reading: the functions whose clauses follow, with the clauses named so far, the previous
+    functions, the functions next to them, and whether the section has named a function, not only types or modules."""
 
     is_at_kits, labels = False, ()
 
@@ -104,7 +104,7 @@ class State:
 
 
 def beside(found, near):
-    """Those functions that are in the type, module or at least the crate of the functions before."""
+    """Returns the functions that are in the same type, module, or at least crate as the previous functions."""
     owners = {(crate_of(it), it.owner) for it in near if it.owner}
     modules = {it.module() for it in near if not it.owner}
     inside = [it for it in found if (crate_of(it), it.owner) in owners or (it.module() in modules and not it.owner)]
@@ -113,7 +113,7 @@ def beside(found, near):
 
 
 def readings(names, state, name):
-    """All states after one more name."""
+    """Returns all states after one more name."""
     labels = {label for it in state.functions or state.earlier for label in it.labels()}
     if name in labels:
         yield state.with_label(name)
@@ -142,7 +142,7 @@ def readings(names, state, name):
 
 
 def read_line(names, state, words):
-    """The state after all words, or None with the first word that no reading gets past."""
+    """Returns the state after all words, or None and the first word that fits no reading."""
     best, stack = 0, [(0, state)]
     while stack:
         at, state = stack.pop()
@@ -157,14 +157,14 @@ def read_line(names, state, words):
 
 
 def words_of(text):
-    """The names of a line, and its semicolons."""
+    """Returns the names of a line, and its semicolons."""
     words = [it[1] or it[0] for it in re.findall(r"(;|`([^`]*)`)", text)]
     words = [re.sub(r"<[^>]*>|\(.*\)$", "", it) for it in words]
     return [it for it in words if it == ";" or PATH.match(it)]
 
 
 def check(root, text=None):
-    """The faults of the document, or of another text in its place, and how many names were looked up."""
+    """Returns the faults of the document, or of a given text instead, and the number of names looked up."""
     names, faults, count, state = Names(root), [], 0, State()
     for number, line in enumerate((text or read(f"{root}/docs/THEOREMS.md")).split("\n"), 1):
         found = PROMISE.match(line)

@@ -1,7 +1,7 @@
 /*
  * events ROWS COLS: reads what a program wrote to its terminal, and writes a line for each event:
- * what the program asked of its terminal besides drawing, each unsupported sequence, and each row
- * that scrolled off the top. The exit status is 0 on success, 1 on failure, and 2 if the arguments
+ * each request of the program other than drawing, each unsupported sequence, and each row that
+ * scrolled off the top. The exit status is 0 on success, 1 on failure, and 2 if the arguments
  * are invalid.
  */
 #include <vt100.h>

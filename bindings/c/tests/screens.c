@@ -163,6 +163,31 @@ static void repeated(void) {
     vt100_free(&parser);
 }
 
+/* VT100_DIFF_REPEAT_ASCII has no effect on other characters, nor beside VT100_DIFF_REPEAT. */
+static void repeated_ascii(void) {
+    static const struct {
+        uint8_t options;
+        const char *text;
+    } diffs[] = {
+        {0, "----------\r\n\xe2\x94\x80\xe2\x94\x80\xe2\x94\x80\xe2\x94\x80"},
+        {VT100_DIFF_REPEAT_ASCII, "-\x1b[9b\r\n\xe2\x94\x80\xe2\x94\x80\xe2\x94\x80\xe2\x94\x80"},
+        {VT100_DIFF_REPEAT, "-\x1b[9b\r\n\xe2\x94\x80\x1b[3b"},
+        {VT100_DIFF_REPEAT | VT100_DIFF_REPEAT_ASCII, "-\x1b[9b\r\n\xe2\x94\x80\x1b[3b"},
+        {0xf8, "----------\r\n\xe2\x94\x80\xe2\x94\x80\xe2\x94\x80\xe2\x94\x80"},
+    };
+    vt100_handle parser = VT100_EMPTY, before = VT100_EMPTY;
+    size_t len;
+    must(vt100_parser_new(2, 20, 0, 0, &parser) == VT100_OK);
+    must(vt100_save(&parser, &before) == VT100_OK);
+    read_into(&parser, diffs[0].text);
+    for (size_t i = 0; i < sizeof diffs / sizeof *diffs; i++) {
+        must(vt100_contents_diff_with(&parser, &before, diffs[i].options, &len) == VT100_OK);
+        must(is_text(&parser, len, diffs[i].text));
+    }
+    vt100_free(&before);
+    vt100_free(&parser);
+}
+
 /*
  * The bytes of an unfinished command are counted until it ends; those of other sequences and
  * strings are not.
@@ -203,6 +228,7 @@ int main(void) {
     shown_copies();
     viewers();
     repeated();
+    repeated_ascii();
     pending();
     version();
     must(heap_live == 0);

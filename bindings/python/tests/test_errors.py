@@ -84,7 +84,7 @@ class Integers(unittest.TestCase):
             self.assert_value_errors(
                 lambda: mirror.update(wrong),
                 lambda: mirror.update_scrolling(wrong),
-                lambda: mirror.update_with(wrong, repeat=True),
+                lambda: mirror.update_with(wrong, repeat=vt100.Repeat.ANY),
                 lambda: mirror.leave(wrong),
             )
         mirror.leave(viewer)
@@ -100,6 +100,16 @@ class Integers(unittest.TestCase):
         ):
             with self.assertRaises(TypeError):
                 call()
+
+    def test_what_is_no_repeat_is_a_type_error(self):
+        mirror = vt100.Mirror(2, 3)
+        viewer = mirror.join()
+        before = self.parser.save()
+        for wrong in (True, False, 2, None, "ASCII"):
+            with self.assertRaisesRegex(TypeError, "repeat must be a Repeat"):
+                self.parser.contents_diff_with(before, repeat=wrong)
+            with self.assertRaisesRegex(TypeError, "repeat must be a Repeat"):
+                mirror.update_with(viewer, repeat=wrong)
 
     def test_messages_name_the_argument(self):
         with self.assertRaisesRegex(ValueError, "cols must be from 1 to 65535, not 65616"):

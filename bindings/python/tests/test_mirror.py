@@ -27,9 +27,12 @@ class Viewers(unittest.TestCase):
     def test_runs_are_repeated_if_the_options_allow_it(self):
         mirror = vt100.Mirror(2, 20)
         viewer = mirror.join()
-        self.assertEqual(mirror.update_with(viewer, repeat=True).size, (2, 20))
+        repeat = vt100.Repeat.ASCII
+        self.assertEqual(mirror.update_with(viewer, repeat=repeat).size, (2, 20))
         mirror.process(b"----------")
-        self.assertEqual(mirror.update_with(viewer, repeat=True), vt100.Update("-\x1b[9b"))
+        self.assertEqual(mirror.update_with(viewer, repeat=repeat), vt100.Update("-\x1b[9b"))
+        mirror.process("\r\n────".encode())
+        self.assertEqual(mirror.update_with(viewer, repeat=repeat), vt100.Update("\r\n────"))
         self.assertEqual(mirror.update_with(viewer, scroll=True), vt100.Update(""))
 
     def test_a_viewer_may_join_late(self):

@@ -252,10 +252,15 @@ class Texts(unittest.TestCase):
     def test_runs_are_repeated_if_the_options_allow_it(self):
         parser = screen_of(b"", 2, 20)
         before = parser.save()
-        parser.process(b"----------")
-        self.assertEqual(parser.contents_diff_with(before, repeat=True), "-\x1b[9b")
+        parser.process("----------\r\n────".encode())
+        for repeat, text in (
+            (vt100.Repeat.NEVER, "----------\r\n────"),
+            (vt100.Repeat.ASCII, "-\x1b[9b\r\n────"),
+            (vt100.Repeat.ANY, "-\x1b[9b\r\n─\x1b[3b"),
+        ):
+            self.assertEqual(parser.contents_diff_with(before, repeat=repeat), text)
         self.assertEqual(parser.contents_diff_with(before), parser.contents_diff(before))
-        self.assertEqual(parser.contents_diff_with(before, scroll=True), "-" * 10)
+        self.assertEqual(parser.contents_diff_with(before, scroll=True), "----------\r\n────")
 
     def test_the_whole_state_is_drawn(self):
         modes = b"\x1b[?1h\x1b=\x1b[?2004h\x1b[?1002h\x1b[?1006h\x1b[5 q"

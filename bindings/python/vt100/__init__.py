@@ -31,6 +31,7 @@ from ._cells import (
 )
 from ._library import Error, library_version
 from ._object import BytesLike
+from ._options import Repeat
 from .callbacks import Callbacks
 from .mirror import Mirror, Update
 from .parser import Parser
@@ -49,6 +50,7 @@ __all__ = [
     "MouseProtocolMode",
     "Parser",
     "Position",
+    "Repeat",
     "Screen",
     "Size",
     "Update",

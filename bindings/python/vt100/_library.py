@@ -225,11 +225,6 @@ def in_range(name: str, value: SupportsIndex, low: int, high: int) -> int:
     return number
 
 
-def diff_options(scroll: bool, repeat: bool) -> int:
-    """Returns the bits that the library expects for the options of a diff."""
-    return int(bool(scroll)) | int(bool(repeat)) << 1
-
-
 def size_in_range(rows: SupportsIndex, cols: SupportsIndex) -> Tuple[int, int]:
-    """Returns a size as ints. Raises `ValueError` if either number is not from 1 to 65535."""
+    """Returns a size as ints. Raises `ValueError` if either number is not between 1 and 65535."""
     return in_range("rows", rows, 1, MAX_U16), in_range("cols", cols, 1, MAX_U16)

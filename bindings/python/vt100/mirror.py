@@ -6,8 +6,9 @@ import ctypes
 from typing import Any, NamedTuple, Optional, SupportsIndex
 
 from ._cells import Size
-from ._library import MAX_SIZE, MAX_U64, check, diff_options, in_range, library, size_in_range
+from ._library import MAX_SIZE, MAX_U64, check, in_range, library, size_in_range
 from ._object import BytesLike, Object, as_bytes
+from ._options import Repeat, diff_options
 
 
 class Update(NamedTuple):
@@ -75,12 +76,12 @@ class Mirror(Object):
         return self._update(library.vt100_update_scrolling, viewer)
 
     def update_with(
-        self, viewer: SupportsIndex, *, scroll: bool = False, repeat: bool = False
+        self, viewer: SupportsIndex, *, scroll: bool = False, repeat: Repeat = Repeat.NEVER
     ) -> Update:
         """Returns the next update of a viewer. A diff is never longer than that of `update`. With
         `scroll`, a diff may begin by moving rows or columns, and the update may be a redraw, as
-        with `update_scrolling`. With `repeat`, runs of a one-column character within a row may be
-        written with REP (ECMA-48, 8.3.103); some terminals ignore REP.
+        with `update_scrolling`. Runs within a row of the one-column characters that `repeat` allows
+        may be written with REP (ECMA-48, 8.3.103); some terminals ignore REP.
         """
         return self._update(library.vt100_update_with, viewer, diff_options(scroll, repeat))
 

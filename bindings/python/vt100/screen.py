@@ -20,7 +20,8 @@ from typing import (
 
 from . import _find
 from ._cells import CELL_SIZE, Cell, Position, cell_of, cells_of
-from ._library import MAX_SIZE, MAX_U16, State, diff_options, in_range, library, size_in_range
+from ._library import MAX_SIZE, MAX_U16, State, in_range, library, size_in_range
+from ._options import Repeat, diff_options
 from ._state import HasState
 
 _Index = SupportsIndex
@@ -180,8 +181,8 @@ class Screen(HasState):
 
     @property
     def display(self) -> List[str]:
-        """The text of each displayed row in all columns of the row, with a space for each cell that
-        nothing was written to."""
+        """The text of each displayed row in all columns of the row, with a space for each cell
+        to which nothing was written."""
         return ["".join(cell.display for cell in cells) for cells in self.buffer]
 
     def contents(self) -> str:
@@ -304,12 +305,12 @@ class Screen(HasState):
         return self._diff(library.vt100_contents_diff_scrolling, prev)
 
     def contents_diff_with(
-        self, prev: Screen, *, scroll: bool = False, repeat: bool = False
+        self, prev: Screen, *, scroll: bool = False, repeat: Repeat = Repeat.NEVER
     ) -> str:
         """Returns a diff with options, which is never longer than that of `contents_diff`. With
-        `scroll`, it may begin by moving rows or columns. With `repeat`, runs of a one-column
-        character within a row may be written with REP (ECMA-48, 8.3.103); some terminals ignore
-        REP."""
+        `scroll`, it may begin by moving rows or columns. Runs within a row of the one-column
+        characters that `repeat` allows may be written with REP (ECMA-48, 8.3.103); some terminals
+        ignore REP."""
         return self._diff(library.vt100_contents_diff_with, prev, diff_options(scroll, repeat))
 
     def state_diff(self, prev: Screen) -> str:

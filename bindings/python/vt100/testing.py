@@ -67,8 +67,8 @@ _CURSOR_KEYS = ("up", "down", "right", "left", "home", "end")
 
 
 class WaitFailed(AssertionError):
-    """Raised if the terminal or its program does not do in time what was waited for, or if the
-    program ends first. The message contains the screen; `screen` is a copy of it."""
+    """Raised if an awaited condition is not met in time, or if the program ends first. The message
+    contains the screen; `screen` is a copy of it."""
 
     def __init__(self, message: str, screen: Screen) -> None:
         super().__init__(f"{message}\n{framed(screen)}")

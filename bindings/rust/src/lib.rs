@@ -3,7 +3,7 @@
 //! a diff from an earlier screen.
 //!
 //! The items are those of the crate `vt100` 0.18.1, with the addition of [`mirror`],
-//! [`DiffOptions`], [`Parser::pending_len`], [`Screen::contents_diff_scrolling`],
+//! [`DiffOptions`], [`Repeat`], [`Parser::pending_len`], [`Screen::contents_diff_scrolling`],
 //! [`Screen::contents_diff_with`], [`Screen::is_steady`] and [`Screen::shown_copy`]. This crate
 //! wraps a formally verified library.
 //!
@@ -53,6 +53,7 @@ mod library;
 pub mod mirror;
 mod modes;
 mod parser;
+mod repeat;
 mod screen;
 mod texts;
 
@@ -62,4 +63,5 @@ pub use color::Color;
 pub use diff_options::DiffOptions;
 pub use modes::{CursorStyle, MouseProtocolEncoding, MouseProtocolMode};
 pub use parser::Parser;
+pub use repeat::Repeat;
 pub use screen::Screen;

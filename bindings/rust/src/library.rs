@@ -54,7 +54,7 @@ pub const NO_EVENTS: u16 = 0;
 /// The argument `wanted` of [`Handle::parser`] with which all events are logged.
 pub const ALL_EVENTS: u16 = ((1 << 13) - 1) | ROWS_WITHOUT_TEXT;
 
-/// The bit of `wanted` that omits the text from the records of rows. They are read with
+/// The bit of `wanted` that omits the text from the records of rows, which are read with
 /// [`Handle::capture_row`] instead.
 const ROWS_WITHOUT_TEXT: u16 = 1 << 13;
 

@@ -2,7 +2,7 @@
 
 use std::num::NonZeroU16;
 use vt100::mirror::{Mirror, Update};
-use vt100::{DiffOptions, Parser};
+use vt100::{DiffOptions, Parser, Repeat};
 
 fn size(number: u16) -> NonZeroU16 {
     NonZeroU16::new(number).unwrap()
@@ -43,7 +43,7 @@ fn runs_are_repeated_if_the_options_allow_it() {
     parser.process(b"----------");
     let screen = parser.screen();
     let repeat = DiffOptions {
-        repeat: true,
+        repeat: Repeat::Any,
         ..DiffOptions::default()
     };
     assert_eq!(screen.contents_diff_with(&before, repeat), "-\x1b[9b");
@@ -63,6 +63,29 @@ fn runs_are_repeated_if_the_options_allow_it() {
 }
 
 #[test]
+fn only_ascii_characters_are_repeated_if_the_options_say_so() {
+    let mut parser = Parser::new(size(2), size(20), 0);
+    let before = parser.screen().clone();
+    parser.process("----------\r\n\u{2500}\u{2500}\u{2500}\u{2500}".as_bytes());
+    let diff = |repeat| {
+        let options = DiffOptions {
+            scroll: false,
+            repeat,
+        };
+        parser.screen().contents_diff_with(&before, options)
+    };
+    assert_eq!(
+        diff(Repeat::Never),
+        "----------\r\n\u{2500}\u{2500}\u{2500}\u{2500}"
+    );
+    assert_eq!(
+        diff(Repeat::Ascii),
+        "-\x1b[9b\r\n\u{2500}\u{2500}\u{2500}\u{2500}"
+    );
+    assert_eq!(diff(Repeat::Any), "-\x1b[9b\r\n\u{2500}\x1b[3b");
+}
+
+#[test]
 fn rows_move_and_runs_are_repeated() {
     let mut parser = Parser::new(size(4), size(10), 0);
     parser.process(b"aaaaaaaaa\r\nbbbbbbbbb\r\nccccccccc\r\nddddddddd");
@@ -70,7 +93,7 @@ fn rows_move_and_runs_are_repeated() {
     parser.process(b"\r\neeeeeeeee");
     let both = DiffOptions {
         scroll: true,
-        repeat: true,
+        repeat: Repeat::Ascii,
     };
     assert_eq!(
         parser.screen().contents_diff_with(&before, both),

@@ -55,10 +55,10 @@ taken_then a b p q r first second = record {
   fails = λ failed. first.fails (second.fails failed);
 }
 
-pub fails_behind : {S : Type 0} (bytes : List ℕ) (p q : ParserValue S) (error : Error) →
+pub fails_after : {S : Type 0} (bytes : List ℕ) (p q : ParserValue S) (error : Error) →
     HasTaken bytes p q → IsFailure q error → IsFailure p error
-fails_behind bytes p q error t (inl refused) = inl refused
-fails_behind bytes p q error t (inr failed) = inr (failed.0, t.fails failed.1)
+fails_after bytes p q error t (inl refused) = inl refused
+fails_after bytes p q error t (inr failed) = inr (failed.0, t.fails failed.1)
 
 -- ---- A text that is split
 

@@ -12,7 +12,7 @@ ghost use Rattle.vt_redraw.specs.Steady.{IsSteady};
 ghost use Rattle.vt_screen.specs.Chain.{last_screen};
 ghost use Rattle.vt_screen.specs.Shown.{display};
 
-use vt100::{Callbacks, DiffOptions, Error, Parser, Screen, laws};
+use vt100::{Callbacks, DiffOptions, Error, Parser, Repeat, Screen, laws};
 
 /// Sends a complete redraw of the screen to a remote terminal of the same size.
 ///
@@ -66,8 +66,8 @@ pub fn send_difference<CB: Callbacks>(
 }
 
 /// Sends to a remote terminal a short diff from `prev`, a screen of the same size, to `screen`. The
-/// diff may move rows and columns first and repeat characters with REP, so the remote terminal must
-/// perform REP, as every terminal of this library does.
+/// diff may move rows and columns first and repeat ASCII characters with REP, so the remote
+/// terminal must perform REP after these characters, as tmux and every terminal of this library do.
 ///
 /// The terminal displays what it would display after [`send_difference`].
 ///
@@ -89,7 +89,7 @@ pub fn send_short_difference<CB: Callbacks>(
     remote.screen().size();
     let options = DiffOptions {
         scroll: true,
-        repeat: true,
+        repeat: Repeat::Ascii,
     };
     let text = screen.contents_diff_with(prev, options)?;
     remote.process(text.as_bytes())?;

@@ -5,12 +5,12 @@ use std::alloc::Global;
 use std::fmt;
 use std::num::NonZeroU16;
 use vt100::capture::{BasicFormattedCaptureRange, BasicFormattedCaptureState};
-use vt100::{DiffOptions, Error, Parser, Screen};
+use vt100::{DiffOptions, Error, Parser, Repeat, Screen};
 
 /// The options of diffs that may move rows or columns first and may contain REP.
 pub const BOTH: DiffOptions = DiffOptions {
     scroll: true,
-    repeat: true,
+    repeat: Repeat::Any,
 };
 
 /// A call on a parser or on its screen.

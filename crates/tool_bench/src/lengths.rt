@@ -5,12 +5,19 @@ ghost use Rattle.std.specs.Prelude.{◌<◌};
 use anyhow::{Result, ensure};
 use std::alloc::Global;
 use std::num::NonZeroU16;
-use vt100::{DiffOptions, Parser, Screen};
+use vt100::{DiffOptions, Parser, Repeat, Screen};
 
-/// The options of a diff that may move rows or columns first and may contain REP.
-pub const BOTH: DiffOptions = DiffOptions {
+/// The options of a diff that may move rows or columns first and may repeat any character with REP.
+pub const REPEATING: DiffOptions = DiffOptions {
     scroll: true,
-    repeat: true,
+    repeat: Repeat::Any,
+};
+
+/// The options of a diff that may move rows or columns first and may repeat ASCII characters with
+/// REP.
+pub const REPEATING_ASCII: DiffOptions = DiffOptions {
+    scroll: true,
+    repeat: Repeat::Ascii,
 };
 
 /// The total length in bytes of each kind of diff between the same screens.
@@ -22,8 +29,11 @@ pub struct Lengths {
     /// The total length in bytes of the output of `contents_diff_scrolling`.
     pub scrolling: usize,
 
-    /// The total length in bytes of the output of `contents_diff_with` with both options.
+    /// The total length in bytes of the output of `contents_diff_with` with [`REPEATING`].
     pub repeating: usize,
+
+    /// The total length in bytes of the output of `contents_diff_with` with [`REPEATING_ASCII`].
+    pub repeating_ascii: usize,
 }
 
 /// The settings for parsing a file: the size of the terminal, and how many bytes are parsed between
@@ -60,6 +70,7 @@ fn sum(parser: &mut Parser, every: usize, bytes: &[u8]) -> Result<Lengths>
         plain: 0,
         scrolling: 0,
         repeating: 0,
+        repeating_ascii: 0,
     };
     let mut prev = parser.screen().clone()?;
     for piece in bytes.chunks(every) {
@@ -81,7 +92,10 @@ impl Lengths {
                 .saturating_add(screen.contents_diff_scrolling(prev)?.len()),
             repeating: self
                 .repeating
-                .saturating_add(screen.contents_diff_with(prev, BOTH)?.len()),
+                .saturating_add(screen.contents_diff_with(prev, REPEATING)?.len()),
+            repeating_ascii: self
+                .repeating_ascii
+                .saturating_add(screen.contents_diff_with(prev, REPEATING_ASCII)?.len()),
         })
     }
 }

@@ -4,14 +4,15 @@
 //! With WHAT `process`, one parser parses FILE TIMES times, in chunks of 4096 bytes. With any other
 //! WHAT, the parser parses the first half of FILE, keeps a copy of the screen, parses the rest, and
 //! then makes the call on the screen TIMES times. Prints the name of the call, the number of calls,
-//! and the number of bytes that they parsed or wrote. For `clone`, `add-row` and `add-column`, prints
-//! the number of rows that the screens have instead, and for `steady` the number of calls that
-//! returned `true`.
+//! and the number of bytes that they parsed or wrote. For `clone`, `add-row` and `add-column`,
+//! prints the number of rows that the screens have instead, and for `steady` the number of calls
+//! that returned `true`.
 //!
 //! `tool_bench lengths ROWS COLS CAPACITY EVERY FILE` prints the total lengths in bytes of
-//! `contents_diff`, of `contents_diff_scrolling` and of `contents_diff_with` with both options. One
-//! diff is taken after every EVERY bytes of FILE and one at its end. Each diff starts from the screen
-//! at the previous diff; the first diff starts from a new screen.
+//! `contents_diff`, of `contents_diff_scrolling`, and of `contents_diff_with` with both options,
+//! for REP after any character and for REP after ASCII characters. One diff is taken after every
+//! EVERY bytes of FILE and one at its end. Each diff starts from the screen at the previous diff;
+//! the first diff starts from a new screen.
 //!
 //! `tool_bench texts ROWS COLS CAPACITY EVERY FILE` prints the same diffs, redraws of the same
 //! screens, and what these screens display: see `bench/tmux`.
@@ -75,8 +76,8 @@ fn run<R: AllocGlobal + Env + Files + Print>(rt: &R) -> Result<()> {
     Ok(())
 }
 
-/// Parses a file in chunks. If `what` is `texts`, prints the redraw and the diffs of the screen after
-/// each chunk. Otherwise, prints the total lengths of the diffs between successive screens.
+/// Parses a file in chunks. If `what` is `texts`, prints the redraw and the diffs of the screen
+/// after each chunk. Otherwise, prints the total lengths of the diffs between successive screens.
 fn show_on_the_way<R: AllocGlobal + Files + Print>(
     rt: &R,
     what: &str,
@@ -91,8 +92,9 @@ fn show_on_the_way<R: AllocGlobal + Files + Print>(
         plain,
         scrolling,
         repeating,
+        repeating_ascii,
     } = reading.lengths(rt.alloc(), bytes.as_slice())?;
-    println!(rt; "{plain} {scrolling} {repeating}")?;
+    println!(rt; "{plain} {scrolling} {repeating} {repeating_ascii}")?;
     Ok(())
 }
 

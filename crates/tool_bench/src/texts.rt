@@ -1,14 +1,14 @@
 //! The output of a screen for a second terminal, and what that terminal must display.
 
-use crate::lengths::{BOTH, Reading};
+use crate::lengths::{REPEATING, REPEATING_ASCII, Reading};
 use anyhow::{Result, ensure};
 use std::alloc::{AllocError, Global};
 use vt100::{Cell, Color, Parser, Screen};
 
-/// Prints a group of five texts after every `every` bytes and at the end of the input:
+/// Prints a group of six texts after every `every` bytes and at the end of the input:
 /// `contents_formatted`; `contents_diff`, `contents_diff_scrolling`, and `contents_diff_with` with
-/// both options, from the screen of the previous group (for the first group, a new screen); and the
-/// display of the screen.
+/// [`REPEATING_ASCII`] and with [`REPEATING`], from the screen of the previous group (for the first
+/// group, a new screen); and the display of the screen.
 ///
 /// Each group begins with a line that contains the cursor's row and column, counted from 0, whether
 /// the cursor is hidden, and the length of each text in bytes. Each group ends with a newline.
@@ -29,14 +29,16 @@ fn show<R: AllocGlobal + Print>(rt: &R, screen: &Screen, prev: &Screen) -> Resul
     ensure!(screen.is_sized_as(prev), "another size");
     let (redraw, drawn) = (screen.contents_formatted()?, screen.contents_diff(prev)?);
     let scrolling = screen.contents_diff_scrolling(prev)?;
-    let repeating = screen.contents_diff_with(prev, BOTH)?;
+    let ascii = screen.contents_diff_with(prev, REPEATING_ASCII)?;
+    let repeating = screen.contents_diff_with(prev, REPEATING)?;
     let shown = shown(rt.alloc(), screen)?;
     let (row, col) = screen.cursor_position();
     let hidden = screen.hide_cursor();
     let (first, second) = (redraw.len(), drawn.len());
-    let (third, fourth, fifth) = (scrolling.len(), repeating.len(), shown.len());
-    println!(rt; "{row} {col} {hidden} {first} {second} {third} {fourth} {fifth}")?;
-    println!(rt; "{redraw}{drawn}{scrolling}{repeating}{shown}")?;
+    let (third, fourth) = (scrolling.len(), ascii.len());
+    let (fifth, sixth) = (repeating.len(), shown.len());
+    println!(rt; "{row} {col} {hidden} {first} {second} {third} {fourth} {fifth} {sixth}")?;
+    println!(rt; "{redraw}{drawn}{scrolling}{ascii}{repeating}{shown}")?;
     Ok(())
 }
 

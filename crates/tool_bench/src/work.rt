@@ -1,6 +1,6 @@
 //! The calls that `tool_bench` can measure.
 
-use vt100::{DiffOptions, Error, Screen};
+use vt100::{DiffOptions, Error, Repeat, Screen};
 
 /// A call that `tool_bench` can measure.
 #[derive(Clone, Copy)]
@@ -107,7 +107,7 @@ fn repeating_difference(screen: &Screen, prev: &Screen) -> Result<usize, Error> 
     }
     let options = DiffOptions {
         scroll: false,
-        repeat: true,
+        repeat: Repeat::Any,
     };
     Ok(screen.contents_diff_with(prev, options)?.len())
 }

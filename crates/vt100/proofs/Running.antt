@@ -199,11 +199,11 @@ stopped_in does p q bytes count stopped at =
     record { inside = tt; ran = tt; stopped = λ r. stopped; where_stopped = at }
 
 -- A call after a run over no bytes has the effect of the call alone.
-pub read_behind : {S : Type 0} (does : CallRelation S) (p q r : ParserValue S) (bytes : List ℕ) (result : Result ℕ ℕ) →
+pub read_after_quiet : {S : Type 0} (does : CallRelation S) (p q r : ParserValue S) (bytes : List ℕ) (result : Result ℕ ℕ) →
     Ran does p (take 0 bytes) q → ReadsOrStops does q bytes r result → ReadsOrStops does p bytes r result
-read_behind does p q r bytes (Ok count) nothing reads =
+read_after_quiet does p q r bytes (Ok count) nothing reads =
     some_read does p r bytes count reads.inside (ran_then does p q r [] (take count bytes) nothing reads.ran)
-read_behind does p q r bytes (Err count) nothing reads =
+read_after_quiet does p q r bytes (Err count) nothing reads =
     stopped_in does p r bytes count (stopped_then does p q r bytes 0 nothing (reads.stopped refl))
     (stopped_at_after does p q r bytes count nothing reads.where_stopped)
 

@@ -13,11 +13,12 @@ use Rattle.vt_screen.specs.Run.{CallRelation, Breaks, Performs, Refuses, State, 
 use Rattle.vt100.specs.Parser.{ParserValue, Ran, Stopped, StoppedAt}
 use Rattle.vt100.specs.declared.sequence.Sequence.{Sequence}
 
--- The effect of taking all of the given steps, in order, on the callbacks and the screen.
+-- Taking all of the given steps in order turns the callbacks `old` and the screen `before` into `new` and `after`.
 abbrev pub Does : {S : Type 0} → CallRelation S → S → ScreenValue → List Step → S → ScreenValue → Type 0
 Does does old before steps new after = FoldsTo (Takes does) (state old before) steps (state new after)
 
--- A prefix of the given steps is taken, and an allocation for the next step fails.
+-- Taking the given steps in order, starting with the callbacks `old` and the screen `before`, stops at a step for which
+-- an allocation fails. The earlier steps lead to `new` and `after`.
 abbrev pub Stops : {S : Type 0} → CallRelation S → S → ScreenValue → List Step → S → ScreenValue → Type 0
 Stops does old before steps new after = StopsIn (Takes does) Refuses (state old before) steps (state new after)
 
@@ -29,8 +30,8 @@ pub record DoesOrStops {S : Type 0} (does : CallRelation S)
   pub stopped : IsErr result → Stops does old before steps new after
   pub memory : OnlyOutOfMemory result
 
--- The effect of a call that takes `step` between one and `left` times and returns the number of times, or stops when an
--- allocation fails.
+-- The effect of a call that takes `step` at least once and at most `left` times, and returns how often it was taken, or
+-- stops when an allocation fails.
 pub record RepeatsOrStops {S : Type 0} (does : CallRelation S)
     (old : S) (before : ScreenValue) (left : ℕ) (step : Step) (new : S) (after : ScreenValue)
     (result : Result ℕ Error) : Type 0 where

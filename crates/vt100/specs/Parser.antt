@@ -35,16 +35,17 @@ HasFreshScreen rows cols capacity callbacks parser =
 abbrev pub stage : {S : Type 0} → ParserValue S → screen.State S
 stage parser = screen.state parser.callbacks parser.screen
 
--- Parsing the given bytes turns the first parser into the second. For every state that the first parser's scanner can
--- be in, the second parser's scanner can be in the state after the bytes, and the second parser's callbacks and screen
--- are those after the steps of all events, taken in order.
+-- Parsing the given bytes turns the first parser into the second. From every state that the first parser's scanner can
+-- be in, the bytes lead to a state that the second parser's scanner can be in. Taking the steps of all events in order
+-- turns the callbacks and the screen of the first parser into those of the second.
 abbrev pub Ran : {S : Type 0} → CallRelation S → ParserValue S → List ℕ → ParserValue S → Type 0
 Ran does old bytes new =
     (state : State) → StandsFor old.scanner state
     → StandsFor new.scanner (scan.run state bytes).state
     × FoldsTo (Performs does) (stage old) (scan.run state bytes).events (stage new)
 
--- The byte at the given index is appended to the text of an operating system command, which may require an allocation.
+-- If `bytes` are parsed from the given state, the byte at index `k` is appended to the text of an operating system
+-- command, which may require an allocation.
 abbrev pub Collects : State → List ℕ → ℕ → Type 0
 Collects state bytes k =
     transition_of (scan.run state (take k bytes)).state.kind (class_of (slice_index_or bytes k 0)) ≡ Collect OscString
@@ -65,7 +66,8 @@ StoppedWithin does old bytes new =
     (state : State) → StandsFor old.scanner state →
     StopsIn (Performs does) (Breaks does) (stage old) (scan.run state bytes).events (stage new)
 
--- Parsing the first `count` bytes invokes no callbacks, or only the last of these bytes produces events.
+-- The callbacks are unchanged (`new` equals `old`), or only the last of the first `count` bytes can produce events,
+-- whichever state the scanner `held` is in.
 abbrev pub CallsByLast : {S : Type 0} → S → ScannerValue → List ℕ → ℕ → S → Type 0
 CallsByLast old held bytes count new =
     (new ≡ old) ⊎ ((0 < count) × HasNoEvent held (take (count - 1) bytes))
@@ -78,8 +80,8 @@ does_nothing call old before new after = (new ≡ old) × (after ≡ before)
 abbrev pub Stopped : {S : Type 0} → CallRelation S → ParserValue S → List ℕ → ParserValue S → Type 0
 Stopped does old bytes new = StoppedBefore does old bytes new ⊎ StoppedWithin does old bytes new
 
--- An allocation for the given byte fails in the given state of the scanner: either the one for appending the byte to a
--- command's text, or one required by a step of the byte's events.
+-- An allocation for the given byte fails in the given state of the scanner. The allocation is needed either to append
+-- the byte to a command's text or to apply a step of an event that the byte produces.
 abbrev pub IsRefused : {S : Type 0} → CallRelation S → screen.State S → State → ℕ → screen.State S → Type 0
 IsRefused does old state byte new =
     ((new ≡ old) × (transition_of state.kind (class_of byte) ≡ Collect OscString))

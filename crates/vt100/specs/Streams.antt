@@ -18,7 +18,7 @@ pub data ParserCall : Type 0 where
   Process : (bytes : List ℕ) → ParserCall
   SetScrollback : (rows : ℕ) → ParserCall
 
--- The effect of a successful call to a parser.
+-- The call succeeds and turns the parser `old` into `new`.
 abbrev pub MakesCall : {S : Type 0} → CallRelation S → ParserValue S → ParserCall → ParserValue S → Type 0
 MakesCall does old (Process bytes) new = Ran does old bytes new
 MakesCall does old (SetScrollback rows) new = new ≡ record old { screen = scrolled_back rows old.screen }
@@ -29,7 +29,8 @@ bytes_of_calls [] = []
 bytes_of_calls (Process bytes ∷ calls) = bytes ++ bytes_of_calls calls
 bytes_of_calls (SetScrollback rows ∷ calls) = bytes_of_calls calls
 
--- The calls to callbacks that a list of calls to a parser makes, in order, if callbacks leave the screen unchanged.
+-- The callback invocations that a list of calls to a parser causes, in order, provided that the callbacks leave the
+-- screen unchanged.
 abbrev pub calls_by : State → ScreenValue → List ParserCall → List CallValue
 calls_by scan screen [] = []
 calls_by scan screen (Process bytes ∷ calls) =

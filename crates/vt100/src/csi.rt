@@ -116,9 +116,8 @@ fn unmarked_by_table<CB: Callbacks>(
     scrolling(screen, callbacks, sequence, count)
 }
 
-/// Performs a control sequence without a private marker or an intermediate
-/// byte, other than those that [`counted`] handles. SU and REP may scroll rows
-/// off the page.
+/// Performs a control sequence that has neither a private marker nor an intermediate byte and that
+/// [`counted`] does not handle. SU and REP may scroll rows off the page.
 ///
 /// `count` is the first parameter, which defaults to 1.
 ///
@@ -296,8 +295,8 @@ fn window<CB: Callbacks>(screen: &mut Screen, callbacks: &mut CB, sequence: Sequ
     callbacks.resize(screen, (rows, cols));
 }
 
-/// Returns the first number of group `i`, or `own`, the screen's current number of rows or columns,
-/// if there is no such group.
+/// Returns the first number of parameter group `i`, or `own` (the screen's current number of rows
+/// or columns) if there is no such group.
 fn number_or_own(own: u16, parameters: &Parameters, i: usize) -> u16
     ensures { result ≡ size_or own i parameters.now.groups }
 {
@@ -361,8 +360,9 @@ fn private<CB: Callbacks>(
     Ok(())
 }
 
-/// Performs a control sequence whose intermediate byte is a space, such as
-/// DECSCUSR.
+/// Performs a control sequence whose first intermediate byte is a space. DECSCUSR (final byte `q`)
+/// sets the cursor style, or is reported if the style is unknown. Any other sequence is reported
+/// without its intermediate bytes.
 #[tactic(auto, using(crate::proofs::Stepping::tested_steps), unfolding(vt_screen::specs::Controls::space_steps))]
 fn spaced<CB: Callbacks>(screen: &mut Screen, callbacks: &mut CB, sequence: Sequence<'_>)
     requires { sequence.first ≡ Some 0x20 }

@@ -24,9 +24,9 @@ ghost use Rattle.vt_screen.specs.CallsOfRun.{CalledOnSomeScreen, LeavesScreen, c
 
 use vt_screen::Callbacks;
 
-/// States that input may be split anywhere. One call to `process` on all the
-/// bytes and several calls on consecutive chunks allow the same runs, with the
-/// same callbacks in the same order. The clauses are:
+/// States that input may be split anywhere. One call to `process` on all the bytes and several
+/// calls on consecutive chunks can have exactly the same effects, with the same callbacks in the
+/// same order. The clauses are:
 ///
 /// - `two`, `list`: everything that the calls on the chunks can do, one call on
 ///   the whole input can also do.
@@ -35,9 +35,9 @@ use vt_screen::Callbacks;
 ///   two chunks, `parted` also states that the parser has not failed between
 ///   them.
 ///
-/// The clauses `parted` and `parted_list` assume that the parser's scanner
-/// represents at least one state of the automaton. By the clause `stands` of
-/// `Parser::screen`, every parser's scanner meets this premise.
+/// The clauses `parted` and `parted_list` assume that the parser's scanner represents at least one
+/// state of the automaton. By the clause `stands` of `Parser::screen`, every parser's scanner meets
+/// this premise.
 pub fn pieces<CB: Callbacks>()
     ensures two { (p q r : ParserValue CB) (a b : List ℕ) →
         Ran CB.does p a q → Ran CB.does q b r → Ran CB.does p (a ++ b) r }
@@ -158,12 +158,11 @@ pub fn chain<CB: Callbacks>()
 /// any screen or a diff from one screen to another, even if the screen to be
 /// displayed is not steady. The clauses are:
 ///
-/// - `kept` applies to output that keeps plain terminals plain, which
-///   `contents_formatted`, `contents_diff`, `contents_diff_scrolling` and
-///   `cursor_state_formatted` return (see their clauses `again`).
-/// - `made` applies to output that makes any terminal without displayed
-///   scrollback plain, which `contents_formatted_reset` returns (see its clause
-///   `again`).
+/// - `kept` applies to output that keeps every plain terminal plain. The output of
+///   `contents_formatted`, `contents_diff`, `contents_diff_scrolling` and `cursor_state_formatted`
+///   does so (see their clauses `again`).
+/// - `made` applies to output that makes every terminal without displayed scrollback plain. The
+///   output of `contents_formatted_reset` does so (see its clause `again`).
 ///
 /// The output may be split into any chunks. Whatever the callbacks are, only
 /// `on_scroll` is invoked, for rows that scroll off the top. The inactive page,

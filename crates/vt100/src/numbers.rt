@@ -18,7 +18,7 @@ pub fn number_or(default: u16, parameters: &Parameters, i: usize) -> u16
     number
 }
 
-/// Returns the intermediate byte at index `i`, if there is one.
+/// Returns the intermediate byte at index `i`, or `None` if there is none.
 #[inline(always)]
 pub fn intermediate_at(intermediates: &[u8], i: usize) -> Option<u8>
     ensures { result ≡ intermediate_at i intermediates.now }

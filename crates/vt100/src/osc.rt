@@ -27,7 +27,7 @@ pub fn perform<CB: Callbacks>(screen: &mut Screen, callbacks: &mut CB, parts: &[
 
 /// Performs a two-part operating system command: OSC 0 sets the icon name and the title, OSC 1 only
 /// the icon name, and OSC 2 only the title. Any other command is reported as unhandled. `parts`
-/// holds `name`, the number of the command, and `text`.
+/// consists of `name` (the number of the command) and `text`.
 #[tactic(auto, using(crate::proofs::Stepping::steps_called), unfolding(vt_screen::specs::Controls::named_steps))]
 fn title<CB: Callbacks>(
     screen: &mut Screen,
@@ -57,8 +57,8 @@ fn title<CB: Callbacks>(
 
 /// Performs a three-part operating system command: OSC 52, which requests or sets the contents of
 /// clipboards. An OSC 52 with invalid parts and any other command are reported as unhandled.
-/// `parts` holds `name` (the number of the command), `kind` (the bytes that name the clipboards)
-/// and `text` (`?` for a request, otherwise the contents in Base64).
+/// `parts` consists of `name` (the number of the command), `kind` (the bytes that name the
+/// clipboards) and `text` (`?` for a request, otherwise the contents in Base64).
 #[tactic(auto, using(crate::proofs::Stepping::steps_called), unfolding(vt_screen::specs::Controls::clipboard_steps))]
 fn clipboard<CB: Callbacks>(
     screen: &mut Screen,
@@ -94,7 +94,8 @@ fn is_text(text: &[u8], word: &[u8]) -> bool
     text == word
 }
 
-/// Returns whether each byte of `kind` names a clipboard.
+/// Returns whether each byte of `kind` names a clipboard or selection: `c`, `p`, `q`, `s`, or a
+/// digit from `0` to `7`.
 fn all_clipboards(kind: &[u8]) -> bool
     ensures { result ≡ is_clipboard_kind kind.now }
 {

@@ -179,8 +179,8 @@ impl<CB: Callbacks> Parser<CB> {
         }
     }
 
-    /// Parses one unit of `bytes`, in which only the last byte can invoke
-    /// callbacks, and returns its length in bytes.
+    /// Parses the first unit of `bytes`, in which only the last byte can invoke callbacks, and
+    /// returns the unit's length in bytes. `bytes` must not be empty.
     ///
     /// A unit is a run of text that fits on the cursor's row, one character, a control function, a
     /// complete or partial sequence, or bytes of a control string (such as an operating system
@@ -189,9 +189,8 @@ impl<CB: Callbacks> Parser<CB> {
     ///
     /// # Errors
     ///
-    /// Returns the errors of [`process`](Parser::process), along with the
-    /// number of bytes read before the byte that required the failed
-    /// allocation.
+    /// Returns the errors of [`process`](Parser::process), along with the number of bytes read
+    /// before the byte that required the failed allocation, or 0 if the parser had already failed.
     #[inline(always)]
     pub fn process_unit(&mut self, bytes: &[u8]) -> (usize, Result<(), Error>)
         requires { 0 < length bytes.now }
@@ -210,16 +209,18 @@ impl<CB: Callbacks> Parser<CB> {
         }
     }
 
-    /// Returns the number of bytes that the parser stores for an unfinished
-    /// operating system command: the bytes read after `\x1b]`, not counting
-    /// control functions. Returns 0 if no such command is in progress.
+    /// Returns the number of bytes that the parser stores for an unfinished operating system
+    /// command: the bytes read after `\x1b]`, not counting C0 control characters. Returns 0 if no
+    /// such command is in progress.
     ///
     /// No other unfinished input takes memory: other control strings, such as DCS, are discarded as
     /// they are read, and only a fixed amount of any other sequence is kept.
     ///
-    /// The length of a command is limited only by memory. To enforce a limit,
-    /// pass CAN (`\x18`) to the parser: it dispatches the part of the command
-    /// that has been read and then invokes `unhandled_control` for the CAN.
+    /// The length of a command is limited only by memory. To enforce a limit, pass CAN (`\x18`) to
+    /// the parser, which then dispatches the part of the command that it has read and invokes
+    /// `unhandled_control` for the CAN.
+    ///
+    /// # Examples
     ///
     /// ```text
     /// parser.process(b"\x1b]2;a title that does not end")?;

@@ -15,7 +15,7 @@ use vt_scan::{Event, Scanner};
 use vt_screen::screen::{controls, pages, printing, scrolling};
 use vt_screen::{Callbacks, ModeStep, Screen};
 
-/// Applies one event of the scanner to the screen.
+/// Applies one scanner event to the screen and invokes the callbacks that the event calls for.
 ///
 /// # Errors
 ///
@@ -153,12 +153,12 @@ fn is_reported(character: char) -> bool
     matches!(character, '\u{80}'..='\u{9f}' | '\u{fffd}')
 }
 
-/// Performs a single-byte control function (C0).
+/// Performs a single-byte control function (C0), or reports it if it is unknown.
 ///
 /// # Errors
 ///
-/// Returns `Error::OutOfMemory` if there is not enough memory to keep a row
-/// that scrolls off the top. On error, the screen is unchanged.
+/// Returns `Error::OutOfMemory` if there is not enough memory to keep a row that scrolls off the
+/// top. On error, the screen is unchanged.
 #[inline]
 #[tactic(auto, using(crate::proofs::Stepping::tested_refusal, crate::proofs::Deciding::control_feeds))]
 pub fn execute<CB: Callbacks>(
@@ -177,7 +177,7 @@ pub fn execute<CB: Callbacks>(
     Ok(())
 }
 
-/// Performs a single-byte control function other than LF, VT or FF.
+/// Performs a single-byte control function other than LF, VT or FF, or reports it if it is unknown.
 #[tactic(auto, using(crate::proofs::Stepping::tested_steps), unfolding(vt_screen::specs::Controls::control_steps))]
 fn execute_other<CB: Callbacks>(screen: &mut Screen, callbacks: &mut CB, byte: u8)
     requires { (nat_le 0x0A byte && nat_le byte 0x0C) ≡ false }
@@ -193,8 +193,8 @@ fn execute_other<CB: Callbacks>(screen: &mut Screen, callbacks: &mut CB, byte: u
     }
 }
 
-/// Performs the escape sequence with the given intermediate bytes and final
-/// byte.
+/// Performs the escape sequence with the given intermediate bytes and final byte. An unknown
+/// sequence, or any sequence with an intermediate byte, is reported as unhandled.
 #[tactic(auto, using(crate::proofs::Stepping::steps_called), unfolding(vt_screen::specs::Controls::escape_steps))]
 fn escape<CB: Callbacks>(screen: &mut Screen, callbacks: &mut CB, intermediates: &[u8], byte: u8)
     ensures { Does CB.does callbacks.old screen.old (escape_steps intermediates.now byte) callbacks.new screen.new }
@@ -208,8 +208,8 @@ fn escape<CB: Callbacks>(screen: &mut Screen, callbacks: &mut CB, intermediates:
     callbacks.unhandled_escape(screen, first, second, byte);
 }
 
-/// Performs the escape sequence with the given final byte and no intermediate
-/// bytes.
+/// Performs the escape sequence with the given final byte and no intermediate bytes, or reports it
+/// if it is unknown.
 #[tactic(auto, using(crate::proofs::Stepping::tested_steps), unfolding(vt_screen::specs::Controls::escape_steps))]
 fn lone_escape<CB: Callbacks>(screen: &mut Screen, callbacks: &mut CB, byte: u8)
     ensures { Does CB.does callbacks.old screen.old (escape_steps [] byte) callbacks.new screen.new }

@@ -15,8 +15,8 @@ use vt_scan::{Event, Events, Scanner};
 use vt_screen::screen::printing;
 use vt_screen::{Callbacks, Screen};
 
-/// The maximum number of characters in a run of wide or narrow characters, which is printed in a
-/// single edit of the row.
+/// The maximum number of wide or narrow characters that are printed as one run, in a single edit of
+/// the row.
 const RUN: usize = 64;
 
 /// Parses `bytes`, applies the resulting events to the screen, and invokes
@@ -49,14 +49,13 @@ pub fn process<CB: Callbacks>(
 }
 
 /// Parses and applies the first unit of `bytes`, and returns its length in bytes. A unit is a run
-/// of narrow characters or of wide characters that fits on the cursor's row, a single-byte control
-/// function, a complete or partial sequence, bytes of a control string, or otherwise one character
-/// or byte.
+/// of narrow characters or of wide characters that fits on the cursor's row, a single character, a
+/// single-byte control function, a complete or partial sequence, bytes of a control string, or any
+/// other single byte.
 ///
 /// # Errors
 ///
-/// If an allocation fails, returns the number of bytes read before the byte
-/// that required it.
+/// If an allocation fails, returns the number of bytes read before the byte that required it.
 #[inline(always)]
 pub fn process_some<CB: Callbacks>(
     scanner: &mut Scanner,
@@ -90,8 +89,8 @@ pub fn process_some<CB: Callbacks>(
     process_rest(scanner, screen, callbacks, bytes)
 }
 
-/// Parses and applies the sequence at the start of `bytes`, or the part of it that is present.
-/// Returns the number of bytes read, which is 0 if `bytes` does not start with a sequence.
+/// Parses leading bytes of `bytes` that begin, continue or end a sequence or an operating system
+/// command, and performs it if it is completed. Returns the number of bytes read, which may be 0.
 ///
 /// # Errors
 ///
@@ -148,7 +147,7 @@ fn end_sequence<CB: Callbacks>(
         escape_sequence(scanner, screen, callbacks, bytes[0]);
         return Ok(1);
     }
-    if scanner.command_byte(bytes[0]) {
+    if scanner.take_command_byte(bytes[0]) {
         command(scanner, screen, callbacks);
         scanner.release_text();
         return Ok(1);
@@ -157,7 +156,8 @@ fn end_sequence<CB: Callbacks>(
 }
 
 /// Parses and applies the complete multibyte character at the start of `bytes`, and returns its
-/// length in bytes. If there is no such character, does the same as [`process_rest`].
+/// length in bytes. If there is no such character, parses and applies bytes of a control string or
+/// a single byte, as [`process_rest`] does, and returns the number of bytes read.
 ///
 /// # Errors
 ///
@@ -263,8 +263,8 @@ fn print_some<CB: Callbacks>(
 }
 
 /// Parses and applies a run of wide characters, or a run of narrow characters, at the start of
-/// `bytes`. If there is no such run, does the same as [`process_one`]. The first byte must be at
-/// least 0x80. Returns the number of bytes read.
+/// `bytes`. If there is no such run, parses and applies a single character or other bytes, as
+/// [`process_one`] does. The first byte must be at least 0x80. Returns the number of bytes read.
 ///
 /// # Errors
 ///
@@ -315,8 +315,9 @@ fn print_run<CB: Callbacks>(
     Ok(0)
 }
 
-/// Prints a run of three-byte wide characters from the start of `bytes`, for [`print_run`], which
-/// has examined only the first byte. Returns the number of bytes read. Never returns an error.
+/// Prints a run of at most 64 three-byte wide characters from the start of `bytes`, stopping at the
+/// end of the cursor's row. Returns the number of bytes read, which is 0 if nothing was printed.
+/// Never returns an error.
 ///
 /// This function is never inlined, so that its buffer takes up stack space only while it runs.
 #[inline(never)]
@@ -333,8 +334,9 @@ fn print_wide_run<CB: Callbacks>(
     print_wide_some(scanner, screen, callbacks, bytes, &mut text)
 }
 
-/// Prints a run of three-byte wide characters from the start of `bytes`, at most as many as fit in
-/// the buffer `text` and on the cursor's row. Returns the number of bytes read. Never returns an
+/// Decodes a run of three-byte wide characters from the start of `bytes` into the buffer `text`,
+/// and prints it. The run holds at most as many characters as fit in `text` and on the cursor's
+/// row. Returns the number of bytes read, which is 0 if nothing was printed. Never returns an
 /// error.
 #[inline(always)]
 fn print_wide_some<CB: Callbacks>(
@@ -356,9 +358,9 @@ fn print_wide_some<CB: Callbacks>(
     Ok(3 * count)
 }
 
-/// Prints a run of narrow characters below U+3000 from the start of `bytes`, for [`print_run`],
-/// which has examined only the first byte. Returns the number of bytes read. Never returns an
-/// error.
+/// Prints a run of at most 64 narrow characters below U+3000 from the start of `bytes`, stopping at
+/// the end of the cursor's row. Returns the number of bytes read, which is 0 if nothing was
+/// printed. Never returns an error.
 ///
 /// This function is never inlined, so that its buffer takes up stack space only while it runs.
 #[inline(never)]
@@ -375,9 +377,10 @@ fn print_narrow_run<CB: Callbacks>(
     print_narrow_some(scanner, screen, callbacks, bytes, &mut text)
 }
 
-/// Prints a run of narrow characters below U+3000 from the start of `bytes`, at most as many as fit
-/// in the buffer `text` and on the cursor's row. Returns the number of bytes read. Never returns an
-/// error.
+/// Decodes a run of narrow characters below U+3000 from the start of `bytes` into the buffer
+/// `text`, and prints it. The run holds at most as many characters as fit in `text` and on the
+/// cursor's row. Returns the number of bytes read, which is 0 if nothing was printed. Never returns
+/// an error.
 #[inline(always)]
 fn print_narrow_some<CB: Callbacks>(
     scanner: &Scanner,
@@ -393,9 +396,10 @@ fn print_narrow_some<CB: Callbacks>(
     print_narrow_fitting(scanner, screen, callbacks, bytes, &mut text[..most])
 }
 
-/// Prints a run of narrow characters below U+3000 from the start of `bytes`, at most as many as fit
-/// in the buffer `text`. The cursor's row must have room for `text.len()` characters. Returns the
-/// number of bytes read. Never returns an error.
+/// Decodes a run of narrow characters below U+3000 from the start of `bytes` into the buffer
+/// `text`, and prints it. The run holds at most `text.len()` characters, and the cursor's row must
+/// have room for that many. Returns the number of bytes read, which is 0 if nothing was printed.
+/// Never returns an error.
 #[inline(always)]
 fn print_narrow_fitting<CB: Callbacks>(
     scanner: &Scanner,
@@ -416,7 +420,7 @@ fn print_narrow_fitting<CB: Callbacks>(
     Ok(len)
 }
 
-/// Applies the events of one byte in order.
+/// Applies the events that a single input byte has produced, in order.
 ///
 /// # Errors
 ///

@@ -68,14 +68,14 @@ fn repeat_ascii<CB: Callbacks>(
     Ok(())
 }
 
-/// Prints a printable ASCII character up to `left` times, stopping at the end
-/// of the cursor's row, and returns how many were printed. If the cursor is
-/// already past the last column, prints one, which may scroll the screen.
+/// Prints a printable ASCII character up to `left` times (at most 64), stopping at the end of the
+/// cursor's row, and returns how many times it was printed. If the cursor is already past the last
+/// column, prints the character once, which may scroll the screen.
 ///
 /// # Errors
 ///
-/// Returns `Error::OutOfMemory` if there is not enough memory to keep a row
-/// that scrolls off the top. On error, the screen is unchanged.
+/// Returns `Error::OutOfMemory` if there is not enough memory to keep a row that scrolls off the
+/// top. On error, the screen is unchanged.
 #[inline]
 fn repeat_some<CB: Callbacks>(
     screen: &mut Screen,
@@ -98,8 +98,8 @@ fn repeat_some<CB: Callbacks>(
     Ok(count)
 }
 
-/// Prints a printable ASCII character `count` times in a single edit of the row. All `count`
-/// characters must fit on the cursor's row.
+/// Prints a printable ASCII character `count` times in a single edit of the row. `count` must be
+/// from 1 to 64, and all the characters must fit on the cursor's row.
 #[inline]
 fn repeat_in_row(screen: &mut Screen, byte: u8, count: u16)
     requires low { 0x20 ≤ byte }

@@ -5,7 +5,8 @@ ghost use Rattle.vt100.specs.Internals.{report_of};
 use vt_scan::Parameters;
 use vt_screen::{Callbacks, Screen};
 
-/// A control sequence. Only the first two of its private marker and intermediate bytes are stored.
+/// A control sequence in the form in which it is passed to callbacks. Of its private marker and its
+/// intermediate bytes, only the first two are stored.
 #[derive(Clone, Copy)]
 pub struct Sequence<'a> {
     /// The private marker or the first intermediate byte, if there is one.

@@ -6,10 +6,10 @@ use Rattle.std.proofs.lemmas.Bool.{and_parts, eqb-true, eqb-false}
 use Rattle.std.proofs.lemmas.List.{length-take, length-drop, get_or-take, get_or-drop}
 use Rattle.std.proofs.lemmas.Str.{chars-nil}
 use Rattle.std.specs.Str.{chars}
-use Rattle.vt_rows.specs.CaptureRows.{AreRowsFrom, AreRowsOf, IsBehindEnd, IsBehindFull, IsRowOf, IsUncut}
+use Rattle.vt_rows.specs.CaptureRows.{AreRowsFrom, AreRowsOf, IsAfterEnd, IsAfterFull, IsRowOf, IsUncut}
 use Rattle.vt_rows.specs.Pieces.{ArePiecesOf, Piece, piece_end, texts_of}
 use Rattle.vt_rows.specs.Stretches.{ends_within}
-use Rattle.vt100_c.specs.Captures.{IsFirstRow, behind_line_end, no_place}
+use Rattle.vt100_c.specs.Captures.{IsFirstRow, after_line_end, no_place}
 
 -- ---- pieces
 
@@ -112,8 +112,8 @@ false_from false n = refl
 
 -- The next row begins after the line feed at the end of a row, or directly at that end if there is no line feed.
 next_place : (width : ℕ) (text : List ℕ) (row next : Piece) (rows : List Piece) →
-    IsBehindEnd text row next ⊎ IsBehindFull width row next →
-    AreRowsFrom width text next.0 (next ∷ rows) → next.0 ≡ behind_line_end text (piece_end row)
+    IsAfterEnd text row next ⊎ IsAfterFull width row next →
+    AreRowsFrom width text next.0 (next ∷ rows) → next.0 ≡ after_line_end text (piece_end row)
 next_place width text row next rows (inl b) are =
     b.place
     ∙ sym (ap (λ (is : Bool). if is then piece_end row + 1 else piece_end row)
@@ -161,7 +161,7 @@ last_row width at text (row ∷ next ∷ rows) bytes left are e none =
 -- The positions at which a row of a capture ends and the next row begins.
 pub row_before : (width at : ℕ) (text : List ℕ) (rows : List Piece) (bytes : List ℕ) (left : List (List ℕ)) →
     AreRowsOf width text rows → texts_of rows ≡ bytes ∷ left → left ≢ [] →
-    IsFirstRow at rows (at + length bytes) (at + behind_line_end text (length bytes))
+    IsFirstRow at rows (at + length bytes) (at + after_line_end text (length bytes))
 row_before width at text [] bytes left are e some = absurd are
 row_before width at text (row ∷ []) bytes left are e some = absurd (some (sym (left_texts row [] bytes left e)))
 row_before width at text (row ∷ next ∷ rows) bytes left are e some =
@@ -170,7 +170,7 @@ row_before width at text (row ∷ next ∷ rows) bytes left are e some =
     let z : row.0 ≡ 0 = are.0 in
     let n : length bytes ≡ piece_end row = omega arith in (
       end_at at row bytes are.0 b,
-      ap (λ (place : ℕ). at + place) (ap (behind_line_end text) n ∙ sym (next_place width text row next rows are.2 are.3)),
+      ap (λ (place : ℕ). at + place) (ap (after_line_end text) n ∙ sym (next_place width text row next rows are.2 are.3)),
     )
 
 -- ---- rows of an iterator
@@ -184,7 +184,7 @@ next_inside width text all left row some e = row_inside width text some.0 row le
 -- The positions at which the row that the iterator returned ends and the next one begins.
 pub next_rows : (width at : ℕ) (text : List ℕ) (all left more : List (List ℕ)) (row next : List ℕ) (place : ℕ) →
     ((rows : List Piece) × AreRowsOf width text rows × (all ≡ texts_of rows)) → all ≡ row ∷ left → left ≡ next ∷ more →
-    place ≡ behind_line_end text (length row) →
+    place ≡ after_line_end text (length row) →
     (rows : List Piece) × AreRowsOf width text rows × IsFirstRow at rows (at + length row) (at + place)
 next_rows width at text all left more row next place some e f is =
     let others : left ≢ [] = λ none. let l : suc (length more) ≡ 0 = ap length (sym f ∙ none) in omega arith in (

@@ -3,7 +3,7 @@ use Rattle.std.proofs.Common.{◌≡◌, ◌≢◌, ◌⊎◌, ◌↔◌, inl, i
 use Rattle.std.proofs.Common.{length, take, drop, get_or, refl, sym, ap, ap₂, subst, ◌∙◌, arith}
 use Rattle.std.proofs.lemmas.List.{drop-drop, get_or-drop, length-drop, length-take}
 use Rattle.std.proofs.lemmas.Str.{IsUtf8-drop}
-use Rattle.vt_rows.specs.CaptureRows.{AreRowsFrom, AreRowsOf, IsBehindEnd, IsBehindFull, IsRowOf, ends_row}
+use Rattle.vt_rows.specs.CaptureRows.{AreRowsFrom, AreRowsOf, IsAfterEnd, IsAfterFull, IsRowOf, ends_row}
 use Rattle.vt_rows.specs.Pieces.{AreApart, ArePiecesOf, IsInSome, IsPieceOf, Piece, piece_end}
 use Rattle.vt_rows.specs.Stretches.{IsInStretch}
 use Rattle.vt_rows.proofs.CutRows.{rows_are_one}
@@ -188,10 +188,10 @@ row_back : (width : ℕ) (capture : List ℕ) (n : ℕ) (row : Piece) → n ≤ 
 row_back width capture n row le is =
     record { slice = slice_back capture n row.0 row.1 le is.slice; utf8 = is.utf8; uncut = is.uncut }
 
-behind_back : (width : ℕ) (capture : List ℕ) (n : ℕ) (row next : Piece) → n ≤ row.0 →
-    IsBehindEnd capture row next ⊎ IsBehindFull width row next →
-    IsBehindEnd (drop n capture) (back n row) (back n next) ⊎ IsBehindFull width (back n row) (back n next)
-behind_back width capture n row next le (inl end) = inl (record {
+after_back : (width : ℕ) (capture : List ℕ) (n : ℕ) (row next : Piece) → n ≤ row.0 →
+    IsAfterEnd capture row next ⊎ IsAfterFull width row next →
+    IsAfterEnd (drop n capture) (back n row) (back n next) ⊎ IsAfterFull width (back n row) (back n next)
+after_back width capture n row next le (inl end) = inl (record {
   place = omega (arith, le, end.place);
   ends =
       ap (λ (b : ℕ). ends_row (chars row.1) b)
@@ -200,7 +200,7 @@ behind_back width capture n row next le (inl end) = inl (record {
 }) where
   same : n ≤ row.0 → n + piece_end (back n row) ≡ piece_end row
   same h = omega (arith, h)
-behind_back width capture n row next le (inr full) = inr (record {
+after_back width capture n row next le (inr full) = inr (record {
   place = omega (arith, le, full.place);
   first = full.first;
   rest = full.rest;
@@ -209,7 +209,7 @@ behind_back width capture n row next le (inr full) = inr (record {
 })
 
 later_place : (width : ℕ) (capture : List ℕ) (row next : Piece) →
-    IsBehindEnd capture row next ⊎ IsBehindFull width row next → row.0 ≤ next.0
+    IsAfterEnd capture row next ⊎ IsAfterFull width row next → row.0 ≤ next.0
 later_place width capture row next (inl end) = omega (arith, end.place)
 later_place width capture row next (inr full) = omega (arith, full.place)
 
@@ -226,7 +226,7 @@ rest_rows width capture n at (row ∷ next ∷ rows) le are =
     let inside : n ≤ row.0 = omega (arith, le, are.0) in (
       ap (λ (m : ℕ). m - n) are.0,
       row_back width capture n row inside are.1,
-      behind_back width capture n row next inside are.2,
+      after_back width capture n row next inside are.2,
       rest_rows width capture n next.0 (next ∷ rows)
           (omega (arith, inside, later_place width capture row next are.2)) are.3,
     )

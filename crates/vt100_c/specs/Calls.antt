@@ -4,7 +4,7 @@ use Rattle.vt100_c.specs.Status.{ok, out_of_memory, no_object, in_use}
 use Rattle.vt100_c.specs.declared.object.Object.{Object}
 use Rattle.vt100_c.specs.declared.object.Source.{Source}
 
--- The first of two statements if the test is true, and the second one otherwise.
+-- The statement `Yes` if the test is true, otherwise the statement `No`.
 abbrev pub Either : Bool → Type 0 → Type 0 → Type 0
 Either true Yes No = Yes
 Either false Yes No = No
@@ -13,14 +13,15 @@ Either false Yes No = No
 abbrev pub is_size : (rows cols : ℕ) → Bool
 is_size rows cols = not (rows == 0) && not (cols == 0)
 
--- The effect of a call on the value that a handle holds; the text stored in the handle is unchanged. For an empty
--- handle, the status is `no_object` and the handle stays empty.
+-- A call has the effect `Does` on the value that a handle holds, and the text stored in the handle is unchanged. For an
+-- empty handle, the status is `no_object` and the handle stays empty.
 abbrev pub OnSource : (Source → ℕ → Source → Type 0) → Option Object → ℕ → Option Object → Type 0
 OnSource Does None status new = (status ≡ no_object) × (new ≡ None)
 OnSource Does (Some old) status (Some new) = Does old.source status new.source × (new.text ≡ old.text)
 OnSource Does (Some old) status None = ⊥
 
--- An empty handle receives an object whose text is empty, or an allocation fails and the handle stays empty.
+-- An empty handle receives an object whose value satisfies `Is` and whose text is empty (status `ok`), or an allocation
+-- fails and the handle stays empty (status `out_of_memory`).
 abbrev pub Fills : (Source → Type 0) → ℕ → Option Object → Type 0
 Fills Is status (Some new) = (status ≡ ok) × Is new.source × (string_bytes new.text ≡ [])
 Fills Is status None = status ≡ out_of_memory
@@ -29,15 +30,15 @@ Fills Is status None = status ≡ out_of_memory
 abbrev pub Refuses : (reason : ℕ) → Source → ℕ → Source → Type 0
 Refuses reason old status new = (status ≡ reason) × (new ≡ old)
 
--- The effect of a call on the object that a handle holds. For an empty handle, the status is `no_object` and the
--- handle stays empty.
+-- A call has the effect `Does` on the object that a handle holds. For an empty handle, the status is `no_object` and
+-- the handle stays empty.
 abbrev pub OnObject : (Object → ℕ → Object → Type 0) → Option Object → ℕ → Option Object → Type 0
 OnObject Does None status new = (status ≡ no_object) × (new ≡ None)
 OnObject Does (Some old) status (Some new) = Does old status new
 OnObject Does (Some old) status None = ⊥
 
--- A value is created in an empty handle. A handle that already holds an object is unchanged, and the status is
--- `in_use`.
+-- A value that satisfies `Is` is created in an empty handle, unless an allocation fails. A handle that already holds an
+-- object is unchanged, and the status is `in_use`.
 abbrev pub MakesOne : (Source → Type 0) → Option Object → ℕ → Option Object → Type 0
 MakesOne Is (Some old) status new = (status ≡ in_use) × (new ≡ Some old)
 MakesOne Is None status new = Fills Is status new

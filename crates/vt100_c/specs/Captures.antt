@@ -1,4 +1,4 @@
--- The byte positions at which the pieces and rows of a capture begin and end.
+-- The byte positions at which the rows of a capture, and its pieces of plain text outside SGR sequences, begin and end.
 use Rattle.std.specs.Prelude.{◌≡◌, ◌+◌, ◌-◌, ◌^◌, ◌==◌, ℕ, List, [], ◌∷◌, IsUtf8, get_or, if◌then◌else◌}
 use Rattle.std.specs.Str.{IsCharBoundary}
 use Rattle.vt_rows.specs.Pieces.{Piece, piece_end}
@@ -8,11 +8,11 @@ abbrev pub IsPlace : List ℕ → ℕ → Type 0
 IsPlace text at = IsUtf8 text × IsCharBoundary text at
 
 -- The index after the line feed at the given index; if there is no line feed at that index, the given index itself.
-abbrev pub behind_line_end : List ℕ → ℕ → ℕ
-behind_line_end text end = if get_or text end 0 == 10 then end + 1 else end
+abbrev pub after_line_end : List ℕ → ℕ → ℕ
+after_line_end text end = if get_or text end 0 == 10 then end + 1 else end
 
--- The first of the pieces found at or after byte `at` begins at `start` and ends at `end`. If there is no piece,
--- `start` and `end` are `stop`.
+-- The first piece in a list begins at byte `start` and ends at byte `end` of a capture. The indices of the pieces in
+-- the list are relative to byte `at` of the capture. If the list is empty, `start` and `end` are `stop`.
 abbrev pub IsFirstPiece : (stop at : ℕ) → List Piece → (start end : ℕ) → Type 0
 IsFirstPiece stop at [] start end = (start ≡ stop) × (end ≡ stop)
 IsFirstPiece stop at (piece ∷ pieces) start end = (start ≡ at + piece.0) × (end ≡ at + piece_end piece)
@@ -21,8 +21,9 @@ IsFirstPiece stop at (piece ∷ pieces) start end = (start ≡ at + piece.0) × 
 abbrev pub no_place : ℕ
 no_place = 2 ^ 64 - 1
 
--- The first of the rows found at or after byte `at` ends at `end`, and the row after it begins at `next`. If there is
--- no second row, `next` is `no_place`.
+-- The first row in a nonempty list ends at byte `end` of a capture, and the second row begins at byte `next`. The
+-- indices of the rows in the list are relative to byte `at` of the capture. If there is no second row, `next` is
+-- `no_place`.
 abbrev pub IsFirstRow : (at : ℕ) → List Piece → (end next : ℕ) → Type 0
 IsFirstRow at [] end next = ⊥
 IsFirstRow at (row ∷ []) end next = (end ≡ at + piece_end row) × (next ≡ no_place)

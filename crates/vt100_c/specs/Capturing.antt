@@ -23,10 +23,10 @@ state_in (Capture written) = Some written
 
 -- The status of a call on a value and a capture: if both exist, the status that the given function determines from the
 -- value; otherwise `wrong_kind`.
-abbrev pub due_behind : {A : Type 0} → (A → ℕ) → Option A → Option Written → ℕ
-due_behind due None state = wrong_kind
-due_behind due (Some value) None = wrong_kind
-due_behind due (Some value) (Some state) = due value
+abbrev pub due_of_kinds : {A : Type 0} → (A → ℕ) → Option A → Option Written → ℕ
+due_of_kinds due None state = wrong_kind
+due_of_kinds due (Some value) None = wrong_kind
+due_of_kinds due (Some value) (Some state) = due value
 
 -- The value and the capture state exist, and the given predicate is true of them.
 abbrev pub OnCapture : {A : Type 0} → Option A → Option Written → (A → Written → Type 0) → Type 0
@@ -39,13 +39,14 @@ OnCapture (Some value) (Some state) Holds = Holds value state
 abbrev pub due_at_capture : {A : Type 0} → (Source → Option A) → (A → ℕ) → Option Object → Option Object → ℕ
 due_at_capture of due None capture = no_object
 due_at_capture of due (Some object) None = no_object
-due_at_capture of due (Some object) (Some capture) = due_behind due (of object.source) (state_in capture.source)
+due_at_capture of due (Some object) (Some capture) = due_of_kinds due (of object.source) (state_in capture.source)
 
--- The status of a call on a handle and a capture that was taken out of a second handle. If the first handle is then
--- empty, the caller passed the same handle twice, and the status is `bad_argument`.
+-- The status of a call on a handle and a capture that was taken out of a second handle. If the first handle is empty,
+-- the caller passed the same handle twice, and the status is `bad_argument`. Otherwise, `due` determines the status
+-- from the value that `of` selects; if there is no such value or no capture, the status is `wrong_kind`.
 abbrev pub due_beside_capture : {A : Type 0} → (Source → Option A) → (A → ℕ) → Option Object → Object → ℕ
 due_beside_capture of due None capture = bad_argument
-due_beside_capture of due (Some object) capture = due_behind due (of object.source) (state_in capture.source)
+due_beside_capture of due (Some object) capture = due_of_kinds due (of object.source) (state_in capture.source)
 
 abbrev pub HoldAtCapture : {A : Type 0} → (Source → Option A) → Option Object → Option Object →
     (A → Written → Type 0) → Type 0
@@ -69,8 +70,8 @@ HaveText screen state = 0 < length (basic_texts state (all_rows screen))
 
 -- The status of a call with the index of a reported row: `ok` if the log has a row with that index, otherwise
 -- `bad_argument`.
-abbrev pub has_reported : ℕ → Logged → ℕ
-has_reported index log = if nat_lt index (length log.rows) then ok else bad_argument
+abbrev pub reported_status : ℕ → Logged → ℕ
+reported_status index log = if nat_lt index (length log.rows) then ok else bad_argument
 
 -- The row exists, and the given predicate is true of it.
 abbrev pub OnRow : Option RowValue → (RowValue → Type 0) → Type 0

@@ -37,25 +37,25 @@ abbrev pub any_screen : ScreenValue → ℕ
 any_screen screen = ok
 
 -- The status of a call with the index of a displayed row: `ok` if there is such a row, otherwise `bad_argument`.
-abbrev pub has_row : ℕ → ScreenValue → ℕ
-has_row row screen = if nat_lt row (length screen.page.rows) then ok else bad_argument
+abbrev pub row_status : ℕ → ScreenValue → ℕ
+row_status row screen = if nat_lt row (length screen.page.rows) then ok else bad_argument
 
--- The status of a call that stores the cells of a displayed row: `ok` if there is such a row and `room` is enough for
--- all of its cells, otherwise `bad_argument`.
+-- The status of a call that stores the cells of a displayed row, one for each column of the screen: `ok` if there is
+-- such a row and `room` is at least the number of columns, otherwise `bad_argument`.
 abbrev pub has_row_and_room : (row room : ℕ) → ScreenValue → ℕ
-has_row_and_room row room screen = if nat_le screen.page.width room then has_row row screen else bad_argument
+has_row_and_room row room screen = if nat_le screen.page.width room then row_status row screen else bad_argument
 
 -- The status of a call with the position of a displayed cell: `ok` if there is such a cell, otherwise `bad_argument`. A
 -- scrollback row may have more columns than the screen.
-abbrev pub has_cell : (row col : ℕ) → ScreenValue → ℕ
-has_cell row col screen =
+abbrev pub cell_status : (row col : ℕ) → ScreenValue → ℕ
+cell_status row col screen =
     if nat_lt row (length screen.page.rows) && nat_lt col (length (visible_row screen row).cells) then ok
     else bad_argument
 
 -- The status of a call with a range of positions: `bad_argument` if the range extends past its first row and starts
 -- beyond the screen's width, otherwise `ok`.
-abbrev pub has_start : (start_row start_col end_row : ℕ) → ScreenValue → ℕ
-has_start start_row start_col end_row screen =
+abbrev pub start_status : (start_row start_col end_row : ℕ) → ScreenValue → ℕ
+start_status start_row start_col end_row screen =
     if nat_lt start_row end_row && nat_lt screen.page.width start_col then bad_argument else ok
 
 -- The screen exists, and the given predicate is true of it.
@@ -109,7 +109,7 @@ HoldBoth (Some object) (Some prev) Holds = OnBoth (screen_in object.source) (scr
 
 -- ---- the status that is returned
 
--- The status equals `due`. If `due` is `ok`, the status may also be `out_of_memory`.
+-- The status is `due`. If `due` is `ok`, the status may instead be `out_of_memory`.
 abbrev pub IsAnswer : (due status : ℕ) → Type 0
 IsAnswer due status = (status ≡ due) ⊎ ((due ≡ ok) × (status ≡ out_of_memory))
 
@@ -118,8 +118,8 @@ abbrev pub status_in : {A : Type 0} → Result A ℕ → ℕ
 status_in (Ok value) = ok
 status_in (Err status) = status
 
--- The result has the status `due`; if `due` is `ok`, it may also report a failed allocation. An error is never `ok`,
--- and if the result is an error, `Stays` holds.
+-- The status of the result is `due`. If `due` is `ok`, the result may instead be the error `out_of_memory`. If the
+-- result is an error, it is never `ok`, and `Stays` holds.
 pub record AnswersOrStays {A : Type 0} (due : ℕ) (result : Result A ℕ) (Stays : Type 0) : Type 0 where
   pub answer : IsAnswer due (status_in result)
   pub refused : IfErr result (λ status. ¬ (status ≡ ok))

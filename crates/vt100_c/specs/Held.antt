@@ -13,7 +13,7 @@ use mir.Syntax.{Ty}
 abbrev pub heap : Global
 heap = record { memory = record { seal = tt } }
 
--- The permission to free a block of the heap.
+-- The permission to free the block of the given type at the given address of the heap.
 abbrev pub may_free : Ty → Ptr → Fml
 may_free = ghosts.dealloc_token heap
 

@@ -11,7 +11,8 @@ pub record KeepsText (old : Option Object) (status : ℕ) (new : Option Object) 
   pub refused : ¬ (status ≡ ok) → new ≡ old
   pub refused_len : ¬ (status ≡ ok) → after ≡ before
 
--- The generated text is stored in the first handle, and the object of the second handle is unchanged.
+-- The generated text is stored in the first handle, and its length is stored in the caller's variable. If the call
+-- fails, the first handle and the variable are unchanged. The second handle is always unchanged.
 pub record KeepsBoth (old other : Option Object) (status : ℕ) (new other' : Option Object) (before after : ℕ) :
     Type 0 where
   pub same : other' ≡ other

@@ -14,8 +14,8 @@ use Rattle.vt_scan.specs.Scanner.{StandsFor}
 use Rattle.vt_screen.specs.Screen.{ScreenValue, fresh_screen}
 use Rattle.vt_screen.specs.Shown.{display}
 
--- The value is a new parser with a blank screen of the given size and scrollback capacity, and an empty log of the
--- requested kinds of calls.
+-- The value is a new parser with a blank screen of the given size and scrollback capacity, and an empty log that
+-- records calls of the requested kinds.
 abbrev pub IsNewParser : (rows cols capacity wanted : ℕ) → Source → Type 0
 IsNewParser rows cols capacity wanted (Parser parser) =
     StandsFor parser.scanner start
@@ -24,8 +24,8 @@ IsNewParser rows cols capacity wanted (Screen screen) = ⊥
 IsNewParser rows cols capacity wanted (Mirror mirror) = ⊥
 IsNewParser rows cols capacity wanted (Capture written) = ⊥
 
--- A value with `rows` rows and `cols` columns is created in an empty handle. If the handle already holds an object
--- or the size is invalid, the handle is unchanged.
+-- A value that satisfies `Is` is created in an empty handle, unless an allocation fails. The handle is unchanged if it
+-- already holds an object (status `in_use`) or if `rows` or `cols` is 0 (status `bad_argument`).
 abbrev pub Makes : (rows cols : ℕ) → (Source → Type 0) → Option Object → ℕ → Option Object → Type 0
 Makes rows cols Is (Some old) status new = (status ≡ in_use) × (new ≡ Some old)
 Makes rows cols Is None status new =
@@ -39,14 +39,14 @@ saved_from (Screen screen) = Some (Screen screen)
 saved_from (Mirror mirror) = None
 saved_from (Capture written) = Some (Capture written)
 
--- The effect of copying an object into an empty handle: the handle holds the copy or, if the object cannot be copied,
--- stays empty, and the status is `wrong_kind`.
+-- The effect of storing a copy, if there is one, in an empty handle: the handle holds the copy, or an allocation fails
+-- and the handle stays empty. If there is no copy, the handle stays empty, and the status is `wrong_kind`.
 abbrev pub SavesAs : Option Source → ℕ → Option Object → Type 0
 SavesAs None status new = (status ≡ wrong_kind) × (new ≡ None)
 SavesAs (Some copy) status new = Fills (λ source. source ≡ copy) status new
 
--- A copy of what the first handle holds is stored in the second handle. If the first handle is empty or the second
--- handle already holds an object, the second handle is unchanged.
+-- A copy of what the first handle holds is stored in the second handle. The second handle is unchanged if the first
+-- handle is empty (status `no_object`) or the second handle already holds an object (status `in_use`).
 abbrev pub Saves : Option Object → (old : Option Object) → ℕ → (new : Option Object) → Type 0
 Saves None old status new = (status ≡ no_object) × (new ≡ old)
 Saves (Some object) (Some old) status new = (status ≡ in_use) × (new ≡ Some old)
@@ -64,13 +64,14 @@ IsShownCopy screen (Screen copy) = (display copy ≡ display screen) × SameSize
 IsShownCopy screen (Mirror mirror) = ⊥
 IsShownCopy screen (Capture written) = ⊥
 
--- A copy of what the screen displays is stored in an empty handle; if there is no screen, the status is `wrong_kind`.
+-- A copy of what the screen displays is stored in an empty handle, unless an allocation fails. If there is no screen,
+-- the handle stays empty, and the status is `wrong_kind`.
 abbrev pub SavesShownAs : Option ScreenValue → ℕ → Option Object → Type 0
 SavesShownAs None status new = (status ≡ wrong_kind) × (new ≡ None)
 SavesShownAs (Some screen) status new = Fills (IsShownCopy screen) status new
 
--- A copy of what the first handle's screen displays is stored in the second handle. A second handle that already holds
--- an object is unchanged.
+-- A copy of what the first handle's screen displays is stored in the second handle. The second handle is unchanged if
+-- the first handle is empty (status `no_object`) or the second handle already holds an object (status `in_use`).
 abbrev pub SavesShown : Option Object → (old : Option Object) → ℕ → (new : Option Object) → Type 0
 SavesShown None old status new = (status ≡ no_object) × (new ≡ old)
 SavesShown (Some object) (Some old) status new = (status ≡ in_use) × (new ≡ Some old)
@@ -82,7 +83,7 @@ abbrev pub refusal_on : Option ScreenValue → ℕ
 refusal_on None = wrong_kind
 refusal_on (Some screen) = out_of_memory
 
--- The value with its screen replaced by the given one if both screens exist; otherwise, the unchanged value.
+-- The value with its screen replaced by the screen `other`, if both screens exist; otherwise, the value itself.
 abbrev pub with_other : Option ScreenValue → Source → Source
 with_other other (Parser parser) = Parser (record parser { screen = unwrap_or other parser.screen })
 with_other other (Screen screen) = Screen (unwrap_or other screen)
@@ -95,7 +96,8 @@ swap_status (Some own) (Some other) = ok
 swap_status (Some own) None = wrong_kind
 swap_status None other = wrong_kind
 
--- The object with its screen replaced by the given one, if both screens exist. The object's text is unchanged.
+-- The object with the screen of its value replaced by the screen `other`, if both screens exist. The object's text is
+-- unchanged.
 abbrev pub held_with_other : Option ScreenValue → Object → Object
 held_with_other other object = record object { source = with_other other object.source }
 

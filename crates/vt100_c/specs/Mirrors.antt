@@ -11,14 +11,14 @@ use Rattle.vt100_c.specs.Status.{ok, bad_argument, status_of}
 
 -- ---- joining and leaving
 
--- A successful call stores the number that it returns in the caller's variable. After an error, the variable is
--- unchanged.
+-- If the result is a number, the status is `ok`, and the caller's variable holds this number after the call. If the
+-- result is an error, the status is that of the error, and the variable is unchanged.
 abbrev pub GivesNumber : Result ℕ Error → (status before after : ℕ) → Type 0
 GivesNumber (Ok number) status before after = (status ≡ ok) × (after ≡ number)
 GivesNumber (Err error) status before after = (status ≡ status_of error) × (after ≡ before)
 
--- The effect of joining a mirror: the new viewer's number is stored in the caller's variable, which is unchanged if the
--- call fails. The same viewers as before are up to date.
+-- The effect of adding a viewer to a mirror: the viewer's number is stored in the caller's variable, which is unchanged
+-- if the call fails. The call does not change which viewers are up to date.
 pub record Joins (status before after : ℕ) (old new : MirrorValue) : Type 0 where
   pub answer : Result ℕ Error
   pub parser : new.parser ≡ old.parser
@@ -26,8 +26,8 @@ pub record Joins (status before after : ℕ) (old new : MirrorValue) : Type 0 wh
   pub current : (other : ℕ) → is_current new other ≡ is_current old other
   pub gives : GivesNumber answer status before after
 
--- A viewer leaves the mirror; if there is no viewer with the given number, the status is `bad_argument`. All other
--- viewers that were up to date still are.
+-- The viewer with the given number leaves the mirror; if there is no such viewer, the status is `bad_argument`. All
+-- other viewers that were up to date still are.
 pub record LeavesIt (viewer status : ℕ) (old new : MirrorValue) : Type 0 where
   pub answer : Bool
   pub parser : new.parser ≡ old.parser
@@ -37,8 +37,8 @@ pub record LeavesIt (viewer status : ℕ) (old new : MirrorValue) : Type 0 where
 
 -- ---- updates
 
--- The numbers that a request for an update stores: the screen's size, if the update is a full redraw, and the length
--- of the update's text.
+-- The numbers that a request for an update stores: the screen's size in rows and columns if the update is a full
+-- redraw, and the length of the update's text in bytes.
 pub record UpdateNumbers : Type 0 where
   pub rows : ℕ
   pub cols : ℕ

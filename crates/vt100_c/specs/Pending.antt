@@ -37,7 +37,8 @@ abbrev pub HoldsParser : Option Object → (ParserValue Logged → Type 0) → T
 HoldsParser None Holds = ⊥
 HoldsParser (Some object) Holds = OnParser (parser_in object.source) Holds
 
--- In every state that the scanner can be in, `len` bytes of an unfinished command have been read.
+-- In every state that the scanner can be in, `len` is the number of bytes collected for an unfinished operating system
+-- command, or 0 if there is none.
 abbrev pub ArePending : (len : ℕ) → ParserValue Logged → Type 0
 ArePending len parser =
     (state : State) → StandsFor parser.scanner state → len ≡ length (unfinished_command state.kind state.collected)

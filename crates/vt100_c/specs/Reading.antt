@@ -55,15 +55,15 @@ batch = 65536
 abbrev pub are_bare_rows : (bytes rows : ℕ) → Bool
 are_bare_rows bytes rows = (bytes / 17 == rows) && (bytes % 17 == 0)
 
--- Whether reading continues: since the given mark, the log has recorded only rows without text, these rows take fewer
--- than `batch` bytes, and the log has neither reached its limit nor lost a record.
+-- Whether reading continues: since the given mark was taken, the log has recorded only rows without text, these rows
+-- take fewer than `batch` bytes, and the log has neither reached its limit nor lost a record.
 abbrev pub is_quiet : Mark → Logged → Bool
 is_quiet mark log =
     are_bare_rows (length log.records - mark.len) (length log.rows - mark.rows)
     && (nat_lt (mark.room - log.room) batch
     && ((not (log.room == 0) || mark.room == 0) && (log.is_whole || not mark.is_whole)))
 
--- The mark of a log's current state, with which a later state of the log can be compared.
+-- A mark that describes the current state of a log, so that a later state of the log can be compared with it.
 abbrev pub mark_of : Logged → Mark
 mark_of log = record { len = length log.records; rows = length log.rows; room = log.room; is_whole = log.is_whole }
 
@@ -78,8 +78,8 @@ pub record ReadsAll (mark : Mark) (old : ParserValue Logged) (bytes : List ℕ) 
   pub still : new.is_failed ≡ old.is_failed
   pub nothing : old.is_failed ≡ true → (used ≡ 0) × (new ≡ old)
 
--- Parsing the bytes `before` from the scanner state `start` reaches a point at which reading continues, and parsing the
--- bytes `after` from that point leads to `new`.
+-- Parsing the bytes `before` from the scanner state `start` records no event at which reading stops, and then parsing
+-- the bytes `after` leads to `new`.
 pub record IsQuietBetween (mark : Mark) (old : ParserValue Logged) (before after : List ℕ) (new : ParserValue Logged)
     (start : State) : Type 0 where
   pub between : screen.State Logged
@@ -102,7 +102,7 @@ pub record ReadsEvent (mark : Mark) (old : ParserValue Logged) (bytes : List ℕ
   pub sound : old.is_failed ≡ false
   pub works : new.is_failed ≡ false
 
--- Parsing the first `used` bytes from the scanner state `start` reaches a point at which reading continues, and an
+-- Parsing the first `used` bytes from the scanner state `start` records no event at which reading stops, and an
 -- allocation for the next byte fails.
 pub record IsQuietBefore (mark : Mark) (old : ParserValue Logged) (bytes : List ℕ) (used : ℕ) (new : ParserValue Logged)
     (start : State) : Type 0 where
@@ -136,8 +136,8 @@ pub record ReadsUnit (old : ParserValue Logged) (bytes : List ℕ) (count status
   pub failed_before : ¬ (status ≡ ok) → old.is_failed ≡ true → (status ≡ failed) × (count ≡ 0) × (new ≡ old)
   pub fails : ¬ (status ≡ ok) → new.is_failed ≡ true
 
--- Bytes are read until the input ends, an allocation fails, or the log has recorded, since the given mark, an event at
--- which reading stops.
+-- Bytes are read until the input ends, an allocation fails, or an event at which reading stops has been recorded in the
+-- log since the given mark was taken.
 abbrev pub ReadsFrom : Mark → List ℕ → (used : ℕ) → ParserValue Logged → ℕ → ParserValue Logged → Type 0
 ReadsFrom mark bytes used old status new =
     ReadsAll mark old bytes used status new

@@ -67,11 +67,12 @@ second_of (UnhandledCsi first second groups byte) = number_of second
 second_of (UnhandledOsc parts) = 0
 second_of (OnScroll row alternate) = bit_of row.wrapped
 
--- The encoding of a list of bytes: the length of the list, followed by the bytes.
+-- The encoding of a list of bytes: the length of the list in eight bytes, little-endian, followed by the bytes.
 abbrev pub part_of : List ℕ → List ℕ
 part_of bytes = to_le_bytes w64 (length bytes) ++ bytes
 
--- The encoding of a list of numbers: the length of the list, followed by two bytes for each number.
+-- The encoding of a list of numbers: the length of the list in eight bytes, followed by two bytes for each number. Both
+-- are little-endian.
 abbrev pub group_of : List ℕ → List ℕ
 group_of numbers = to_le_bytes w64 (length numbers) ++ flat_map (to_le_bytes w16) numbers
 
@@ -175,7 +176,8 @@ with_record call log =
 abbrev pub with_loss : Logged → Logged
 with_loss log = record log { is_whole = false }
 
--- An empty log with the given limit and no missing records.
+-- An empty log that requests the kinds of calls in the bit set `wanted`, has a limit of `limit` bytes, and has no
+-- missing records.
 abbrev pub nothing_logged : (wanted limit : ℕ) → Logged
 nothing_logged wanted limit =
     record { wanted = wanted; limit = limit; room = limit; records = []; rows = []; is_whole = true }

@@ -24,13 +24,13 @@ pub record IsJoined (all left : List (List ℕ)) (count : ℕ) (joined ends : Li
   pub text : joined ≡ concat done
   pub ends_are : take count ends ≡ ends_from 0 done
 
--- The status of a call that stores the end of each row: `ok` if `room` is enough for all rows of the screen, otherwise
--- `bad_argument`.
+-- The status of a call that stores the end position of each row: `ok` if `room` is at least the number of rows of the
+-- screen, otherwise `bad_argument`.
 abbrev pub has_places : (room : ℕ) → ScreenValue → ℕ
 has_places room screen = if nat_le (length screen.page.rows) room then ok else bad_argument
 
--- The status of a call with a range of columns: `ok` if `start` is a column of the screen and `room` is enough for the
--- end of each row, otherwise `bad_argument`.
+-- The status of a call that stores the end position of each row in a range of columns: `ok` if `start` is a column of
+-- the screen and `room` is at least the number of rows, otherwise `bad_argument`.
 abbrev pub has_range : (start room : ℕ) → ScreenValue → ℕ
 has_range start room screen = if nat_lt start screen.page.width then has_places room screen else bad_argument
 
@@ -80,8 +80,8 @@ pub record MakesRows (texts : ScreenValue → List (List ℕ)) (old : Option Obj
   pub made : status ≡ ok → HoldsScreen old (λ screen. GivesRows screen (texts screen) (text_at new) before after)
   pub refused : ¬ (status ≡ ok) → after ≡ before
 
--- For each row, the call generates the output that turns this row of the screen of `prev` into the same row of the
--- screen of `old`, and stores the end positions of these outputs. If the call fails, the stored end positions are
+-- For each row, the call generates the output that turns the row of `prev`'s screen into that of `old`'s screen, and
+-- stores the position at which the output ends. If the call fails, the stored end positions are
 -- unchanged.
 pub record ChangesRows (start width : ℕ) (old prev : Option Object) (status : ℕ) (new : Option Object)
     (before after : List ℕ) : Type 0 where

@@ -17,8 +17,8 @@ use Rattle.vt100_c.specs.Status.{bad_argument, ok, wrong_kind, status_of_result}
 use Rattle.vt100_c.specs.declared.object.Source.{Source}
 use Rattle.vt100_c.specs.declared.object.Source.TheVariants.{Parser, Screen, Mirror, Capture}
 
--- The condition that holds after a call: `Done` if the call succeeded (status 0), `Refused` if an allocation failed
--- (status 1).
+-- The condition that holds after a call: `Done` if the call succeeded (status 0), or `Refused` if an allocation failed
+-- (status 1). No other status is possible.
 abbrev pub Outcome : (status : ℕ) → (Done Refused : Type 0) → Type 0
 Outcome zero Done Refused = Done
 Outcome (suc zero) Done Refused = Refused
@@ -38,7 +38,7 @@ abbrev pub ResizesScreen : (rows cols : ℕ) → ScreenValue → ℕ → ScreenV
 ResizesScreen rows cols old status new =
     Outcome status (new ≡ screen_after_resize rows cols old) ((new ≡ old) × (has_size rows cols old ≡ false))
 
--- A mirror is resized as `Mirror::set_size` does.
+-- A mirror is resized with the effect of `Mirror::set_size`, and the status is that of its result.
 pub record ResizesMirror (rows cols : ℕ) (old : MirrorValue) (status : ℕ) (new : MirrorValue) : Type 0 where
   pub answer : Result (Unit {0}) Error
   pub call : Resizes old rows cols answer new
@@ -59,8 +59,8 @@ SetsSize rows cols old status new =
 
 -- ---- resizing and scrolling without events
 
--- The effect of a call on a saved screen, or on the screen of a parser that is otherwise unchanged. For any other kind
--- of value, the status is `wrong_kind`.
+-- A call has the effect `Does` on a saved screen, or on the screen of a parser that is otherwise unchanged. For any
+-- other kind of value, the status is `wrong_kind` and the value is unchanged.
 abbrev pub OnScreen : (ScreenValue → ℕ → ScreenValue → Type 0) → Source → ℕ → Source → Type 0
 OnScreen Does (Parser old) status (Parser new) =
     Does old.screen status new.screen × (new ≡ record old { screen = new.screen })
@@ -73,8 +73,8 @@ abbrev pub SetsScreenSize : (rows cols : ℕ) → Source → ℕ → Source → 
 SetsScreenSize rows cols old status new =
     Either (is_size rows cols) (OnScreen (ResizesScreen rows cols) old status new) (Refuses bad_argument old status new)
 
--- The displayed rows are unchanged because an allocation failed. Such a failure is possible only if a row that would be
--- displayed must be extended.
+-- The screen is unchanged because an allocation failed. Such a failure is possible only if the main page is active and
+-- a scrollback row that would be displayed must be extended to the width of the screen.
 pub record HasNotScrolledBack (rows : ℕ) (old new : ScreenValue) : Type 0 where
   pub same : new ≡ old
   pub main : old.is_alternate ≡ false

@@ -1,5 +1,5 @@
 -- The text or output that each call generates.
-use Rattle.std.specs.Prelude.{◌≡◌, ◌<◌, ◌≤◌, ◌/◌, ◌%◌, ◌==◌, ℕ, List, Option, length}
+use Rattle.std.specs.Prelude.{◌≡◌, ◌<◌, ◌≤◌, ◌/◌, ◌%◌, ◌==◌, ℕ, List, Option, length, if◌then◌else◌}
 use Rattle.vt_cells.specs.Op.{bytes_of_all}
 use Rattle.vt_redraw.specs.Redraw.{cursor_state, difference, redraw}
 use Rattle.vt_rows.specs.Basic.{nothing_written}
@@ -9,13 +9,15 @@ use Rattle.vt_screen.specs.Capture.{basic_texts}
 use Rattle.vt_screen.specs.Contents.{between_of, contents_of}
 use Rattle.vt_screen.specs.Diffs.{IsDiffWith, KeepsScreensPlain, RepeatsOnlyInRows}
 use Rattle.vt_screen.specs.declared.diff_options.DiffOptions.{DiffOptions}
+use Rattle.vt_screen.specs.declared.repeat.Repeat.{Repeat}
+use Rattle.vt_screen.specs.declared.repeat.Repeat.TheVariants.{Never, Ascii, Any}
 use Rattle.vt_screen.specs.InputTexts.{input_change, input_text}
 use Rattle.vt_screen.specs.MadeOf.{IsMadeOf, shortened_controls, shortened_finals}
 use Rattle.vt_screen.specs.Screen.{ScreenValue, visible_rows}
 use Rattle.vt_screen.specs.ShortMoves.{IsShortMoving}
 use Rattle.vt_screen.specs.Shown.{attributes_text, display}
 use Rattle.vt_screen.specs.States.{state_change, state_text}
-use Rattle.vt100_c.specs.Due.{HoldBoth, HoldsScreen, any_screen, any_screens, has_start, of_one_size, source_at, text_at}
+use Rattle.vt100_c.specs.Due.{HoldBoth, HoldsScreen, any_screen, any_screens, of_one_size, source_at, start_status, text_at}
 use Rattle.vt100_c.specs.Status.{ok, out_of_memory}
 use Rattle.vt100_c.specs.declared.output.Difference.{Difference}
 use Rattle.vt100_c.specs.declared.output.Difference.TheVariants as between
@@ -37,27 +39,35 @@ text_of text.CursorState screen = bytes_of_all (cursor_state (display screen))
 text_of text.Attributes screen = attributes_text screen.attrs
 text_of text.InputMode screen = input_text screen.modes
 
--- The status of a call that generates text or output from a screen.
+-- The status of a call that generates the given text from a screen: `bad_argument` if the text between two positions is
+-- requested and the range extends past its first row and starts beyond the screen's width, otherwise `ok`.
 abbrev pub due_for : Text → ScreenValue → ℕ
-due_for (text.Between start_row start_col end_row end_col) screen = has_start start_row start_col end_row screen
+due_for (text.Between start_row start_col end_row end_col) screen = start_status start_row start_col end_row screen
 due_for _ screen = any_screen screen
 
 -- ---- two screens
 
--- The text is a diff that may move rows or columns and is never longer than the diff that moves no rows or columns. It
--- contains only drawing sequences and leaves every plain terminal plain.
+-- The text is a diff from the display of `prev` to the display of `screen`, and it may move rows or columns. It is
+-- never longer than the diff that moves no rows or columns, contains only drawing sequences, and leaves every plain
+-- terminal plain.
 pub record IsScrollingDiff (screen prev : ScreenValue) (text : List ℕ) : Type 0 where
   pub draws : IsShortMoving (display screen) (display prev) text
   pub controls : IsMadeOf shortened_finals shortened_controls text
   pub again : KeepsPlain text
   pub shorter : length text ≤ length (bytes_of_all (difference (display screen) (display prev)))
 
--- The options that the bits of a number select: bit 0 allows moving rows or columns, and bit 1 allows REP.
-abbrev pub options_of : ℕ → DiffOptions
-options_of bits = record { scroll = bits % 2 == 1; repeat = bits / 2 % 2 == 1 }
+-- The characters that may be repeated with REP, given the bits of a number: all if bit 1 is set, otherwise printable
+-- ASCII characters if bit 2 is set, otherwise none.
+abbrev pub repeat_of : ℕ → Repeat
+repeat_of bits = if bits / 2 % 2 == 1 then Any else (if bits / 4 % 2 == 1 then Ascii else Never)
 
--- The text is a diff with the given options and is never longer than the diff that moves no rows or columns. It repeats
--- characters only within rows and leaves every plain terminal plain.
+-- The options that the bits of a number select: bit 0 allows moving rows or columns, and bits 1 and 2 allow REP.
+abbrev pub options_of : ℕ → DiffOptions
+options_of bits = record { scroll = bits % 2 == 1; repeat = repeat_of bits }
+
+-- The text is a diff from the display of `prev` to the display of `screen` with the given options. It is never longer
+-- than the diff that moves no rows or columns, repeats characters only within rows, and leaves every plain terminal
+-- plain.
 pub record IsDiffWithOptions (options : DiffOptions) (screen prev : ScreenValue) (text : List ℕ) : Type 0 where
   pub draws : IsDiffWith options prev screen text
   pub rows : RepeatsOnlyInRows prev screen text
@@ -71,7 +81,8 @@ IsDifference (between.With options) screen prev text = IsDiffWithOptions options
 IsDifference between.State screen prev text = text ≡ state_change prev screen
 IsDifference between.InputMode screen prev text = text ≡ input_change prev.modes screen.modes
 
--- The status of a call that generates the diff between two screens.
+-- The status of a call that generates a diff between two screens: `other_size` if the screens differ in size, unless
+-- the diff covers only the input modes; otherwise `ok`.
 abbrev pub due_for_both : Difference → ScreenValue → ScreenValue → ℕ
 due_for_both between.InputMode screen prev = any_screens screen prev
 due_for_both _ screen prev = of_one_size screen prev

@@ -37,7 +37,8 @@ JoinsSource before after (Parser old) status new = Refuses wrong_kind (Parser ol
 JoinsSource before after (Screen old) status new = Refuses wrong_kind (Screen old) status new
 JoinsSource before after (Capture old) status new = Refuses wrong_kind (Capture old) status new
 
--- A viewer leaves the mirror that a value contains; if the value is not a mirror, the status is `wrong_kind`.
+-- The viewer with the number `viewer` leaves the mirror that a value contains; if the value is not a mirror, the status
+-- is `wrong_kind`.
 abbrev pub LeavesSource : (viewer : ℕ) → Source → ℕ → Source → Type 0
 LeavesSource viewer (Mirror old) status (Mirror new) = LeavesIt viewer status old new
 LeavesSource viewer (Mirror old) status (Parser new) = ⊥

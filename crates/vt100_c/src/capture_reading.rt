@@ -1,22 +1,24 @@
-//! Functions that find the rows of a capture, and its chunks of text outside SGR sequences.
+//! Functions that find the rows of a capture, and its chunks of text outside SGR sequences. A
+//! capture is the text of rows with SGR sequences as the only escape sequences.
 
 ghost use Rattle.std.specs.Prelude.{◌≡◌, ◌+◌, ◌<◌, ◌≤◌, ◌↔◌, List, IfSome, IsSome, drop, length};
 ghost use Rattle.vt_rows.specs.CaptureRows.{AreRowsOf};
 ghost use Rattle.vt_rows.specs.Pieces.{ArePiecesOf, Piece};
-ghost use Rattle.vt100_c.specs.Captures.{IsFirstPiece, IsFirstRow, IsPlace, behind_line_end};
+ghost use Rattle.vt100_c.specs.Captures.{IsFirstPiece, IsFirstRow, IsPlace, after_line_end};
 ghost use Rattle.vt100_c.specs.Walking.{FindsPlain, FindsRow};
 
 use crate::status::{BAD_ARGUMENT, OK};
 use std::str;
 use vt100::capture::{basic_formatted_rows, basic_formatted_to_plain_indexed};
 
-/// The index of the next row if there is no next row: no capture has this index.
+/// The value that is stored instead of the index of the next row if there is no next row. No
+/// capture is long enough for a row to begin at this index.
 const NO_PLACE: usize = usize::MAX;
 
-/// Finds the first chunk of text outside SGR sequences in a capture, searching
-/// from byte `at` on. Stores the indices of its start and end in `start` and
-/// `end`. If there is no such chunk, stores the length of the capture in both
-/// `start` and `end`.
+/// Finds the first chunk of text outside SGR sequences in the capture `text`, searching from byte
+/// `at` on. Stores the indices of its start and end in `start` and `end`. If there is no such
+/// chunk, stores the length of the capture in both `start` and `end`. A capture is the text of rows
+/// with SGR sequences as the only escape sequences.
 ///
 /// # Errors
 ///
@@ -38,10 +40,10 @@ pub extern "C" fn vt100_next_plain(text: &[u8], at: usize, start: &mut usize, en
     OK
 }
 
-/// Finds the row that begins at byte `at` of a capture, for a terminal that is
-/// `width` columns wide. Stores the index of its end in `end` and the index of
-/// the next row in `next`. If there is no next row, stores `SIZE_MAX` in
-/// `next`.
+/// Finds the row that begins at byte `at` of the capture `text`, for a terminal that is `width`
+/// columns wide. Stores the index of its end in `end` and the index of the next row in `next`. If
+/// there is no next row, stores `SIZE_MAX` in `next`. A capture is the text of rows with SGR
+/// sequences as the only escape sequences.
 ///
 /// # Errors
 ///
@@ -114,15 +116,15 @@ fn next_row(text: &str, width: u16, at: usize) -> (usize, usize)
     match rows.next() {
         Some(_) => (
             at + row.len(),
-            at + behind_line_end(text.as_bytes(), row.len()),
+            at + after_line_end(text.as_bytes(), row.len()),
         ),
         None => (at + row.len(), NO_PLACE),
     }
 }
 
 /// Returns the index after the line feed at `end`, or `end` if there is none.
-fn behind_line_end(text: &[u8], end: usize) -> usize
-    ensures value { result ≡ behind_line_end text.now end }
+fn after_line_end(text: &[u8], end: usize) -> usize
+    ensures value { result ≡ after_line_end text.now end }
     ensures inside { end ≤ length text.now → result ≤ length text.now }
 {
     if end < text.len() && text[end] == b'\n' {

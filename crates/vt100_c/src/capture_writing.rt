@@ -7,8 +7,8 @@ ghost use Rattle.vt_rows.specs.Basic.{basic_text, nothing_written, written_after
 ghost use Rattle.vt_screen.specs.Capture.{all_rows, basic_texts, written_after_all};
 ghost use Rattle.vt100_c.specs.Calls.{MakesOne};
 ghost use Rattle.vt100_c.specs.Capturing.{HaveText, HoldAtCapture, HoldsCapture, OnCapture, OnReported, OnRow};
-ghost use Rattle.vt100_c.specs.Capturing.{any_screen_is_due, due_at_capture, due_behind, due_beside_capture};
-ghost use Rattle.vt100_c.specs.Capturing.{has_reported, state_in};
+ghost use Rattle.vt100_c.specs.Capturing.{any_screen_is_due, due_at_capture, due_beside_capture, due_of_kinds};
+ghost use Rattle.vt100_c.specs.Capturing.{reported_status, state_in};
 ghost use Rattle.vt100_c.specs.Due.{AnswersOrStays, IsAnswer, status_in};
 ghost use Rattle.vt100_c.specs.KeptText.{KeepsBoth, KeepsText};
 ghost use Rattle.vt100_c.specs.Log.{log_in};
@@ -26,7 +26,8 @@ use std::alloc::Global;
 use vt100::Screen;
 use vt100::capture::{BasicFormattedCaptureRange, BasicFormattedCaptureState, RowContents};
 
-/// Creates an empty capture in the empty handle `out`.
+/// Creates an empty capture in the empty handle `out`. A capture is the text of rows with SGR
+/// sequences as the only escape sequences.
 ///
 /// # Errors
 ///
@@ -83,7 +84,8 @@ pub extern "C" fn vt100_capture_screen(
 /// object and its length in `len`.
 ///
 /// While a capture is being written to, its handle is empty. So if `handle` is empty, the caller
-/// passed the same handle twice, and the function returns `BAD_ARGUMENT`.
+/// passed the same handle twice, and the function returns `BAD_ARGUMENT`. Otherwise, it returns the
+/// status code of [`write_screen`].
 fn screen_beside(alloc: Global, object: &mut Object, handle: &mut Handle, len: &mut usize) -> u8
     ensures answer { IsAnswer (due_beside_capture screen_in any_screen_is_due handle.old.held object.old) result }
     ensures nonempty { result ≡ out_of_memory → HoldAtCapture screen_in handle.old.held (Some object.old) HaveText }
@@ -106,7 +108,7 @@ fn screen_beside(alloc: Global, object: &mut Object, handle: &mut Handle, len: &
 /// a capture, or `OUT_OF_MEMORY` if the text cannot be allocated.
 fn write_screen(alloc: Global, object: &mut Object, from: &Source, len: &mut usize) -> u8
     ensures answer { IsAnswer
-        (due_behind any_screen_is_due (screen_in from.now) (state_in object.old.source)) result }
+        (due_of_kinds any_screen_is_due (screen_in from.now) (state_in object.old.source)) result }
     ensures nonempty { result ≡ out_of_memory → OnCapture (screen_in from.now) (state_in object.old.source) HaveText }
     ensures text { result ≡ ok → OnCapture (screen_in from.now) (state_in object.old.source) (λ screen state.
         HoldsCapture (basic_texts state (all_rows screen)) (written_after_all state (all_rows screen))
@@ -128,7 +130,7 @@ fn screen_text(alloc: Global, screen: &Screen, capture: &mut Source) -> Result<S
         (λ screen state. string_bytes text ≡ basic_texts state (all_rows screen))) }
     ensures state { OnOk result (OnCapture (Some screen.now) (state_in capture.old)
         (λ screen state. capture.new ≡ Source.Capture (written_after_all state (all_rows screen)))) }
-    ensures answer { AnswersOrStays (due_behind any_screen_is_due (Some screen.now) (state_in capture.old))
+    ensures answer { AnswersOrStays (due_of_kinds any_screen_is_due (Some screen.now) (state_in capture.old))
         result (capture.new ≡ capture.old) }
     ensures nonempty { status_in result ≡ out_of_memory → OnCapture (Some screen.now) (state_in capture.old) HaveText }
 {
@@ -171,8 +173,8 @@ fn rows_text(
     Ok(text)
 }
 
-/// Appends to a capture the row at `index` among the rows that a parser's
-/// events have reported. Stores the new text in the handle `capture` and its
+/// Appends a reported row to a capture. `index` is the index of the row, counted from 0, among the
+/// rows that the parser's events have reported. Stores the new text in the handle `capture` and its
 /// length in `len`.
 ///
 /// # Errors
@@ -189,7 +191,7 @@ pub extern "C" fn vt100_capture_row(
     capture: &mut Handle,
     len: &mut usize,
 ) -> u8
-    ensures answer { IsAnswer (due_at_capture log_in (has_reported index) parser.old.held capture.old.held) result }
+    ensures answer { IsAnswer (due_at_capture log_in (reported_status index) parser.old.held capture.old.held) result }
     ensures text { result ≡ ok → HoldAtCapture log_in parser.old.held capture.old.held (OnReported index
         (λ row state. HoldsCapture (basic_text state row) (written_after state row) capture.new.held)) }
     ensures keeps { KeepsBoth capture.old.held parser.old.held result capture.new.held parser.new.held len.old len.new }
@@ -207,7 +209,8 @@ pub extern "C" fn vt100_capture_row(
 /// Stores the new text in the object and its length in `len`.
 ///
 /// While a capture is being written to, its handle is empty. So if `parser` is empty, the caller
-/// passed the same handle twice, and the function returns `BAD_ARGUMENT`.
+/// passed the same handle twice, and the function returns `BAD_ARGUMENT`. Otherwise, it returns the
+/// status code of [`write_row`].
 fn row_beside(
     alloc: Global,
     object: &mut Object,
@@ -215,7 +218,7 @@ fn row_beside(
     index: usize,
     len: &mut usize,
 ) -> u8
-    ensures answer { IsAnswer (due_beside_capture log_in (has_reported index) parser.old.held object.old) result }
+    ensures answer { IsAnswer (due_beside_capture log_in (reported_status index) parser.old.held object.old) result }
     ensures text { result ≡ ok → HoldAtCapture log_in parser.old.held (Some object.old) (OnReported index
         (λ row state. HoldsCapture (basic_text state row) (written_after state row) (Some object.new))) }
     ensures keeps { KeepsBoth (Some object.old) parser.old.held result (Some object.new) parser.new.held len.old len.new }
@@ -235,7 +238,7 @@ fn row_beside(
 /// text cannot be allocated.
 fn write_row(alloc: Global, object: &mut Object, from: &Source, index: usize, len: &mut usize) -> u8
     ensures answer { IsAnswer
-        (due_behind (has_reported index) (log_in from.now) (state_in object.old.source)) result }
+        (due_of_kinds (reported_status index) (log_in from.now) (state_in object.old.source)) result }
     ensures text { result ≡ ok → OnCapture (log_in from.now) (state_in object.old.source) (OnReported index
         (λ row state. HoldsCapture (basic_text state row) (written_after state row) (Some object.new))) }
     ensures keeps { KeepsText (Some object.old) result (Some object.new) len.old len.new }
@@ -260,7 +263,7 @@ fn reported_text(
         (OnReported index (λ row state. string_bytes text ≡ basic_text state row))) }
     ensures state { OnOk result (OnCapture (Some log.now) (state_in capture.old)
         (OnReported index (λ row state. capture.new ≡ Source.Capture (written_after state row)))) }
-    ensures answer { AnswersOrStays (due_behind (has_reported index) (Some log.now) (state_in capture.old))
+    ensures answer { AnswersOrStays (due_of_kinds (reported_status index) (Some log.now) (state_in capture.old))
         result (capture.new ≡ capture.old) }
 {
     match capture {
@@ -284,7 +287,7 @@ fn event_text(
         (λ text. OnRow (slice_get log.now.rows index) (λ row. string_bytes text ≡ basic_text state.old row)) }
     ensures ok { OnOk result
         (OnRow (slice_get log.now.rows index) (λ row. state.new ≡ written_after state.old row)) }
-    ensures answer { AnswersOrStays (has_reported index log.now) result (state.new ≡ state.old) }
+    ensures answer { AnswersOrStays (reported_status index log.now) result (state.new ≡ state.old) }
 {
     match log.row(index) {
         Some(row) => row_text(alloc, &row, state),

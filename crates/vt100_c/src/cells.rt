@@ -46,21 +46,23 @@ pub struct VtState {
     pub cursor_row: u16,
     /// The cursor's column, counted from 0; `cols` if a wrap is pending.
     pub cursor_col: u16,
-    /// 1 if the alternate page is active.
+    /// 1 if the alternate page is active, otherwise 0.
     pub alternate_screen: u8,
-    /// 1 if the keypad is in application mode.
+    /// 1 if the keypad is in application mode, otherwise 0.
     pub application_keypad: u8,
-    /// 1 if the cursor keys are in application mode.
+    /// 1 if the cursor keys are in application mode, otherwise 0.
     pub application_cursor: u8,
-    /// 1 if the cursor is hidden.
+    /// 1 if the cursor is hidden, otherwise 0.
     pub hide_cursor: u8,
-    /// 1 if bracketed paste mode is set.
+    /// 1 if bracketed paste mode is set, otherwise 0.
     pub bracketed_paste: u8,
-    /// The number of the mouse mode, from 0 to 4.
+    /// The mouse mode: 0 for none, 1 for press, 2 for press and release, 3 for button motion, and 4
+    /// for any motion.
     pub mouse_protocol_mode: u8,
-    /// The number of the mouse encoding, from 0 to 2.
+    /// The mouse encoding: 0 for the default encoding, 1 for UTF-8, and 2 for SGR.
     pub mouse_protocol_encoding: u8,
-    /// The number of the cursor style, from 0 to 6.
+    /// The cursor style: 0 for the default, 1 for a blinking block, 2 for a steady block, 3 for a
+    /// blinking underline, 4 for a steady underline, 5 for a blinking bar, and 6 for a steady bar.
     pub cursor_style: u8,
     /// The style of newly printed text: bold, dim, italic, underline and
     /// inverse in bits 0 to 4.
@@ -71,10 +73,11 @@ pub struct VtState {
     pub fgcolor: VtColor,
     /// The background color of newly printed text.
     pub bgcolor: VtColor,
-    /// The number of rows by which the display is scrolled back.
+    /// The number of rows by which the display is scrolled back; 0 while the alternate page is
+    /// active.
     pub scrollback: usize,
-    /// The number of rows in scrollback.
+    /// The number of rows in scrollback; 0 while the alternate page is active.
     pub scrollback_len: usize,
-    /// The maximum number of rows that scrollback keeps.
+    /// The maximum number of rows that scrollback keeps; 0 while the alternate page is active.
     pub scrollback_capacity: usize,
 }

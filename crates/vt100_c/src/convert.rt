@@ -70,8 +70,8 @@ fn write_text(cell: &Cell, room: &mut [u8; 30]) -> u8
     text.len() as u8
 }
 
-/// Returns the flags of a cell: its style, whether it is wide, and whether it
-/// is a continuation cell.
+/// Returns the flags of a cell: its style in bits 0 to 4, whether it is wide in bit 5, and whether
+/// it is a continuation cell in bit 6.
 fn cell_flags(cell: &Cell) -> u8
     ensures { result ≡ cell_flags cell.now }
 {
@@ -83,7 +83,8 @@ fn cell_flags(cell: &Cell) -> u8
     style + bit(32, cell.is_wide()) + bit(64, cell.is_wide_continuation())
 }
 
-/// Returns the flags for the style of newly printed text.
+/// Returns the style of newly printed text as flags: bold, dim, italic, underline and inverse in
+/// bits 0 to 4.
 fn style_flags(screen: &Screen) -> u8
     ensures { result ≡ style_flags screen.now.attrs }
 {

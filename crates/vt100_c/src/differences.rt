@@ -65,8 +65,9 @@ pub extern "C" fn vt100_contents_diff_scrolling(
 
 /// Generates the escape sequences that turn the display of `prev` into that of `handle`'s screen,
 /// with options ([`vt100::Screen::contents_diff_with`]). Bit 0 of `options` allows the output to
-/// begin by moving rows or columns, and bit 1 allows REP; the other bits are ignored. Stores the
-/// output in `handle` and its length in `len`.
+/// begin by moving rows or columns, bit 1 allows REP, and bit 2 allows REP for printable ASCII
+/// characters only; the other bits are ignored. Stores the output in `handle` and its length in
+/// `len`.
 ///
 /// # Errors
 ///
@@ -139,8 +140,8 @@ pub extern "C" fn vt100_input_mode_diff(
     make(alloc, handle, prev, Difference::InputMode, len)
 }
 
-/// Generates a diff of the given kind from the screen in `prev` to the screen
-/// in `handle`. Stores it in `handle` and its length in `len`.
+/// Generates a diff of the given kind from the screen in `prev` to the screen in `handle`. Stores
+/// it in `handle` and its length in `len`, and returns the status code.
 fn make(
     alloc: Global,
     handle: &mut Handle,
@@ -165,7 +166,8 @@ fn make(
 /// it in the object and its length in `len`.
 ///
 /// While output is being stored in an object, its handle is empty. So if `prev` is empty, the
-/// caller passed the same handle twice, and the function returns `BAD_ARGUMENT`.
+/// caller passed the same handle twice, and the function returns `BAD_ARGUMENT`. Otherwise, it
+/// returns the status code of [`renew`].
 fn make_beside(
     alloc: Global,
     object: &mut Object,
@@ -186,8 +188,8 @@ fn make_beside(
     status
 }
 
-/// Generates a diff of the given kind from the screen of `prev` to the screen
-/// of `object`. Stores it in the object and its length in `len`.
+/// Generates a diff of the given kind from the screen of `prev` to the screen of `object`. Stores
+/// it in the object and its length in `len`, and returns the status code.
 fn renew(object: &mut Object, prev: &Source, difference: Difference, len: &mut usize) -> u8
     ensures source { object.new.source ≡ object.old.source }
     ensures answer { IsAnswer

@@ -2,7 +2,7 @@
 
 ghost use Rattle.std.specs.Prelude.{◌≡◌, ◌<◌, drop, length};
 ghost use Rattle.vt_screen.specs.Screen.{visible_row};
-ghost use Rattle.vt100_c.specs.Due.{HoldsScreen, OnScreen, due_at, due_on, has_cell, has_row, has_row_and_room};
+ghost use Rattle.vt100_c.specs.Due.{HoldsScreen, OnScreen, cell_status, due_at, due_on, has_row_and_room, row_status};
 ghost use Rattle.vt100_c.specs.Shown.{IsRowForC, bit, cell_for_c, shown_cell};
 ghost use Rattle.vt100_c.specs.Sources.{screen_in};
 ghost use Rattle.vt100_c.specs.Status.{ok};
@@ -33,7 +33,7 @@ pub extern "C" fn vt100_get_cell(
     out: &mut VtCell,
 ) -> u8
     ensures same { handle.new.held ≡ handle.old.held }
-    ensures status { result ≡ due_at (has_cell row col) handle.old.held }
+    ensures status { result ≡ due_at (cell_status row col) handle.old.held }
     ensures cell { result ≡ ok → HoldsScreen handle.old.held
         (λ screen. out.new ≡ cell_for_c (shown_cell row col screen)) }
     ensures refused { ¬ (result ≡ ok) → out.new ≡ out.old }
@@ -47,8 +47,8 @@ pub extern "C" fn vt100_get_cell(
     status
 }
 
-/// Stores the cells of a displayed row in `out`, one for each column of the
-/// screen. The rest of `out` is unchanged.
+/// Stores the cells of the displayed row at index `row`, counted from 0, in `out`, one for each
+/// column of the screen. The rest of `out` is unchanged.
 ///
 /// # Errors
 ///
@@ -78,8 +78,8 @@ pub extern "C" fn vt100_get_cells(
     status
 }
 
-/// Stores 1 in `out` if a displayed row is wrapped (its text continues on the
-/// next row), otherwise 0.
+/// Stores 1 in `out` if the displayed row at index `row`, counted from 0, is wrapped (its text
+/// continues on the next row), otherwise 0.
 ///
 /// # Errors
 ///
@@ -94,7 +94,7 @@ pub extern "C" fn vt100_row_wrapped(
     out: &mut u8,
 ) -> u8
     ensures same { handle.new.held ≡ handle.old.held }
-    ensures status { result ≡ due_at (has_row row) handle.old.held }
+    ensures status { result ≡ due_at (row_status row) handle.old.held }
     ensures wrapped { result ≡ ok → HoldsScreen handle.old.held
         (λ screen. out.new ≡ bit 1 (visible_row screen row).wrapped) }
     ensures refused { ¬ (result ≡ ok) → out.new ≡ out.old }
@@ -111,7 +111,7 @@ pub extern "C" fn vt100_row_wrapped(
 /// Stores a displayed cell of a source's screen in `out`. Returns `WRONG_KIND`
 /// if the source has no screen, and `BAD_ARGUMENT` if there is no such cell.
 fn write_cell(source: &Source, row: u16, col: u16, out: &mut VtCell) -> u8
-    ensures status { result ≡ due_on (has_cell row col) (screen_in source.now) }
+    ensures status { result ≡ due_on (cell_status row col) (screen_in source.now) }
     ensures cell { result ≡ ok → OnScreen (screen_in source.now)
         (λ screen. out.new ≡ cell_for_c (shown_cell row col screen)) }
     ensures refused { ¬ (result ≡ ok) → out.new ≡ out.old }
@@ -125,7 +125,7 @@ fn write_cell(source: &Source, row: u16, col: u16, out: &mut VtCell) -> u8
 /// Stores the displayed cell of a screen at a row and a column in `out`.
 /// Returns `BAD_ARGUMENT` if there is no such cell.
 fn write_shown(screen: &Screen, row: u16, col: u16, out: &mut VtCell) -> u8
-    ensures status { result ≡ has_cell row col screen.now }
+    ensures status { result ≡ cell_status row col screen.now }
     ensures cell { result ≡ ok → out.new ≡ cell_for_c (shown_cell row col screen.now) }
     ensures refused { ¬ (result ≡ ok) → out.new ≡ out.old }
 {
@@ -199,21 +199,21 @@ fn shown_cell(screen: &Screen, row: u16, col: u16) -> VtCell
 /// Stores 1 in `out` if a displayed row of a source's screen is wrapped, otherwise 0. Returns
 /// `WRONG_KIND` if the source has no screen, and `BAD_ARGUMENT` if there is no such row.
 fn write_wrapped(source: &Source, row: u16, out: &mut u8) -> u8
-    ensures status { result ≡ due_on (has_row row) (screen_in source.now) }
+    ensures status { result ≡ due_on (row_status row) (screen_in source.now) }
     ensures wrapped { result ≡ ok → OnScreen (screen_in source.now)
         (λ screen. out.new ≡ bit 1 (visible_row screen row).wrapped) }
     ensures refused { ¬ (result ≡ ok) → out.new ≡ out.old }
 {
     match screen_of(source) {
-        Some(screen) => write_goes_on(screen, row, out),
+        Some(screen) => write_row_wrapped(screen, row, out),
         None => WRONG_KIND,
     }
 }
 
 /// Stores 1 in `out` if a displayed row of a screen is wrapped, otherwise 0. Returns `BAD_ARGUMENT`
 /// if there is no such row.
-fn write_goes_on(screen: &Screen, row: u16, out: &mut u8) -> u8
-    ensures status { result ≡ has_row row screen.now }
+fn write_row_wrapped(screen: &Screen, row: u16, out: &mut u8) -> u8
+    ensures status { result ≡ row_status row screen.now }
     ensures wrapped { result ≡ ok → out.new ≡ bit 1 (visible_row screen.now row).wrapped }
     ensures refused { ¬ (result ≡ ok) → out.new ≡ out.old }
 {

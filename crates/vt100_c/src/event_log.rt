@@ -1,4 +1,4 @@
-//! The log that records the calls to a terminal's callbacks until C code reads the records.
+//! The log that records the calls to a parser's callbacks, for C code to read.
 
 ghost use Rattle.std.specs.Prelude.{◌≡◌, ◌&&◌, ◌<◌, OnErr, OnOk, length};
 ghost use Rattle.std.specs.List.{slice_get};
@@ -13,11 +13,12 @@ use vt_rows::Row;
 use vt100::capture::RowContents;
 use vt100::{Call, Callbacks, Screen};
 
-/// The default size limit of a log, in bytes (1 MiB). Records that would exceed the limit are lost.
+/// The default size limit of a log, in bytes (1 MiB). Once the limit has been reached, further
+/// records are lost.
 pub(crate) const DEFAULT_LIMIT: usize = 1_048_576;
 
-/// A log of callback invocations. It contains, in order, a record of each wanted call made since the
-/// log was last cleared, and a copy of each row that these calls report.
+/// A log of callback invocations. It contains, in order, a record of each call of a wanted kind
+/// made since the log was last cleared, and a copy of each row that these calls report.
 ///
 /// If an allocation for a record fails, or the log has reached its limit, the
 /// record is lost. After that, nothing is added until the log is cleared, so
@@ -27,10 +28,10 @@ pub struct Events {
     alloc: Global,
     wanted: u16,
 
-    /// The number of bytes after which records are lost.
+    /// The size limit of the log in bytes. Once it has been reached, further records are lost.
     limit: usize,
 
-    /// The number of bytes that can still be added.
+    /// The number of bytes left until the limit is reached. Records are lost if it is 0.
     room: usize,
     records: Vec<u8>,
 
@@ -93,8 +94,7 @@ impl Events {
         self.row_count
     }
 
-    /// Returns the number of bytes that can still be added before the limit is
-    /// reached.
+    /// Returns the number of bytes left until the limit is reached, or 0 if it has been reached.
     pub(crate) fn room(&self) -> usize
         ensures { result ≡ self.now.room }
     {
@@ -128,9 +128,8 @@ impl Events {
         if self.is_whole { 1 } else { 0 }
     }
 
-    /// Clears the records, and the flag that is set once records have been
-    /// lost. If the log has reached its limit, also frees the memory of its
-    /// rows.
+    /// Clears the log: the records, the rows that they report, and the flag that is set once
+    /// records have been lost. If the log has reached its limit, also frees the memory of the rows.
     pub(crate) fn clear(&mut self)
         ensures { self.new ≡ log_after_clear self.old }
     {
@@ -151,7 +150,8 @@ impl Events {
         self.clear();
     }
 
-    /// Returns whether calls of the given kind are currently recorded.
+    /// Returns whether calls of the given kind are currently recorded, that is, whether the kind is
+    /// wanted and no record has been lost since the log was last cleared.
     fn keeps(&self, kind: u8) -> bool
         requires { kind < 16 }
         ensures { result ≡ (self.now.is_whole && is_wanted self.now.wanted kind) }
@@ -159,8 +159,9 @@ impl Events {
         self.is_whole && records::is_wanted(self.wanted, kind)
     }
 
-    /// Adds the record of a call if its kind is wanted. If the record cannot be
-    /// added, it is lost.
+    /// Adds the record of a call if calls of its kind are currently recorded (see
+    /// [`Events::keeps`]). The record is lost if the log has reached its limit or an allocation
+    /// fails.
     fn note(&mut self, call: Call<'_>)
         ensures { LogsIt (call_of call.entry) self.old self.new }
     {
@@ -189,8 +190,8 @@ impl Events {
         Ok(())
     }
 
-    /// Adds the record of a row if rows are wanted. If the record cannot be
-    /// added, it is lost.
+    /// Adds the record of a row if rows are currently recorded (see [`Events::keeps`]). The record
+    /// is lost if the log has reached its limit or an allocation fails.
     fn note_row(&mut self, row: &RowContents<'_>, alternate: bool)
         ensures { LogsIt (calls.OnScroll row.now alternate) self.old self.new }
     {
@@ -202,7 +203,7 @@ impl Events {
         }
     }
 
-    /// Adds the record of a row.
+    /// Adds the record of a row and a copy of the row to the log.
     ///
     /// # Errors
     ///

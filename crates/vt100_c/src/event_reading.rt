@@ -14,10 +14,9 @@ use crate::status::{NO_OBJECT, OK, WRONG_KIND};
 use std::alloc::Global;
 use vt100::Parser;
 
-/// Stores in `len` the length in bytes of the records that were added since the
-/// log was last cleared. Stores 1 in `is_whole` if no record has been lost
-/// since then, otherwise 0. Once a record has been lost, no more are added
-/// until the log is cleared.
+/// Stores in `len` the length, in bytes, of the event records added to a parser's log since it was
+/// last cleared. Stores 1 in `is_whole` if no record has been lost since
+/// then, otherwise 0. Once a record has been lost, no more are added until the log is cleared.
 ///
 /// # Errors
 ///

@@ -50,7 +50,8 @@ impl Handle {
         self.put(Parts::of(object));
     }
 
-    /// Takes the parts of the object's box out of the handle.
+    /// Takes the object's box out of the handle, split into its parts (the pointer and the
+    /// allocator). The handle is then empty.
     fn take(&mut self, alloc: Global) -> Parts<Object, Global>
         requires { IsSome self.old.held }
         ensures { (self.old.held ≡ Some result.value) × (self.new.held ≡ None) }
@@ -60,7 +61,7 @@ impl Handle {
         Parts { at, alloc }
     }
 
-    /// Puts the parts of an object's box into the handle.
+    /// Puts an object's box, given by its parts (the pointer and the allocator), into the handle.
     fn put(&mut self, parts: Parts<Object, Global>)
         ensures { self.new.held ≡ Some parts.value }
     {

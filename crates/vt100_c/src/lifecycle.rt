@@ -78,9 +78,9 @@ pub extern "C" fn vt100_save(alloc: Global, handle: &mut Handle, out: &mut Handl
     }
 }
 
-/// Copies what a parser's screen or a saved screen displays into the empty handle `out`. The copy
-/// is a saved screen of the same size, without scrollback and without the inactive page
-/// ([`Screen::shown_copy`]).
+/// Saves a copy of the display of a parser's screen or a saved screen in the empty handle `out`.
+/// The copy is a saved screen of the same size, without scrollback and without the inactive page.
+/// While scrollback is displayed, the whole screen is copied ([`Screen::shown_copy`]).
 ///
 /// # Errors
 ///
@@ -215,7 +215,7 @@ fn copy_of(source: &Source) -> Result<Source, u8>
     }
 }
 
-/// Returns a saved screen that displays what the screen of a source displays.
+/// Returns a saved screen that has the same size and the same display as the screen of a source.
 ///
 /// # Errors
 ///

@@ -154,8 +154,8 @@ pub extern "C" fn vt100_update_scrolling(
 
 /// Generates the next update for a viewer, as [`vt100_update`] does, with options for a diff
 /// ([`Mirror::update_with`]). Bit 0 of `options` allows a diff to begin by moving rows or columns,
-/// and bit 1 allows REP; the other bits are ignored. With bit 0, the update may be a full one, as
-/// with [`vt100_update_scrolling`].
+/// bit 1 allows REP, and bit 2 allows REP for printable ASCII characters only; the other bits are
+/// ignored. With bit 0, the update may be a full one, as with [`vt100_update_scrolling`].
 ///
 /// # Errors
 ///
@@ -212,7 +212,8 @@ pub extern "C" fn vt100_mirror_is_current(
 }
 
 /// Adds a viewer to a mirror, and stores the number of the viewer in `viewer`. Returns `WRONG_KIND`
-/// if the source is not a mirror.
+/// if the source is not a mirror, `NO_NUMBER` if no viewer number is left, or `OUT_OF_MEMORY` if an
+/// allocation fails.
 fn join(source: &mut Source, viewer: &mut u64) -> u8
     ensures call { JoinsSource viewer.old viewer.new source.old result source.new }
     ensures refused { ¬ (result ≡ ok) → viewer.new ≡ viewer.old }
@@ -225,8 +226,8 @@ fn join(source: &mut Source, viewer: &mut u64) -> u8
     }
 }
 
-/// Removes a viewer from a mirror. Returns `WRONG_KIND` if the source is not a
-/// mirror.
+/// Removes a viewer from a mirror. Returns `WRONG_KIND` if the source is not a mirror, or
+/// `BAD_ARGUMENT` if there is no viewer whose number is `viewer`.
 fn leave(source: &mut Source, viewer: u64) -> u8
     ensures { LeavesSource viewer source.old result source.new }
 {

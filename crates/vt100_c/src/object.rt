@@ -8,7 +8,7 @@ use vt_mirror::Mirror;
 use vt100::capture::BasicFormattedCaptureState;
 use vt100::{Parser, Screen};
 
-/// What a handle holds: a parser, a saved screen, a mirror or a capture.
+/// The value of the object that a handle holds: a parser, a saved screen, a mirror or a capture.
 #[derive(Drop)]
 pub enum Source {
     /// A parser, with its screen and its log of events.

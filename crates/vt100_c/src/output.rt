@@ -5,25 +5,25 @@ ghost use Rattle.std.specs.Prelude.{nat_lt, string_bytes, true};
 ghost use Rattle.vt_cells.specs.Refusals.{OnlyOutOfMemory};
 ghost use Rattle.vt_grid.specs.Page.{SameSize};
 ghost use Rattle.vt_screen.specs.Contents.{between_of};
-ghost use Rattle.vt100_c.specs.Due.{IsAnswer, OnBoth, OnScreen, any_screens, due_on, due_on_both, has_start};
+ghost use Rattle.vt100_c.specs.Due.{IsAnswer, OnBoth, OnScreen, any_screens, due_on, due_on_both, start_status};
 ghost use Rattle.vt100_c.specs.Due.{of_one_size, same_size, status_in};
 ghost use Rattle.vt100_c.specs.Sources.{screen_in};
 ghost use Rattle.vt100_c.specs.Status.{ok, out_of_memory};
-ghost use Rattle.vt100_c.specs.Texts.{HasDifference, HasText, IsDifference, due_for, due_for_both, options_of, text_of};
+ghost use Rattle.vt100_c.specs.Texts.{HasDifference, HasText, IsDifference, due_for, due_for_both, options_of, repeat_of, text_of};
 ghost use Rattle.vt100_c.specs.declared.output.Difference.TheVariants as between;
 
 use crate::object::{Source, screen_of};
 use crate::status::{BAD_ARGUMENT, OK, OTHER_SIZE, OUT_OF_MEMORY, WRONG_KIND};
-use vt100::{DiffOptions, Error, Screen};
+use vt100::{DiffOptions, Error, Repeat, Screen};
 
-/// The kinds of text and output that are generated from one screen.
+/// A kind of text or escape sequences that can be generated from a screen.
 #[derive(Clone, Copy)]
 pub enum Text {
     /// The displayed rows, without attributes.
     Contents,
 
-    /// The text between two positions, each given as a row and a column,
-    /// without attributes.
+    /// The text between two positions, without attributes. The values are the row and column of the
+    /// start, and the row and column of the end, all counted from 0.
     Between(u16, u16, u16, u16),
 
     /// The escape sequences that redraw the screen.
@@ -49,7 +49,7 @@ pub enum Text {
     InputMode,
 }
 
-/// The kinds of output that turn one screen into another.
+/// A kind of output that turns one screen into another.
 #[derive(Clone, Copy)]
 pub enum Difference {
     /// The escape sequences that change the display.
@@ -72,9 +72,9 @@ pub enum Difference {
 ///
 /// # Errors
 ///
-/// Returns `WRONG_KIND` if the source has no screen, `BAD_ARGUMENT` if a range
-/// of more than one row begins past the last column, or `OUT_OF_MEMORY` if an
-/// allocation fails.
+/// Returns `WRONG_KIND` if the source has no screen, `BAD_ARGUMENT` if the start column of a range
+/// of several rows is greater than the number of columns, or `OUT_OF_MEMORY` if an allocation
+/// fails.
 pub(crate) fn text_in(source: &Source, text: Text) -> Result<String, u8>
     ensures text { IfOk result
         (λ made. OnScreen (screen_in source.now) (λ screen. string_bytes made ≡ text_of text screen)) }
@@ -92,8 +92,8 @@ pub(crate) fn text_in(source: &Source, text: Text) -> Result<String, u8>
 ///
 /// # Errors
 ///
-/// Returns `BAD_ARGUMENT` if a range of several rows begins past the last column, or
-/// `OUT_OF_MEMORY` if an allocation fails.
+/// Returns `BAD_ARGUMENT` if the start column of a range of several rows is greater than the number
+/// of columns, or `OUT_OF_MEMORY` if an allocation fails.
 fn text_of(screen: &Screen, text: Text) -> Result<String, u8>
     ensures text { IfOk result (λ made. string_bytes made ≡ text_of text screen.now) }
     ensures answer { IsAnswer (due_for text screen.now) (status_in result) }
@@ -115,17 +115,17 @@ fn text_of(screen: &Screen, text: Text) -> Result<String, u8>
     }
 }
 
-/// Returns the text between two positions.
+/// Returns the text between two positions, each given as a row and a column, both counted from 0.
 ///
 /// # Errors
 ///
-/// Returns `BAD_ARGUMENT` if a range of several rows begins past the last column, or
-/// `OUT_OF_MEMORY` if an allocation fails.
+/// Returns `BAD_ARGUMENT` if the range spans several rows and its start column is greater than the
+/// number of columns, or `OUT_OF_MEMORY` if an allocation fails.
 #[tactic(auto, using(crate::proofs::Refused::where_some))]
 fn between(screen: &Screen, start: (u16, u16), end: (u16, u16)) -> Result<String, u8>
     ensures text { IfOk result
         (λ made. string_bytes made ≡ between_of start.0 start.1 end.0 end.1 screen.now) }
-    ensures answer { IsAnswer (has_start start.0 start.1 end.0 screen.now) (status_in result) }
+    ensures answer { IsAnswer (start_status start.0 start.1 end.0 screen.now) (status_in result) }
     ensures nonempty { status_in result ≡ out_of_memory →
         0 < length (between_of start.0 start.1 end.0 end.1 screen.now) }
     ensures refused { IfErr result (λ status. ¬ (status ≡ ok)) }
@@ -136,7 +136,8 @@ fn between(screen: &Screen, start: (u16, u16), end: (u16, u16)) -> Result<String
     or_status(screen.contents_between(start.0, start.1, end.0, end.1))
 }
 
-/// Returns whether a range of several rows begins past the last column of the screen.
+/// Returns whether a range spans several rows and its start column is greater than the number of
+/// columns. `start` is the row and column of the range's start, and `end_row` is its last row.
 fn is_outside(screen: &Screen, start: (u16, u16), end_row: u16) -> bool
     ensures value { result ≡ (nat_lt start.0 end_row && nat_lt screen.now.page.width start.1) }
     ensures inside { result ≡ false → start.0 < end_row → start.1 ≤ screen.now.page.width }
@@ -293,13 +294,27 @@ fn input_mode_diff(screen: &Screen, prev: &Screen) -> Result<String, u8>
 }
 
 /// Returns the options that `bits` selects: bit 0 allows a diff to begin by moving rows or columns,
-/// and bit 1 allows REP. The other bits are ignored.
+/// bit 1 allows REP for all characters, and bit 2 allows it for printable ASCII characters. Bit 2
+/// has no effect if bit 1 is set. The other bits are ignored.
 pub(crate) fn options_in(bits: u8) -> DiffOptions
     ensures { result ≡ options_of bits }
 {
     DiffOptions {
         scroll: bits % 2 == 1,
-        repeat: bits / 2 % 2 == 1,
+        repeat: repeat_in(bits),
+    }
+}
+
+/// Returns the characters that REP may repeat, which bits 1 and 2 of `bits` select.
+fn repeat_in(bits: u8) -> Repeat
+    ensures { result ≡ repeat_of bits }
+{
+    if bits / 2 % 2 == 1 {
+        Repeat::Any
+    } else if bits / 4 % 2 == 1 {
+        Repeat::Ascii
+    } else {
+        Repeat::Never
     }
 }
 
@@ -313,7 +328,8 @@ pub(crate) fn is_sized_as(screen: &Screen, prev: &Screen) -> bool
     rows.get() == prev_rows.get() && cols.get() == prev_cols.get()
 }
 
-/// Converts the error of a result, if there is one, to its status code.
+/// Converts the error of a result, which must be [`Error::OutOfMemory`], to its status code. A
+/// string is returned unchanged.
 pub(crate) fn or_status(made: Result<String, Error>) -> Result<String, u8>
     requires { OnlyOutOfMemory made }
     ensures text { IfOk result (λ text. made ≡ Ok text) }
@@ -327,8 +343,8 @@ pub(crate) fn or_status(made: Result<String, Error>) -> Result<String, u8>
     }
 }
 
-/// Moves the string in `made` to `place` and stores its length in `len`. If
-/// `made` is an error, stores nothing and returns the status code of the error.
+/// Moves the string in `made` to `place`, stores its length in `len` and returns `OK`. If `made` is
+/// an error, stores nothing and returns the error, which is a status code.
 pub(crate) fn keep(place: &mut String, made: Result<String, u8>, len: &mut usize) -> u8
     requires { IfErr made (λ status. ¬ (status ≡ ok)) }
     ensures status { result ≡ status_in made }

@@ -14,7 +14,8 @@ use std::alloc::Global;
 use vt_mirror::Mirror;
 use vt100::Parser;
 
-/// The number of bytes of row data after which parsing stops: 64 KiB.
+/// The size limit, in bytes (64 KiB), for rows that a call records without their text. The call
+/// stops parsing once these rows have reached this size.
 const BATCH: usize = 65_536;
 
 /// Parses bytes with a parser or a mirror.
@@ -23,7 +24,7 @@ const BATCH: usize = 65_536;
 ///
 /// Returns `NO_OBJECT` if the handle is empty, `WRONG_KIND` if it holds neither a parser nor a
 /// mirror, or `OUT_OF_MEMORY` if an allocation fails. Once an allocation has failed, all later
-/// calls return `FAILED`. The steps before the failing step remain in effect.
+/// calls of this function return `FAILED`. The steps before the failing step remain in effect.
 #[unsafe(no_mangle)]
 pub extern "C" fn vt100_process(alloc: Global, handle: &mut Handle, bytes: &[u8]) -> u8
     ensures { OnSource (Reads bytes.now) handle.old.held result handle.new.held }
@@ -46,9 +47,9 @@ pub extern "C" fn vt100_process(alloc: Global, handle: &mut Handle, bytes: &[u8]
 /// # Errors
 ///
 /// Returns `NO_OBJECT` if the handle is empty, `WRONG_KIND` if it holds no parser, `OUT_OF_MEMORY`
-/// if an allocation fails, or `FAILED` if parsing ran out of memory in an earlier call. On
-/// `OUT_OF_MEMORY`, `used` is the number of bytes before the byte that required the allocation. On
-/// any other error, `used` is 0.
+/// if an allocation fails, or `FAILED` if parsing ran out of memory in an earlier call and `bytes`
+/// is not empty. On `OUT_OF_MEMORY`, `used` is the number of bytes before the byte that required
+/// the allocation. On any other error, `used` is 0.
 #[unsafe(no_mangle)]
 pub extern "C" fn vt100_process_until(
     alloc: Global,
@@ -70,8 +71,8 @@ pub extern "C" fn vt100_process_until(
     status
 }
 
-/// Parses bytes with a parser or a mirror. Returns `WRONG_KIND` if the source
-/// is neither.
+/// Parses bytes with a parser or a mirror, and returns the status code, which is `WRONG_KIND` if
+/// the source is neither.
 fn process(source: &mut Source, bytes: &[u8]) -> u8
     ensures { Reads bytes.now source.old result source.new }
 {
@@ -90,7 +91,7 @@ fn read(parser: &mut Parser<Events>, bytes: &[u8]) -> u8
     answered(parser.process(bytes))
 }
 
-/// Parses bytes with a mirror, and returns the status code.
+/// Passes bytes to a mirror, and returns the status code.
 fn read_mirror(mirror: &mut Mirror, bytes: &[u8]) -> u8
     ensures { ReadsMirror mirror.old bytes.now result mirror.new }
 {
@@ -118,7 +119,7 @@ pub struct Mark {
     pub(crate) len: usize,
     /// The number of reported rows.
     pub(crate) rows: usize,
-    /// The number of bytes that can still be added to the log.
+    /// The number of bytes left until the log reaches its limit.
     pub(crate) room: usize,
     /// Whether no record has been lost.
     pub(crate) is_whole: bool,

@@ -43,8 +43,8 @@ pub(crate) fn is_bare(wanted: u16) -> bool
     is_wanted(wanted, 13)
 }
 
-/// Returns the number of bytes that the cells of a row take in its copy, which omits the default
-/// blanks at the end.
+/// Returns the number of bytes that the cells of a row take in the log's copy of the row, which
+/// omits the default blanks at the end.
 pub(crate) fn cells_size(row: &RowContents<'_>) -> usize
     ensures { result ≡ min (length (trimmed_row row.now).cells * 40) (2 ^ 64 - 1) }
 {
@@ -262,7 +262,8 @@ fn put(records: &mut Vec<u8>, bytes: &[u8])
     let _ = records.extend_from_slice(bytes);
 }
 
-/// Returns the concatenation of `texts`, each preceded by its length.
+/// Returns the concatenation of `texts`, each preceded by its length in bytes as an eight-byte
+/// little-endian number.
 ///
 /// # Errors
 ///
@@ -278,8 +279,9 @@ fn parts(alloc: Global, texts: &[&[u8]]) -> Result<Vec<u8>, AllocError>
     Ok(joined)
 }
 
-/// Returns the code of the character `code`, followed by `groups`, each preceded by its length. All
-/// numbers are little-endian.
+/// Returns the code point of the character `code` in four bytes, followed by the groups. Each group
+/// consists of its length, as an eight-byte number, and its numbers in two bytes each. All numbers
+/// are little-endian.
 ///
 /// # Errors
 ///
@@ -296,7 +298,8 @@ fn code_and_groups(alloc: Global, code: char, groups: &[&[u16]]) -> Result<Vec<u
     Ok(joined)
 }
 
-/// Appends the length of a group to `joined`, followed by the numbers of the group.
+/// Appends a group to `joined`: its length, as an eight-byte number, and then its numbers in two
+/// bytes each. All numbers are little-endian.
 ///
 /// # Errors
 ///

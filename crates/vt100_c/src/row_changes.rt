@@ -16,13 +16,12 @@ use crate::status::{BAD_ARGUMENT, NO_OBJECT, OTHER_SIZE, WRONG_KIND};
 use std::alloc::Global;
 use vt100::Screen;
 
-/// Generates the escape sequences that turn each displayed row of `prev` into
-/// the corresponding row of `handle`'s screen, in `width` columns starting at
-/// `start` ([`Screen::rows_diff`]). Stores their concatenation in `handle`, its
-/// length in `len`, and in `ends` the index at which the output for each row
-/// ends.
+/// Generates the escape sequences that turn each displayed row of `prev` into the corresponding row
+/// of `handle`'s screen, in `width` columns starting at `start` ([`Screen::rows_diff`]). Stores
+/// their concatenation in `handle`, its length in `len`, and the end index of each row's output in
+/// `ends`.
 ///
-/// `ends` must have an element for each row. Further elements are unchanged.
+/// `ends` must have an element for each row. Any further elements are unchanged.
 ///
 /// # Errors
 ///
@@ -60,7 +59,8 @@ pub extern "C" fn vt100_rows_diff(
 /// output for each row ends.
 ///
 /// While output is being stored in an object, its handle is empty. So if `prev` is empty, the
-/// caller passed the same handle twice, and the function returns `BAD_ARGUMENT`.
+/// caller passed the same handle twice, and the function returns `BAD_ARGUMENT`. Otherwise, it
+/// returns the same errors as [`changed_in`].
 fn beside(
     alloc: Global,
     source: &Source,
@@ -85,7 +85,8 @@ fn beside(
 
 /// Returns the output that turns the rows of `prev` into the rows of `source`, in the columns of
 /// `range` (the first column and the number of columns). Stores in `ends` the index at which the
-/// output for each row ends. Returns `WRONG_KIND` if either source has no screen.
+/// output for each row ends. Returns `WRONG_KIND` if either source has no screen, or one of the
+/// errors of [`changed_of`].
 fn changed_in(
     alloc: Global,
     source: &Source,
@@ -109,8 +110,9 @@ fn changed_in(
 
 /// Returns the output that turns the rows of `prev` into the rows of `screen`, in the columns of
 /// `range` (the first column and the number of columns). Stores in `ends` the index at which the
-/// output for each row ends. Returns `OTHER_SIZE` if the two screens differ in size, and
-/// `BAD_ARGUMENT` if `ends` is too short or the range does not begin at a column of the screen.
+/// output for each row ends. Returns `OTHER_SIZE` if the two screens differ in size, `BAD_ARGUMENT`
+/// if `ends` is too short or the range does not begin at a column of the screen, or `OUT_OF_MEMORY`
+/// if an allocation fails.
 fn changed_of(
     alloc: Global,
     screen: &Screen,

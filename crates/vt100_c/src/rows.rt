@@ -17,12 +17,11 @@ use crate::status::{BAD_ARGUMENT, NO_OBJECT, OUT_OF_MEMORY, WRONG_KIND};
 use std::alloc::Global;
 use vt100::Screen;
 
-/// Generates the plain text of each displayed row, in `width` columns starting
-/// at `start` ([`Screen::rows`]). Stores the concatenated text in the handle,
-/// its length in `len`, and in `ends` the index at which the text of each row
-/// ends.
+/// Generates the plain text of each displayed row, in `width` columns starting at `start`
+/// ([`Screen::rows`]). Stores the concatenated text in the handle, its length in `len`, and the end
+/// index of each row's text in `ends`.
 ///
-/// `ends` must have an element for each row. Further elements are unchanged.
+/// `ends` must have an element for each row. Any further elements are unchanged.
 ///
 /// # Errors
 ///
@@ -53,12 +52,11 @@ pub extern "C" fn vt100_rows(
     status
 }
 
-/// Generates the escape sequences that draw each displayed row on a blank row,
-/// in `width` columns starting at `start` ([`Screen::rows_formatted`]). Stores
-/// their concatenation in the handle, its length in `len`, and in `ends` the
-/// index at which the output for each row ends.
+/// Generates the escape sequences that draw each displayed row on a blank row, in `width` columns
+/// starting at `start` ([`Screen::rows_formatted`]). Stores their concatenation in the handle, its
+/// length in `len`, and the end index of each row's output in `ends`.
 ///
-/// `ends` must have an element for each row. Further elements are unchanged.
+/// `ends` must have an element for each row. Any further elements are unchanged.
 ///
 /// # Errors
 ///
@@ -91,7 +89,8 @@ pub extern "C" fn vt100_rows_formatted(
 
 /// Returns the concatenated plain text of the displayed rows of a source, in `width` columns
 /// starting at `start`. Stores in `ends` the index at which the text of each row ends. Returns
-/// `WRONG_KIND` if the source has no screen.
+/// `WRONG_KIND` if the source has no screen, `BAD_ARGUMENT` if `ends` is too short, or
+/// `OUT_OF_MEMORY` if an allocation fails.
 fn plain_in(
     alloc: Global,
     source: &Source,
@@ -112,7 +111,7 @@ fn plain_in(
 
 /// Returns the concatenated plain text of the displayed rows of a screen, in `width` columns
 /// starting at `start`. Stores in `ends` the index at which the text of each row ends. Returns
-/// `BAD_ARGUMENT` if `ends` is too short.
+/// `BAD_ARGUMENT` if `ends` is too short, or `OUT_OF_MEMORY` if an allocation fails.
 fn plain_of(
     alloc: Global,
     screen: &Screen,
@@ -135,7 +134,8 @@ fn plain_of(
 
 /// Returns the output that draws the displayed rows of a source on blank rows, in `width` columns
 /// starting at `start`. Stores in `ends` the index at which the output for each row ends. Returns
-/// `WRONG_KIND` if the source has no screen.
+/// `WRONG_KIND` if the source has no screen, `BAD_ARGUMENT` if `ends` is too short or `start` is
+/// not a column of the screen, or `OUT_OF_MEMORY` if an allocation fails.
 fn formatted_in(
     alloc: Global,
     source: &Source,
@@ -156,7 +156,8 @@ fn formatted_in(
 
 /// Returns the output that draws the displayed rows of a screen on blank rows, in `width` columns
 /// starting at `start`. Stores in `ends` the index at which the output for each row ends. Returns
-/// `BAD_ARGUMENT` if `ends` is too short or `start` is not a column of the screen.
+/// `BAD_ARGUMENT` if `ends` is too short or `start` is not a column of the screen, or
+/// `OUT_OF_MEMORY` if an allocation fails.
 fn formatted_of(
     alloc: Global,
     screen: &Screen,
@@ -197,9 +198,9 @@ pub(crate) fn has_range(screen: &Screen, start: u16, ends: &[usize]) -> bool
     start < cols.get() && has_places(screen, ends)
 }
 
-/// Returns a vector with an element for each row of a screen. The ends of the
-/// rows are first stored in this vector, so that the caller's array is
-/// unchanged if an allocation fails at a later row.
+/// Returns a vector with an element for each row of a screen. The end index of each row's text is
+/// first stored in this vector, so that the caller's array is unchanged if an allocation fails for
+/// a later row.
 ///
 /// # Errors
 ///
@@ -216,8 +217,8 @@ pub(crate) fn places_for(alloc: Global, screen: &Screen) -> Result<Vec<usize>, u
     }
 }
 
-/// Copies the ends of all rows from `places` to `ends`, the array of the C
-/// caller. Further elements of `ends` are unchanged.
+/// Copies the end index of each row from `places` to `ends`, the C caller's array. Any further
+/// elements of `ends` are unchanged.
 pub(crate) fn write_ends(places: &[usize], ends: &mut [usize])
     requires { length places.now ≤ length ends.old }
     ensures ends { take (length places.now) ends.new ≡ places.now }

@@ -61,8 +61,9 @@ pub extern "C" fn vt100_screen_set_size(
     status
 }
 
-/// Scrolls the display of a parser or a saved screen back by `rows` rows, clamped to the number of
-/// scrollback rows.
+/// Sets the scrollback offset of a parser or a saved screen, which is the number of rows by which
+/// the display is scrolled back. `rows` is clamped to the number of rows in scrollback. Does
+/// nothing while the alternate page is active.
 ///
 /// # Errors
 ///
@@ -81,8 +82,8 @@ pub extern "C" fn vt100_set_scrollback(alloc: Global, handle: &mut Handle, rows:
     status
 }
 
-/// Erases the scrollback of a parser or a saved screen without recording
-/// events.
+/// Erases the scrollback of a parser or a saved screen without recording events, and displays only
+/// the page. Does nothing while the alternate page is active.
 ///
 /// # Errors
 ///
@@ -101,8 +102,8 @@ pub extern "C" fn vt100_clear_scrollback(alloc: Global, handle: &mut Handle) -> 
     status
 }
 
-/// Resizes the screen of a source. Returns `BAD_ARGUMENT` if `rows` or `cols`
-/// is 0.
+/// Resizes the screen of a source. Returns `BAD_ARGUMENT` if `rows` or `cols` is 0, `WRONG_KIND` if
+/// the source is a capture, or `OUT_OF_MEMORY` if an allocation fails.
 fn set_size(source: &mut Source, rows: u16, cols: u16) -> u8
     ensures { SetsSize rows cols source.old result source.new }
 {
@@ -112,8 +113,8 @@ fn set_size(source: &mut Source, rows: u16, cols: u16) -> u8
     resize(source, some_rows, some_cols)
 }
 
-/// Resizes the screen of a source. Returns `WRONG_KIND` if the source is a
-/// capture.
+/// Resizes the screen of a source. Returns `WRONG_KIND` if the source is a capture, or
+/// `OUT_OF_MEMORY` if an allocation fails.
 fn resize(source: &mut Source, rows: NonZeroU16, cols: NonZeroU16) -> u8
     ensures { ResizesSource rows.value cols.value source.old result source.new }
 {
@@ -152,8 +153,9 @@ fn resize_mirror(mirror: &mut Mirror, rows: NonZeroU16, cols: NonZeroU16) -> u8
     answered(mirror.set_size(rows, cols))
 }
 
-/// Resizes the screen of a source without recording events. Returns
-/// `BAD_ARGUMENT` if `rows` or `cols` is 0.
+/// Resizes the screen of a source without recording events. Returns `BAD_ARGUMENT` if `rows` or
+/// `cols` is 0, `WRONG_KIND` if the source is neither a parser nor a saved screen, or
+/// `OUT_OF_MEMORY` if an allocation fails.
 fn set_screen_size(source: &mut Source, rows: u16, cols: u16) -> u8
     ensures { SetsScreenSize rows cols source.old result source.new }
 {
@@ -163,8 +165,8 @@ fn set_screen_size(source: &mut Source, rows: u16, cols: u16) -> u8
     resize_own(source, some_rows, some_cols)
 }
 
-/// Resizes the screen of a source without recording events. Returns
-/// `WRONG_KIND` if the source is neither a parser nor a saved screen.
+/// Resizes the screen of a source without recording events. Returns `WRONG_KIND` if the source is
+/// neither a parser nor a saved screen, or `OUT_OF_MEMORY` if an allocation fails.
 fn resize_own(source: &mut Source, rows: NonZeroU16, cols: NonZeroU16) -> u8
     ensures { OnScreen (ResizesScreen rows.value cols.value) source.old result source.new }
 {
@@ -176,8 +178,9 @@ fn resize_own(source: &mut Source, rows: NonZeroU16, cols: NonZeroU16) -> u8
     }
 }
 
-/// Scrolls the display of a source back by `rows` rows. Returns `WRONG_KIND` if
-/// the source is neither a parser nor a saved screen.
+/// Sets the scrollback offset of a source's screen to `rows`, clamped to the number of rows in
+/// scrollback. Returns `WRONG_KIND` if the source is neither a parser nor a saved screen, or
+/// `OUT_OF_MEMORY` if an allocation fails.
 fn set_scrollback(source: &mut Source, rows: usize) -> u8
     ensures { OnScreen (ScrollsBack rows) source.old result source.new }
 {
@@ -189,7 +192,8 @@ fn set_scrollback(source: &mut Source, rows: usize) -> u8
     }
 }
 
-/// Scrolls the display of a screen back by `rows` rows, and returns the status code.
+/// Sets the scrollback offset of a screen to `rows`, clamped to the number of rows in scrollback.
+/// Returns `OK`, or `OUT_OF_MEMORY` if an allocation fails.
 fn scroll_back(screen: &mut Screen, rows: usize) -> u8
     ensures { ScrollsBack rows screen.old result screen.new }
 {

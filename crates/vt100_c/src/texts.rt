@@ -1,7 +1,7 @@
 //! The text of a screen, and the output that reproduces it.
 
 ghost use Rattle.std.specs.Prelude.{Some};
-ghost use Rattle.vt100_c.specs.Due.{IsAnswer, any_screen, due_at, due_on, has_start};
+ghost use Rattle.vt100_c.specs.Due.{IsAnswer, any_screen, due_at, due_on, start_status};
 ghost use Rattle.vt100_c.specs.KeptText.{KeepsText};
 ghost use Rattle.vt100_c.specs.Sources.{screen_in};
 ghost use Rattle.vt100_c.specs.Texts.{MakesText, due_for};
@@ -32,13 +32,15 @@ pub extern "C" fn vt100_contents(alloc: Global, handle: &mut Handle, len: &mut u
 }
 
 /// Generates the text between two positions, without attributes
-/// ([`vt100::Screen::contents_between`]). Stores it in the handle and its length in `len`.
+/// ([`vt100::Screen::contents_between`]). Rows and columns are counted from 0. Stores the text in
+/// the handle and its length in `len`.
 ///
 /// # Errors
 ///
 /// Returns `NO_OBJECT` if the handle is empty, `WRONG_KIND` if it holds neither a parser nor a
-/// saved screen, `BAD_ARGUMENT` if a range of several rows begins past the last column, or
-/// `OUT_OF_MEMORY` if the text cannot be allocated. On error, nothing is changed.
+/// saved screen, `BAD_ARGUMENT` if `start_row` is less than `end_row` and `start_col` is greater
+/// than the number of columns, or `OUT_OF_MEMORY` if the text cannot be allocated. On error,
+/// nothing is changed.
 #[unsafe(no_mangle)]
 pub extern "C" fn vt100_contents_between(
     alloc: Global,
@@ -49,7 +51,7 @@ pub extern "C" fn vt100_contents_between(
     end_col: u16,
     len: &mut usize,
 ) -> u8
-    ensures answer { IsAnswer (due_at (has_start start_row start_col end_row) handle.old.held) result }
+    ensures answer { IsAnswer (due_at (start_status start_row start_col end_row) handle.old.held) result }
     ensures text { MakesText (text.Between start_row start_col end_row end_col) handle.old.held result handle.new.held }
     ensures keeps { KeepsText handle.old.held result handle.new.held len.old len.new }
 {
@@ -209,8 +211,8 @@ pub extern "C" fn vt100_input_mode_formatted(
     make(alloc, handle, Text::InputMode, len)
 }
 
-/// Generates the given kind of text or output from the screen in a handle.
-/// Stores it in the handle and its length in `len`.
+/// Generates the given kind of text or output from the screen in a handle. Stores it in the handle
+/// and its length in `len`, and returns the status code.
 fn make(alloc: Global, handle: &mut Handle, text: Text, len: &mut usize) -> u8
     ensures answer { IsAnswer (due_at (due_for text) handle.old.held) result }
     ensures text { MakesText text handle.old.held result handle.new.held }
@@ -225,8 +227,8 @@ fn make(alloc: Global, handle: &mut Handle, text: Text, len: &mut usize) -> u8
     status
 }
 
-/// Generates the given kind of text or output from an object's screen. Stores
-/// it in the object and its length in `len`.
+/// Generates the given kind of text or output from an object's screen. Stores it in the object and
+/// its length in `len`, and returns the status code.
 fn renew(object: &mut Object, text: Text, len: &mut usize) -> u8
     ensures answer { IsAnswer (due_on (due_for text) (screen_in object.old.source)) result }
     ensures text { MakesText text (Some object.old) result (Some object.new) }

@@ -43,10 +43,10 @@ pub(crate) fn current_bit(mirror: &Mirror, viewer: u64) -> u8
     if mirror.is_current(viewer) { 1 } else { 0 }
 }
 
-/// Stores the text of an update in `text` and its length in `len`. For a full
-/// update, stores the size of the screen in `rows` and `cols`. For a diff,
-/// stores 0 in both `rows` and `cols`. Returns `BAD_ARGUMENT` if `answer` is
-/// `None`, and the status code of the error if `answer` is an error.
+/// Stores the text of an update in `text` and its length in `len`, and returns `OK`. For a full
+/// update, stores the size of the screen in `rows` and `cols`. For a diff, stores 0 in both `rows`
+/// and `cols`. If `answer` is `Ok(None)`, stores nothing and returns `BAD_ARGUMENT`. If `answer` is
+/// an error, stores nothing and returns the status code of the error.
 pub(crate) fn hand_over(
     answer: Result<Option<Update>, Error>,
     text: &mut String,

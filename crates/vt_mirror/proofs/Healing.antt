@@ -15,7 +15,7 @@ use Rattle.vt_screen.specs.Run.{CallRelation}
 use Rattle.vt_screen.specs.Screen.{IsScreen, ScreenValue}
 use Rattle.vt_screen.specs.Shown.{IsPlain, IsReader, IsReaderOf, KeepsRest, Redraws, RedrawsFrom, display}
 use Rattle.vt_screen.proofs.NoCallbacks.{reported_events}
-use Rattle.vt_screen.proofs.RepeatedDiffs.{repeated_leaves, repeated_redraws}
+use Rattle.vt_screen.proofs.RepeatedDiffs.{of_may_repeat, repeated_leaves, repeated_redraws}
 use Rattle.vt_screen.proofs.Viewing.{same_shown}
 use Rattle.vt100.specs.Parser.{ParserValue, Ran, stage}
 use Rattle.vt100.specs.Pieces.{IsPlainParser}
@@ -107,15 +107,17 @@ heals_update does Scrolling self (Some prev) (Diff text) p q moves shows is soun
     sound plain (shows prev refl is.from_steady) t
 heals_update does Scrolling self (Some prev) (Full rows cols text) p q moves shows is sound plain t =
     heals_full does self rows cols (string_bytes text) p t.0 q is.1 sound plain t.1 t.2
-heals_update does (Repeating false) self (Some prev) update p q moves shows is sound plain t = absurd (false≢true moves)
-heals_update does (Repeating true) self (Some prev) (Diff text) p q moves shows is sound plain t =
+heals_update does (Repeating false repeat) self (Some prev) update p q moves shows is sound plain t =
+    absurd (false≢true moves)
+heals_update does (Repeating true repeat) self (Some prev) (Diff text) p q moves shows is sound plain t =
     let short = string_bytes text in
     let diff = is.is.diff in
+    let same = (of_may_repeat repeat prev is.plain short is.repeats).same in
     heals_diff does self prev short p q
-    (repeated_leaves is.plain short p.screen (is.repeats.same p.screen sound) (diff.again p.screen plain.screen))
-    diff.size (repeated_redraws prev self is.plain short is.repeats.same diff.redraws)
+    (repeated_leaves is.plain short p.screen (same p.screen sound) (diff.again p.screen plain.screen))
+    diff.size (repeated_redraws prev self is.plain short same diff.redraws)
     sound plain (shows prev refl is.is.from_steady) t
-heals_update does (Repeating true) self (Some prev) (Full rows cols text) p q moves shows is sound plain t =
+heals_update does (Repeating true repeat) self (Some prev) (Full rows cols text) p q moves shows is sound plain t =
     heals_full does self rows cols (string_bytes text) p t.0 q is.1 sound plain t.1 t.2
 
 -- ---- one call

@@ -7,7 +7,7 @@ use Rattle.std.specs.List.{AllByRecursion}
 use Rattle.vt_cells.specs.Op.{bytes_of_all}
 use Rattle.vt_redraw.specs.Redraw.{difference, redraw}
 use Rattle.vt_scan.specs.Automaton.{start}
-use Rattle.vt_screen.specs.Chain.{chain_text, last_screen, texts_behind}
+use Rattle.vt_screen.specs.Chain.{chain_text, last_screen, texts_after}
 use Rattle.vt_screen.specs.MadeOf.{IsMadeOf, drawing_controls, drawing_finals}
 use Rattle.vt_screen.specs.Screen.{IsColored, ScreenValue}
 use Rattle.vt_screen.specs.Shown.{display, display_change, shown_text}
@@ -89,13 +89,13 @@ last_of_more first [] screen = refl
 last_of_more first (x ∷ xs) screen = last_of_more x xs screen
 
 behind_more : (prev : ScreenValue) (nexts : List ScreenValue) (screen : ScreenValue) →
-    texts_behind prev (nexts ++ (screen ∷ []))
-    ≡ texts_behind prev nexts ++ bytes_of_all (difference (display screen) (display (last_screen prev nexts)))
+    texts_after prev (nexts ++ (screen ∷ []))
+    ≡ texts_after prev nexts ++ bytes_of_all (difference (display screen) (display (last_screen prev nexts)))
 behind_more prev [] screen = append-nil (bytes_of_all (difference (display screen) (display prev)))
 behind_more prev (x ∷ xs) screen =
     let one = bytes_of_all (difference (display x) (display prev)) in
     ap (λ (text : List ℕ). one ++ text) (behind_more x xs screen)
-    ∙ sym (append_assoc one (texts_behind x xs)
+    ∙ sym (append_assoc one (texts_after x xs)
     (bytes_of_all (difference (display screen) (display (last_screen x xs)))))
 
 pub text_of_more : (first : ScreenValue) (nexts : List ScreenValue) (screen : ScreenValue) →
@@ -104,7 +104,7 @@ pub text_of_more : (first : ScreenValue) (nexts : List ScreenValue) (screen : Sc
 text_of_more first nexts screen =
     let one = bytes_of_all (redraw (display first)) in
     ap (λ (text : List ℕ). one ++ text) (behind_more first nexts screen)
-    ∙ sym (append_assoc one (texts_behind first nexts)
+    ∙ sym (append_assoc one (texts_after first nexts)
     (bytes_of_all (difference (display screen) (display (last_screen first nexts)))))
 
 pub all_of_more : (P : ScreenValue → Type 0) (screens : List ScreenValue) (screen : ScreenValue) →
@@ -115,15 +115,15 @@ all_of_more P (x ∷ xs) screen all one = (all.0, all_of_more P xs screen all.1 
 -- ---- what the texts contain
 
 changes_made : (first prev : ScreenValue) (nexts : List ScreenValue) → IsColored prev →
-    AllByRecursion (IsUpdatedAfter first) nexts → IsMadeOf drawing_finals drawing_controls (texts_behind prev nexts)
+    AllByRecursion (IsUpdatedAfter first) nexts → IsMadeOf drawing_finals drawing_controls (texts_after prev nexts)
 changes_made first prev [] colored all = made_nothing drawing_finals drawing_controls
 changes_made first prev (x ∷ xs) colored all =
-    made_append drawing_finals drawing_controls (display_change prev x) (texts_behind x xs)
+    made_append drawing_finals drawing_controls (display_change prev x) (texts_after x xs)
     (difference_made x prev all.0.sound all.0.colored colored) (changes_made first x xs all.0.colored all.1)
 
 pub chain_made : (first : ScreenValue) (nexts : List ScreenValue) →
     AllByRecursion (IsUpdatedAfter first) (first ∷ nexts) →
     IsMadeOf drawing_finals drawing_controls (chain_text first nexts)
 chain_made first nexts all =
-    made_append drawing_finals drawing_controls (shown_text first) (texts_behind first nexts)
+    made_append drawing_finals drawing_controls (shown_text first) (texts_after first nexts)
     (redraw_made first all.0.sound all.0.colored) (changes_made first first nexts all.0.colored all.1)

@@ -1,5 +1,5 @@
 -- An update is the diff from the screen recorded for a viewer.
-use Rattle.std.proofs.Common.{◌≡◌, ◌≤◌, ◌-◌, ℕ, Bool, true, false, List, [], length, Some, None, Option, Result, Ok, Err, ap, sym, subst, ◌∙◌}
+use Rattle.std.proofs.Common.{◌≡◌, ◌≤◌, ◌-◌, ℕ, Bool, true, false, List, [], length, Some, None, Option, Result, Ok, Err, ap, ap₂, sym, subst, ◌∙◌}
 use Rattle.std.specs.Prelude.{IfOk, String, string_bytes}
 use Rattle.std.specs.Global.{Global}
 use Rattle.vt_cells.specs.declared.error.Error.{Error}
@@ -7,17 +7,21 @@ use Rattle.vt_grid.specs.Page.{SameSize}
 use Rattle.vt_redraw.specs.Locality.{IsLocal}
 use Rattle.vt_redraw.specs.Steady.{IsSteady}
 use Rattle.vt_screen.specs.Again.{KeepsPlain}
+use Rattle.vt_screen.specs.Diffs.{MayRepeat}
 use Rattle.vt_screen.specs.MadeOf.{IsMadeOf, drawing_controls, drawing_finals, shortened_controls, shortened_finals}
 use Rattle.vt_screen.specs.Screen.{ScreenValue}
 use Rattle.vt_screen.specs.ShortMoves.{IsShortMoving}
 use Rattle.vt_screen.specs.Shown.{IsReaderOf, RedrawsFrom, display, display_change}
 use Rattle.vt_screen.specs.Touched.{TouchesOnly}
 use Rattle.vt_mirror.specs.Alike.{ShowsAlike}
-use Rattle.vt_mirror.specs.Calls.{IsDrawn, IsFullUpdate, IsOfKind, IsUpdate, Kind, Repeating, RepeatsFrom, Scrolling, Scrolls}
-use Rattle.vt_mirror.specs.Calls.{kind_without_repeats}
+use Rattle.vt_mirror.specs.Calls.{IsDrawn, IsFullAfter, IsFullUpdate, IsOfKind, IsUpdate, Kind, Scrolling, Scrolls}
+use Rattle.vt_mirror.specs.Calls.{kind_repeating, kind_without_repeats}
 use Rattle.vt_mirror.specs.Internals.{RepeatsUpdate}
 use Rattle.vt_redraw.specs.Picture.{Picture}
 use Rattle.vt_screen.specs.Repeating.{Repeats}
+use Rattle.vt_screen.specs.declared.repeat.Repeat.{Repeat}
+use Rattle.vt_screen.specs.declared.repeat.Repeat.TheVariants.{Never, Ascii, Any}
+use Rattle.vt_screen.proofs.RepeatedDiffs.{to_may_repeat}
 use Rattle.vt_mirror.specs.Mirror.{MirrorValue}
 use Rattle.vt_mirror.specs.Viewers.{note_of}
 use Rattle.vt_mirror.specs.declared.update.Update.{Update}
@@ -105,25 +109,61 @@ full_update inside mirror viewer noted (Err error) same e unsteady is = tt
 
 -- ---- updates with REP
 
-pub repeats_update : (scroll : Bool) (self : ScreenValue) (noted : Option ScreenValue) (plain new : Update)
-    → IsUpdate (kind_without_repeats scroll) self noted plain → RepeatsUpdate noted plain new
-    → IsUpdate (Repeating scroll) self noted new
-repeats_update true self None plain new is repeats = subst (IsFullUpdate self) (sym repeats) is
-repeats_update false self None plain new is repeats = subst (IsFullUpdate self) (sym repeats) is
-repeats_update true self (Some prev) (Full rows cols text) new is repeats =
-    subst (IsUpdate (Repeating true) self (Some prev)) (sym repeats) is
-repeats_update false self (Some prev) (Full rows cols text) new is repeats = absurd is
-repeats_update true self (Some prev) (Diff text) (Full rows cols short) is repeats = absurd repeats
-repeats_update false self (Some prev) (Diff text) (Full rows cols short) is repeats = absurd repeats
-repeats_update true self (Some prev) (Diff text) (Diff short) is repeats =
-    record { plain = string_bytes text; is = is; repeats = repeats }
-repeats_update false self (Some prev) (Diff text) (Diff short) is repeats =
-    record { plain = string_bytes text; is = is; repeats = repeats }
+-- A diff of the kind that the options ask for, made from a diff without REP.
+repeats_diff : (repeat : Repeat) (scroll : Bool) (self prev : ScreenValue) (plain text : List ℕ) →
+    IsOfKind (kind_without_repeats scroll) self prev plain → MayRepeat repeat prev plain text →
+    IsOfKind (kind_repeating scroll repeat) self prev text
+repeats_diff Never scroll self prev plain text is may = subst (IsOfKind (kind_without_repeats scroll) self prev) (sym may) is
+repeats_diff Ascii true self prev plain text is may = record { plain = plain; is = is; repeats = may }
+repeats_diff Ascii false self prev plain text is may = record { plain = plain; is = is; repeats = may }
+repeats_diff Any true self prev plain text is may = record { plain = plain; is = is; repeats = may }
+repeats_diff Any false self prev plain text is may = record { plain = plain; is = is; repeats = may }
+
+repeats_full : (repeat : Repeat) (scroll : Bool) (self prev : ScreenValue) (rows cols : ℕ) (text : List ℕ) →
+    IsFullAfter (kind_without_repeats scroll) self prev rows cols text →
+    IsFullAfter (kind_repeating scroll repeat) self prev rows cols text
+repeats_full Never scroll self prev rows cols text is = is
+repeats_full Ascii true self prev rows cols text is = is
+repeats_full Ascii false self prev rows cols text is = is
+repeats_full Any true self prev rows cols text is = is
+repeats_full Any false self prev rows cols text is = is
+
+pub repeats_update : (repeat : Repeat) (scroll : Bool) (self : ScreenValue) (noted : Option ScreenValue) (plain new : Update)
+    → IsUpdate (kind_without_repeats scroll) self noted plain → RepeatsUpdate repeat noted plain new
+    → IsUpdate (kind_repeating scroll repeat) self noted new
+repeats_update repeat scroll self None plain new is repeats = subst (IsFullUpdate self) (sym repeats) is
+repeats_update repeat scroll self (Some prev) (Full rows cols text) new is repeats =
+    subst (IsUpdate (kind_repeating scroll repeat) self (Some prev)) (sym repeats)
+    (repeats_full repeat scroll self prev rows cols (string_bytes text) is)
+repeats_update repeat scroll self (Some prev) (Diff text) (Full rows cols short) is repeats = absurd repeats
+repeats_update repeat scroll self (Some prev) (Diff text) (Diff short) is repeats =
+    repeats_diff repeat scroll self prev (string_bytes text) (string_bytes short) is repeats
+
+-- An update of a mirror that was unchanged when the runs were written.
+pub repeats_after : (repeat : Repeat) (scroll : Bool) (old between : MirrorValue) (viewer : ℕ) (plain new : Update)
+    → between ≡ old → IsUpdate (kind_without_repeats scroll) old.parser.screen (note_of old.viewers viewer) plain
+    → RepeatsUpdate repeat (note_of between.viewers viewer) plain new
+    → IsUpdate (kind_repeating scroll repeat) old.parser.screen (note_of old.viewers viewer) new
+repeats_after repeat scroll old between viewer plain new same is repeats =
+    repeats_update repeat scroll old.parser.screen (note_of old.viewers viewer) plain new is
+    (subst (λ (m : MirrorValue). RepeatsUpdate repeat (note_of m.viewers viewer) plain new) same repeats)
 
 -- The runs of a diff are written for a terminal that displays the recorded screen.
-pub repeats_from : (noted copy : ScreenValue) (width column : ℕ) (plain text : List ℕ) → ShowsAlike noted copy →
-    width ≡ copy.page.width → column ≡ copy.page.column → Repeats width (width - column) plain text →
-    RepeatsFrom noted plain text
-repeats_from noted copy width column plain text alike w c repeats =
-    subst (λ (k : ℕ). Repeats k (k - noted.page.column) plain text) (w ∙ ap (λ (p : Picture). p.width) alike.shown)
-    (subst (λ (k : ℕ). Repeats width (width - k) plain text) (c ∙ ap (λ (p : Picture). p.column) alike.shown) repeats)
+pub repeats_from : (repeat : Repeat) (noted copy : ScreenValue) (width room : ℕ) (plain text : List ℕ)
+    → ShowsAlike noted copy → width ≡ copy.page.width → room ≡ copy.page.width - copy.page.column
+    → Repeats repeat width room plain text → MayRepeat repeat noted plain text
+repeats_from repeat noted copy width room plain text alike w r repeats =
+    let wide = ap (λ (p : Picture). p.width) alike.shown in
+    let column = ap (λ (p : Picture). p.column) alike.shown in
+    to_may_repeat repeat noted plain text
+    (subst (λ (k : ℕ). Repeats repeat k (noted.page.width - noted.page.column) plain text) (w ∙ wide)
+    (subst (λ (k : ℕ). Repeats repeat width k plain text) (r ∙ ap₂ (λ (k n : ℕ). k - n) wide column) repeats))
+
+pub repeats_noted : (repeat : Repeat) (inside mirror : MirrorValue) (viewer : ℕ) (noted : ScreenValue) (plain : Update)
+    (text short : String Global) → inside ≡ mirror → note_of inside.viewers viewer ≡ Some noted → plain ≡ Diff text
+    → MayRepeat repeat noted (string_bytes text) (string_bytes short)
+    → RepeatsUpdate repeat (note_of mirror.viewers viewer) plain (Diff short)
+repeats_noted repeat inside mirror viewer noted plain text short same e is may =
+    subst (λ (m : MirrorValue). RepeatsUpdate repeat (note_of m.viewers viewer) plain (Diff short)) same
+    (subst (λ (o : Option ScreenValue). RepeatsUpdate repeat o plain (Diff short)) (sym e)
+    (subst (λ (u : Update). RepeatsUpdate repeat (Some noted) u (Diff short)) (sym is) may))

@@ -27,7 +27,7 @@ use Rattle.vt_mirror.specs.Calls.{Drawn, IsUpdate, MirrorProcesses, GivesUpdate}
 use Rattle.vt_mirror.specs.Internals.{InStretch, IsBegun, IsWritten, ReadsAtMost, ReadsBytes, ReadsFewer, ReadsStretch}
 use Rattle.vt_mirror.specs.Internals.{WritesUpdate, WritesUpdatePart, text_of_update}
 use Rattle.vt_mirror.specs.Mirror.{MirrorValue}
-use Rattle.vt_mirror.specs.Runs.{FailsAtFirst, FailsLater, IsUpdatedAfter, WritesBehind, WritesOnWay, WritesToEnd}
+use Rattle.vt_mirror.specs.Runs.{FailsAtFirst, FailsLater, IsUpdatedAfter, WritesAfter, WritesOnWay, WritesToEnd}
 use Rattle.vt_mirror.specs.Runs.{screens_on_way, screens_to_end, text_on_way}
 use Rattle.vt_mirror.specs.Viewers.{ViewersValue, is_viewer, note_of}
 use Rattle.vt_mirror.specs.declared.update.Update.{Update}
@@ -323,7 +323,7 @@ stops_reading every viewer old mid left at rest written grown w r = record {
 -- The state of a run that stops because an allocation failed while bytes were read.
 pub stops_refused : (every viewer : ℕ) (old mid : MirrorValue) (left at rest written grown more : Option (List ℕ)) →
     IsWritten every viewer old mid left at written grown → ReadsAtMost every at rest → Keeps grown more →
-    WritesBehind old.parser.screen every left rest written more
+    WritesAfter old.parser.screen every left rest written more
 stops_refused every viewer old mid left at rest written grown more w r keeps = record {
   input = w.input;
   last = r.bytes;

@@ -9,17 +9,19 @@ use Rattle.vt_redraw.specs.Steady.{IsSteady}
 use Rattle.vt_scan.specs.Automaton.{start}
 use Rattle.vt_scan.specs.Scanner.{StandsFor}
 use Rattle.vt_grid.specs.Page.{SameSize}
+use Rattle.vt_screen.specs.Diffs.{MayRepeat}
 use Rattle.vt_screen.specs.Pages.{has_size, screen_after_resize}
 use Rattle.vt_screen.specs.Reading.{terminal_after, terminal}
 use Rattle.vt_screen.specs.Screen.{IsScreen, ScreenValue}
 use Rattle.vt_screen.specs.Shown.{IsPlain, IsReader, IsReaderOf, KeepsRest, Redraws, display}
+use Rattle.vt_screen.specs.declared.repeat.Repeat.{Repeat}
 use Rattle.vt_screen.proofs.Viewing.{same_shown}
 use Rattle.vt100.specs.Parser.{ParserValue}
 use Rattle.vt100.specs.Pieces.{HasRead, IsPlainParser}
 use Rattle.vt100.proofs.Pieces.{read_pieces}
 use Rattle.vt_mirror.specs.Calls.{Asks, Drawn, IsDiff, IsFull, IsFullAfter, IsOfKind, IsUpdate, JoinsMirror, Kind}
-use Rattle.vt_mirror.specs.Calls.{Repeating, RepeatsFrom}
-use Rattle.vt_screen.proofs.RepeatedDiffs.{repeated_redraws}
+use Rattle.vt_mirror.specs.Calls.{Repeating}
+use Rattle.vt_screen.proofs.RepeatedDiffs.{of_may_repeat, repeated_redraws}
 use Rattle.vt_mirror.specs.Calls.{Scrolling, Resizes, GivesUpdate}
 use Rattle.vt_mirror.specs.Mirror.{MirrorValue}
 use Rattle.vt_mirror.specs.Viewers.{Puts, ViewersValue, next_number, note_of}
@@ -156,23 +158,24 @@ sound_after (Full rows cols text) p q t = t.2.sound
 of_diff : (self prev : ScreenValue) (text : List ℕ) → IsDiff self prev text → IsShownBy self prev text
 of_diff self prev text diff = record { size = diff.size; redraws = diff.redraws }
 
-of_repeats : (self prev : ScreenValue) (plain text : List ℕ) → IsDiff self prev plain → RepeatsFrom prev plain text →
-    IsShownBy self prev text
-of_repeats self prev plain text diff repeats =
-    record { size = diff.size; redraws = repeated_redraws prev self plain text repeats.same diff.redraws }
+of_repeats : (repeat : Repeat) (self prev : ScreenValue) (plain text : List ℕ) → IsDiff self prev plain →
+    MayRepeat repeat prev plain text → IsShownBy self prev text
+of_repeats repeat self prev plain text diff may =
+    let same = (of_may_repeat repeat prev plain text may).same in
+    record { size = diff.size; redraws = repeated_redraws prev self plain text same diff.redraws }
 
 of_kind : (kind : Kind) (self prev : ScreenValue) (text : List ℕ) → IsOfKind kind self prev text → IsShownBy self prev text
 of_kind Drawn self prev text is = of_diff self prev text is.diff
 of_kind Scrolling self prev text is = of_diff self prev text is.diff
-of_kind (Repeating true) self prev text is = of_repeats self prev is.plain text is.is.diff is.repeats
-of_kind (Repeating false) self prev text is = of_repeats self prev is.plain text is.is.diff is.repeats
+of_kind (Repeating true repeat) self prev text is = of_repeats repeat self prev is.plain text is.is.diff is.repeats
+of_kind (Repeating false repeat) self prev text is = of_repeats repeat self prev is.plain text is.is.diff is.repeats
 
 full_after : (kind : Kind) (self prev : ScreenValue) (rows cols : ℕ) (text : List ℕ) →
     IsFullAfter kind self prev rows cols text → IsFull self rows cols text
 full_after Drawn self prev rows cols text is = absurd is
 full_after Scrolling self prev rows cols text is = is.1
-full_after (Repeating true) self prev rows cols text is = is.1
-full_after (Repeating false) self prev rows cols text is = absurd is
+full_after (Repeating true repeat) self prev rows cols text is = is.1
+full_after (Repeating false repeat) self prev rows cols text is = absurd is
 
 -- A viewer that displays the recorded screen, if there is one, displays the new screen after it reads an update.
 takes_update : {S : Type 0} (kind : Kind) (self : ScreenValue) (noted : Option ScreenValue)

@@ -8,7 +8,7 @@ abbrev pub AsksToMirror : List (List ℕ) → (rows cols every : ℕ) → Type 0
 AsksToMirror (first ∷ second ∷ third ∷ []) rows cols every = IsSize first rows × IsSize second cols × IsSize third every
 AsksToMirror _ rows cols every = ⊥
 
--- The arguments are invalid.
+-- The arguments are invalid: they do not satisfy `AsksToMirror` for any `rows`, `cols` and `every`.
 abbrev pub AskForNothing : List (List ℕ) → Type 0
 AskForNothing words = (rows cols every : ℕ) → AsksToMirror words rows cols every → ⊥
 

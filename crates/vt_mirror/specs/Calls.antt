@@ -1,6 +1,6 @@
--- The effects of the calls to a mirror: their results, and the mirror after them.
+-- The effects of calls to a mirror: the result of each call, and the mirror after it.
 use Rattle.std.specs.Prelude.{◌≡◌, ◌⊎◌, ℕ, ◌-◌, ◌^◌, ◌<◌, ◌≤◌, Bool, true, false, List, [], Option, Some, None, Err, Ok}
-use Rattle.std.specs.Prelude.{length, string_bytes, IfErr, IfOk, if◌then◌else◌}
+use Rattle.std.specs.Prelude.{length, string_bytes, IfErr, IfOk}
 use Rattle.std.specs.declared.result.Result.{Result}
 use Rattle.vt_cells.specs.Op.{bytes_of_all}
 use Rattle.vt_cells.specs.declared.error.Error.{Error}
@@ -9,14 +9,16 @@ use Rattle.vt_grid.specs.Page.{SameSize}
 use Rattle.vt_redraw.specs.Redraw.{difference, redraw}
 use Rattle.vt_redraw.specs.Steady.{IsSteady}
 use Rattle.vt_screen.specs.Again.{KeepsPlain}
+use Rattle.vt_screen.specs.Diffs.{MayRepeat}
 use Rattle.vt_screen.specs.MadeOf.{IsMadeOf, drawing_controls, drawing_finals, shortened_controls, shortened_finals}
 use Rattle.vt_screen.specs.Pages.{has_size, screen_after_resize}
-use Rattle.vt_screen.specs.Repeating.{Repeats}
 use Rattle.vt_screen.specs.Screen.{IsColored, IsScreen, ScreenValue}
 use Rattle.vt_screen.specs.ShortMoves.{IsShortMoving}
 use Rattle.vt_screen.specs.Shown.{IsReader, IsReaderOf, IsSameIfEmpty, KeepsRest, Redraws, display}
 use Rattle.vt_screen.specs.Touched.{TouchesNear}
 use Rattle.vt_screen.specs.declared.diff_options.DiffOptions.{DiffOptions}
+use Rattle.vt_screen.specs.declared.repeat.Repeat.{Repeat}
+use Rattle.vt_screen.specs.declared.repeat.Repeat.TheVariants.{Never}
 use Rattle.vt100.specs.Calls.{ParserProcesses}
 use Rattle.vt100.specs.Parser.{does_nothing}
 use Rattle.vt_mirror.specs.Mirror.{MirrorValue}
@@ -24,8 +26,8 @@ use Rattle.vt_mirror.specs.Viewers.{Puts, PutsAmong, ViewersValue, is_viewer, ne
 use Rattle.vt_mirror.specs.declared.update.Update.{Update}
 use Rattle.vt_mirror.specs.declared.update.Update.TheVariants.{Diff, Full}
 
--- The effect of `process`: the bytes are parsed as by a parser whose callbacks do nothing. The mirror's size and
--- viewers are unchanged.
+-- The effect of `process`: the bytes are parsed as by a parser whose callbacks do nothing. The viewers and the size of
+-- the screen are unchanged, and no viewer is up to date afterward.
 pub record MirrorProcesses (old : MirrorValue) (bytes : List ℕ)
     (answer : Result (Unit {0}) Error) (new : MirrorValue) : Type 0 where
   pub viewers : new.viewers ≡ old.viewers
@@ -33,8 +35,8 @@ pub record MirrorProcesses (old : MirrorValue) (bytes : List ℕ)
   pub parser : ParserProcesses does_nothing old.parser bytes answer new.parser
   pub current : new.current ≡ []
 
--- The effect of `set_size`: the screen is resized, and the recorded screens of all viewers are dropped. A resize to
--- the current size changes nothing and never fails.
+-- The effect of `set_size`: the screen is resized, and the recorded screens of all viewers are dropped. A resize to the
+-- current size changes nothing and never fails. On error, nothing is changed.
 pub record Resizes (old : MirrorValue) (rows cols : ℕ)
     (answer : Result (Unit {0}) Error) (new : MirrorValue) : Type 0 where
   pub same : has_size rows cols old.parser.screen ≡ true → (answer ≡ Ok tt) × (new ≡ old)
@@ -47,7 +49,7 @@ pub record Resizes (old : MirrorValue) (rows cols : ℕ)
       })
   pub refused : IfErr answer (λ error. (error ≡ OutOfMemory) × (new ≡ old))
 
--- The maximum viewer number.
+-- The maximum viewer number and version number, 2^64 - 1.
 abbrev pub greatest : ℕ
 greatest = 2 ^ 64 - 1
 
@@ -91,20 +93,25 @@ pub record IsDiff (self prev : ScreenValue) (text : List ℕ) : Type 0 where
   pub again : KeepsPlain text
 
 -- The kind of a diff: one that moves no rows or columns, one that may move rows or columns, or one of these in which
--- runs may be written with REP.
+-- runs of the given characters may be written with REP (ECMA-48, 8.3.103).
 pub data Kind : Type 0 where
   Drawn : Kind
   Scrolling : Kind
-  Repeating : (scroll : Bool) → Kind
+  Repeating : (scroll : Bool) → (repeat : Repeat) → Kind
 
 -- The kind of a diff without REP, given whether the diff may move rows or columns.
 abbrev pub kind_without_repeats : (scroll : Bool) → Kind
 kind_without_repeats true = Scrolling
 kind_without_repeats false = Drawn
 
+-- The kind of a diff, given whether the diff may move rows or columns and which characters REP may repeat.
+abbrev pub kind_repeating : (scroll : Bool) → Repeat → Kind
+kind_repeating scroll Never = kind_without_repeats scroll
+kind_repeating scroll repeat = Repeating scroll repeat
+
 -- The kind of diff that the options ask for.
 abbrev pub kind_with : DiffOptions → Kind
-kind_with options = if options.repeat then Repeating options.scroll else kind_without_repeats options.scroll
+kind_with options = kind_repeating options.scroll options.repeat
 
 -- The text is a diff that moves no rows or columns. If the screen `self` is steady, the diff touches only positions
 -- near rows that differ, as `IsLocal` defines.
@@ -128,21 +135,17 @@ abbrev pub IsWithoutRepeats : (scroll : Bool) → (self prev : ScreenValue) → 
 IsWithoutRepeats true self prev text = Scrolls self prev text
 IsWithoutRepeats false self prev text = IsDrawn self prev text
 
--- The output `text` equals `plain`, except that runs of a repeated character may be written with REP. Both outputs are
--- meant for a terminal that displays the screen `prev`.
-abbrev pub RepeatsFrom : (prev : ScreenValue) → (plain text : List ℕ) → Type 0
-RepeatsFrom prev plain text = Repeats prev.page.width (prev.page.width - prev.page.column) plain text
-
--- The text is a diff in which runs may be written with REP.
-pub record RepeatsRuns (scroll : Bool) (self prev : ScreenValue) (text : List ℕ) : Type 0 where
+-- The text equals a diff without REP, which may move rows or columns if `scroll` is true, except that runs of the
+-- characters that `repeat` allows may be written with REP.
+pub record RepeatsRuns (scroll : Bool) (repeat : Repeat) (self prev : ScreenValue) (text : List ℕ) : Type 0 where
   pub plain : List ℕ
   pub is : IsWithoutRepeats scroll self prev plain
-  pub repeats : RepeatsFrom prev plain text
+  pub repeats : MayRepeat repeat prev plain text
 
 abbrev pub IsOfKind : Kind → (self prev : ScreenValue) → (text : List ℕ) → Type 0
 IsOfKind Drawn self prev text = IsDrawn self prev text
 IsOfKind Scrolling self prev text = Scrolls self prev text
-IsOfKind (Repeating scroll) self prev text = RepeatsRuns scroll self prev text
+IsOfKind (Repeating scroll repeat) self prev text = RepeatsRuns scroll repeat self prev text
 
 abbrev pub IsFullUpdate : (self : ScreenValue) → Update → Type 0
 IsFullUpdate self (Full rows cols text) = IsFull self rows cols (string_bytes text)
@@ -153,8 +156,9 @@ IsFullUpdate self (Diff text) = ⊥
 abbrev pub IsFullAfter : Kind → (self prev : ScreenValue) → (rows cols : ℕ) → (text : List ℕ) → Type 0
 IsFullAfter Drawn self prev rows cols text = ⊥
 IsFullAfter Scrolling self prev rows cols text = (IsSteady (display prev) → ⊥) × IsFull self rows cols text
-IsFullAfter (Repeating true) self prev rows cols text = (IsSteady (display prev) → ⊥) × IsFull self rows cols text
-IsFullAfter (Repeating false) self prev rows cols text = ⊥
+IsFullAfter (Repeating true repeat) self prev rows cols text =
+    (IsSteady (display prev) → ⊥) × IsFull self rows cols text
+IsFullAfter (Repeating false repeat) self prev rows cols text = ⊥
 
 -- The update is a full redraw if no screen is recorded for the viewer. Otherwise, the update is a diff of the given
 -- kind from the recorded screen, or a full redraw as `IsFullAfter` describes.

@@ -17,7 +17,7 @@ use Rattle.vt_mirror.specs.declared.update.Update.TheVariants.{Diff, Full}
 abbrev pub may_move : Kind → Bool
 may_move Drawn = false
 may_move Scrolling = true
-may_move (Repeating scroll) = scroll
+may_move (Repeating scroll repeat) = scroll
 
 -- A terminal reads `text` through a list of calls to `process` that all return `Ok` and whose bytes concatenate to
 -- `text`.

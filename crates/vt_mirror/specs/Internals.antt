@@ -8,8 +8,10 @@ use Rattle.vt_scan.specs.Automaton.{start}
 use Rattle.vt_scan.specs.Scanner.{StandsFor}
 use Rattle.vt_screen.specs.Chain.{last_screen}
 use Rattle.vt100.specs.Parser.{Ran, does_nothing}
-use Rattle.vt_mirror.specs.Calls.{Drawn, GivesUpdate, RepeatsFrom}
+use Rattle.vt_mirror.specs.Calls.{Drawn, GivesUpdate}
+use Rattle.vt_screen.specs.Diffs.{MayRepeat}
 use Rattle.vt_screen.specs.Screen.{ScreenValue}
+use Rattle.vt_screen.specs.declared.repeat.Repeat.{Repeat}
 use Rattle.vt_mirror.specs.Mirror.{MirrorValue}
 use Rattle.vt_mirror.specs.Runs.{IsUpdatedAfter, screens_on_way, text_on_way}
 use Rattle.vt_mirror.specs.Viewers.{is_viewer, note_of}
@@ -22,12 +24,13 @@ abbrev pub text_of_update : Update → List ℕ
 text_of_update (Diff text) = string_bytes text
 text_of_update (Full rows cols text) = string_bytes text
 
--- The update `new` is `plain`, except that runs in a diff from the recorded screen may be written with REP.
-abbrev pub RepeatsUpdate : Option ScreenValue → (plain new : Update) → Type 0
-RepeatsUpdate None plain new = new ≡ plain
-RepeatsUpdate (Some prev) (Full rows cols text) new = new ≡ Full rows cols text
-RepeatsUpdate (Some prev) (Diff text) (Full rows cols short) = ⊥
-RepeatsUpdate (Some prev) (Diff text) (Diff short) = RepeatsFrom prev (string_bytes text) (string_bytes short)
+-- The update `new` equals `plain`, except that runs of the characters that `repeat` allows may be written with REP in a
+-- diff from the recorded screen.
+abbrev pub RepeatsUpdate : (repeat : Repeat) → Option ScreenValue → (plain new : Update) → Type 0
+RepeatsUpdate repeat None plain new = new ≡ plain
+RepeatsUpdate repeat (Some prev) (Full rows cols text) new = new ≡ Full rows cols text
+RepeatsUpdate repeat (Some prev) (Diff text) (Full rows cols short) = ⊥
+RepeatsUpdate repeat (Some prev) (Diff text) (Diff short) = MayRepeat repeat prev (string_bytes text) (string_bytes short)
 
 -- The update is a full redraw or an empty diff.
 abbrev pub HasNoDiff : Update → Type 0

@@ -1,5 +1,5 @@
 -- The copies of screens that a mirror keeps for its viewers, numbered by version and shared between viewers, and the
--- output that it stores.
+-- texts of updates that it stores.
 use Rattle.std.specs.Prelude.{◌≡◌, ◌⊎◌, ℕ, suc, ◌<◌, ◌≤◌, ◌==◌, ◌&&◌, nat_lt, Bool, false, List, filter, map, string_bytes}
 use Rattle.std.specs.Prelude.{Option, Some, None}
 use Rattle.std.specs.BTreeMap.{is_at}
@@ -108,8 +108,8 @@ pub record AreKept (value : ViewersValue) (copies : Copies) (version : ℕ) : Ty
 abbrev pub without_versions : List (ℕ × Note) → List (ℕ × Note)
 without_versions notes = map (λ (e : ℕ × Note). (e.0, record (e.1) { version = 0 })) notes
 
--- There is a next version number: either the number and the recorded copies are unchanged, or numbering starts again
--- from 0 and all recorded copies lose their versions.
+-- A version number after `after` is available: either `after` equals `version` and `renewed` equals `notes`, or `after`
+-- is 0 and `renewed` is `notes` without versions.
 abbrev pub HaveNext : (version : ℕ) (notes : List (ℕ × Note)) (after : ℕ) (renewed : List (ℕ × Note)) → Type 0
 HaveNext version notes after renewed =
     ((after ≡ version) × (renewed ≡ notes) × (version < greatest))

@@ -8,7 +8,7 @@ use Rattle.vt_mirror.specs.Viewers.{ViewersValue, is_among, note_of}
 pub record MirrorValue : Type 0 where
   pub parser : ParserValue (Unit {0})
   pub viewers : ViewersValue
-  -- The numbers of the viewers that received an update since the last input and the last resize.
+  -- The numbers of the viewers that have received an update since the most recent input or resize.
   pub current : List ℕ
 
 -- Whether a viewer received an update since the last input and the last resize.

@@ -68,7 +68,7 @@ pub record WritesOnWay (first : ScreenValue) (every : ℕ) (left rest written gr
 
 -- An allocation failed. All updates were written except the one for the last bytes read, which are at most `every`
 -- bytes. The input was `left` before and is `rest` now; the output was `written` before and is `grown` now.
-pub record WritesBehind (first : ScreenValue) (every : ℕ) (left rest written grown : Option (List ℕ)) : Type 0 where
+pub record WritesAfter (first : ScreenValue) (every : ℕ) (left rest written grown : Option (List ℕ)) : Type 0 where
   pub input : List ℕ
   pub last : List ℕ
   pub few : length last ≤ every
@@ -80,7 +80,7 @@ pub record WritesBehind (first : ScreenValue) (every : ℕ) (left rest written g
 -- before and is `rest` now; the output was `written` before and is `grown` now.
 abbrev pub WritesSome : (first : ScreenValue) (every : ℕ) → (left rest written grown : Option (List ℕ)) → Type 0
 WritesSome first every left rest written grown =
-    (Keeps left rest × Keeps written grown) ⊎ WritesBehind first every left rest written grown
+    (Keeps left rest × Keeps written grown) ⊎ WritesAfter first every left rest written grown
 
 -- Writing the first update failed after a prefix of its text was written; no input had been read. The input was
 -- `left` before and is `rest` now; the output was `written` before and is `grown` now.

@@ -1,4 +1,4 @@
--- The invariant of the copies and the output that a mirror keeps.
+-- The invariant of the copies of screens and the texts of updates that a mirror keeps.
 use Rattle.std.specs.Prelude.{◌≡◌, ℕ, List, IfSome}
 use Rattle.vt_cells.specs.Op.{bytes_of_all}
 use Rattle.vt_redraw.specs.Redraw.{redraw}

@@ -31,7 +31,8 @@ pub record PutsAmong (old : List ℕ) (viewer : ℕ) (is : Bool) (new : List ℕ
 abbrev pub note_of : ViewersValue → ℕ → Option ScreenValue
 note_of viewers viewer = lookup (is_at (nat_cmp viewer)) viewers.notes
 
--- The number of the next viewer, given the last number that was assigned.
+-- The number of the next viewer, given the last number that was assigned: one more than that number, or 0 if no number
+-- was assigned.
 abbrev pub next_number : Option ℕ → ℕ
 next_number None = 0
 next_number (Some last) = last + 1

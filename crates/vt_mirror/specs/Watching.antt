@@ -53,7 +53,8 @@ CountUp n (x ∷ xs) = (x ≡ n) × CountUp (n + 1) xs
 
 -- ---- a viewer
 
--- A mirror, the terminal of one of its viewers, and the mirror's screen at the time of that viewer's last update.
+-- A mirror, the terminal of one of its viewers, and the mirror's screen at the time of that viewer's last update, or
+-- `None` if there was no update.
 pub record Watching (S : Type 0) : Type 0 where
   pub mirror : MirrorValue
   pub viewer : ParserValue S

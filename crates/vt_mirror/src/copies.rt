@@ -13,7 +13,8 @@ use std::snapshot::Snapshot;
 use std::sync::Arc;
 use vt100::{Error, Screen};
 
-/// A copy of what a screen displays, without scrollback or the inactive page.
+/// A copy of what a screen displays. If no scrollback was displayed, the copy contains neither
+/// scrollback nor the inactive page (see `Screen::shown_copy`).
 ///
 /// In contracts, the value of a copy is the complete screen from which it was made. Code can read
 /// only what that screen displays.
@@ -107,8 +108,8 @@ impl SharedCopy {
         }
     }
 
-    /// Returns another shared handle to the copy without allocating, or `None`
-    /// if the copy has the maximum number of holders.
+    /// Returns another shared handle to the copy without allocating, or `None` if the copy already
+    /// has the maximum number of handles.
     pub(crate) fn share(&self) -> Option<SharedCopy>
         ensures { IfSome result (λ copy. copy ≡ self.now) }
     {
@@ -132,7 +133,7 @@ impl SharedCopy {
         self.shared.is_steady()
     }
 
-    /// Returns whether the copy has other holders.
+    /// Returns whether there are other handles to the copy.
     pub(crate) fn is_held_by_others(&self) -> bool {
         Arc::strong_count(&self.shared) > 1
     }
@@ -149,8 +150,8 @@ pub(crate) struct Note {
 }
 
 impl Note {
-    /// Returns another note that shares the copy of the screen. Nothing is
-    /// allocated. Returns `None` if the copy's reference count is at its maximum.
+    /// Returns another note that shares the copy of the screen, without allocating, or `None` if
+    /// the reference count of the copy is at its maximum.
     pub(crate) fn share(&self) -> Option<Note>
         ensures { IfSome result (λ note. note ≡ self.now) }
     {

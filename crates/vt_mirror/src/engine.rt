@@ -94,8 +94,8 @@ pub fn run_words<R: Read, W: Write>(
     }
 }
 
-/// Reads all input and writes the updates of a viewer that has just joined: one
-/// at the start, one after every `every` bytes, and one at the end.
+/// Reads all input and writes the updates of a viewer that has just joined: one at the start, one
+/// after every `every` bytes, and one at the end. Returns the faults that [`run`] describes.
 fn run_viewer<R: Read, W: Write>(
     mirror: &mut Mirror,
     viewer: u64,

@@ -14,8 +14,8 @@ pub(crate) struct KeptDiff {
     text: String,
 }
 
-/// A cache that holds the last computed diff to the current screen, for all viewers whose next
-/// update is that diff.
+/// A cache for the text of the last computed diff to the current screen. Viewers that were last
+/// updated to the same screen need the same diff.
 #[derive(Drop)]
 pub(crate) struct DiffCache {
     last: Option<KeptDiff>,
@@ -29,8 +29,8 @@ impl DiffCache {
         DiffCache { last: None }
     }
 
-    /// Returns the cached text of the diff that starts from the screen copied
-    /// in `note`, or `None` if that text is not in the cache.
+    /// Returns the cached text of the diff from the screen copied in `note` to the current screen,
+    /// or `None` if that text is not in the cache.
     pub(crate) fn get(&self, note: &Note) -> Option<&str>
         ensures { IfSome result (λ text. (diff : KeptDiff) × (self.now.last ≡ Some diff)
             × AreOfOneVersion note.now diff.from × (text.now ≡ string_bytes diff.text)) }
@@ -41,8 +41,9 @@ impl DiffCache {
         }
     }
 
-    /// Stores `text`, the diff that starts from the screen copied in `note`, if the copy has other
-    /// holders. If an allocation fails, the cache is unchanged.
+    /// Stores `text`, the diff from the screen copied in `note` to the current screen, if the copy
+    /// has other holders, which may need the same diff. Otherwise, or if an allocation fails, the
+    /// cache is unchanged.
     pub(crate) fn keep(&mut self, note: &Note, text: &str, alloc: Global)
         ensures { (self.new ≡ self.old) ⊎ ((diff : KeptDiff) × (self.new.last ≡ Some diff)
             × (diff.from ≡ note.now) × (string_bytes diff.text ≡ text.now)) }

@@ -27,7 +27,7 @@ pub(crate) struct Viewers {
     /// screen share one copy.
     notes: BTreeMap<u64, Note>,
 
-    /// The last version number that was assigned to a copy.
+    /// The last version number that was assigned to a copy, or 0 if no copy has a version.
     version: u64,
 
     /// A copy of the current screen, if one was made since the screen last
@@ -89,13 +89,13 @@ impl Viewers {
         }
     }
 
-    /// Adds a viewer and returns its number, which is the next unused one.
+    /// Adds a viewer and returns its number: 0 for the first viewer, and otherwise the number after
+    /// the last one that was assigned.
     ///
     /// # Errors
     ///
-    /// Returns `Error::NoNumber` if `u64::MAX` has already been returned, and
-    /// `Error::OutOfMemory` if an allocation fails. On error, nothing is
-    /// changed.
+    /// Returns `Error::NoNumber` if `u64::MAX` has already been returned, and `Error::OutOfMemory`
+    /// if an allocation fails. On error, nothing is changed.
     pub(crate) fn join(&mut self) -> Result<u64, Error>
         ensures call { JoinsMirror self.old.viewers result self.new.viewers }
         ensures rest { self.new ≡ record self.old {
@@ -165,9 +165,8 @@ impl Viewers {
         }
     }
 
-    /// Returns the cached text of a viewer's diff, or `None` if that text is
-    /// not in the cache. The diff leads from the screen recorded for the viewer
-    /// to the current screen.
+    /// Returns the cached text of the diff from the screen recorded for a viewer to the current
+    /// screen, or `None` if that text is not in the cache.
     pub(crate) fn kept_diff(&self, viewer: u64) -> Option<&str>
         ensures { IfSome result (λ text. (screen : ScreenValue)
             × (note_of self.now.viewers viewer ≡ Some screen) × (self.now.diff ≡ Some (screen, text.now))) }
@@ -190,9 +189,9 @@ impl Viewers {
         self.diff.keep(note, text, alloc);
     }
 
-    /// Returns the cached text of a viewer's scrolling diff, or `None` if that
-    /// text is not in the cache. The diff leads from the screen recorded for
-    /// the viewer to the current screen.
+    /// Returns the cached text of the scrolling diff from the screen recorded for a viewer to the
+    /// current screen, or `None` if that text is not in the cache. A scrolling diff may begin by
+    /// moving rows or columns.
     pub(crate) fn kept_scrolling(&self, viewer: u64) -> Option<&str>
         ensures { IfSome result (λ text. (screen : ScreenValue)
             × (note_of self.now.viewers viewer ≡ Some screen) × (self.now.scrolling ≡ Some (screen, text.now))) }
@@ -215,7 +214,7 @@ impl Viewers {
         self.scrolling.keep(note, text, alloc);
     }
 
-    /// Returns the text of the current screen's redraw, if it is stored.
+    /// Returns the text of the current screen's redraw, or `None` if it is not stored.
     pub(crate) fn kept_redraw(&self) -> Option<&str>
         ensures { option_copied result ≡ self.now.redraw }
     {
@@ -286,7 +285,7 @@ impl Viewers {
         self.diff.clear();
         self.scrolling.clear();
         self.redraw = None;
-        leave_a_version(&mut self.version, &mut self.notes);
+        ensure_next_version(&mut self.version, &mut self.notes);
     }
 
     /// Drops all copies of screens, including those recorded for viewers, and
@@ -307,9 +306,10 @@ impl Viewers {
     }
 }
 
-/// Resets the last version number, `version`, if it has reached `u64::MAX`, so that there is a number
-/// for the next copy. The recorded copies, `notes`, then have no version numbers any more.
-fn leave_a_version(version: &mut u64, notes: &mut BTreeMap<u64, Note>)
+/// Ensures that there is a version number for the next copy. If `version`, the last version number
+/// that was assigned, is `u64::MAX`, sets it to 0 and removes the version numbers of the recorded
+/// copies, `notes`.
+fn ensure_next_version(version: &mut u64, notes: &mut BTreeMap<u64, Note>)
     ensures { HaveNext version.old notes.old.entries version.new notes.new.entries }
 {
     if *version < u64::MAX {
@@ -322,9 +322,9 @@ fn leave_a_version(version: &mut u64, notes: &mut BTreeMap<u64, Note>)
     *version = 0;
 }
 
-/// Returns a copy of the current screen for a viewer: the stored copy if there
-/// is one, otherwise a new copy with the next version. A new copy is also
-/// stored for later calls.
+/// Returns a note with a copy of the current screen and the version of that copy. The note shares
+/// the copy in `current`; if there is none, a new copy with the next version is stored there first.
+/// If the shared copy has the maximum number of handles, the note gets a copy of its own.
 ///
 /// # Errors
 ///
@@ -361,13 +361,12 @@ fn current_note(
     })
 }
 
-/// Returns another shared handle to `copy`, or to a new copy of the screen if
-/// `copy` has the maximum number of holders.
+/// Returns another shared handle to `copy`, or a handle to a new copy of the screen if `copy` has
+/// the maximum number of handles.
 ///
 /// # Errors
 ///
-/// Returns `Error::OutOfMemory` if a new copy is needed and cannot be
-/// allocated.
+/// Returns `Error::OutOfMemory` if a new copy is needed and cannot be allocated.
 fn shared_or_new(alloc: Global, screen: &Screen, copy: &SharedCopy) -> Result<SharedCopy, Error>
     requires { copy.now ≡ screen.now }
     ensures ok { IfOk result (λ copy. copy ≡ screen.now) }

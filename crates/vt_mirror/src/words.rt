@@ -34,7 +34,8 @@ pub fn arguments(words: &[&str]) -> Option<(NonZeroU16, NonZeroU16, NonZeroU16)>
     Some((rows, cols, every))
 }
 
-/// Parses owned command-line arguments, as [`arguments`] does.
+/// Parses the number of rows, the number of columns and the number of bytes between updates from
+/// owned command-line arguments. Returns `None` if the arguments are invalid (see [`arguments`]).
 pub(crate) fn asked(words: &[String]) -> Option<(NonZeroU16, NonZeroU16, NonZeroU16)>
     ensures some { IfSome result (λ a.
         AsksToMirror (map (λ word. string_bytes word) words.now) (non_zero_u16_get a.0)

@@ -124,15 +124,15 @@ resets picture text d = record {
       );
   shows =
       λ steady reader after r e. d.shows steady (in_whole reader) after
-      (plain_reader picture reader r) (read_behind reader after e);
+      (plain_reader picture reader r) (read_after_quiet reader after e);
   rows =
       λ steady reader after r e. d.rows steady (in_whole reader) after
-      (plain_reader picture reader r) (read_behind reader after e);
+      (plain_reader picture reader r) (read_after_quiet reader after e);
   cursor = λ steady reader after r e.
-      let has = d.cursor steady (in_whole reader) after (plain_reader picture reader r) (read_behind reader after e) in
+      let has = d.cursor steady (in_whole reader) after (plain_reader picture reader r) (read_after_quiet reader after e) in
       record { row = has.row; column = has.column; attrs = has.attrs; hidden = has.hidden };
   rest = λ steady reader after r e.
-      let kept = d.rest steady (in_whole reader) after (plain_reader picture reader r) (read_behind reader after e) in
+      let kept = d.rest steady (in_whole reader) after (plain_reader picture reader r) (read_after_quiet reader after e) in
       let most = kept.but_modes in
       record {
         other = most.other;
@@ -142,9 +142,9 @@ resets picture text d = record {
         modes = kept.modes;
       };
 } where
-  read_behind : (reader after : ScreenValue) →
+  read_after_quiet : (reader after : ScreenValue) →
       ReadsTo (whole_region_text ++ text) reader after → ReadsTo text (in_whole reader) after
-  read_behind reader after e = behind whole_region_text text reader (in_whole reader) after (whole_read reader) e
+  read_after_quiet reader after e = behind whole_region_text text reader (in_whole reader) after (whole_read reader) e
 
 pub reset_redraws : (self : ScreenValue) (text : List ℕ) → text ≡ reset_text (display self) → IsScreen self →
     IsColored self → Redraws (display self) (IsReaderInAnyRegion (display self)) KeepsRestButRegion text

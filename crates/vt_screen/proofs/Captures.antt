@@ -9,7 +9,7 @@ use Rattle.vt_cells.specs.Sinks.{IsStopped}
 use Rattle.vt_rows.specs.Basic.{Written, basic_text, written_after}
 use Rattle.vt_rows.specs.Row.{RowValue}
 use Rattle.vt_grid.specs.Scrollback.{Scrollback, no_scrollback, visible}
-use Rattle.vt_screen.specs.Capture.{StopsBehind, basic_texts, written_after_all}
+use Rattle.vt_screen.specs.Capture.{StopsAfter, basic_texts, written_after_all}
 use Rattle.vt_screen.specs.Internals.{IsAbove, IsNothing, alternate_scrollback, main_scrollback}
 
 pub texts_more : (before : Written) (rows : List RowValue) (row : RowValue) →
@@ -110,7 +110,7 @@ pub stopped_behind : (refuses : List ℕ → List ℕ → List ℕ → Type 0) (
     → front ≡ start ++ basic_texts before (slice_range rows first k)
     → state ≡ written_after_all before (slice_range rows first k) → after ≡ state
     → 0 < length (basic_text state row) → IsStopped refuses front (basic_text state row) text
-    → StopsBehind refuses start before (slice_range rows first last) text after
+    → StopsAfter refuses start before (slice_range rows first last) text after
 stopped_behind refuses start front text before state after rows first k last row low high inside here ahead behind same
     some stopped =
     let long = length-drop first rows in
@@ -142,7 +142,7 @@ texts_split before (first ∷ rows) more =
 
 -- If writing rows stopped within one of them, their text is not empty.
 pub some_texts : (refuses : List ℕ → List ℕ → List ℕ → Type 0) (start text : List ℕ) (before state : Written)
-    (rows : List RowValue) → StopsBehind refuses start before rows text state → 0 < length (basic_texts before rows)
+    (rows : List RowValue) → StopsAfter refuses start before rows text state → 0 < length (basic_texts before rows)
 some_texts refuses start text before state rows stops =
     let some = stops.nonempty in
     let rest = basic_texts (written_after state stops.row) stops.left in

@@ -11,7 +11,7 @@ use Rattle.vt_redraw.specs.Steady.{IsOfSize}
 use Rattle.vt_redraw.proofs.Chain.{chain_draws}
 use Rattle.vt_redraw.proofs.Fitting.{difference_fits, redraw_fits}
 use Rattle.vt_redraw.proofs.Redrawing.{page_picture}
-use Rattle.vt_screen.specs.Chain.{CanShowOn, chain_text, last_screen, texts_behind}
+use Rattle.vt_screen.specs.Chain.{CanShowOn, chain_text, last_screen, texts_after}
 use Rattle.vt_screen.specs.Screen.{ScreenValue, IsScreen, canvas_of}
 use Rattle.vt_screen.specs.Shown.{IsPlain, ReadsTo, ShowsPlainly, KeepsRest, display, reader_with_display}
 use Rattle.vt_screen.proofs.Became.{keeps_rest, shows_plainly}
@@ -31,18 +31,18 @@ differences_fit reader prev (x ∷ xs) c cs =
     (shown_colored x cs.0.sound cs.0.colored) c.colored.attrs)
     (differences_fit reader x xs cs.0 cs.1)
 
-behind_text : (prev : ScreenValue) (nexts : List ScreenValue) →
-    bytes_of_all (differences (display prev) (map display nexts)) ≡ texts_behind prev nexts
-behind_text prev [] = refl
-behind_text prev (x ∷ xs) =
+after_text : (prev : ScreenValue) (nexts : List ScreenValue) →
+    bytes_of_all (differences (display prev) (map display nexts)) ≡ texts_after prev nexts
+after_text prev [] = refl
+after_text prev (x ∷ xs) =
     bytes_of_all-append (difference (display x) (display prev)) (differences (display x) (map display xs))
-    ∙ ap (λ (text : List ℕ). bytes_of_all (difference (display x) (display prev)) ++ text) (behind_text x xs)
+    ∙ ap (λ (text : List ℕ). bytes_of_all (difference (display x) (display prev)) ++ text) (after_text x xs)
 
 chain_is : (self : ScreenValue) (nexts : List ScreenValue) →
     bytes_of_all (redraw (display self) ++ differences (display self) (map display nexts)) ≡ chain_text self nexts
 chain_is self nexts =
     bytes_of_all-append (redraw (display self)) (differences (display self) (map display nexts))
-    ∙ ap (λ (text : List ℕ). bytes_of_all (redraw (display self)) ++ text) (behind_text self nexts)
+    ∙ ap (λ (text : List ℕ). bytes_of_all (redraw (display self)) ++ text) (after_text self nexts)
 
 last_is : (self : ScreenValue) (nexts : List ScreenValue) →
     last_picture (display self) (map display nexts) ≡ display (last_screen self nexts)

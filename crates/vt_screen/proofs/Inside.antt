@@ -291,8 +291,8 @@ rows_glyph_put : (text : List ℕ) (wide : Bool) (attrs : Attrs) (page : Page) �
 rows_glyph_put text false attrs page = record { row = refl; saved_row = refl; bottom = refl }
 rows_glyph_put text true attrs page = record { row = refl; saved_row = refl; bottom = refl }
 
-stays_behind : (new mid page : Page) → SameRows new mid → Stays mid page → Stays new page
-stays_behind new mid page r s = record {
+stays_after : (new mid page : Page) → SameRows new mid → Stays mid page → Stays new page
+stays_after new mid page r s = record {
   saved_row = r.saved_row ∙ s.saved_row;
   bottom = r.bottom ∙ s.bottom;
   row = λ i. omega (arith, r.row, s.row i);
@@ -314,7 +314,7 @@ stays_carried mark attrs page =
     let left = lifted_page (mark_column page) attrs page in
     let below = wrapped_page left in
     stays_over (glyph_put text true attrs below) left page
-    (stays_behind (glyph_put text true attrs below) below left
+    (stays_after (glyph_put text true attrs below) below left
     (rows_glyph_put text true attrs below) (stays_wrapped left))
     (same_cursor_cells (cells_after_erase (mark_column page) 1 attrs (cursor_row page).cells) page)
     (record { row = refl; saved_row = refl; bottom = refl })
@@ -360,11 +360,11 @@ stays_printed_by None c attrs page = stays page
 stays_printed_by (Some zero) c attrs page =
     stays_if (page.column == 0) page (mark_printed c attrs page) page (stays page) (stays_mark_printed c attrs page)
 stays_printed_by (Some (suc zero)) c attrs page =
-    stays_behind (glyph_put (encode_utf8 c) false attrs (room_made 1 page)) (room_made 1 page)
+    stays_after (glyph_put (encode_utf8 c) false attrs (room_made 1 page)) (room_made 1 page)
     page (rows_glyph_put (encode_utf8 c) false attrs (room_made 1 page)) (stays_room_made 1 page)
 stays_printed_by (Some (suc (suc n))) c attrs page =
     stays_if (nat_lt 1 page.width) (glyph_put (encode_utf8 c) true attrs (room_made 2 page)) page page
-    (stays_behind (glyph_put (encode_utf8 c) true attrs (room_made 2 page)) (room_made 2 page)
+    (stays_after (glyph_put (encode_utf8 c) true attrs (room_made 2 page)) (room_made 2 page)
     page (rows_glyph_put (encode_utf8 c) true attrs (room_made 2 page)) (stays_room_made 2 page))
     (stays page)
 

@@ -5,6 +5,7 @@ use Rattle.std.proofs.Common.{length, Option, Some, None, refl, sym, ap, subst, 
 use Rattle.std.specs.Prelude.{IfSome}
 use Rattle.std.proofs.lemmas.List.{take-append-drop}
 use Rattle.std.proofs.Common.{append-nil, append_assoc}
+use Rattle.std.proofs.Math.Seq.{take-append_seam}
 use Rattle.vt_cells.specs.Attrs.{Attrs, default_attrs}
 use Rattle.vt_cells.specs.Cell.{CellValue}
 use Rattle.vt_cells.specs.Op.{EraseRest, EraseChars, Hide, counted, csi}
@@ -395,3 +396,51 @@ instead_some rows cols cells known now whole rest short is some =
     let e : length whole ≡ length is.done + length rest =
     ap (λ (xs : List ℕ). length xs) is.parts ∙ length-append is.done rest in
     omega (arith, e, some)
+
+-- ---- text that is copied
+
+-- The text is `rest` after a part that is copied.
+pub record IsCopied (rows cols : ℕ) (cells : ℕ → ℕ → CellValue) (known now : Known) (text rest : List ℕ) : Type 0 where
+  pub done : List ℕ
+  pub parts : text ≡ done ++ rest
+  pub stands : ReplacesTracked rows cols cells known now done done
+
+pub copied_first : (rows cols : ℕ) (cells : ℕ → ℕ → CellValue) (known : Known) (text : List ℕ) →
+    IsCopied rows cols cells known known text text
+copied_first rows cols cells known text =
+    record { done = []; parts = refl; stands = stands_nothing rows cols cells known }
+
+pub copied_next : (rows cols n : ℕ) (cells : ℕ → ℕ → CellValue) (known now new : Known) (text rest head tail : List ℕ) →
+    IsCopied rows cols cells known now text rest → head ≡ take n rest → tail ≡ drop n rest →
+    ReplacesTracked rows cols cells now new head head → IsCopied rows cols cells known new text tail
+copied_next rows cols n cells known now new text rest head tail is front back copied = record {
+  done = is.done ++ head;
+  parts = is.parts
+      ∙ (ap (λ (xs : List ℕ). is.done ++ xs) (sym (take-append-drop n rest))
+      ∙ (ap (λ (xs : List ℕ). is.done ++ (xs ++ drop n rest)) (sym front)
+      ∙ (ap (λ (ys : List ℕ). is.done ++ (head ++ ys)) (sym back) ∙ sym (append_assoc is.done head tail))));
+  stands = stands_then rows cols cells known now new is.done is.done head head is.stands copied;
+}
+
+pub copied_whole : (rows cols : ℕ) (cells : ℕ → ℕ → CellValue) (known now : Known) (text rest : List ℕ) →
+    IsCopied rows cols cells known now text rest →
+    ReplacesTracked rows cols cells known now (take (length text - length rest) text) (take (length text - length rest) text)
+copied_whole rows cols cells known now text rest is =
+    let e : length text ≡ length is.done + length rest =
+    ap (λ (xs : List ℕ). length xs) is.parts ∙ length-append is.done rest in
+    let n : length text - length rest ≡ length is.done = omega (arith, e) in
+    let front : take (length text - length rest) text ≡ is.done =
+    ap (λ (k : ℕ). take k text) n
+    ∙ (ap (λ (xs : List ℕ). take (length is.done) xs) is.parts ∙ take-append_seam is.done rest) in
+    subst (λ (xs : List ℕ). ReplacesTracked rows cols cells known now xs xs) (sym front) is.stands
+
+-- The text at the beginning of the output was copied.
+pub text_instead : (rows cols n : ℕ) (cells : ℕ → ℕ → CellValue) (known new : Known) (rest head before after : List ℕ) →
+    head ≡ take n rest → after ≡ before ++ head →
+    ReplacesTracked rows cols cells known new (take n rest) (take n rest) →
+    AppendsInstead rows cols cells known new (take n rest) before after
+text_instead rows cols n cells known new rest head before after front appended copied = record {
+  text = take n rest;
+  appends = appended ∙ ap (λ (xs : List ℕ). before ++ xs) front;
+  stands = copied;
+}

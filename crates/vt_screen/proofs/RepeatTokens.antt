@@ -20,6 +20,7 @@ use Rattle.vt_screen.specs.MadeOf.{IsOneOf}
 use Rattle.vt_screen.specs.RepeatInternals.{BeginsRun, BeginsWithVisibility, Finds, IsFinalAt, KeepsRoom, Skips}
 use Rattle.vt_screen.specs.Repeating.{IsNarrow, copies, repeat_text}
 use Rattle.vt_screen.specs.ShortMoves.{IsAsciiCharacter}
+use Rattle.vt_screen.specs.declared.repeat.Repeat.{Repeat}
 use Rattle.vt_screen.specs.declared.repeats.Skipped.{Skipped}
 use Rattle.vt_screen.proofs.RepeatSteps.{keeps_then}
 use Rattle.vt_screen.proofs.RepeatRooms.{keeps_attributes, keeps_deleted, keeps_down, keeps_erased_chars, keeps_inserted}
@@ -257,13 +258,14 @@ pub stripped : (c : ℕ) (text tail : List ℕ) → (n : ℕ) × FindsCharPrefix
 stripped c text tail (n, at, e, long) = at.split ∙ ap (λ (t : List ℕ). encode_utf8 c ++ t) (sym e)
 
 -- A run that begins after text whose room is known.
-pub finds_run : (width room left at count after : ℕ) (text rest first front back : List ℕ) → rest ≡ drop at text →
-    KeepsRoom width room left (take at text) → BeginsRun left rest first count after back → front ≡ take (at + length first) text →
-    Finds width room text front count after back
-finds_run width room left at count after text rest first front back e keeps is whole = record {
+pub finds_run : (repeat : Repeat) (width room left at count after : ℕ) (text rest first front back : List ℕ) →
+    rest ≡ drop at text → KeepsRoom width room left (take at text) → BeginsRun repeat left rest first count after back →
+    front ≡ take (at + length first) text → Finds repeat width room text front count after back
+finds_run repeat width room left at count after text rest first front back e keeps is whole = record {
   before = take at text;
   character = is.character;
   narrow = is.narrow;
+  repeatable = is.repeatable;
   whole = sym (take-append-drop at text) ∙ ap (λ (t : List ℕ). take at text ++ t) (sym e ∙ is.whole);
   first =
       whole

@@ -10,10 +10,12 @@ use Rattle.vt_scan.specs.Run.{run}
 use Rattle.vt_screen.specs.CallsOfRun.{screen_after_all, screen_in}
 use Rattle.vt_screen.specs.Internals.{IsSized}
 use Rattle.vt_screen.specs.RepeatInternals.{AppendsRepeating, Finds, HasRoom, KeepsRoom, Shortens}
-use Rattle.vt_screen.specs.Repeating.{HasNoRepeat, HasRuns, IsNarrow, IsReaderWithRoom, IsShortened, ReadsAlike, Repeats, RepeatsInRows}
+use Rattle.vt_screen.specs.Repeating.{HasNoRepeat, HasRuns, IsNarrow, IsReaderWithRoom, IsRepeatable, IsShortened}
+use Rattle.vt_screen.specs.Repeating.{ReadsAlike, Repeats, RepeatsInRows}
 use Rattle.vt_screen.specs.Repeating.{Run, copies, full_text, repeat_text, short_text}
 use Rattle.vt_screen.specs.Screen.{IsScreen, ScreenValue}
 use Rattle.vt_screen.specs.Steps.{Step as Action}
+use Rattle.vt_screen.specs.declared.repeat.Repeat.{Repeat}
 use Rattle.vt_screen.proofs.RepeatRooms.{keeps_narrow, keeps_nothing}
 use Rattle.vt_screen.proofs.RepeatSteps.{AlikeFrom, NoneFrom, RowsFrom, alike_itself, alike_then, keeps_then, last_rows}
 use Rattle.vt_screen.proofs.RepeatSteps.{none_first, none_second, rows_from_then, rows_none, run_alike, sized_in}
@@ -27,18 +29,18 @@ reader_sized width room reader plain is =
     sized_in (length reader.page.rows) width start reader plain
     (subst (λ (w : ℕ). IsSized (length reader.page.rows) w reader) is.width_is (sized_screen reader is.sound))
 
-pub shortens_nothing : (width room : ℕ) → Shortens width room room [] []
-shortens_nothing width room = record {
+pub shortens_nothing : (repeat : Repeat) (width room : ℕ) → Shortens repeat width room room [] []
+shortens_nothing repeat width room = record {
   runs = record { runs = []; rest = []; are_shortened = tt; in_full = refl; in_short = refl };
   keeps = keeps_nothing width room;
   same = λ reader sound. record { state = refl; steps = refl; reads = refl };
   rows = λ none reader is. tt;
 }
 
-all_shortened : (xs ys : List Run) → AllByRecursion IsShortened xs → AllByRecursion IsShortened ys →
-    AllByRecursion IsShortened (xs ++ ys)
-all_shortened [] ys h k = k
-all_shortened (x ∷ xs) ys h k = (h.0, all_shortened xs ys h.1 k)
+all_shortened : (repeat : Repeat) (xs ys : List Run) → AllByRecursion (IsShortened repeat) xs →
+    AllByRecursion (IsShortened repeat) ys → AllByRecursion (IsShortened repeat) (xs ++ ys)
+all_shortened repeat [] ys h k = k
+all_shortened repeat (x ∷ xs) ys h k = (h.0, all_shortened repeat xs ys h.1 k)
 
 runs_text : (f : Run → List ℕ) (runs : List Run) (rest front tail text : List ℕ) (run : Run) →
     text ≡ flat_map f runs ++ rest → f run ≡ (rest ++ front) ++ tail →
@@ -50,21 +52,29 @@ runs_text f runs rest front tail text run e g =
     ∙ flat_map_more f [] runs run
     ∙ sym (append-nil (flat_map f (runs ++ run ∷ [])))
 
-more_runs : (plain text front : List ℕ) (n c : ℕ) → IsNarrow c → length (repeat_text n) < length (copies n c) →
-    HasRuns plain text →
-    HasRuns (plain ++ (front ++ copies (suc n) c)) (text ++ (front ++ (encode_utf8 c ++ repeat_text n)))
-more_runs plain text front n c narrow shorter has =
+-- A run that the code found, at a point of the output.
+record IsRun (repeat : Repeat) (n c : ℕ) : Type 0 where
+  narrow : IsNarrow c
+  repeatable : IsRepeatable repeat c
+  some : 0 < n
+  fits : n ≤ 65535
+  shorter : length (repeat_text n) < length (copies n c)
+
+more_runs : (repeat : Repeat) (plain text front : List ℕ) (n c : ℕ) → IsRun repeat n c → HasRuns repeat plain text →
+    HasRuns repeat (plain ++ (front ++ copies (suc n) c)) (text ++ (front ++ (encode_utf8 c ++ repeat_text n)))
+more_runs repeat plain text front n c is has =
     let run : Run = record { before = has.rest ++ front; character = c; count = n } in record {
       runs = has.runs ++ run ∷ [];
       rest = [];
-      are_shortened = all_shortened has.runs (run ∷ []) has.are_shortened
-          (record { narrow = narrow; shorter = shorter }, tt);
+      are_shortened = all_shortened repeat has.runs (run ∷ []) has.are_shortened
+          (record { narrow = is.narrow; repeatable = is.repeatable; shorter = is.shorter }, tt);
       in_full = runs_text full_text has.runs has.rest front (copies (suc n) c) plain run has.in_full refl;
       in_short = runs_text short_text has.runs has.rest front (encode_utf8 c ++ repeat_text n) text run has.in_short refl;
     }
 
-more_rest : (plain text rest : List ℕ) → HasRuns plain text → HasRuns (plain ++ rest) (text ++ rest)
-more_rest plain text rest has = record {
+more_rest : (repeat : Repeat) (plain text rest : List ℕ) → HasRuns repeat plain text →
+    HasRuns repeat (plain ++ rest) (text ++ rest)
+more_rest repeat plain text rest has = record {
   runs = has.runs;
   rest = has.rest ++ rest;
   are_shortened = has.are_shortened;
@@ -88,22 +98,16 @@ to_alike reader plain text a = record { state = a.state; steps = a.steps; reads 
 of_alike : (reader : ScreenValue) (plain text : List ℕ) → ReadsAlike plain text reader → AlikeFrom start reader plain text
 of_alike reader plain text a = record { state = a.state; steps = a.steps; reads = a.reads }
 
--- A run that the code found, at a point of the output.
-record IsRun (n c : ℕ) : Type 0 where
-  narrow : IsNarrow c
-  some : 0 < n
-  fits : n ≤ 65535
-  shorter : length (repeat_text n) < length (copies n c)
-
 -- From the state after the output so far, which is the initial state.
 at_start : (P : State → Type 0) (width room left : ℕ) (plain : List ℕ) → KeepsRoom width room left plain → P start →
     P (run start plain).state
 at_start P width room left plain keeps p = subst P (sym keeps.ground) p
 
-run_same : (width room mid left : ℕ) (plain text front : List ℕ) (n c : ℕ) → Shortens width room mid plain text →
-    KeepsRoom width mid (suc n + left) front → IsRun n c → (reader : ScreenValue) → IsScreen reader →
+run_same : (repeat : Repeat) (width room mid left : ℕ) (plain text front : List ℕ) (n c : ℕ) →
+    Shortens repeat width room mid plain text → KeepsRoom width mid (suc n + left) front → IsRun repeat n c →
+    (reader : ScreenValue) → IsScreen reader →
     ReadsAlike (plain ++ (front ++ copies (suc n) c)) (text ++ (front ++ (encode_utf8 c ++ repeat_text n))) reader
-run_same width room mid left plain text front n c s keeps is reader sound =
+run_same repeat width room mid left plain text front n c s keeps is reader sound =
     let screen = screen_in start reader plain in
     let next = screen_in start screen front in
     let height = length reader.page.rows in
@@ -127,11 +131,11 @@ room_after width room left plain reader keeps is =
     keeps.room (length reader.page.rows) reader
     (subst (λ (w : ℕ). IsSized (length reader.page.rows) w reader) is.width_is (sized_screen reader is.sound)) is.columns
 
-run_rows : (width room mid left : ℕ) (plain text front : List ℕ) (n c : ℕ) → Shortens width room mid plain text →
-    KeepsRoom width mid (suc n + left) front → IsRun n c → HasNoRepeat (plain ++ (front ++ copies (suc n) c)) →
-    (reader : ScreenValue) → IsReaderWithRoom width room reader →
+run_rows : (repeat : Repeat) (width room mid left : ℕ) (plain text front : List ℕ) (n c : ℕ) →
+    Shortens repeat width room mid plain text → KeepsRoom width mid (suc n + left) front → IsRun repeat n c →
+    HasNoRepeat (plain ++ (front ++ copies (suc n) c)) → (reader : ScreenValue) → IsReaderWithRoom width room reader →
     RepeatsInRows (text ++ (front ++ (encode_utf8 c ++ repeat_text n))) reader
-run_rows width room mid left plain text front n c s keeps is none reader reads =
+run_rows repeat width room mid left plain text front n c s keeps is none reader reads =
     let full = copies (suc n) c in
     let run_text = encode_utf8 c ++ repeat_text n in
     let height = length reader.page.rows in
@@ -158,22 +162,23 @@ run_rows width room mid left plain text front n c s keeps is none reader reads =
     (at_start (λ (t : State). RowsFrom t screen (front ++ run_text)) width room mid plain s.keeps rest)))
 
 -- The output so far, and one run more.
-shortens_run : (width room mid left : ℕ) (plain text front : List ℕ) (n c : ℕ) → Shortens width room mid plain text →
-    KeepsRoom width mid (suc n + left) front → IsRun n c →
-    Shortens width room left (plain ++ (front ++ copies (suc n) c)) (text ++ (front ++ (encode_utf8 c ++ repeat_text n)))
-shortens_run width room mid left plain text front n c s keeps is = record {
-  runs = more_runs plain text front n c is.narrow is.shorter s.runs;
+shortens_run : (repeat : Repeat) (width room mid left : ℕ) (plain text front : List ℕ) (n c : ℕ) →
+    Shortens repeat width room mid plain text → KeepsRoom width mid (suc n + left) front → IsRun repeat n c →
+    Shortens repeat width room left (plain ++ (front ++ copies (suc n) c))
+    (text ++ (front ++ (encode_utf8 c ++ repeat_text n)))
+shortens_run repeat width room mid left plain text front n c s keeps is = record {
+  runs = more_runs repeat plain text front n c is s.runs;
   keeps = keeps_then width room mid left plain (front ++ copies (suc n) c) s.keeps
       (keeps_then width mid (suc n + left) left front (copies (suc n) c) keeps (copies_keep width left (suc n) c is.narrow));
-  same = run_same width room mid left plain text front n c s keeps is;
-  rows = run_rows width room mid left plain text front n c s keeps is;
+  same = run_same repeat width room mid left plain text front n c s keeps is;
+  rows = run_rows repeat width room mid left plain text front n c s keeps is;
 }
 
-shorter_runs : (runs : List Run) → AllByRecursion IsShortened runs →
+shorter_runs : (repeat : Repeat) (runs : List Run) → AllByRecursion (IsShortened repeat) runs →
     length (flat_map short_text runs) ≤ length (flat_map full_text runs)
-shorter_runs [] h = omega arith
-shorter_runs (run ∷ runs) h =
-    let rest = shorter_runs runs h.1 in
+shorter_runs repeat [] h = omega arith
+shorter_runs repeat (run ∷ runs) h =
+    let rest = shorter_runs repeat runs h.1 in
     let less = h.0.shorter in
     let c = run.character in
     let short = length-append (encode_utf8 c) (repeat_text run.count) in
@@ -184,18 +189,18 @@ shorter_runs (run ∷ runs) h =
     let e = length-append run.before (copies (suc run.count) c) in
     omega (arith, rest, less, short, full, a, b, d, e)
 
-shorter : (plain text : List ℕ) → HasRuns plain text → length text ≤ length plain
-shorter plain text has =
-    let runs = shorter_runs has.runs has.are_shortened in
+shorter : (repeat : Repeat) (plain text : List ℕ) → HasRuns repeat plain text → length text ≤ length plain
+shorter repeat plain text has =
+    let runs = shorter_runs repeat has.runs has.are_shortened in
     let a = ap length has.in_full ∙ length-append (flat_map full_text has.runs) has.rest in
     let b = ap length has.in_short ∙ length-append (flat_map short_text has.runs) has.rest in
     omega (arith, runs, a, b)
 
 -- The output so far, and the rest of the output as it is.
-shortens_end : (width room left : ℕ) (plain text rest : List ℕ) → Shortens width room left plain text →
-    Repeats width room (plain ++ rest) (text ++ rest)
-shortens_end width room left plain text rest s = record {
-  runs = more_rest plain text rest s.runs;
+shortens_end : (repeat : Repeat) (width room left : ℕ) (plain text rest : List ℕ) →
+    Shortens repeat width room left plain text → Repeats repeat width room (plain ++ rest) (text ++ rest)
+shortens_end repeat width room left plain text rest s = record {
+  runs = more_rest repeat plain text rest s.runs;
   same = λ reader sound. to_alike reader (plain ++ rest) (text ++ rest)
       (alike_then start reader plain text rest rest (of_alike reader plain text (s.same reader sound))
       (alike_itself (run start plain).state (screen_in start reader plain) rest));
@@ -205,40 +210,41 @@ shortens_end width room left plain text rest s = record {
       rows_from_then start reader text rest (s.rows (none_first start plain rest none) reader is)
       (subst (λ (t : State). RowsFrom t (screen_in start reader text) rest) (sym old.state)
       (rows_none (run (run start plain).state rest).events (screen_in start reader text) later));
-  shorter = shorter (plain ++ rest) (text ++ rest) (more_rest plain text rest s.runs);
+  shorter = shorter repeat (plain ++ rest) (text ++ rest) (more_rest repeat plain text rest s.runs);
 }
 
 -- The output is unchanged.
-pub repeats_itself : (width room : ℕ) (text : List ℕ) → Repeats width room text text
-repeats_itself width room text = shortens_end width room room [] [] text (shortens_nothing width room)
+pub repeats_itself : (repeat : Repeat) (width room : ℕ) (text : List ℕ) → Repeats repeat width room text text
+repeats_itself repeat width room text = shortens_end repeat width room room [] [] text (shortens_nothing repeat width room)
 
 -- ---- writing
 
 -- The state of the loop that writes the output, before it writes the next run.
-pub record Written (width room left : ℕ) (text rest start now : List ℕ) : Type 0 where
+pub record Written (repeat : Repeat) (width room left : ℕ) (text rest start now : List ℕ) : Type 0 where
   pub done : List ℕ
   pub added : List ℕ
   pub whole : text ≡ done ++ rest
   pub bytes : now ≡ start ++ added
-  pub shortens : Shortens width room left done added
+  pub shortens : Shortens repeat width room left done added
 
-pub written_nothing : (width room : ℕ) (text start : List ℕ) → Written width room room text text start start
-written_nothing width room text start = record {
+pub written_nothing : (repeat : Repeat) (width room : ℕ) (text start : List ℕ) → Written repeat width room room text text start start
+written_nothing repeat width room text start = record {
   done = [];
   added = [];
   whole = refl;
   bytes = sym (append-nil start);
-  shortens = shortens_nothing width room;
+  shortens = shortens_nothing repeat width room;
 }
 
 some_copies : (n c : ℕ) → length (repeat_text n) < length (copies n c) → 0 < n
 some_copies zero c h = absurd (omega (arith, h))
 some_copies (suc n) c h = omega arith
 
-pub written_run : (width room left after : ℕ) (text rest start now front back middle new : List ℕ) (n : ℕ) →
-    Written width room left text rest start now → Finds width left rest front n after back →
-    middle ≡ now ++ front → new ≡ middle ++ repeat_text n → Written width room after text back start new
-written_run width room left after text rest start now front back middle new n w finds e f =
+pub written_run : (repeat : Repeat) (width room left after : ℕ) (text rest start now front back middle new : List ℕ)
+    (n : ℕ) →
+    Written repeat width room left text rest start now → Finds repeat width left rest front n after back →
+    middle ≡ now ++ front → new ≡ middle ++ repeat_text n → Written repeat width room after text back start new
+written_run repeat width room left after text rest start now front back middle new n w finds e f =
     let c = finds.character in
     let before = finds.before in record {
       done = w.done ++ (before ++ copies (suc n) c);
@@ -253,15 +259,21 @@ written_run width room left after text rest start now front back middle new n w 
           ∙ append_assoc (start ++ w.added) (before ++ encode_utf8 c) (repeat_text n)
           ∙ ap (λ (t : List ℕ). (start ++ w.added) ++ t) (append_assoc before (encode_utf8 c) (repeat_text n))
           ∙ append_assoc start w.added (before ++ (encode_utf8 c ++ repeat_text n));
-      shortens = shortens_run width room left after w.done w.added before n c w.shortens finds.keeps
-          (record { narrow = finds.narrow; some = some_copies n c finds.shorter; fits = finds.fits; shorter = finds.shorter });
+      shortens = shortens_run repeat width room left after w.done w.added before n c w.shortens finds.keeps
+          (record {
+            narrow = finds.narrow;
+            repeatable = finds.repeatable;
+            some = some_copies n c finds.shorter;
+            fits = finds.fits;
+            shorter = finds.shorter;
+          });
     }
 
-pub written_end : (width room left : ℕ) (text rest start now after : List ℕ) → Written width room left text rest start now →
-    after ≡ now ++ rest → AppendsRepeating start after width room text
-written_end width room left text rest start now after w e = record {
+pub written_end : (repeat : Repeat) (width room left : ℕ) (text rest start now after : List ℕ) →
+    Written repeat width room left text rest start now → after ≡ now ++ rest → AppendsRepeating repeat start after width room text
+written_end repeat width room left text rest start now after w e = record {
   added = w.added ++ rest;
   bytes = e ∙ ap (λ (t : List ℕ). t ++ rest) w.bytes ∙ append_assoc start w.added rest;
-  repeats = subst (λ (t : List ℕ). Repeats width room t (w.added ++ rest)) (sym w.whole)
-      (shortens_end width room left w.done w.added rest w.shortens);
+  repeats = subst (λ (t : List ℕ). Repeats repeat width room t (w.added ++ rest)) (sym w.whole)
+      (shortens_end repeat width room left w.done w.added rest w.shortens);
 }

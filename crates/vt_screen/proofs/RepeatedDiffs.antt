@@ -1,21 +1,23 @@
 -- A diff in which runs are written with REP promises what the diff without REP promises.
-use Rattle.std.proofs.Common.{◌≡◌, ℕ, ◌-◌, ◌≤◌, Bool, true, false, List, [], ◌∷◌, ◌++◌, length, refl, sym, ap, subst}
+use Rattle.std.proofs.Common.{◌≡◌, ℕ, ◌-◌, ◌≤◌, Bool, List, [], ◌∷◌, ◌++◌, length, refl, sym, ap, subst}
 use Rattle.std.proofs.Common.{◌∙◌, arith, length-append}
 use Rattle.std.specs.Char.{encode_utf8}
 use Rattle.std.specs.List.{AllByRecursion, flat_map}
 use Rattle.vt_redraw.specs.Picture.{Picture}
 use Rattle.vt_scan.specs.Automaton.{start}
-use Rattle.vt_scan.specs.Run.{run}
 use Rattle.vt_screen.specs.Again.{IsNoCallback, KeepsAside, LeavesPlain}
 use Rattle.vt_screen.specs.CallsOfRun.{screen_after_all, screen_in}
 use Rattle.vt_screen.specs.DiffInternals.{IsPlainDiff}
 use Rattle.vt_screen.specs.Diffs.{KeepsScreensPlain, MayRepeat, RepeatsOnlyInRows}
-use Rattle.vt_screen.specs.Repeating.{IsReaderWithRoom, ReadsAlike, RepeatsInRows, Run, full_text, repeat_text, short_text}
+use Rattle.vt_screen.specs.Repeating.{HasRuns, IsReaderWithRoom, IsShortened, ReadsAlike, Repeats, Run}
+use Rattle.vt_screen.specs.Repeating.{full_text, repeat_text, short_text}
 use Rattle.vt_screen.specs.Screen.{IsScreen, ScreenValue}
 use Rattle.vt_screen.specs.Shown.{IsPlain, IsReaderOf, IsSameIfEmpty, IsReadBy, Makes, ReadsTo, RedrawsFrom, display, display_change}
 use Rattle.vt_screen.specs.Steps.{Step as Action}
+use Rattle.vt_screen.specs.declared.repeat.Repeat.{Repeat}
+use Rattle.vt_screen.specs.declared.repeat.Repeat.TheVariants.{Never, Ascii, Any}
 use Rattle.vt_screen.proofs.NoRepeats.{made_none}
-use Rattle.vt_screen.proofs.RepeatSteps.{rows_none}
+use Rattle.vt_screen.proofs.Repeated.{repeats_itself}
 
 -- ---- reading
 
@@ -61,19 +63,46 @@ repeated_leaves plain text reader alike leaves =
       aside = subst (KeepsAside reader) (sym same) leaves.aside;
     }
 
+-- ---- whether runs may be written with REP at all
+
+no_runs : (runs : List Run) → AllByRecursion (IsShortened Never) runs → runs ≡ []
+no_runs [] h = refl
+no_runs (run ∷ runs) h = absurd h.0.repeatable
+
+-- If no character is repeatable, the output is unchanged.
+unchanged : (plain text : List ℕ) → HasRuns Never plain text → text ≡ plain
+unchanged plain text has =
+    let none = no_runs has.runs has.are_shortened in
+    has.in_short
+    ∙ ap (λ (runs : List Run). flat_map short_text runs ++ has.rest) none
+    ∙ sym (ap (λ (runs : List Run). flat_map full_text runs ++ has.rest) none)
+    ∙ sym has.in_full
+
+pub to_may_repeat : (repeat : Repeat) (was : ScreenValue) (plain text : List ℕ) →
+    Repeats repeat was.page.width (was.page.width - was.page.column) plain text → MayRepeat repeat was plain text
+to_may_repeat Never was plain text is = unchanged plain text is.runs
+to_may_repeat Ascii was plain text is = is
+to_may_repeat Any was plain text is = is
+
+pub of_may_repeat : (repeat : Repeat) (was : ScreenValue) (plain text : List ℕ) → MayRepeat repeat was plain text →
+    Repeats repeat was.page.width (was.page.width - was.page.column) plain text
+of_may_repeat Never was plain text is =
+    subst (Repeats Never was.page.width (was.page.width - was.page.column) plain) (sym is)
+    (repeats_itself Never was.page.width (was.page.width - was.page.column) plain)
+of_may_repeat Ascii was plain text is = is
+of_may_repeat Any was plain text is = is
+
 -- ---- the clauses of a diff with options
 
-pub diff_again : (repeat scroll : Bool) (was new : ScreenValue) (plain text : List ℕ) → IsPlainDiff scroll was new plain →
-    MayRepeat repeat was plain text → KeepsScreensPlain text
-diff_again true scroll was new plain text is may reader sound ready =
-    repeated_leaves plain text reader (may.same reader sound) (is.again reader ready)
-diff_again false scroll was new plain text is may reader sound ready =
-    subst (λ (t : List ℕ). LeavesPlain t reader) (sym may) (is.again reader ready)
+pub diff_again : (repeat : Repeat) (scroll : Bool) (was new : ScreenValue) (plain text : List ℕ) →
+    IsPlainDiff scroll was new plain → MayRepeat repeat was plain text → KeepsScreensPlain text
+diff_again repeat scroll was new plain text is may reader sound ready =
+    repeated_leaves plain text reader ((of_may_repeat repeat was plain text may).same reader sound) (is.again reader ready)
 
-pub diff_redraws : (repeat scroll : Bool) (was new : ScreenValue) (plain text : List ℕ) → IsPlainDiff scroll was new plain →
-    MayRepeat repeat was plain text → RedrawsFrom was new text
-diff_redraws true scroll was new plain text is may = repeated_redraws was new plain text may.same is.redraws
-diff_redraws false scroll was new plain text is may = subst (RedrawsFrom was new) (sym may) is.redraws
+pub diff_redraws : (repeat : Repeat) (scroll : Bool) (was new : ScreenValue) (plain text : List ℕ) →
+    IsPlainDiff scroll was new plain → MayRepeat repeat was plain text → RedrawsFrom was new text
+diff_redraws repeat scroll was new plain text is may =
+    repeated_redraws was new plain text (of_may_repeat repeat was plain text may).same is.redraws
 
 reader_with_room : (was new reader : ScreenValue) → IsReaderOf (display new) (display was) reader →
     IsReaderWithRoom was.page.width (was.page.width - was.page.column) reader
@@ -82,32 +111,29 @@ reader_with_room was new reader is =
     let column = ap (λ (p : Picture). p.column) is.shows in
     record { sound = is.is.sound; width_is = width; columns = λ some. omega (arith, some, column) }
 
-pub diff_rows : (repeat scroll : Bool) (was new : ScreenValue) (plain text : List ℕ) → IsPlainDiff scroll was new plain →
-    MayRepeat repeat was plain text → RepeatsOnlyInRows was new text
-diff_rows true scroll was new plain text is may reader reads =
-    may.rows (made_none scroll plain is.controls) reader (reader_with_room was new reader reads)
-diff_rows false scroll was new plain text is may reader reads =
-    subst (λ (t : List ℕ). RepeatsInRows t reader) (sym may)
-    (rows_none (run start plain).events reader (made_none scroll plain is.controls))
+pub diff_rows : (repeat : Repeat) (scroll : Bool) (was new : ScreenValue) (plain text : List ℕ) →
+    IsPlainDiff scroll was new plain → MayRepeat repeat was plain text → RepeatsOnlyInRows was new text
+diff_rows repeat scroll was new plain text is may reader reads =
+    (of_may_repeat repeat was plain text may).rows (made_none scroll plain is.controls) reader
+    (reader_with_room was new reader reads)
 
-pub diff_shorter : (repeat scroll : Bool) (was new : ScreenValue) (plain text : List ℕ) → IsPlainDiff scroll was new plain →
-    MayRepeat repeat was plain text → length text ≤ length (display_change was new)
-diff_shorter true scroll was new plain text is may =
-    let a = may.shorter in let b = is.shorter in omega (arith, a, b)
-diff_shorter false scroll was new plain text is may =
-    subst (λ (t : List ℕ). length t ≤ length (display_change was new)) (sym may) is.shorter
+pub diff_shorter : (repeat : Repeat) (scroll : Bool) (was new : ScreenValue) (plain text : List ℕ) →
+    IsPlainDiff scroll was new plain → MayRepeat repeat was plain text → length text ≤ length (display_change was new)
+diff_shorter repeat scroll was new plain text is may =
+    let a = (of_may_repeat repeat was plain text may).shorter in
+    let b = is.shorter in
+    omega (arith, a, b)
 
 nothing : (xs : List ℕ) → length xs ≤ 0 → xs ≡ []
 nothing [] h = refl
 nothing (x ∷ xs) h = absurd (omega (arith, h))
 
-pub diff_none : (repeat scroll : Bool) (was new : ScreenValue) (plain text : List ℕ) → IsPlainDiff scroll was new plain →
-    MayRepeat repeat was plain text → display new ≡ display was → text ≡ []
-diff_none true scroll was new plain text is may same =
+pub diff_none : (repeat : Repeat) (scroll : Bool) (was new : ScreenValue) (plain text : List ℕ) →
+    IsPlainDiff scroll was new plain → MayRepeat repeat was plain text → display new ≡ display was → text ≡ []
+diff_none repeat scroll was new plain text is may same =
     let none = ap length (is.none same) in
-    let less = may.shorter in
+    let less = (of_may_repeat repeat was plain text may).shorter in
     nothing text (omega (arith, none, less))
-diff_none false scroll was new plain text is may same = may ∙ is.none same
 
 -- Empty output stands for no runs.
 runs_nothing : (runs : List Run) (rest plain text : List ℕ) → plain ≡ flat_map full_text runs ++ rest →
@@ -121,8 +147,8 @@ runs_nothing (run ∷ runs) rest plain text full short empty =
     let e = length-append (encode_utf8 run.character) (repeat_text run.count) in
     absurd (omega (arith, a, b, c, d, e))
 
-pub diff_empty : (repeat scroll : Bool) (was new : ScreenValue) (plain text : List ℕ) → IsPlainDiff scroll was new plain →
-    MayRepeat repeat was plain text → IsSameIfEmpty was new text
-diff_empty true scroll was new plain text is may steady empty =
-    is.empty steady (runs_nothing may.runs.runs may.runs.rest plain text may.runs.in_full may.runs.in_short empty)
-diff_empty false scroll was new plain text is may steady empty = is.empty steady (sym may ∙ empty)
+pub diff_empty : (repeat : Repeat) (scroll : Bool) (was new : ScreenValue) (plain text : List ℕ) →
+    IsPlainDiff scroll was new plain → MayRepeat repeat was plain text → IsSameIfEmpty was new text
+diff_empty repeat scroll was new plain text is may steady empty =
+    let has = (of_may_repeat repeat was plain text may).runs in
+    is.empty steady (runs_nothing has.runs has.rest plain text has.in_full has.in_short empty)

@@ -235,9 +235,9 @@ same_mark_printed mark attrs page =
     (same_through (width_followed k attrs put) put page (same_width_followed k attrs put) done) done)
     (same_itself page))
 
-same_put_behind : (n : ℕ) (text : List ℕ) (wide : Bool) (attrs : Attrs) (page : Page) →
+same_put_after : (n : ℕ) (text : List ℕ) (wide : Bool) (attrs : Attrs) (page : Page) →
     SameSize (glyph_put text wide attrs (room_made n page)) page
-same_put_behind n text wide attrs page =
+same_put_after n text wide attrs page =
     let made = room_made n page in
     same_through (glyph_put text wide attrs made) made page
     (same_glyph_put text wide attrs made) (same_room_made n page)
@@ -247,10 +247,10 @@ same_printed_by : (columns : Option ℕ) (c : ℕ) (attrs : Attrs) (page : Page)
 same_printed_by None c attrs page = same_itself page
 same_printed_by (Some zero) c attrs page =
     same_if (page.column == 0) page (mark_printed c attrs page) page (same_itself page) (same_mark_printed c attrs page)
-same_printed_by (Some (suc zero)) c attrs page = same_put_behind 1 (encode_utf8 c) false attrs page
+same_printed_by (Some (suc zero)) c attrs page = same_put_after 1 (encode_utf8 c) false attrs page
 same_printed_by (Some (suc (suc n))) c attrs page =
     same_if (nat_lt 1 page.width) (glyph_put (encode_utf8 c) true attrs (room_made 2 page))
-    page page (same_put_behind 2 (encode_utf8 c) true attrs page) (same_itself page)
+    page page (same_put_after 2 (encode_utf8 c) true attrs page) (same_itself page)
 
 pub same_printed : (c : ℕ) (attrs : Attrs) (page : Page) → SameSize (page_after_print c attrs page) page
 same_printed c attrs page = same_printed_by (columns_of c) c attrs page

@@ -36,10 +36,10 @@ pub record LeavesPlain (text : List ℕ) (reader : ScreenValue) : Type 0 where
   pub plain : IsPlain (screen_in start reader text)
   pub aside : KeepsAside reader (screen_in start reader text)
 
--- The output leaves every plain terminal plain.
+-- Every plain terminal is plain again after it has read the output, as `LeavesPlain` describes.
 abbrev pub KeepsPlain : List ℕ → Type 0
 KeepsPlain text = (reader : ScreenValue) → IsPlain reader → LeavesPlain text reader
 
--- Every terminal that displays no scrollback is plain after it has read the output.
+-- Every terminal that displays no scrollback is plain after it has read the output, as `LeavesPlain` describes.
 abbrev pub MakesPlain : List ℕ → Type 0
 MakesPlain text = (reader : ScreenValue) → IsScreen reader → (above_page reader).offset ≡ 0 → LeavesPlain text reader

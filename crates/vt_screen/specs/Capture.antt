@@ -1,4 +1,4 @@
--- Captures: the concatenated basic text of rows.
+-- Captures: the text of consecutive rows, with SGR as the only escape sequences.
 use Rattle.std.specs.Prelude.{◌≡◌, ℕ, ◌<◌, List, [], ◌∷◌, ◌++◌, length, ◌⊎◌, ⊤}
 use Rattle.std.proofs.Common.{inl, inr}
 use Rattle.std.specs.Borrow.{MutBor}
@@ -10,7 +10,7 @@ use Rattle.vt_rows.specs.declared.capture.range.BasicFormattedCaptureRange.{Basi
 use Rattle.vt_rows.specs.declared.capture.range.BasicFormattedCaptureRange.TheVariants.{Full, Visible}
 use Rattle.vt_screen.specs.Screen.{ScreenValue, above_page, visible_rows}
 
--- The concatenated basic text of rows, continuing from a capture state.
+-- The text of consecutive rows, with SGR as the only escape sequences, continuing from a capture state.
 abbrev pub basic_texts : Written → List RowValue → List ℕ
 basic_texts written [] = []
 basic_texts written (row ∷ rows) = basic_text written row ++ basic_texts (written_after written row) rows
@@ -45,9 +45,10 @@ abbrev pub IfGiven : RangeLeft → (Written → Type 0) → Type 0
 IfGiven (inl full) P = P full.0.now
 IfGiven (inr visible) P = ⊤
 
--- The sink accepted the complete text of some rows and failed within the nonempty text of the next row. `state` is the
--- capture state after the complete rows.
-pub record StopsBehind (refuses : List ℕ → List ℕ → List ℕ → Type 0) (start : List ℕ) (before : Written)
+-- A sink that contained `start` accepted the complete text of the first rows, possibly none, and failed within the
+-- nonempty text of the next row, after which it contains `text`. `before` is the capture state before the rows, and
+-- `state` is the capture state after the complete rows.
+pub record StopsAfter (refuses : List ℕ → List ℕ → List ℕ → Type 0) (start : List ℕ) (before : Written)
     (rows : List RowValue) (text : List ℕ) (state : Written) : Type 0 where
   pub whole : List RowValue
   pub row : RowValue

@@ -13,12 +13,12 @@ pub record CanShowOn (reader self : ScreenValue) : Type 0 where
   pub size : SamePictureSize (display self) (display reader)
 
 -- The concatenated diffs that lead from the first screen to each screen of the list in turn.
-abbrev pub texts_behind : ScreenValue → List ScreenValue → List ℕ
-texts_behind prev [] = []
-texts_behind prev (x ∷ xs) = display_change prev x ++ texts_behind x xs
+abbrev pub texts_after : ScreenValue → List ScreenValue → List ℕ
+texts_after prev [] = []
+texts_after prev (x ∷ xs) = display_change prev x ++ texts_after x xs
 
 abbrev pub chain_text : ScreenValue → List ScreenValue → List ℕ
-chain_text self nexts = shown_text self ++ texts_behind self nexts
+chain_text self nexts = shown_text self ++ texts_after self nexts
 
 abbrev pub last_screen : ScreenValue → List ScreenValue → ScreenValue
 last_screen self [] = self

@@ -31,14 +31,14 @@ abbrev pub without_line_ends : List ℕ → List ℕ
 without_line_ends [] = []
 without_line_ends (byte ∷ text) = with_byte_before byte (without_line_ends text)
 
--- The text of all displayed rows of a screen.
+-- The text of all displayed rows of a screen, without trailing newlines.
 abbrev pub contents_of : ScreenValue → List ℕ
 contents_of screen = without_line_ends (lines_of screen.page.width false (visible_rows screen))
 
 -- ---- text between two positions
 
--- The part of the text between two positions that comes from the given row. The first row begins at `start_col`, the
--- last row ends at `end_col`, and the rows between them are included in full.
+-- The part of the text between two positions that comes from the given row, including the newline after it, if any. The
+-- first row begins at `start_col`, the last row ends before `end_col`, and the rows between them are included in full.
 abbrev pub part_of : (start_row start_col end_row end_col : ℕ) → ScreenValue → ℕ → List ℕ
 part_of start_row start_col end_row end_col screen r =
     plain_text (if r == start_row then start_col else 0)

@@ -48,12 +48,13 @@ seen_of screen = record { rows = length screen.page.rows; columns = screen.page.
 
 -- ---- numbers in the parameters of control sequences
 
--- The first number of the group at the given index; 0 if there is no such number.
+-- The first number of the parameter at the given index, counted from 0; 0 if there is no such number. Each inner list
+-- is a parameter with its subparameters.
 abbrev pub number_at : ℕ → List (List ℕ) → ℕ
 number_at i groups = slice_index_or (slice_index_or groups i []) 0 0
 
--- `number_or default i groups` is the first number of the group at index `i`, or `default` if that number is 0 or
--- missing.
+-- `number_or default i groups` is the first number of the parameter at index `i` (counted from 0), or `default` if that
+-- number is 0 or missing.
 abbrev pub number_or : ℕ → ℕ → List (List ℕ) → ℕ
 number_or default i groups = if number_at i groups == 0 then default else number_at i groups
 
@@ -62,14 +63,14 @@ intermediate_at i intermediates = slice_get intermediates i
 
 -- ---- the steps of each kind of event
 
--- The steps of a character: U+0080 to U+009F and U+FFFD are reported as unhandled, and all other characters are
--- printed.
+-- The steps that a character causes: U+0080 to U+009F and U+FFFD are reported as unhandled, and all other characters
+-- are printed.
 unfoldable pub character_steps : ℕ → List Step
 character_steps c =
     if (c == 0xFFFD) || (nat_le 0x80 c && nat_le c 0x9F) then CallBack (UnhandledChar c) ∷ [] else Print c ∷ []
 
--- The steps of a control character: BEL, BS, HT, LF, VT, FF and CR are performed, SO and SI are ignored, and all
--- others are reported as unhandled.
+-- The steps that a control character causes: BEL, BS, HT, LF, VT, FF and CR are performed, SO and SI are ignored, and
+-- all others are reported as unhandled.
 unfoldable pub control_steps : ℕ → List Step
 control_steps b =
     if b == 0x07 then CallBack AudibleBell ∷ []
@@ -80,8 +81,9 @@ control_steps b =
     else if (b == 0x0E) || (b == 0x0F) then []
     else CallBack (UnhandledControl b) ∷ []
 
--- The steps of an escape sequence. DECSC, DECRC, DECKPAM, DECKPNM, RI, RIS and the visual bell of GNU Screen (ESC g)
--- are performed; any other sequence is reported as unhandled.
+-- The steps that an escape sequence with the given intermediate bytes and final byte causes. DECSC, DECRC, DECKPAM,
+-- DECKPNM, RI, RIS and the visual bell of GNU Screen (ESC g) are performed; any other sequence is reported as
+-- unhandled.
 unfoldable pub escape_steps : List ℕ → ℕ → List Step
 escape_steps [] b =
     if b == 0x37 then SaveCursor ∷ []
@@ -94,24 +96,25 @@ escape_steps [] b =
     else CallBack (UnhandledEscape None None b) ∷ []
 escape_steps (intermediate ∷ intermediates) b = CallBack (UnhandledEscape (Some intermediate) (intermediate_at 0 intermediates) b) ∷ []
 
--- The steps of one SGR group, given all groups of the sequence and the interpretation of this group.
+-- The steps that one SGR parameter causes, given all parameters of the sequence and the interpretation of this
+-- parameter. An unknown parameter is reported as unhandled.
 abbrev pub reading_steps : List (List ℕ) → Reading → List Step
 reading_steps groups Silent = []
 reading_steps groups (Set setting) = Render setting ∷ []
 reading_steps groups Unhandled = CallBack (UnhandledCsi None None groups 0x6D) ∷ []
 
--- The steps of the remaining groups of an SGR sequence, given all of its groups. The `Wanted` value determines how the
--- first remaining group is interpreted.
+-- The steps that the remaining parameters of an SGR sequence cause, given all of its parameters. The `Wanted` value
+-- determines how the first remaining parameter is interpreted.
 abbrev pub sgr_from : List (List ℕ) → Wanted → List (List ℕ) → List Step
 sgr_from groups wanted [] = []
 sgr_from groups wanted (group ∷ rest) =
     let read = group_read wanted group in reading_steps groups read.reading ++ sgr_from groups read.wanted rest
 
--- The steps of all groups of an SGR sequence.
+-- The steps that an SGR sequence with the given parameters causes.
 abbrev pub sgr_steps : List (List ℕ) → List Step
 sgr_steps groups = sgr_from groups Any groups
 
--- The steps of ED; an unknown parameter is reported as unhandled.
+-- The steps that ED with the given parameter causes; an unknown parameter is reported as unhandled.
 unfoldable pub page_erasing : CallValue → ℕ → List Step
 page_erasing report n =
     if n == 0 then OnPage EraseBelow ∷ []
@@ -120,7 +123,7 @@ page_erasing report n =
     else if n == 3 then EraseScrollback ∷ []
     else CallBack report ∷ []
 
--- The steps of EL; an unknown parameter is reported as unhandled.
+-- The steps that EL with the given parameter causes; an unknown parameter is reported as unhandled.
 unfoldable pub row_erasing : CallValue → ℕ → List Step
 row_erasing report n =
     if n == 0 then OnPage EraseRest ∷ []
@@ -128,8 +131,8 @@ row_erasing report n =
     else if n == 2 then OnPage EraseRow ∷ []
     else CallBack report ∷ []
 
--- The number of rows or columns in a resize request: the number in the group at the given index, or the screen's own
--- number if the request has no such group.
+-- The number of rows or columns in a resize request: the first number of the parameter at index `i` (counted from 0),
+-- or `own`, the screen's current number, if the request has no such parameter.
 abbrev pub size_or : ℕ → ℕ → List (List ℕ) → ℕ
 size_or own i groups = if nat_lt i (length groups) then number_at i groups else own
 
@@ -143,8 +146,8 @@ abbrev pub repeated : ℕ → Option ℕ → List Step
 repeated n (Some c) = replicate n (Print c)
 repeated n None = []
 
--- The step of a control sequence that only changes the page and whose only parameter is a count or a position of at
--- least 1; `None` for any other sequence.
+-- The step that a control sequence with the final byte `b` causes if it only changes the page and has a single
+-- parameter, the count or position `n`, which is at least 1; `None` for any other sequence.
 unfoldable pub counted_step : ℕ → ℕ → Option PageStep
 counted_step b n =
     if b == 0x40 then Some (InsertChars n)
@@ -163,8 +166,8 @@ counted_step b n =
     else if b == 0x64 then Some (Move (ToRow (n - 1)))
     else None
 
--- The steps of CUP, HVP, ED, EL, SGR, DECSTBM and xterm's window manipulation; any other control sequence is reported
--- as unhandled. Rows and columns in the sequences are 1-based.
+-- The steps that CUP, HVP, ED, EL, SGR, DECSTBM and xterm's window manipulation cause; any other control sequence is
+-- reported as unhandled. Rows and columns in the sequences are counted from 1.
 unfoldable pub other_steps : List (List ℕ) → ℕ → Seen → List Step
 other_steps groups b seen =
     if (b == 0x48) || (b == 0x66) then OnPage (Move (To (number_or 1 0 groups - 1) (number_or 1 1 groups - 1))) ∷ []
@@ -175,7 +178,7 @@ other_steps groups b seen =
     else if b == 0x74 then window_steps groups seen
     else CallBack (UnhandledCsi None None groups b) ∷ []
 
--- The steps of SU and REP, which may scroll rows off the page; the steps of any other sequence are those of
+-- The steps that SU and REP cause, which may scroll rows off the page. The steps of any other sequence are those of
 -- `other_steps`.
 unfoldable pub scrolling_steps : List (List ℕ) → ℕ → Seen → List Step
 scrolling_steps groups b seen =
@@ -187,7 +190,7 @@ abbrev pub one_or : Option PageStep → List Step → List Step
 one_or (Some step) others = OnPage step ∷ []
 one_or None others = others
 
--- The steps of a control sequence without a private marker or intermediate bytes.
+-- The steps that a control sequence without a private marker or intermediate bytes causes.
 abbrev pub unmarked_steps : List (List ℕ) → ℕ → Seen → List Step
 unmarked_steps groups b seen = one_or (counted_step b (number_or 1 0 groups)) (scrolling_steps groups b seen)
 
@@ -241,7 +244,7 @@ mode_steps on report [] = []
 mode_steps on report ((n ∷ []) ∷ groups) = mode_step on report n ++ mode_steps on report groups
 mode_steps on report (_ ∷ groups) = CallBack report ∷ mode_steps on report groups
 
--- The steps of a control sequence with the private marker `?`.
+-- The steps that a control sequence with the private marker `?` causes.
 unfoldable pub private_steps : Option ℕ → List (List ℕ) → ℕ → List Step
 private_steps second groups b =
     let report = UnhandledCsi (Some 0x3F) second groups b in
@@ -251,7 +254,7 @@ private_steps second groups b =
     else if b == 0x6C then mode_steps false report groups
     else CallBack report ∷ []
 
--- The steps of a control sequence with a space as its intermediate byte.
+-- The steps that a control sequence with a space as its first intermediate byte causes.
 unfoldable pub space_steps : Option ℕ → List (List ℕ) → ℕ → List Step
 space_steps second groups b =
     if b == 0x71 then style_steps (UnhandledCsi (Some 0x20) second groups b) (style_of (number_at 0 groups))
@@ -277,8 +280,8 @@ is_base64 b =
     (nat_le 0x41 b && nat_le b 0x5A) || ((nat_le 0x61 b && nat_le b 0x7A) || ((nat_le 0x30 b && nat_le b 0x39)
     || ((b == 0x2B) || ((b == 0x2F) || (b == 0x3D)))))
 
--- The steps of a two-part operating system command. OSC 1 sets the icon name, OSC 2 the window title, and OSC 0 both
--- (xterm); any other command is reported as unhandled.
+-- The steps that a two-part operating system command causes. OSC 1 sets the icon name, OSC 2 the window title, and OSC
+-- 0 both (xterm); any other command is reported as unhandled.
 unfoldable pub named_steps : List ℕ → List ℕ → List Step
 named_steps name text =
     if bytes_eq name (codes "0") then CallBack (SetWindowIconName text) ∷ CallBack (SetWindowTitle text) ∷ []
@@ -286,8 +289,8 @@ named_steps name text =
     else if bytes_eq name (codes "2") then CallBack (SetWindowTitle text) ∷ []
     else CallBack (UnhandledOsc (name ∷ text ∷ [])) ∷ []
 
--- The steps of a three-part operating system command. A valid OSC 52 reads or writes a clipboard (xterm); any other
--- command is reported as unhandled.
+-- The steps that a three-part operating system command causes. A valid OSC 52 reads or writes a clipboard (xterm); any
+-- other command is reported as unhandled.
 unfoldable pub clipboard_steps : List ℕ → List ℕ → List ℕ → List Step
 clipboard_steps name kind text =
     let is_known = bytes_eq name (codes "52") && is_clipboard_kind kind in
@@ -295,13 +298,13 @@ clipboard_steps name kind text =
     else if is_known && list_all is_base64 text then CallBack (CopyToClipboard kind text) ∷ []
     else CallBack (UnhandledOsc (name ∷ kind ∷ text ∷ [])) ∷ []
 
--- The steps of an operating system command, given its parts.
+-- The steps that an operating system command with the given parts causes.
 abbrev pub osc_steps : List (List ℕ) → List Step
 osc_steps (name ∷ text ∷ []) = named_steps name text
 osc_steps (name ∷ kind ∷ text ∷ []) = clipboard_steps name kind text
 osc_steps parts = CallBack (UnhandledOsc parts) ∷ []
 
--- The steps of an event, given the parts of the screen that they depend on.
+-- The steps that an event causes, given the parts of the screen that they depend on.
 abbrev pub steps_of : Event → Seen → List Step
 steps_of (Character c) seen = character_steps c
 steps_of (Executed b) seen = control_steps b

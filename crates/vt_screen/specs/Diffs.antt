@@ -1,4 +1,4 @@
--- Diffs with options: whether the diff may move rows and columns, and whether runs may be written with REP.
+-- Diffs with options: whether the diff may move rows and columns, and which characters may be repeated with REP.
 use Rattle.std.specs.Prelude.{◌≡◌, ◌-◌, ℕ, Bool, true, false, List}
 use Rattle.vt_screen.specs.Again.{LeavesPlain}
 use Rattle.vt_screen.specs.MadeOf.{IsMadeOf, drawing_controls, drawing_finals, shortened_controls, shortened_finals}
@@ -7,9 +7,11 @@ use Rattle.vt_screen.specs.Screen.{IsScreen, ScreenValue}
 use Rattle.vt_screen.specs.ShortMoves.{IsShortMoving}
 use Rattle.vt_screen.specs.Shown.{IsPlain, IsReaderOf, display, display_change}
 use Rattle.vt_screen.specs.declared.diff_options.DiffOptions.{DiffOptions}
+use Rattle.vt_screen.specs.declared.repeat.Repeat.{Repeat}
+use Rattle.vt_screen.specs.declared.repeat.Repeat.TheVariants.{Never}
 
--- If `scroll` is true, the output is a diff that may move rows or columns; otherwise, it is the diff that moves no rows
--- or columns.
+-- The output is a diff from the screen `was` to the screen `new`. If `scroll` is true, it may move rows or columns;
+-- otherwise, it is the diff that moves neither.
 abbrev pub IsDiff : (scroll : Bool) → (was new : ScreenValue) → List ℕ → Type 0
 IsDiff true was new text = IsShortMoving (display new) (display was) text
 IsDiff false was new text = text ≡ display_change was new
@@ -25,11 +27,11 @@ abbrev pub diff_controls : (scroll : Bool) → List (List ℕ)
 diff_controls true = shortened_controls
 diff_controls false = drawing_controls
 
--- If `repeat` is true, the output `text` is `plain` with some runs written with REP, for terminals that have the width
--- and the cursor column of the screen `was`; otherwise, `text` equals `plain`.
-abbrev pub MayRepeat : (repeat : Bool) → (was : ScreenValue) → (plain text : List ℕ) → Type 0
-MayRepeat true was plain text = Repeats was.page.width (was.page.width - was.page.column) plain text
-MayRepeat false was plain text = text ≡ plain
+-- The output `text` is `plain` with some runs of repeatable characters written with REP, for terminals that have the
+-- width and the cursor column of the screen `was`. If no character is repeatable, `text` equals `plain`.
+abbrev pub MayRepeat : Repeat → (was : ScreenValue) → (plain text : List ℕ) → Type 0
+MayRepeat Never was plain text = text ≡ plain
+MayRepeat repeat was plain text = Repeats repeat was.page.width (was.page.width - was.page.column) plain text
 
 -- The output is a diff with the given options. It is made from a diff without REP, which contains only drawing
 -- sequences, by writing runs with REP if the options allow it.
@@ -45,6 +47,7 @@ abbrev pub RepeatsOnlyInRows : (was new : ScreenValue) → List ℕ → Type 0
 RepeatsOnlyInRows was new text =
     (reader : ScreenValue) → IsReaderOf (display new) (display was) reader → RepeatsInRows text reader
 
--- The output leaves every plain terminal plain.
+-- Every plain terminal whose screen satisfies the invariant `IsScreen` is plain again after it has read the output, as
+-- `LeavesPlain` describes.
 abbrev pub KeepsScreensPlain : List ℕ → Type 0
 KeepsScreensPlain text = (reader : ScreenValue) → IsScreen reader → IsPlain reader → LeavesPlain text reader

@@ -19,15 +19,15 @@ usual_controls = 0x08 ∷ 0x0A ∷ 0x0D ∷ 0x1B ∷ []
 abbrev pub moving_controls : List ℕ
 moving_controls = 0x09 ∷ usual_controls
 
--- Each character is graphic or one of `controls`, and each ESC is followed by one of `nexts`.
+-- Each character is graphic (as `is_graphic` defines) or one of `controls`, and each ESC is followed by one of `nexts`.
 abbrev pub EscapesOnly : (controls nexts : List ℕ) → List ℕ → Type 0
 EscapesOnly controls nexts [] = ⊤
 EscapesOnly controls nexts (c ∷ rest) =
     ((is_graphic c ≡ true) ⊎ IsOneOf c controls)
     × ((c ≡ 0x1B → BeginsWith nexts rest) × EscapesOnly controls nexts rest)
 
--- The text is the UTF-8 encoding of a list of characters. The only control characters among them are those in `controls`,
--- and each ESC is followed by one of `nexts`.
+-- The text is the UTF-8 encoding of a list of characters. The only control characters among them are those in
+-- `controls`, and each ESC is followed by one of `nexts`.
 pub record HasOnlyControls (controls nexts : List ℕ) (text : List ℕ) : Type 0 where
   pub characters : List ℕ
   pub spelled : text ≡ encode_utf8_all characters

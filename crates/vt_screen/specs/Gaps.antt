@@ -36,8 +36,8 @@ abbrev pub is_narrow_glyph : CellValue → Bool
 is_narrow_glyph (glyph text false attrs) = true
 is_narrow_glyph _ = false
 
--- At every row and column at or after the position, the page has the cell that the given function returns if this cell
--- is a narrow glyph.
+-- At every row and column at or after the position in reading order, if the given function returns a narrow glyph, the
+-- page has that glyph there.
 abbrev pub HasGlyphs : (ℕ → ℕ → CellValue) → Pos → Page → Type 0
 HasGlyphs cells pos page =
     (r c : ℕ) → IsFrom pos r c → is_narrow_glyph (cells r c) ≡ true → cell_at page r c ≡ cells r c
@@ -46,8 +46,8 @@ HasGlyphs cells pos page =
 abbrev pub picture_cell : Picture → ℕ → ℕ → CellValue
 picture_cell picture r c = at (row_of_picture picture r).cells c
 
--- At every row and column at or after the position, the terminal displays the cell that `cells` returns if this cell is
--- a narrow glyph. If `is_default` is true, the terminal has default attributes.
+-- At every row and column at or after the position `pos` in reading order, if `cells` returns a narrow glyph, the
+-- terminal displays that glyph there. If `is_default` is true, the terminal has default attributes.
 pub record StillShows (cells : ℕ → ℕ → CellValue) (is_default : Bool) (pos : Pos) (screen : ScreenValue) : Type 0 where
   pub page : IsPage screen.page
   pub glyphs : HasGlyphs cells pos screen.page
@@ -60,8 +60,8 @@ pub record Tracks (height width : ℕ) (cells : ℕ → ℕ → CellValue) (know
   pub at : IsAt known.at screen
   pub kept : IfSome known.kept (λ pos. StillShows cells known.is_default pos screen)
 
--- On every terminal for which `known` is true, the output `text` has the same effect as the output `old`, and `new` is
--- true afterward. Every other plain terminal stays plain. `text` is not longer than `old`.
+-- On every terminal that is as `known` describes, the output `text` has the same effect as the output `old`, after
+-- which the terminal is as `new` describes. Every other plain terminal stays plain. `text` is not longer than `old`.
 pub record ReplacesTracked (height width : ℕ) (cells : ℕ → ℕ → CellValue) (known new : Known)
     (old text : List ℕ) : Type 0 where
   pub same : (screen : ScreenValue) → Tracks height width cells known screen →
@@ -72,7 +72,8 @@ pub record ReplacesTracked (height width : ℕ) (cells : ℕ → ℕ → CellVal
   pub made : IsMadeOf shortened_finals shortened_controls text
   pub shorter : length text ≤ length old
 
--- The output `text` replaces the output `old` as `ReplacesTracked` describes, whatever is known afterward.
+-- The output `text` replaces the output `old` as `ReplacesTracked` describes, for some description `new` of the
+-- terminal afterward.
 pub record ReplacesWhole (height width : ℕ) (cells : ℕ → ℕ → CellValue) (known : Known)
     (old text : List ℕ) : Type 0 where
   pub new : Known
@@ -105,8 +106,8 @@ IsShortVersion prev old text =
 
 -- ---- elements that are copied unchanged
 
--- If the element prints characters, `known` is not `None`, and printing the given bytes moves the cursor from `known`
--- to `to`, which is in the same row of `cols` columns. For any other element, nothing is required.
+-- If the element prints characters, then `known` is a position, and printing the element, whose bytes are given, moves
+-- the cursor from there to `to` in the same row of `cols` columns. For any other element, nothing is required.
 abbrev pub IsPrinted : (cols : ℕ) → Element → (known : Option Pos) → (bytes : List ℕ) → (to : Pos) → Type 0
 IsPrinted cols element.Ascii known bytes to = (from : Pos) × (known ≡ Some from) × IsAfter cols from (length bytes) to
 IsPrinted cols (element.Other c) known bytes to =
@@ -118,8 +119,9 @@ IsPrinted cols _ known bytes to = Unit {0}
 abbrev pub IsKeptFrom : Known → Pos → Pos → Type 0
 IsKeptFrom known changed pos = (kept : Pos) × (known.kept ≡ Some kept) × IsLater kept changed pos
 
--- After the terminal has read the element, which leaves the cursor at `to`, it still displays its earlier glyphs from
--- the position `pos` on.
+-- After a terminal that is as `known` describes has read the element, which leaves the cursor at `to`, it still
+-- displays its earlier narrow glyphs at and after the position `pos` in reading order. False for elements that move the
+-- cursor without printing and for elements that insert or delete.
 abbrev pub IsKeptAfter : Known → Element → (to : Option Pos) → (pos : Pos) → Type 0
 IsKeptAfter known element.Ascii to pos = (last : Pos) × (to ≡ Some last) × IsKeptFrom known last pos
 IsKeptAfter known (element.Other c) to pos = (last : Pos) × (to ≡ Some last) × IsKeptFrom known last pos
@@ -132,8 +134,8 @@ IsKeptAfter known element.ClearAttrs to pos = known.kept ≡ Some pos
 IsKeptAfter known element.Attrs to pos = known.kept ≡ Some pos
 IsKeptAfter known _ to pos = ⊥
 
--- After the element, the attributes are known to be the default ones; `known` indicates whether this was known before
--- the element.
+-- After the element, the attributes are known to be the defaults; `known` indicates whether this was known before the
+-- element.
 abbrev pub IsDefaultAfter : (known : Bool) → Element → Type 0
 IsDefaultAfter known element.ClearAttrs = Unit {0}
 IsDefaultAfter known element.Attrs = ⊥

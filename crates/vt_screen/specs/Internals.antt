@@ -9,7 +9,7 @@ use Rattle.vt_grid.specs.Scrollback.{Scrollback, IsScrollback, no_scrollback}
 use Rattle.vt_grid.specs.Resize.{page_resized, scrollback_resized}
 use Rattle.vt_grid.specs.Page.{SameSize}
 use Rattle.vt_screen.specs.Calls.{CallValue}
-use Rattle.vt_screen.specs.Capture.{StopsBehind, basic_texts, written_after_all}
+use Rattle.vt_screen.specs.Capture.{StopsAfter, basic_texts, written_after_all}
 use Rattle.vt_screen.specs.Pages.{fresh_page, page_aside, reports_of}
 use Rattle.vt_screen.specs.Screen.{ScreenValue, IsPrintable}
 pub use Rattle.vt_screen.specs.Screen.{IsColoredCell, IsColoredRow, AreColored}
@@ -131,4 +131,4 @@ pub record WritesRows {A E : Type 0} (refuses : List ℕ → List ℕ → List �
     (rows : List RowValue) (result : Result A E) (bytes : List ℕ) (after : Written) : Type 0 where
   pub text : OnOk result (bytes ≡ start ++ basic_texts before rows)
   pub state : OnOk result (after ≡ written_after_all before rows)
-  pub err : OnErr result (StopsBehind refuses start before rows bytes after)
+  pub err : OnErr result (StopsAfter refuses start before rows bytes after)

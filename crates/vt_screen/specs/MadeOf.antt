@@ -89,10 +89,10 @@ input_controls =
 abbrev pub state_controls : List (List ℕ)
 state_controls = input_controls ++ drawing_controls
 
--- The control characters that may occur in captures and plain text, namely newlines.
+-- The fixed sequences that may occur in captures and plain text: only the newline.
 abbrev pub plain_controls : List (List ℕ)
 plain_controls = (0x0A ∷ []) ∷ []
 
--- The final byte of the control sequences that may occur in captures, namely that of SGR.
+-- The final bytes of the control sequences that may occur in captures: only that of SGR.
 abbrev pub capture_finals : List ℕ
 capture_finals = codes "m"

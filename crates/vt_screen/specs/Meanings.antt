@@ -5,7 +5,7 @@ use Rattle.vt_screen.specs.Calls.{CallValue}
 use Rattle.vt_screen.specs.declared.callbacks.Call.{Call}
 use Rattle.vt_screen.specs.declared.callbacks.Call.TheVariants as call
 
--- The value of a call to a callback, including the values of the call's arguments.
+-- The model value that represents a call to a callback and its arguments.
 abbrev pub call_of : Call → CallValue
 call_of call.AudibleBell = value.AudibleBell
 call_of call.VisualBell = value.VisualBell

@@ -68,7 +68,7 @@ main_page screen = if screen.is_alternate then page_aside screen else screen.pag
 abbrev pub alternate_page : ScreenValue → Option Page
 alternate_page screen = if screen.is_alternate then Some screen.page else screen.other
 
--- The scrollback of the inactive page.
+-- The scrollback of the inactive page; the alternate page has no scrollback.
 abbrev pub above_aside : ScreenValue → Scrollback
 above_aside screen = if screen.is_alternate then screen.scrollback else no_scrollback 0
 

@@ -9,8 +9,10 @@ use Rattle.vt_scan.specs.Run.{run}
 use Rattle.vt_scan.specs.Texts.{IsParameterText}
 use Rattle.vt_screen.specs.CallsOfRun.{screen_in}
 use Rattle.vt_screen.specs.Internals.{IsSized}
-use Rattle.vt_screen.specs.Repeating.{HasNoRepeat, HasRuns, IsNarrow, IsReaderWithRoom, ReadsAlike, Repeats, RepeatsInRows, copies, repeat_text}
+use Rattle.vt_screen.specs.Repeating.{HasNoRepeat, HasRuns, IsNarrow, IsReaderWithRoom, IsRepeatable, ReadsAlike}
+use Rattle.vt_screen.specs.Repeating.{Repeats, RepeatsInRows, copies, repeat_text}
 use Rattle.vt_screen.specs.Screen.{IsScreen, ScreenValue}
+use Rattle.vt_screen.specs.declared.repeat.Repeat.{Repeat}
 use Rattle.vt_screen.specs.declared.repeats.Skipped.{Skipped}
 
 -- At least `room` columns lie between the cursor and the end of the row. If `room` is 0, nothing is known about the
@@ -32,11 +34,12 @@ pub record Skips (width room : ℕ) (bytes : List ℕ) (skipped : Skipped) : Typ
   pub inside : skipped.len ≤ length bytes
   pub keeps : KeepsRoom width room skipped.room (take skipped.len bytes)
 
--- The text begins with a run: one character followed by `count` more copies of it. `front` is that character, and
--- `back` follows the run. Of the `room` columns left in the cursor's row, `left` columns remain after the run.
-pub record BeginsRun (room : ℕ) (text front : List ℕ) (count left : ℕ) (back : List ℕ) : Type 0 where
+-- The text begins with a run: one repeatable character followed by `count` more copies of it. `front` is that character,
+-- and `back` follows the run. Of the `room` columns left in the cursor's row, `left` columns remain after the run.
+pub record BeginsRun (repeat : Repeat) (room : ℕ) (text front : List ℕ) (count left : ℕ) (back : List ℕ) : Type 0 where
   pub character : ℕ
   pub narrow : IsNarrow character
+  pub repeatable : IsRepeatable repeat character
   pub whole : text ≡ copies (suc count) character ++ back
   pub first : front ≡ encode_utf8 character
   pub room_is : suc count + left ≡ room
@@ -44,13 +47,14 @@ pub record BeginsRun (room : ℕ) (text front : List ℕ) (count left : ℕ) (ba
   pub fits : count ≤ 65535
   pub utf8 : IsUtf8 back
 
--- The text consists of `before`, a run, and `back`; `front` is `before` followed by the first character of the run, and
--- `count` more copies of this character follow. If at least `room` columns were left in the cursor's row before the
--- text, at least `left` columns remain after the run.
-pub record Finds (width room : ℕ) (text front : List ℕ) (count left : ℕ) (back : List ℕ) : Type 0 where
+-- The text consists of `before`, a run of a repeatable character, and `back`; `front` is `before` followed by the first
+-- character of the run, and `count` more copies of this character follow. If at least `room` columns were left in the
+-- cursor's row before the text, at least `left` columns remain after the run.
+pub record Finds (repeat : Repeat) (width room : ℕ) (text front : List ℕ) (count left : ℕ) (back : List ℕ) : Type 0 where
   pub before : List ℕ
   pub character : ℕ
   pub narrow : IsNarrow character
+  pub repeatable : IsRepeatable repeat character
   pub whole : text ≡ before ++ (copies (suc count) character ++ back)
   pub first : front ≡ before ++ encode_utf8 character
   pub keeps : KeepsRoom width room (suc count + left) before
@@ -70,16 +74,17 @@ pub record BeginsWithVisibility (bytes : List ℕ) : Type 0 where
   pub inside : 6 ≤ length bytes
   pub is : (take 6 bytes ≡ bytes_of (Hide false)) ⊎ (take 6 bytes ≡ bytes_of (Hide true))
 
--- The output `text` is `plain` with some runs written with REP. If at least `room` columns were left in the cursor's
--- row before the output, at least `left` columns remain after it.
-pub record Shortens (width room left : ℕ) (plain text : List ℕ) : Type 0 where
-  pub runs : HasRuns plain text
+-- The output `text` is `plain` with some runs of repeatable characters written with REP. If at least `room` columns were
+-- left in the cursor's row before the output, at least `left` columns remain after it.
+pub record Shortens (repeat : Repeat) (width room left : ℕ) (plain text : List ℕ) : Type 0 where
+  pub runs : HasRuns repeat plain text
   pub keeps : KeepsRoom width room left plain
   pub same : (reader : ScreenValue) → IsScreen reader → ReadsAlike plain text reader
   pub rows : HasNoRepeat plain → (reader : ScreenValue) → IsReaderWithRoom width room reader → RepeatsInRows text reader
 
--- The text `new` is `start` followed by `plain` with some runs written with REP, as `Repeats` describes.
-pub record AppendsRepeating (start new : List ℕ) (width room : ℕ) (plain : List ℕ) : Type 0 where
+-- The text `new` is `start` followed by `plain` with some runs of repeatable characters written with REP, as `Repeats`
+-- describes.
+pub record AppendsRepeating (repeat : Repeat) (start new : List ℕ) (width room : ℕ) (plain : List ℕ) : Type 0 where
   pub added : List ℕ
   pub bytes : new ≡ start ++ added
-  pub repeats : Repeats width room plain added
+  pub repeats : Repeats repeat width room plain added

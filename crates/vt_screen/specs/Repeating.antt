@@ -13,6 +13,8 @@ use Rattle.vt_screen.specs.CallsOfRun.{screen_after_all, steps_in}
 use Rattle.vt_screen.specs.Controls.{number_or, seen_of, steps_of}
 use Rattle.vt_screen.specs.Reading.{terminal, terminal_after}
 use Rattle.vt_screen.specs.Screen.{IsScreen, ScreenValue}
+use Rattle.vt_screen.specs.declared.repeat.Repeat.{Repeat}
+use Rattle.vt_screen.specs.declared.repeat.Repeat.TheVariants.{Never, Ascii, Any}
 
 -- ---- the output
 
@@ -25,6 +27,12 @@ pub record IsNarrow (c : ℕ) : Type 0 where
   pub drawn : IsDrawn c
   pub columns : columns_of c ≡ Some 1
 
+-- The character is repeatable: REP may repeat no character, only printable ASCII characters, or every character.
+abbrev pub IsRepeatable : Repeat → (c : ℕ) → Type 0
+IsRepeatable Never c = ⊥
+IsRepeatable Ascii c = (0x20 ≤ c) × (c < 0x7F)
+IsRepeatable Any c = Unit {0}
+
 -- The UTF-8 encoding of `count` copies of the character `c`.
 abbrev pub copies : (count c : ℕ) → List ℕ
 copies count c = encode_utf8_all (replicate count c)
@@ -35,9 +43,10 @@ pub record Run : Type 0 where
   pub character : ℕ
   pub count : ℕ
 
--- The run's character is printed in one column, and REP is shorter than the copies that it replaces.
-pub record IsShortened (run : Run) : Type 0 where
+-- The run's character is repeatable and printed in one column, and REP is shorter than the copies that it replaces.
+pub record IsShortened (repeat : Repeat) (run : Run) : Type 0 where
   pub narrow : IsNarrow run.character
+  pub repeatable : IsRepeatable repeat run.character
   pub shorter : length (repeat_text run.count) < length (copies run.count run.character)
 
 -- The part of the output that a `Run` describes, with the run written out in full.
@@ -48,19 +57,19 @@ full_text run = run.before ++ copies (suc run.count) run.character
 abbrev pub short_text : Run → List ℕ
 short_text run = run.before ++ (encode_utf8 run.character ++ repeat_text run.count)
 
--- The output `text` is the output `plain` in which some runs are written with REP. All else is the same.
-pub record HasRuns (plain text : List ℕ) : Type 0 where
+-- The output `text` is the output `plain` in which some runs of repeatable characters are written with REP. Everything
+-- else in the output is unchanged.
+pub record HasRuns (repeat : Repeat) (plain text : List ℕ) : Type 0 where
   pub runs : List Run
   pub rest : List ℕ
-  pub are_shortened : AllByRecursion IsShortened runs
+  pub are_shortened : AllByRecursion (IsShortened repeat) runs
   pub in_full : plain ≡ flat_map full_text runs ++ rest
   pub in_short : text ≡ flat_map short_text runs ++ rest
 
 -- ---- the effect of reading the output
 
--- A terminal in ground state takes the same steps for both outputs and ends in the same state. If it reads one of the
--- outputs without invoking callbacks, allocating, or scrolling rows off the page, it reads both outputs without doing
--- so.
+-- A terminal in ground state takes the same steps for both outputs and ends in the same state. If reading one of the
+-- outputs invokes no callbacks, allocates nothing and scrolls no rows off the page, the same is true of the other.
 pub record ReadsAlike (plain text : List ℕ) (reader : ScreenValue) : Type 0 where
   pub state : (run start text).state ≡ (run start plain).state
   pub steps : steps_in start reader text ≡ steps_in start reader plain
@@ -71,8 +80,8 @@ abbrev pub repetitions : Event → ℕ
 repetitions (CsiDispatch groups [] b) = if b == 0x62 then number_or 1 0 groups else 0
 repetitions _ = 0
 
--- Each REP among the events finds enough columns left in the cursor's row for all its characters, so that none of them
--- wraps to the next row. The given screen is the one before the first event.
+-- For each REP among the events, enough columns are left in the cursor's row for all repeated characters, so that none
+-- of them wraps to the next row. The given screen is the one before the first event.
 abbrev pub RepeatInRows : List Event → ScreenValue → Type 0
 RepeatInRows [] screen = Unit {0}
 RepeatInRows (event ∷ events) screen =
@@ -94,11 +103,11 @@ pub record IsReaderWithRoom (width room : ℕ) (reader : ScreenValue) : Type 0 w
   pub width_is : reader.page.width ≡ width
   pub columns : 0 < room → reader.page.column + room ≤ width
 
--- The output `text` is `plain` with some runs written with REP; it is not longer and has the same effect on every
--- terminal in ground state. If `plain` contains no REP, each REP in `text` repeats its character only within the
--- cursor's row on terminals with `width` columns, at least `room` of which are left in that row.
-pub record Repeats (width room : ℕ) (plain text : List ℕ) : Type 0 where
-  pub runs : HasRuns plain text
+-- The output `text` is `plain` with some runs of repeatable characters written with REP; it is not longer and has the
+-- same effect on every terminal in ground state. If `plain` contains no REP, each REP in `text` repeats its character
+-- only within the cursor's row on terminals with `width` columns, at least `room` of which are left in that row.
+pub record Repeats (repeat : Repeat) (width room : ℕ) (plain text : List ℕ) : Type 0 where
+  pub runs : HasRuns repeat plain text
   pub same : (reader : ScreenValue) → IsScreen reader → ReadsAlike plain text reader
   pub rows : HasNoRepeat plain → (reader : ScreenValue) → IsReaderWithRoom width room reader → RepeatsInRows text reader
   pub shorter : length text ≤ length plain

@@ -33,7 +33,7 @@ abbrev pub changed_text : (start stop : ℕ) → (picture prev : Picture) → �
 changed_text start stop picture prev r =
     bytes_of_all (item_of_difference r start stop (row_of_picture picture r) (row_of_picture prev r)).ops
 
--- The outputs for the rows from row `r` to the last one, given a function from a row's index to the row's output.
+-- The outputs for the rows `r` to `height - 1`, given a function from a row's index to the row's output.
 abbrev pub texts_from : (ℕ → List ℕ) → (r height : ℕ) → List (List ℕ)
 texts_from text r height = map text (range_with_len r (height - r))
 
@@ -83,8 +83,8 @@ pub record IsWrapReader (picture : Picture) (r : ℕ) (reader : ScreenValue) : T
 
 -- ---- the effect of a row's output on the terminals that read it
 
--- In the columns `start..stop`, row `r` has the cells of the row `shows`. All other cells and the wrapped flags of all
--- other rows are unchanged.
+-- In the columns `start..stop`, row `r` has the cells of the row `shows`; its other cells are unchanged. All other rows
+-- are unchanged, including whether they are wrapped.
 pub record HasRange (start stop r : ℕ) (shows : RowValue) (reader after : ScreenValue) : Type 0 where
   pub cells : (row_at after.page r).cells ≡ with_range start stop shows.cells (row_at reader.page r).cells
   pub others : (k : ℕ) → k ≢ r → row_at after.page k ≡ row_at reader.page k

@@ -58,7 +58,8 @@ Performs does a event b = FoldsTo (Takes does) a (steps_of event (seen_of a.scre
 abbrev pub Refuses : {S : Type 0} → State S → Step → State S → Type 0
 Refuses a step b = Grows step a.screen × (b ≡ a)
 
--- The items of a prefix of the list take effect in order, and the next item fails.
+-- The first items of the list, possibly none, take effect in order as `takes` describes, and the next item fails as
+-- `refuses` describes.
 abbrev pub StopsIn : {P A : Type 0} → (P → A → P → Type 0) → (P → A → P → Type 0) → P → List A → P → Type 0
 StopsIn takes refuses p [] q = ⊥
 StopsIn {P} takes refuses p (x ∷ xs) q =

@@ -78,8 +78,9 @@ visible_rows screen = visible (above_page screen) screen.page.rows
 abbrev pub visible_row : ScreenValue → ℕ → RowValue
 visible_row screen r = row_or screen.page.width (visible_rows screen) r
 
--- The screen after its scrollback offset is set to the given number, clamped to the number of scrollback rows. The
--- screen is unchanged while its alternate page is active, because that page has no scrollback.
+-- The screen after its scrollback offset is set to the given number, clamped to the number of scrollback rows. Rows of
+-- scrollback that are then displayed are extended to the screen's width. The screen is unchanged while its alternate
+-- page is active, because that page has no scrollback.
 abbrev pub scrolled_back : ℕ → ScreenValue → ScreenValue
 scrolled_back n screen =
     if screen.is_alternate then screen

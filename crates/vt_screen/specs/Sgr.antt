@@ -1,5 +1,5 @@
--- The interpretation of SGR, one group of parameters at a time (ECMA-48, and xterm for extended colors). A group sets
--- an attribute, begins or continues an extended color, or is unknown.
+-- The interpretation of SGR, one group (a parameter with its subparameters) at a time (ECMA-48, and xterm for extended
+-- colors). A group sets an attribute, begins or continues an extended color, or is unknown.
 use Rattle.std.specs.Prelude.{ℕ, ◌-◌, ◌==◌, ◌&&◌, nat_lt, true, false, List, [], ◌∷◌, if◌then◌else◌}
 use Rattle.vt_cells.specs.Attrs.{default_attrs, Attrs}
 use Rattle.vt_cells.specs.declared.attrs.Intensity.TheVariants.{Normal, Bold, Dim}
@@ -36,7 +36,7 @@ silent_read wanted = record { reading = Silent; wanted = wanted }
 abbrev pub set : Setting → GroupRead
 set setting = record { reading = Set setting; wanted = Any }
 
--- The interpretation of an SGR group that is a single number: a setting, the beginning of an extended color, or
+-- The interpretation of an SGR parameter without subparameters: a setting, the beginning of an extended color, or
 -- unknown.
 unfoldable pub number_read : ℕ → GroupRead
 number_read n =
@@ -60,31 +60,31 @@ number_read n =
     else if is_within 100 107 n then set (Background (Idx (n - 92)))
     else record { reading = Unhandled; wanted = Any }
 
--- The interpretation of an RGB color given by a single SGR group. If a component is above 255, the rest of the sequence
--- is ignored.
+-- The interpretation of an RGB color given by a single SGR parameter with subparameters. If a component is above 255,
+-- the rest of the sequence is ignored.
 unfoldable pub rgb_read : Layer → ℕ → ℕ → ℕ → GroupRead
 rgb_read layer r g b =
     if nat_lt r 256 && (nat_lt g 256 && nat_lt b 256) then set (color_setting layer (Rgb r g b)) else silent_read Stopped
 
--- The interpretation of a palette index given by a single SGR group. If the index is above 255, the rest of the
--- sequence is ignored.
+-- The interpretation of a palette index given by a single SGR parameter with subparameters. If the index is above 255,
+-- the rest of the sequence is ignored.
 unfoldable pub index_read : Layer → ℕ → GroupRead
 index_read layer i = if nat_lt i 256 then set (color_setting layer (Idx i)) else silent_read Stopped
 
 abbrev pub unhandled_read : GroupRead
 unhandled_read = record { reading = Unhandled; wanted = Any }
 
--- The interpretation of an SGR group of three numbers, which sets a palette color if the second number is 5 and is
--- unknown otherwise.
+-- The interpretation of an SGR parameter of three numbers, which sets a palette color if the second number, `form`, is
+-- 5 and is unknown otherwise.
 abbrev pub three_read : Layer → ℕ → ℕ → GroupRead
 three_read layer form i = if form == 5 then index_read layer i else unhandled_read
 
--- The interpretation of an SGR group of five numbers, which sets an RGB color if the second number is 2 and is unknown
--- otherwise.
+-- The interpretation of an SGR parameter of five numbers, which sets an RGB color if the second number, `form`, is 2
+-- and is unknown otherwise.
 abbrev pub five_read : Layer → ℕ → ℕ → ℕ → ℕ → GroupRead
 five_read layer form r g b = if form == 2 then rgb_read layer r g b else unhandled_read
 
--- The interpretation of an SGR group that does not continue an extended color.
+-- The interpretation of an SGR parameter with its subparameters, if it does not continue an extended color.
 unfoldable pub setting_read : List ℕ → GroupRead
 setting_read (n ∷ []) = number_read n
 setting_read (n ∷ form ∷ i ∷ []) =
@@ -93,8 +93,8 @@ setting_read (n ∷ form ∷ r ∷ g ∷ b ∷ []) =
     if n == 38 then five_read Front form r g b else if n == 48 then five_read Back form r g b else unhandled_read
 setting_read _ = unhandled_read
 
--- The interpretation of an SGR group as the kind of an extended color, which is the single number 2 or 5. Any other
--- group is reported as unhandled, and the rest of the sequence is ignored.
+-- The interpretation of an SGR parameter as the format of an extended color, which is the single number 2 (RGB) or 5
+-- (palette). Any other parameter is reported as unhandled, and the rest of the sequence is ignored.
 unfoldable pub form_read : Layer → List ℕ → GroupRead
 form_read layer (n ∷ []) =
     if n == 2 then silent_read (Red layer)
@@ -102,13 +102,14 @@ form_read layer (n ∷ []) =
     else record { reading = Unhandled; wanted = Stopped }
 form_read layer _ = record { reading = Unhandled; wanted = Stopped }
 
--- The interpretation of an SGR group as a palette index or an RGB component: a single number up to 255 is passed to the
--- given function. After any other group, the rest of the sequence is ignored.
+-- The interpretation of an SGR parameter as a palette index or an RGB component: a single number up to 255 is passed to
+-- the given function. After any other parameter, the rest of the sequence is ignored.
 abbrev pub part_read : List ℕ → (ℕ → GroupRead) → GroupRead
 part_read (n ∷ []) next = if nat_lt n 256 then next n else silent_read Stopped
 part_read _ next = silent_read Stopped
 
--- The interpretation of an SGR group, given which part of an extended color, if any, must come next.
+-- The interpretation of an SGR parameter with its subparameters, given which part of an extended color, if any, must
+-- come next.
 unfoldable pub group_read : Wanted → List ℕ → GroupRead
 group_read Any group = setting_read group
 group_read (Form layer) group = form_read layer group

@@ -99,20 +99,21 @@ pub record IsShortMoving (self prev : Picture) (text : List ℕ) : Type 0 where
 
 -- ---- the elements of the output
 
--- SGR handles all of the given numbers, taken as groups of one number each. The `Wanted` value determines how the first
--- group is interpreted.
+-- None of the given numbers, each of which is an SGR parameter without subparameters, is reported as unhandled. The
+-- `Wanted` value determines how the first number is interpreted.
 abbrev pub AreHandled : Wanted → List ℕ → Type 0
 AreHandled wanted [] = Unit {0}
 AreHandled wanted (n ∷ ns) =
     ((group_read wanted (n ∷ [])).reading ≢ Unhandled) × AreHandled (group_read wanted (n ∷ [])).wanted ns
 
--- SGR handles the number as a group that is interpreted according to `wanted`, and `next` specifies how the next group
--- is interpreted.
+-- The number, as an SGR parameter that is interpreted according to `wanted`, is not reported as unhandled, and `next`
+-- specifies how the next parameter is interpreted.
 abbrev pub IsWantedNext : Wanted → ℕ → Wanted → Type 0
 IsWantedNext wanted n next =
     ((group_read wanted (n ∷ [])).reading ≢ Unhandled) × (next ≡ (group_read wanted (n ∷ [])).wanted)
 
--- The text consists of at least one and at most `most` numbers joined by `;`, all of which SGR handles.
+-- The text consists of at least one and at most `most` numbers joined by `;`, each below 65536. SGR reports none of
+-- them as unhandled if the first is interpreted according to `wanted`.
 pub record IsSgrText (most : ℕ) (wanted : Wanted) (text : List ℕ) : Type 0 where
   pub first : ℕ
   pub rest : List ℕ
@@ -125,7 +126,7 @@ pub record IsSgrText (most : ℕ) (wanted : Wanted) (text : List ℕ) : Type 0 w
 abbrev pub IsAsciiCharacter : ℕ → Type 0
 IsAsciiCharacter b = (0x20 ≤ b) × (b < 0x7F)
 
--- The bytes are an element of the given kind.
+-- The bytes encode the given element of drawing output.
 abbrev pub IsElement : Element → List ℕ → Type 0
 IsElement element.Ascii bytes = AllByRecursion IsAsciiCharacter bytes
 IsElement (element.Other c) bytes = IsDrawn c × (bytes ≡ encode_utf8 c)
@@ -180,7 +181,8 @@ IsLastPart (last.Column target) = target < 65535
 abbrev pub IsLast : (width : ℕ) → Last → (col after : ℕ) → Type 0
 IsLast width part col after = IsLastPart part × (after ≡ column_after_last width part col)
 
--- The column after a tab: the next one that is a multiple of 8, or the last column if there is none (HT).
+-- The column to which HT moves the cursor from the given column: the next multiple of 8, or the last column if the next
+-- multiple is past it.
 abbrev pub next_stop : (width : ℕ) → ℕ → ℕ
 next_stop width col = min ((col / 8 + 1) * 8) (width - 1)
 
@@ -212,6 +214,6 @@ route_text route =
     replicate route.feeds 0x0A ++ ((if route.returns then 0x0D ∷ [] else [])
     ++ (replicate route.tabs 0x09 ++ last_text route.last))
 
--- CUP without a column: moves the cursor to the first column of the row, counted from 0.
+-- CUP without a column, which moves the cursor to the first column of the given row (counted from 0).
 abbrev pub row_start_text : ℕ → List ℕ
 row_start_text row = csi (decimal (row + 1)) 0x48

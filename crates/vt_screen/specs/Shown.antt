@@ -41,8 +41,8 @@ pub record IsPlain (screen : ScreenValue) : Type 0 where
   pub page : IsPlainPage screen.page
   pub offset : (above_page screen).offset ≡ 0
 
--- The given terminal after its display is replaced with a picture, and its saved state and last printed character with
--- the given ones. All other parts are unchanged.
+-- The terminal `reader` with the given picture as its display, and with the given saved state and last printed
+-- character. All other parts are unchanged.
 abbrev pub reader_with_display : Picture → Saved → Option ℕ → ScreenValue → ScreenValue
 reader_with_display picture saved last reader =
     record (with_canvas (with_saved saved (with_picture picture (canvas_of reader))) reader) { last = last }

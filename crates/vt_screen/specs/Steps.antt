@@ -22,7 +22,7 @@ pub data Step : Type 0 where
   Print : (c : ℕ) → Step
   LineFeed : Step
   ScrollUp : (count : ℕ) → Step
-  -- Takes a page step, which changes only the active page.
+  -- A page step, which changes only the active page.
   OnPage : PageStep → Step
   SaveCursor : Step
   RestoreCursor : Step
@@ -44,8 +44,8 @@ pub data Step : Type 0 where
 
 -- ---- the screen after a step, except for its scrollback; `screen_after` includes the scrollback
 
--- Whether a printed character that occupies the given number of columns becomes the last printed character: it occupies
--- at least one column and is not wider than the page.
+-- Whether a printed character that occupies the given number of columns becomes the last printed character, that is,
+-- whether it occupies at least one column and is not wider than the page.
 abbrev pub becomes_last : ScreenValue → Option ℕ → Bool
 becomes_last screen None = false
 becomes_last screen (Some columns) = nat_lt 0 columns && nat_le columns screen.page.width
@@ -53,7 +53,8 @@ becomes_last screen (Some columns) = nat_lt 0 columns && nat_le columns screen.p
 abbrev pub last_after : ℕ → ScreenValue → Option ℕ
 last_after c screen = if becomes_last screen (columns_of c) then Some c else screen.last
 
--- The screen after a step, except for what the step does to scrollback.
+-- The screen after a step, except that rows that scroll off are not added to scrollback and `EraseScrollback` has no
+-- effect.
 abbrev pub display_after : Step → ScreenValue → ScreenValue
 display_after (Print c) screen = record screen { page = page_after_print c screen.attrs screen.page; last = last_after c screen }
 display_after LineFeed screen = with_page (line_feed screen.page) screen
@@ -88,7 +89,7 @@ screen_after_scrolling_step step screen =
     else record (display_after step screen)
     { scrollback = scrollback_after_push (length screen.page.rows) screen.page.width (rows_scrolled_off step screen) screen.scrollback }
 
--- The screen after a step.
+-- The screen after a step, including its scrollback.
 abbrev pub screen_after : Step → ScreenValue → ScreenValue
 screen_after (Print c) screen = screen_after_scrolling_step (Print c) screen
 screen_after LineFeed screen = screen_after_scrolling_step LineFeed screen

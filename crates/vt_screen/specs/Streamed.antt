@@ -19,7 +19,7 @@ AreSameTrimmed rows others = map trimmed_row rows ≡ map trimmed_row others
 
 -- ---- the rows that calls report
 
--- The row of the main page that a call to a callback reports, if any.
+-- The row of the main page that a call to `on_scroll` reports, as a list of one row; empty for any other call.
 abbrev pub row_of_call : CallValue → List RowValue
 row_of_call (OnScroll row false) = row ∷ []
 row_of_call _ = []
@@ -44,7 +44,7 @@ sent_off_in scan screen bytes = sent_off_all (steps_in scan screen bytes) screen
 
 -- ---- preconditions
 
--- The event of RIS (full reset).
+-- The event that the escape sequence RIS (full reset) produces.
 abbrev pub ris : Event
 ris = EscDispatch [] 0x63
 

@@ -51,8 +51,8 @@ RestTouches May page = (page.column == page.width) ≡ false → Changes May pag
 abbrev pub StartTouches : (ℕ → ℕ → Type 0) → Page → Type 0
 StartTouches May page = Changes May 0 (min (page.column + 1) page.width) page
 
--- The given predicate holds for every position that a step of the page touches. A step that moves cells or rows touches
--- all positions; a step that only moves the cursor or changes a setting touches none.
+-- The given predicate holds for every position that a page step touches. A step that moves cells or rows touches all
+-- positions; a step that only moves the cursor or changes a setting touches none.
 abbrev pub PageStepTouches : (ℕ → ℕ → Type 0) → PageStep → Page → Type 0
 PageStepTouches May EraseBelow page =
     RestTouches May page × TouchesRows May (page.row + 1) (length page.rows) page
@@ -109,8 +109,8 @@ ReadTouches May t (b ∷ bytes) =
     EventsTouch May (step_in t.scan.kind t.scan.collected b).events t.screen
     × ((u : Terminal) → read_byte t b ≡ Some u → ReadTouches May u bytes)
 
--- A terminal in ground state that has the given property touches only positions that satisfy the given predicate when
--- it reads the output.
+-- While a terminal in ground state with the given property reads the output, it touches only positions that satisfy the
+-- given predicate.
 abbrev pub TouchesOnly : (ScreenValue → Type 0) → List ℕ → (ℕ → ℕ → Type 0) → Type 0
 TouchesOnly Reader text May = (reader : ScreenValue) → Reader reader → ReadTouches May (terminal start reader) text
 

@@ -39,8 +39,8 @@ pub enum Call<'a> {
     /// intermediate bytes and the final byte.
     UnhandledEscape(Option<u8>, Option<u8>, u8),
 
-    /// A call to [`Callbacks::unhandled_csi`], with the first two of the private marker and
-    /// intermediate bytes, the parameter groups and the final byte.
+    /// A call to [`Callbacks::unhandled_csi`], with the private marker and the intermediate bytes
+    /// (only the first two of these), the parameters, and the final byte.
     UnhandledCsi(Option<u8>, Option<u8>, &'a [&'a [u16]], char),
 
     /// A call to [`Callbacks::unhandled_osc`], with the parts of the command.
@@ -118,7 +118,7 @@ pub trait Callbacks {
     /// would have no effect, so the terminal may skip it and the work of preparing the row.
     ///
     /// The terminal calls this method only when rows scroll off a page that keeps no scrollback;
-    /// otherwise, it calls `on_scroll` without asking. By default, all rows are wanted.
+    /// otherwise, it calls `on_scroll` without asking. The default implementation returns `true`.
     fn wants_rows(&self) -> bool
         ensures { result ≡ false → (row : RowValue) (alternate : Bool) (screen : ScreenValue) →
             does (calls.OnScroll row alternate) self.now screen self.now screen }
@@ -190,7 +190,7 @@ pub trait Callbacks {
     }
 
     /// Called for a character that is not printed: U+FFFD, which replaces malformed UTF-8 (Unicode
-    /// Standard, section 3.9, Table 3-7), or one of U+0080 to U+009F, the C1 controls (ECMA-48).
+    /// Standard, section 3.9, Table 3-7), or a C1 control, U+0080 to U+009F (ECMA-48).
     fn unhandled_char(&mut self, screen: &mut Screen, code: char)
         ensures { does (calls.UnhandledChar code) self.old screen.old self.new screen.new }
     {
@@ -222,14 +222,14 @@ pub trait Callbacks {
         self.otherwise(screen, Call::UnhandledEscape(first, second, byte));
     }
 
-    /// Called for an unknown control sequence (ECMA-48), and for each unknown
-    /// SGR setting and each unknown private mode.
+    /// Called for an unknown control sequence (ECMA-48), and for each unknown SGR setting and each
+    /// unknown private mode.
     ///
-    /// `first` and `second` are the first two of the sequence's private marker
-    /// and intermediate bytes, `groups` holds its first 32 numbers, arranged in
-    /// groups, and `byte` is its final byte. If the first intermediate byte is
-    /// a space, `first` and `second` are `None` unless the final byte is `q`
-    /// (DECSCUSR).
+    /// `first` and `second` hold the private marker and the intermediate bytes, in order. Only the
+    /// first two of these bytes are passed, and a missing byte is `None`. `groups` holds the first
+    /// 32 numbers of the sequence: each inner slice is a parameter with its subparameters. `byte`
+    /// is the final byte. If the first intermediate byte is a space, `first` and `second` are
+    /// `None` unless the final byte is `q` (DECSCUSR).
     fn unhandled_csi(
         &mut self,
         screen: &mut Screen,
@@ -244,8 +244,8 @@ pub trait Callbacks {
         self.otherwise(screen, Call::UnhandledCsi(first, second, groups, byte));
     }
 
-    /// Called for an unknown operating system command (ECMA-48), with the parts
-    /// between its semicolons. Only the first 16 parts are passed.
+    /// Called for an unknown operating system command (ECMA-48), with its parts, which are
+    /// separated by semicolons. Only the first 16 parts are passed.
     fn unhandled_osc(&mut self, screen: &mut Screen, parts: &[&[u8]])
         ensures { does (calls.UnhandledOsc (map (λ part. part.now) parts.now)) self.old screen.old self.new screen.new }
     {

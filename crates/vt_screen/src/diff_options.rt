@@ -1,8 +1,11 @@
 //! Options for diffs.
 
 ghost use Rattle.std.specs.Prelude.{◌≡◌, false};
+ghost use Rattle.vt_screen.specs.declared.repeat.Repeat.TheVariants.{Never};
 
-/// Options that allow a diff to move rows or columns, or to write runs with REP.
+use crate::repeat::Repeat;
+
+/// Options that allow a diff to move rows or columns, or to write runs of a character with REP.
 ///
 /// By default, neither is allowed: `Screen::contents_diff_with` then returns what
 /// `Screen::contents_diff` returns.
@@ -12,18 +15,17 @@ pub struct DiffOptions {
     /// `Screen::contents_diff_scrolling` does.
     pub scroll: bool,
 
-    /// Whether runs of a one-column character may be written with REP
-    /// (ECMA-48, 8.3.103). Some terminals ignore REP.
-    pub repeat: bool,
+    /// The characters whose runs may be written with REP (ECMA-48, 8.3.103).
+    pub repeat: Repeat,
 }
 
 impl Default for DiffOptions {
     fn default() -> Self
-        ensures { result ≡ record { scroll = false; repeat = false } }
+        ensures { result ≡ record { scroll = false; repeat = Never } }
     {
         DiffOptions {
             scroll: false,
-            repeat: false,
+            repeat: Repeat::Never,
         }
     }
 }

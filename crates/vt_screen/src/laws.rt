@@ -23,15 +23,13 @@ ghost use Rattle.vt_screen.specs.Steps.{EraseScrollback, screen_after};
 ghost use Rattle.vt_screen.specs.Streamed.{AreSameTrimmed, HasNoRis, HasWideFlags, without_scrollback, rows_of_calls, sent_off_in};
 ghost use Rattle.vt_screen.specs.CallsOfRun.{calls_in, screen_in};
 
-/// States that the picture that a screen displays has the screen's size, and
-/// that two screens have the same size if and only if their pictures do (clause
-/// `sizes`).
+/// States that the display of a screen has the screen's size, and that two screens have the same
+/// size if and only if their displays do (clause `sizes`).
 ///
-/// If no scrollback is displayed, the rows of the picture are the rows that the
-/// getters return (clause `own`). Displayed rows of scrollback are cut to the
-/// screen's width. Even then, all cells left of the last column are the cells
-/// that the getters return (clause `inner`). A wide character that is cut in
-/// two at the last column is displayed as a blank.
+/// If no scrollback is displayed, the rows of the display are the rows that the getters return
+/// (clause `own`). Displayed rows of scrollback are cut to the screen's width. Even then, all cells
+/// left of the last column are the cells that the getters return (clause `inner`). A wide character
+/// that is cut in two at the last column is displayed as a blank.
 pub fn shown_is()
     ensures picture { (screen : ScreenValue) → IsScreen screen → IsPicture (display screen) }
     ensures rows { (screen : ScreenValue) → length (display screen).rows ≡ length screen.page.rows }
@@ -76,12 +74,11 @@ pub fn steady_without_selectors()
     ensures { (screen : ScreenValue) → IsScreen screen → ShowsNoSelector screen → IsSteady (display screen) }
 {}
 
-/// States that a screen contains no U+FE0F if no character that was read is U+FE0F. The clauses
-/// are:
+/// States that a screen contains no U+FE0F unless it has read that character. The clauses are:
 ///
 /// - `fresh`: a fresh screen contains no U+FE0F on either page or in scrollback.
-/// - `ran`, `sized`, `scrolled_back`: a screen without U+FE0F still contains none after a run that
-///   reads no U+FE0F and whose callbacks leave the screen alone, after a resize, and after
+/// - `ran`, `sized`, `scrolled_back`: a screen without U+FE0F still contains none after it has read
+///   input without U+FE0F (if callbacks leave the screen alone), after a resize, and after
 ///   scrolling back.
 /// - `shown`: a screen without U+FE0F displays no cell that contains U+FE0F, so the screen is
 ///   steady by `steady_without_selectors`.
@@ -98,27 +95,24 @@ pub fn no_selectors()
     ensures shown { (screen : ScreenValue) → HasNoSelectors screen → ShowsNoSelector screen }
 {}
 
-/// States that the capture of a fresh screen consists only of newlines, one
-/// fewer than the screen has rows.
+/// States that the capture of a fresh screen (the output of `Screen::contents_formatted_basic`)
+/// consists only of newlines, one fewer than the screen has rows.
 pub fn fresh_capture()
     ensures { (rows cols capacity : ℕ) →
         basic_texts nothing_written (visible_rows (fresh_screen (suc rows) cols capacity)) ≡ replicate rows 0x0A }
 {}
 
-/// States which rows scroll off the main page during a run whose callbacks
+/// States which rows scroll off the main page while a terminal reads input, provided that callbacks
 /// leave the screen alone. The clauses are:
 ///
-/// - `kept`: two lists of rows match. The first list consists of the rows that
-///   are reported to `on_scroll` with `false`, followed by the scrollback after
-///   the run. The second list consists of the scrollback before the run,
-///   followed by the rows that scrolled off the top of the main page. Matching
-///   rows have the same cells, apart from trailing default blanks, and are
-///   either both wrapped or both not wrapped. The premises are that the run
-///   contains no RIS and that no wrapped row of scrollback was narrower than
-///   the screen.
-/// - `sent`, `rest`: the rows that scroll off, and everything on the screen
-///   except its scrollback, depend on neither the capacity nor the contents of
-///   scrollback.
+/// - `kept`: two lists of rows match. The first list consists of the rows that are reported to
+///   `on_scroll` with `false`, followed by the scrollback after the input. The second list consists
+///   of the scrollback before the input, followed by the rows that scrolled off the top of the main
+///   page. Matching rows have the same cells, apart from trailing default blanks, and are either
+///   both wrapped or both not wrapped. The premises are that the input contains no RIS and that no
+///   wrapped row of scrollback was narrower than the screen.
+/// - `sent`, `rest`: the rows that scroll off, and everything on the screen except its scrollback,
+///   depend on neither the capacity nor the contents of scrollback.
 pub fn streams()
     ensures kept { (scan : State) (screen : ScreenValue) (bytes : List ℕ) → IsScreen screen → HasWideFlags screen →
         HasNoRis scan bytes →
@@ -130,18 +124,17 @@ pub fn streams()
         without_scrollback screen ≡ without_scrollback other → without_scrollback (screen_in scan screen bytes) ≡ without_scrollback (screen_in scan other bytes) }
 {}
 
-/// States when every wrapped row of scrollback is at least as wide as the
-/// screen, which is a premise of `streams`.
+/// States when every wrapped row of scrollback is at least as wide as the screen, which is a
+/// premise of `streams`.
 ///
-/// The property holds for a fresh screen. It is preserved by any run whose
-/// callbacks leave the screen alone (even one that contains RIS), by scrolling
-/// back, by erasing scrollback, and by a resize that adds no columns.
+/// The property holds for a fresh screen. It is preserved by reading any input, even RIS, with
+/// callbacks that leave the screen alone, by scrolling back, by erasing scrollback, and by a resize
+/// that adds no columns.
 ///
-/// A resize to more columns may break the property, because a wrapped row of
-/// scrollback keeps its old width. For example, print `abc` on a screen with
-/// two rows, one column and a scrollback of one row. The row of `a` is then in
-/// scrollback, one column wide and wrapped, and it stays that way when the
-/// screen gets more columns.
+/// A resize to more columns may break the property, because a wrapped row of scrollback keeps its
+/// old width. For example, print `abc` on a screen with two rows, one column and a scrollback of
+/// one row. The row of `a` is then in scrollback, one column wide and wrapped, and it stays that
+/// way when the screen gets more columns.
 pub fn wide_flags()
     ensures fresh { (rows cols capacity : ℕ) → HasWideFlags (fresh_screen rows cols capacity) }
     ensures run { (scan : State) (screen : ScreenValue) (bytes : List ℕ) → IsScreen screen →

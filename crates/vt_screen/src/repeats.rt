@@ -24,6 +24,7 @@ ghost use Rattle.vt_screen.specs.Repeating.{Repeats, copies, repeat_text};
 ghost use Rattle.vt_screen.specs.ShortMoves.{IsAsciiCharacter};
 ghost use Rattle.vt_screen.specs.TextResults.{IfText};
 
+use crate::repeat::Repeat;
 use std::alloc::Global;
 use vt_cells::{Error, Sink, columns};
 use vt_scan::Parameters;
@@ -44,7 +45,7 @@ pub(crate) struct CharRun<'a> {
     room: u16,
 }
 
-/// A part of the text that is copied unchanged: characters, a control or an escape sequence.
+/// A part of the output that is copied unchanged: characters, a control or an escape sequence.
 #[derive(Clone, Copy)]
 pub(crate) struct Skipped {
     /// The length of the skipped part, in bytes.
@@ -54,40 +55,52 @@ pub(crate) struct Skipped {
     room: u16,
 }
 
-/// Returns `text` with runs of the same character written with REP, for a terminal with `cols`
-/// columns and at least `room` columns left in the cursor's row.
+/// Returns `text`, in which each run of a character that `repeat` allows is written with REP if
+/// that is shorter and the run certainly fits in the row. The terminal has `cols` columns, and at
+/// least `room` of them are left in the cursor's row.
 ///
 /// # Errors
 ///
 /// Returns `Error::OutOfMemory` if the output cannot be allocated.
-pub fn with_repeats(alloc: Global, text: String, cols: u16, room: u16) -> Result<String, Error>
-    ensures text { IfText result (Repeats cols room (string_bytes text)) }
+pub fn with_repeats(
+    alloc: Global,
+    text: String,
+    repeat: Repeat,
+    cols: u16,
+    room: u16,
+) -> Result<String, Error>
+    ensures text { IfText result (Repeats repeat cols room (string_bytes text)) }
     ensures memory { OnlyOutOfMemory result }
     ensures nonempty { RefusedOnlyIfSome result (string_bytes text) }
 {
+    if repeat == Repeat::Never {
+        return Ok(text);
+    }
     let mut short = String::new(alloc);
-    match write_repeating(&mut short, text.as_str(), cols, room) {
+    match write_repeating(&mut short, text.as_str(), repeat, cols, room) {
         Ok(true) => Ok(short),
         Ok(false) => Ok(text),
         Err(_) => Err(Error::OutOfMemory),
     }
 }
 
-/// Writes `text` with runs of the same character written with REP. If no run that REP shortens is
-/// found, writes nothing and returns `false`.
+/// Writes `text`, in which runs of characters that `repeat` allows are written with REP if that is
+/// shorter, and returns `true`. If there is no such run, writes nothing and returns `false`. The
+/// terminal has `cols` columns, and at least `room` of them are left in the cursor's row.
 fn write_repeating<S: Sink>(
     sink: &mut S,
     text: &str,
+    repeat: Repeat,
     cols: u16,
     room: u16,
 ) -> Result<bool, S::Error>
     ensures repeats { IfOk result (λ wrote. wrote ≡ true
-        → AppendsRepeating (S.text sink.old) (S.text sink.new) cols room text.now) }
+        → AppendsRepeating repeat (S.text sink.old) (S.text sink.new) cols room text.now) }
     ensures nonempty { length text.now ≡ 0 → IsOk result }
 {
     let mut rest = text;
     let mut left = room;
-    while let Some(run) = find_run(rest, cols, left) {
+    while let Some(run) = find_run(rest, repeat, cols, left) {
         sink.write_str(run.front)?;
         write_repeat(sink, run.count)?;
         rest = run.back;
@@ -110,17 +123,19 @@ fn write_repeat<S: Sink>(sink: &mut S, count: u16) -> Result<(), S::Error>
     sink.write_str("b")
 }
 
-/// Returns the first run in `text` that REP shortens. Returns `None` if the search reaches the end
-/// of `text`, or an element that this module does not recognize, without finding such a run.
-fn find_run(text: &str, cols: u16, room: u16) -> Option<CharRun<'_>>
+/// Returns the first run in `text` of a character that `repeat` allows, if the run is shorter with
+/// REP. Returns `None` if the search reaches the end of `text`, or an element that this module does
+/// not recognize, without finding such a run. The terminal has `cols` columns, and at least `room`
+/// of them are left in the cursor's row.
+fn find_run(text: &str, repeat: Repeat, cols: u16, room: u16) -> Option<CharRun<'_>>
     ensures { IfSome result (λ run.
-        Finds cols room text.now run.front.now run.count run.room run.back.now) }
+        Finds repeat cols room text.now run.front.now run.count run.room run.back.now) }
 {
     let mut at = 0;
     let mut left = room;
     while at < text.len() {
         let rest = text.get(at..)?;
-        if let Some(run) = first_run(rest, left) {
+        if let Some(run) = first_run(rest, repeat, left) {
             let front = text.get(..at + run.front.len())?;
             return Some(CharRun { front, ..run });
         }
@@ -131,25 +146,25 @@ fn find_run(text: &str, cols: u16, room: u16) -> Option<CharRun<'_>>
     None
 }
 
-/// Returns the run at the beginning of `text` if REP shortens it, otherwise
-/// `None`. The caller guarantees that at least `room` columns are left in the
-/// row.
+/// Returns the run of a repeated character at the beginning of `text` if `repeat` allows the
+/// character and the run is shorter with REP, otherwise `None`. `room` is a lower bound on the
+/// number of columns left in the cursor's row, and a longer run is cut to that many columns.
 #[inline(always)]
-fn first_run(text: &str, room: u16) -> Option<CharRun<'_>>
+fn first_run(text: &str, repeat: Repeat, room: u16) -> Option<CharRun<'_>>
     requires { 0 < length text.now }
     ensures { IfSome result (λ run.
-        BeginsRun room text.now run.front.now run.count run.room run.back.now) }
+        BeginsRun repeat room text.now run.front.now run.count run.room run.back.now) }
 {
     if may_repeat(text.as_bytes()) {
-        repeated(text, room)
+        repeated(text, repeat, room)
     } else {
         None
     }
 }
 
-/// Returns whether `bytes` may begin with a run that REP shortens. Compares only the first and last
-/// bytes of two characters: the first one, and the last of the [`fewest`] repetitions that REP
-/// shortens.
+/// Returns whether `bytes` may begin with a run that REP shortens. This quick test compares only
+/// the first and last bytes of the first character with those of the character that would end the
+/// shortest such run (see [`fewest`]).
 #[inline(always)]
 fn may_repeat(bytes: &[u8]) -> bool
     requires { 0 < length bytes.now }
@@ -179,15 +194,15 @@ fn fewest(len: usize) -> u16
     }
 }
 
-/// Returns the run at the beginning of `text` if REP shortens it, otherwise
-/// `None`. The caller guarantees that at least `room` columns are left in the
-/// row.
-fn repeated(text: &str, room: u16) -> Option<CharRun<'_>>
+/// Returns the run of a repeated one-column character at the beginning of `text` if `repeat` allows
+/// the character and the run is shorter with REP, otherwise `None`. `room` is a lower bound on the
+/// number of columns left in the cursor's row, and a longer run is cut to that many columns.
+fn repeated(text: &str, repeat: Repeat, room: u16) -> Option<CharRun<'_>>
     ensures { IfSome result (λ run.
-        BeginsRun room text.now run.front.now run.count run.room run.back.now) }
+        BeginsRun repeat room text.now run.front.now run.count run.room run.back.now) }
 {
     let (character, width) = first_character(text)?;
-    if width != 1 {
+    if width != 1 || !repeat.allows(character) {
         return None;
     }
     let (front, rest) = text.split_at_checked(character.len_utf8())?;
@@ -239,9 +254,9 @@ fn skip_copies(text: &str, character: char, most: u16) -> (u16, &str)
     (count, rest)
 }
 
-/// Skips the element at the beginning of `text`: characters, a control or a sequence. Returns
-/// `None` if this module does not recognize the element. `room` is a lower bound on the number of
-/// columns left in the cursor's row, which has `cols` columns.
+/// Skips the element at the beginning of `text`: a run of characters, a control or an escape
+/// sequence. Returns `None` if this module does not recognize the element. `room` is a lower bound
+/// on the number of columns left in the cursor's row, which has `cols` columns.
 #[inline(always)]
 fn skip(text: &str, cols: u16, room: u16) -> Option<Skipped>
     requires { 0 < length text.now }
@@ -262,7 +277,9 @@ fn skip(text: &str, cols: u16, room: u16) -> Option<Skipped>
     }
 }
 
-/// Skips one or more printable ASCII characters at the beginning of `bytes`.
+/// Skips the first byte of `bytes`, which must be printable ASCII, and the printable ASCII
+/// characters that follow it, but stops before two equal bytes and before the last byte. `room` is
+/// a lower bound on the number of columns left in the cursor's row.
 fn skip_ascii(bytes: &[u8], room: u16) -> Skipped
     requires nonempty { 0 < length bytes.now }
     requires ascii { IsAsciiCharacter (slice_index_or bytes.now 0 0) }
@@ -298,8 +315,8 @@ fn is_ascii_character(byte: u8) -> bool
 }
 
 /// Skips the non-ASCII character at the beginning of `text`. Returns `None` if the character is not
-/// printed. A combining character is counted as two columns, because it may make the glyph before
-/// the cursor wide.
+/// printed. `room` is a lower bound on the number of columns left in the cursor's row. A combining
+/// character is counted as two columns, because it may make the glyph before the cursor wide.
 fn skip_character(text: &str, room: u16) -> Option<Skipped>
     ensures { IfSome result (λ skipped. (cols : ℕ) → Skips cols room text.now skipped) }
 {
@@ -318,7 +335,8 @@ fn skip_character(text: &str, room: u16) -> Option<Skipped>
 }
 
 /// Skips the escape or control sequence at the beginning of `bytes`. Returns `None` if this module
-/// does not recognize the sequence.
+/// does not recognize the sequence. The terminal has `cols` columns, and at least `room` of them
+/// are left in the cursor's row.
 fn skip_escape(bytes: &[u8], cols: u16, room: u16) -> Option<Skipped>
     requires nonempty { 0 < length bytes.now }
     requires escape { slice_index_or bytes.now 0 0 ≡ 0x1B }
@@ -336,7 +354,8 @@ fn skip_escape(bytes: &[u8], cols: u16, room: u16) -> Option<Skipped>
 }
 
 /// Skips the control sequence at the beginning of `bytes`. Returns `None` if this module does not
-/// recognize the sequence.
+/// recognize the sequence. The terminal has `cols` columns, and at least `room` of them are left in
+/// the cursor's row.
 fn skip_sequence(bytes: &[u8], cols: u16, room: u16) -> Option<Skipped>
     requires { Opens bytes.now }
     ensures { IfSome result (Skips cols room bytes.now) }
@@ -364,9 +383,10 @@ fn final_byte_at(bytes: &[u8]) -> Option<usize>
     if last < bytes.len() { Some(last) } else { None }
 }
 
-/// Skips the control sequence at the beginning of `bytes`, which must show, hide or move the cursor
-/// of a terminal with `cols` columns. `room` is a lower bound on the number of columns left in the
-/// cursor's row. Returns `None` if this module does not recognize the sequence.
+/// Skips the control sequence at the beginning of `bytes` if it shows or hides the cursor, or moves
+/// it right or to a column (CUF, CHA or CUP). Returns `None` for any other sequence, and if the
+/// sequence is incomplete. The terminal has `cols` columns, and at least `room` of them are left in
+/// the cursor's row.
 fn skip_movement(bytes: &[u8], cols: u16, room: u16) -> Option<Skipped>
     requires { Opens bytes.now }
     ensures { IfSome result (Skips cols room bytes.now) }
@@ -400,9 +420,9 @@ fn is_visibility(bytes: &[u8]) -> bool
         && (bytes[5] == b'h' || bytes[5] == b'l')
 }
 
-/// Returns a lower bound on the number of columns left in the row after a control
-/// sequence that moves the cursor right or to a column, or `None` if this module
-/// does not recognize the sequence.
+/// Returns a lower bound on the number of columns left in the cursor's row after a control sequence
+/// that moves the cursor right or to a column, or `None` if this module does not recognize the
+/// sequence. The row has `cols` columns, at least `room` of which are left before the sequence.
 fn room_after(final_byte: u8, parameters: &Parameters, cols: u16, room: u16) -> Option<u16>
     ensures { IfSome result (λ after. (text : List ℕ) → IsParameterText text → parameters.now ≡ table_of text
         → KeepsRoom cols room after (csi text final_byte)) }
@@ -415,8 +435,8 @@ fn room_after(final_byte: u8, parameters: &Parameters, cols: u16, room: u16) -> 
     }
 }
 
-/// Returns whether a control sequence with this final byte leaves the cursor in
-/// its column or moves it left.
+/// Returns whether a control sequence with this final byte is known to leave the cursor in its
+/// column or to move it left.
 fn keeps_column(final_byte: u8) -> bool
     ensures { result ≡ true → IsOneOf final_byte (codes "mJKXABDd@PLM") }
 {

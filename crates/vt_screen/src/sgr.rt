@@ -45,55 +45,52 @@ pub enum Layer {
     Back,
 }
 
-/// How the next group of an SGR sequence is interpreted.
+/// How the next parameter of an SGR sequence, together with its subparameters, is interpreted.
 #[derive(Clone, Copy, PartialEq, Eq, Debug)]
 pub enum Wanted {
-    /// The next group is a setting.
+    /// The next parameter is a setting, or begins an extended color.
     Any,
 
-    /// The next group is the format of an extended color: 2 (RGB) or 5
-    /// (palette).
+    /// The next parameter is the format of an extended color: 2 (RGB) or 5 (palette).
     Form(Layer),
 
-    /// The next group is the palette index of a color.
+    /// The next parameter is the palette index of a color.
     Index(Layer),
 
-    /// The next group is the red component of a color.
+    /// The next parameter is the red component of a color.
     Red(Layer),
 
-    /// The next group is the green component of a color whose red component
-    /// has been read.
+    /// The next parameter is the green component of a color whose red component has been read.
     Green(Layer, u8),
 
-    /// The next group is the blue component of a color whose red and green
-    /// components have been read.
+    /// The next parameter is the blue component of a color whose red and green components have been
+    /// read.
     Blue(Layer, u8, u8),
 
     /// The rest of the sequence is ignored.
     Stopped,
 }
 
-/// The effect of one group of an SGR sequence.
+/// The effect of one parameter of an SGR sequence, together with its subparameters.
 #[derive(Clone, Copy, PartialEq, Eq, Debug)]
 pub enum Reading {
-    /// The group has no effect by itself: it is ignored, or a later group
-    /// completes it.
+    /// The parameter has no effect by itself: it is ignored, or a later parameter completes it.
     Silent,
 
-    /// The group changes the attributes.
+    /// The parameter changes the attributes.
     Set(Setting),
 
-    /// The group is unknown.
+    /// The parameter is unknown.
     Unhandled,
 }
 
-/// The effect of one group, and how the next group is interpreted.
+/// The effect of one parameter of an SGR sequence, and how the next parameter is interpreted.
 #[derive(Clone, Copy, PartialEq, Eq, Debug)]
 pub struct GroupRead {
-    /// The effect of the group.
+    /// The effect of the parameter.
     pub reading: Reading,
 
-    /// How the next group is interpreted.
+    /// How the next parameter is interpreted.
     pub wanted: Wanted,
 }
 
@@ -129,8 +126,8 @@ impl Layer {
 }
 
 impl GroupRead {
-    /// Returns the result for a group that has no effect by itself. The next group is interpreted
-    /// as `wanted` specifies.
+    /// Returns the result for an SGR parameter that has no effect by itself. The next parameter is
+    /// interpreted as `wanted` specifies.
     fn silent(wanted: Wanted) -> Self
         ensures { result ≡ silent_read wanted }
     {
@@ -140,8 +137,8 @@ impl GroupRead {
         }
     }
 
-    /// Returns the result for a group that makes the change `setting`. The next group is
-    /// interpreted as a setting.
+    /// Returns the result for an SGR parameter that makes the change `setting`. The next parameter
+    /// is interpreted as a setting.
     fn set(setting: Setting) -> Self
         ensures { result ≡ set setting }
     {
@@ -151,7 +148,8 @@ impl GroupRead {
         }
     }
 
-    /// Returns the result for an unknown group. The next group is interpreted as a setting.
+    /// Returns the result for an unknown SGR parameter. The next parameter is interpreted as a
+    /// setting.
     fn unknown() -> Self
         ensures { result ≡ unhandled_read }
     {
@@ -163,15 +161,13 @@ impl GroupRead {
 }
 
 impl Wanted {
-    /// Interprets one group of an SGR sequence as `self` specifies (ECMA-48,
-    /// with xterm's extended colors). For the first group of a sequence,
-    /// `self` is [`Wanted::Any`].
+    /// Interprets `group`, an SGR parameter with its subparameters, as `self` specifies (ECMA-48,
+    /// with xterm's extended colors). For the first group of a sequence, `self` is [`Wanted::Any`].
     ///
-    /// The rest of the sequence is ignored after an extended color with a
-    /// component above 255. It is also ignored after an extended color that
-    /// spans several groups and is incomplete or has a format other than 2 and
-    /// 5. If such a color is in a single group, that group is unknown and the
-    /// next group is interpreted as a setting.
+    /// The rest of the sequence is ignored after an extended color with a component above 255. It
+    /// is also ignored after an extended color that spans several groups and is incomplete or has a
+    /// format other than 2 and 5. If such a color is in a single group, that group is unknown and
+    /// the next group is interpreted as a setting.
     #[inline(always)]
     #[tactic(auto, unfolding(crate::specs::Sgr::group_read))]
     pub fn read(self, group: &[u16]) -> GroupRead
@@ -189,7 +185,8 @@ impl Wanted {
     }
 }
 
-/// Interprets a group as a setting.
+/// Interprets an SGR parameter with its subparameters (`group`) as a setting or the beginning of an
+/// extended color. Any other parameter is unknown.
 #[inline(always)]
 #[tactic(auto, unfolding(crate::specs::Sgr::setting_read))]
 fn read_setting(group: &[u16]) -> GroupRead
@@ -205,7 +202,8 @@ fn read_setting(group: &[u16]) -> GroupRead
     }
 }
 
-/// Interprets a single-number group as a setting.
+/// Interprets an SGR parameter without subparameters as a setting or the beginning of an extended
+/// color. Any other number is unknown.
 #[inline(always)]
 #[tactic(auto, using(std::proofs::lemmas::Bool::Decides::nat_tests), unfolding(crate::specs::Sgr::number_read))]
 fn read_number(number: u16) -> GroupRead
@@ -234,8 +232,8 @@ fn read_number(number: u16) -> GroupRead
     }
 }
 
-/// Interprets a group of three numbers as an extended color with a palette index. The group is
-/// unknown unless its second number, the format `form`, is 5.
+/// Interprets an SGR parameter of the form `38:5:index` or `48:5:index`, which sets a palette
+/// color. The parameter is unknown unless its second number, the format `form`, is 5.
 fn read_three(layer: Layer, form: u16, index: u16) -> GroupRead
     ensures { result ≡ three_read layer form index }
 {
@@ -245,8 +243,8 @@ fn read_three(layer: Layer, form: u16, index: u16) -> GroupRead
     index_colored(layer, index)
 }
 
-/// Interprets a group of five numbers as an extended color with RGB components. The group is
-/// unknown unless its second number, the format `form`, is 2.
+/// Interprets an SGR parameter of the form `38:2:red:green:blue` or `48:2:red:green:blue`, which
+/// sets an RGB color. The parameter is unknown unless its second number, the format `form`, is 2.
 fn read_five(layer: Layer, form: u16, red: u16, green: u16, blue: u16) -> GroupRead
     ensures { result ≡ five_read layer form red green blue }
 {
@@ -256,9 +254,9 @@ fn read_five(layer: Layer, form: u16, red: u16, green: u16, blue: u16) -> GroupR
     rgb_colored(layer, red, green, blue)
 }
 
-/// Returns the result for a group that completes a palette color. The color of the layer is set to
-/// palette color `index`. If `index` is above 255, nothing is set and the rest of the sequence is
-/// ignored.
+/// Returns the result for an SGR parameter that completes a palette color. The color of the layer
+/// is set to palette color `index`. If `index` is above 255, nothing is set and the rest of the
+/// sequence is ignored.
 #[tactic(auto, using(std::proofs::lemmas::Bool::Decides::nat_tests), unfolding(crate::specs::Sgr::index_read))]
 fn index_colored(layer: Layer, index: u16) -> GroupRead
     ensures { result ≡ index_read layer index }
@@ -269,8 +267,9 @@ fn index_colored(layer: Layer, index: u16) -> GroupRead
     GroupRead::set(layer.colored(Color::Idx(index as u8)))
 }
 
-/// Returns the result for a group that completes an RGB color. The color of the layer is set to
-/// that color. If a component is above 255, nothing is set and the rest of the sequence is ignored.
+/// Returns the result for an SGR parameter that completes an RGB color. The color of the layer is
+/// set to that color. If a component is above 255, nothing is set and the rest of the sequence is
+/// ignored.
 #[tactic(auto, using(std::proofs::lemmas::Bool::Decides::nat_tests), unfolding(crate::specs::Sgr::rgb_read))]
 fn rgb_colored(layer: Layer, red: u16, green: u16, blue: u16) -> GroupRead
     ensures { result ≡ rgb_read layer red green blue }
@@ -281,7 +280,8 @@ fn rgb_colored(layer: Layer, red: u16, green: u16, blue: u16) -> GroupRead
     GroupRead::set(layer.colored(Color::Rgb(red as u8, green as u8, blue as u8)))
 }
 
-/// Interprets a group as the format of an extended color: 2 (RGB) or 5 (palette).
+/// Interprets an SGR parameter as the format of an extended color: 2 (RGB) or 5 (palette). Any
+/// other parameter is unknown, and the rest of the sequence is ignored.
 #[tactic(auto, using(std::proofs::lemmas::Bool::Decides::nat_tests), unfolding(crate::specs::Sgr::form_read))]
 fn read_form(layer: Layer, group: &[u16]) -> GroupRead
     ensures { result ≡ form_read layer group.now }
@@ -296,8 +296,8 @@ fn read_form(layer: Layer, group: &[u16]) -> GroupRead
     }
 }
 
-/// Returns the color component or palette index that a group holds. Returns `None` unless the group
-/// is a single number of at most 255.
+/// Returns the color component or palette index that an SGR parameter holds. Returns `None` unless
+/// the parameter is a single number of at most 255.
 #[tactic(auto, using(std::proofs::lemmas::Bool::Decides::nat_tests))]
 fn part_of(group: &[u16]) -> Option<u8>
     ensures { MatchOption result ((next : ℕ → GroupRead) → part_read group.now next ≡ silent_read Wanted.Stopped)
@@ -309,7 +309,8 @@ fn part_of(group: &[u16]) -> Option<u8>
     }
 }
 
-/// Interprets a group as the palette index of a color.
+/// Interprets an SGR parameter as the palette index of a color. Unless it is a single number of at
+/// most 255, the rest of the sequence is ignored.
 fn read_index(layer: Layer, group: &[u16]) -> GroupRead
     ensures { result ≡ part_read group.now (λ i. set (color_setting layer (Color.Idx i))) }
 {
@@ -319,7 +320,8 @@ fn read_index(layer: Layer, group: &[u16]) -> GroupRead
     }
 }
 
-/// Interprets a group as the red component of a color.
+/// Interprets an SGR parameter as the red component of a color. Unless it is a single number of at
+/// most 255, the rest of the sequence is ignored.
 fn read_red(layer: Layer, group: &[u16]) -> GroupRead
     ensures { result ≡ part_read group.now (λ r. silent_read (Wanted.Green layer r)) }
 {
@@ -329,7 +331,8 @@ fn read_red(layer: Layer, group: &[u16]) -> GroupRead
     }
 }
 
-/// Interprets a group as the green component of a color whose red component is `red`.
+/// Interprets an SGR parameter as the green component of a color whose red component is `red`.
+/// Unless it is a single number of at most 255, the rest of the sequence is ignored.
 fn read_green(layer: Layer, red: u8, group: &[u16]) -> GroupRead
     ensures { result ≡ part_read group.now (λ g. silent_read (Wanted.Blue layer red g)) }
 {
@@ -339,8 +342,9 @@ fn read_green(layer: Layer, red: u8, group: &[u16]) -> GroupRead
     }
 }
 
-/// Interprets a group as the blue component of a color whose red and green components are `red` and
-/// `green`.
+/// Interprets an SGR parameter as the blue component of a color whose red and green components are
+/// `red` and `green`. Unless it is a single number of at most 255, the rest of the sequence is
+/// ignored.
 fn read_blue(layer: Layer, red: u8, green: u8, group: &[u16]) -> GroupRead
     ensures { result ≡ part_read group.now (λ b. set (color_setting layer (Color.Rgb red green b))) }
 {

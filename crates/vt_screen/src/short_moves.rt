@@ -6,24 +6,24 @@
 //! the ASCII glyphs that the terminal already displays there, if their attributes and the current
 //! attributes are the defaults. Nothing else in the output changes.
 
-ghost use Rattle.std.specs.Prelude.{◌≡◌, ◌+◌, ◌++◌, ◌-◌, ◌<◌, IfOk, IfSome, IsTrue, OnOk, Some, length, ℕ, min, string_bytes, take};
+ghost use Rattle.std.specs.Prelude.{◌≡◌, ◌+◌, ◌++◌, ◌-◌, ◌<◌, ◌≤◌, IfOk, IfSome, IsTrue, OnOk, Some, length, ℕ, min, string_bytes, take};
 ghost use Rattle.vt_cells.specs.Cell.{CellValue};
 ghost use Rattle.vt_cells.specs.Glyph.{columns_of};
 ghost use Rattle.vt_cells.specs.Refusals.{OnlyOutOfMemory};
 ghost use Rattle.vt_cells.specs.Op.{counted};
 ghost use Rattle.vt_redraw.specs.Refusals.{RefusedOnlyIfSome};
 ghost use Rattle.vt_screen.specs.Gaps.{AppendsInstead, IsLetter, IsPrinted, IsShownGap, ReplacesTracked, ReplacesWhole, picture_cell};
-ghost use Rattle.vt_screen.specs.ShortMoves.{AppendsReplacement, IsAfter, IsElement, LeadsTo, Replaces, row_start_text};
+ghost use Rattle.vt_screen.specs.ShortMoves.{AppendsReplacement, IsAfter, IsElement, IsRoute, LeadsTo, Replaces, row_start_text};
 
 mod elements;
 mod gaps;
 mod known;
 mod route;
 
-use elements::{Element, first_element};
+use elements::{Element, first_element, other_character};
 use gaps::{Gap, first_letter, gap_over, write_gap};
 pub use known::Known;
-use route::likely_route;
+use route::{Route, likely_route};
 use std::alloc::Global;
 use vt_cells::{Error, Pos, Sink, columns};
 use vt_grid::Size;
@@ -76,7 +76,7 @@ pub fn with_short_moves(
 /// Appends the first element of `rest` to `short`, or shorter output with the same effect. Returns
 /// what is known about the terminal afterward, and how many bytes of `rest` the output replaces.
 /// Returns `None` if `rest` does not begin with an element that this module recognizes. `moves` is
-/// overwritten.
+/// a scratch buffer.
 ///
 /// # Errors
 ///
@@ -96,6 +96,10 @@ fn add_next(
     ensures some { IfOk result (λ found. IfSome found (λ next. 0 < next.1)) }
     ensures memory { OnlyOutOfMemory result }
 {
+    if begins_with_other(rest) {
+        let found = add_others(short, size_of(prev), known, rest)?;
+        return Ok(found);
+    }
     let Some((element, len)) = first_element(rest) else {
         return Ok(None);
     };
@@ -112,6 +116,68 @@ fn add_next(
     Ok(Some((next, len)))
 }
 
+/// Appends the printed characters at the beginning of `rest` that are not ASCII to `short`. Returns
+/// what is known about the terminal afterward, and the length of these characters in bytes. Returns
+/// `None` if there are none.
+///
+/// # Errors
+///
+/// Returns `Error::OutOfMemory` if the string cannot grow.
+fn add_others(
+    short: &mut String,
+    size: Size,
+    known: Known,
+    rest: &str,
+) -> Result<Option<(Known, usize)>, Error>
+    ensures appends { IfOk result (λ found. IfSome found (λ next. (cells : ℕ → ℕ → CellValue) → AppendsInstead
+        size.rows size.cols cells known next.0
+        (take next.1 rest.now) (string_bytes short.old) (string_bytes short.new))) }
+    ensures some { IfOk result (λ found. IfSome found (λ next. 0 < next.1)) }
+    ensures memory { OnlyOutOfMemory result }
+{
+    let (after, len) = after_others(size, known, rest);
+    if len == 0 {
+        return Ok(None);
+    }
+    let Some((text, _)) = rest.split_at_checked(len) else {
+        return Ok(None);
+    };
+    short.write_str(text)?;
+    Ok(Some((after, len)))
+}
+
+/// Reads the printed characters at the beginning of `text` that are not ASCII, which are copied
+/// unchanged. Returns what is known about the terminal after it has read them, and their length in
+/// bytes.
+#[inline]
+#[tactic(auto, using(crate::proofs::Instead::copied_first))]
+fn after_others(size: Size, known: Known, text: &str) -> (Known, usize)
+    ensures copied { (cells : ℕ → ℕ → CellValue) → ReplacesTracked size.rows size.cols cells known result.0
+        (take result.1 text.now) (take result.1 text.now) }
+    ensures inside { result.1 ≤ length text.now }
+{
+    let mut after = known;
+    let mut rest = text;
+    while begins_with_other(rest) {
+        let Some((element, len)) = other_character(rest) else {
+            break;
+        };
+        let Some((head, tail)) = rest.split_at_checked(len) else {
+            break;
+        };
+        after = known_after(after, element, size, head);
+        rest = tail;
+    }
+    (after, text.len() - rest.len())
+}
+
+/// Returns whether `text` begins with a character that is not ASCII.
+#[inline]
+fn begins_with_other(text: &str) -> bool {
+    let bytes = text.as_bytes();
+    !bytes.is_empty() && bytes[0] >= 0x80
+}
+
 /// Returns the size of a view.
 #[inline]
 fn size_of(view: &View<'_>) -> Size
@@ -124,8 +190,9 @@ fn size_of(view: &View<'_>) -> Size
     }
 }
 
-/// Appends the glyphs that `prev` displays in a gap, and then the character `letter`, which follows
-/// the gap. Returns what is known about the terminal afterward.
+/// Appends the glyphs that `prev` displays in `gap`, so that they are printed instead of being
+/// skipped with CUF, followed by `letter`, the character after the gap. Returns what is known about
+/// the terminal afterward.
 ///
 /// # Errors
 ///
@@ -157,8 +224,9 @@ fn add_gap(
     Ok(known_after(over, Element::Ascii, size_of(prev), letter))
 }
 
-/// Appends an element to `short`, or a shorter movement with the same effect, and returns what is
-/// known about the terminal afterward. `head` is the text of the element. `moves` is overwritten.
+/// Appends `element` to `short`, or a shorter movement with the same effect, and returns what is
+/// known about the terminal afterward. `head` is the text of the element, and `moves` is a scratch
+/// buffer.
 ///
 /// # Errors
 ///
@@ -239,8 +307,8 @@ fn right_of(from: Pos, count: u16, size: Size) -> Option<Pos>
     Some(Pos { row: from.row, col })
 }
 
-/// Returns the position in the first column of the row below `from`, or `None` if there is no row
-/// below.
+/// Returns the position in the first column of the row below `from`, or `None` if the terminal has
+/// no such position.
 fn next_row(from: Pos, size: Size) -> Option<Pos>
     ensures row { IfSome result (λ to. (to.row ≡ from.row + 1) × (to.row < size.rows)) }
     ensures col { IfSome result (λ to. (to.col ≡ 0) × (to.col < size.cols)) }
@@ -255,9 +323,9 @@ fn next_row(from: Pos, size: Size) -> Option<Pos>
     }
 }
 
-/// Returns the position of the cursor after `element`, which is copied unchanged to the output. The
-/// bytes of the element are `head`, and `at` is the position before it. Returns `None` if the new
-/// position is unknown.
+/// Returns the position of the cursor after `element`, which is copied unchanged to the output.
+/// `head` is the text of the element, and `at` is the position of the cursor before it. Returns
+/// `None` if the new position is unknown.
 fn position_after(element: Element, size: Size, at: Option<Pos>, head: &str) -> Option<Pos>
     requires { IsElement element head.now }
     ensures replaces { Replaces size.rows size.cols at result head.now head.now }
@@ -315,7 +383,7 @@ fn after_characters(from: Pos, count: usize, size: Size) -> Option<Pos>
 }
 
 /// Appends `head`, which moves the cursor from `at` to `to`, or a shorter movement with the same
-/// effect. Returns the new position. `moves` is overwritten.
+/// effect. Returns the new position. `moves` is a scratch buffer.
 ///
 /// # Errors
 ///
@@ -335,23 +403,34 @@ fn add_move(
         AppendsReplacement size.rows size.cols at after head.now (string_bytes short.old) (string_bytes short.new)) }
     ensures memory { OnlyOutOfMemory result }
 {
-    if let Some(from) = at {
-        let route = likely_route(from, to, size.cols);
-        if route.leads(from, to, size.cols) {
-            moves.clear();
-            route.write(moves)?;
-            if moves.len() < head.len() && moves.len() <= row_start_len(to) {
-                short.write_str(moves.as_str())?;
-                return Ok(Some(to));
-            }
+    if let Some(route) = shorter_route(at, to, size.cols, head.len()) {
+        moves.clear();
+        route.write(moves)?;
+        if moves.len() < head.len() && moves.len() <= row_start_len(to) {
+            short.write_str(moves.as_str())?;
+            return Ok(Some(to));
         }
     }
     add_place(short, size, at, to, head)?;
     Ok(Some(to))
 }
 
-/// Returns the length in bytes of CUP without a column that moves the cursor to `to`, or
-/// `usize::MAX` if `to` is not in the first column.
+/// Returns a route from `at` to `to` on a terminal with `cols` columns. Returns `None` if no route is
+/// likely to take fewer than `len` bytes.
+fn shorter_route(at: Option<Pos>, to: Pos, cols: u16, len: usize) -> Option<Route>
+    ensures { IfSome result (λ route. (from : Pos) × (at ≡ Some from) × IsRoute cols route from to) }
+{
+    let from = at?;
+    let route = likely_route(from, to, cols, len)?;
+    if !route.leads(from, to, cols) {
+        return None;
+    }
+    Some(route)
+}
+
+/// Returns the length, in bytes, of the CUP sequence without a column that moves the cursor to
+/// `to`. Returns `usize::MAX` if `to` is not in the first column, and 6 if the row number has three
+/// or more digits.
 fn row_start_len(to: Pos) -> usize {
     if to.col > 0 {
         return usize::MAX;
@@ -363,8 +442,8 @@ fn row_start_len(to: Pos) -> usize {
     }
 }
 
-/// Appends `head`, which moves the cursor from `at` to `to`. If `to` is in the first column, appends
-/// CUP without a column instead if that is shorter.
+/// Appends `head`, which moves the cursor from `at` to `to`. If `to` is in the first column and CUP
+/// without a column is shorter, appends that instead.
 ///
 /// # Errors
 ///
@@ -390,8 +469,8 @@ fn add_place(
     short.write_str(head)
 }
 
-/// Returns whether CUP without a column, which moves the cursor to the first column of row `row`,
-/// has fewer than `len` bytes.
+/// Returns whether CUP without a column, which moves the cursor to the first column of row `row`
+/// (counted from 0), has fewer than `len` bytes.
 fn is_row_start_shorter(row: u16, len: usize) -> bool
     ensures { IsTrue result → length (row_start_text row) < len }
 {
@@ -399,7 +478,8 @@ fn is_row_start_shorter(row: u16, len: usize) -> bool
     buffer.format(u32::from(row) + 1).len() + 3 < len
 }
 
-/// Appends CUP without a column, which moves the cursor to the first column of row `row`.
+/// Appends CUP without a column, which moves the cursor to the first column of row `row` (counted
+/// from 0).
 ///
 /// # Errors
 ///

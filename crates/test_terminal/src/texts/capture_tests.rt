@@ -246,7 +246,7 @@ fn refused(
 }
 
 #[test]
-fn goes_on_behind_the_last_whole_row(rt: HostRuntime) -> Result<(), Fail> {
+fn goes_on_after_the_last_whole_row(rt: HostRuntime) -> Result<(), Fail> {
     let parser = read_keeping(rt.alloc(), (3, 2), 0, &[b"a\r\nb"])?;
     let mut state = BasicFormattedCaptureState::new();
     let range = BasicFormattedCaptureRange::Full(&mut state);
@@ -265,7 +265,7 @@ const FILLED: [(usize, &str, &str); 4] = [
 ];
 
 #[test]
-fn goes_on_behind_the_last_whole_row_of_what_fits(rt: HostRuntime) -> Result<(), Fail> {
+fn goes_on_after_the_last_whole_row_of_what_fits(rt: HostRuntime) -> Result<(), Fail> {
     let parser = read_keeping(rt.alloc(), (3, 2), 0, &[b"a\r\nb"])?;
     for (left, taken, rest) in &FILLED {
         let mut state = BasicFormattedCaptureState::new();

@@ -4,24 +4,30 @@ use super::difference_tests::{Example, expect_at_each_cut};
 use crate::aids::readback::Change;
 use crate::aids::steps::Step::Text;
 use std::test::Fail;
-use vt100::DiffOptions;
+use vt100::{DiffOptions, Repeat};
 
-/// The option for REP alone.
+/// REP for any character, and no movements of rows or columns.
 const REPEAT: DiffOptions = DiffOptions {
     scroll: false,
-    repeat: true,
+    repeat: Repeat::Any,
+};
+
+/// REP for printable ASCII characters, and no movements of rows or columns.
+const REPEAT_ASCII: DiffOptions = DiffOptions {
+    scroll: false,
+    repeat: Repeat::Ascii,
 };
 
 /// Both options.
 const BOTH: DiffOptions = DiffOptions {
     scroll: true,
-    repeat: true,
+    repeat: Repeat::Any,
 };
 
 /// Neither option.
 const NEITHER: DiffOptions = DiffOptions {
     scroll: false,
-    repeat: false,
+    repeat: Repeat::Never,
 };
 
 /// Input that fills four rows.
@@ -78,6 +84,32 @@ const REPEATED: [Example; 20] = [
 fn runs_are_repeated(rt: HostRuntime) -> Result<(), Fail> {
     for example in &REPEATED {
         expect_at_each_cut(rt.alloc(), Change::With(REPEAT), example)?;
+    }
+    Ok(())
+}
+
+#[rattlefmt::skip]
+const ASCII_REPEATED: [Example; 6] = [
+    // Of two runs, only that of an ASCII character is written with REP.
+    ((2, 20), 0, &[], &[Text("\u{2500}\u{2500}\u{2500}\u{2500}----------")],
+        "\u{2500}\u{2500}\u{2500}\u{2500}-\x1b[9b"),
+    ((2, 20), 0, &[], &[Text("----------\u{2500}\u{2500}\u{2500}\u{2500}")],
+        "-\x1b[9b\u{2500}\u{2500}\u{2500}\u{2500}"),
+
+    // The first and the last printable ASCII characters.
+    ((2, 20), 0, &[], &[Text("          x")], " \x1b[9bx"),
+    ((2, 20), 0, &[], &[Text("~~~~~~~~~~")], "~\x1b[9b"),
+
+    // Characters of two and four bytes.
+    ((2, 20), 0, &[], &[Text("\u{e9}\u{e9}\u{e9}\u{e9}\u{e9}")],
+        "\u{e9}\u{e9}\u{e9}\u{e9}\u{e9}"),
+    ((2, 20), 0, &[], &[Text("\u{1d400}\u{1d400}\u{1d400}")], "\u{1d400}\u{1d400}\u{1d400}"),
+];
+
+#[test]
+fn only_ascii_characters_are_repeated_if_the_options_say_so(rt: HostRuntime) -> Result<(), Fail> {
+    for example in &ASCII_REPEATED {
+        expect_at_each_cut(rt.alloc(), Change::With(REPEAT_ASCII), example)?;
     }
     Ok(())
 }

@@ -13,17 +13,18 @@ ghost use Rattle.vt_screen.specs.Shown.{display};
 use crate::mirror::Mirror;
 use crate::update::Update;
 use vt_screen::repeats::with_repeats;
-use vt100::{DiffOptions, Error};
+use vt100::{DiffOptions, Error, Repeat};
 
 impl Mirror {
     /// Returns the viewer's next update, as [`update`](Mirror::update) does, with the given options
     /// for a diff.
     ///
     /// With `scroll`, the update is the one that [`update_scrolling`](Mirror::update_scrolling)
-    /// would return. With `repeat`, runs of a one-column character in a diff may be written with
-    /// REP (ECMA-48, 8.3.103), as with `Screen::contents_diff_with`. Use `repeat` only if the
-    /// viewer's terminal performs REP. Each update may use different options, and may also come
-    /// from `update` or `update_scrolling`.
+    /// would return. Runs of the one-column characters that `repeat` allows may be written with REP
+    /// (ECMA-48, 8.3.103) in a diff, as with `Screen::contents_diff_with`. Some terminals ignore
+    /// REP, and tmux 3.3a performs it only after ASCII characters, so allow only what the viewer's
+    /// terminal performs. Each update may use different options, and may also come from `update` or
+    /// `update_scrolling`.
     ///
     /// # Errors
     ///
@@ -55,6 +56,7 @@ impl Mirror {
     /// # Errors
     ///
     /// Returns `Error::OutOfMemory` if the text of the update cannot be allocated.
+    #[tactic(auto, using(crate::proofs::Updates::repeats_after))]
     fn update_of_kind(&mut self, viewer: u64, options: DiffOptions) -> Result<Update, Error>
         ensures same { self.new ≡ self.old }
         ensures whole { IsScreen self.new.parser.screen }
@@ -66,10 +68,7 @@ impl Mirror {
             (options.scroll ≡ true → IsSteady (display self.old.parser.screen)) → IsOk result }
     {
         let plain = self.update_without_repeats(viewer, options.scroll)?;
-        if !options.repeat {
-            return Ok(plain);
-        }
-        let update = self.update_with_repeats(viewer, plain)?;
+        let update = self.update_with_repeats(viewer, plain, options.repeat)?;
         Ok(update)
     }
 
@@ -99,14 +98,19 @@ impl Mirror {
         Ok(update)
     }
 
-    /// Returns `plain`, the viewer's next update, with runs of the same character in a diff written
-    /// with REP. A full update is returned unchanged.
+    /// Returns `plain`, the viewer's next update, with runs of the characters that `repeat` allows
+    /// written with REP if the update is a diff. A full update is returned unchanged.
     ///
     /// # Errors
     ///
     /// Returns `Error::OutOfMemory` if the text of the update cannot be allocated.
-    fn update_with_repeats(&self, viewer: u64, plain: Update) -> Result<Update, Error>
-        ensures ok { IfOk result (λ update. RepeatsUpdate (note_of self.now.viewers viewer) plain update) }
+    fn update_with_repeats(
+        &self,
+        viewer: u64,
+        plain: Update,
+        repeat: Repeat,
+    ) -> Result<Update, Error>
+        ensures ok { IfOk result (λ update. RepeatsUpdate repeat (note_of self.now.viewers viewer) plain update) }
         ensures memory { OnlyOutOfMemory result }
         ensures never { HasNoDiff plain → IsOk result }
     {
@@ -121,7 +125,7 @@ impl Mirror {
         let (_, cols) = prev.size();
         let (_, column) = prev.cursor_position();
         let room = cols.get().saturating_sub(column);
-        let short = with_repeats(self.alloc, text, cols.get(), room)?;
+        let short = with_repeats(self.alloc, text, repeat, cols.get(), room)?;
         Ok(Update::Diff(short))
     }
 }

@@ -22,7 +22,7 @@ pub struct RowsFormatted<'a> {
     stop: u16,
 }
 
-/// The model of the iterator is the list of the remaining outputs.
+/// The model of the iterator is the list of outputs that it has yet to return.
 impl<'a> Model for RowsFormatted<'a> {
     ghost use Rattle.std.specs.Prelude.{List, ℕ, length};
     ghost use Rattle.vt_screen.specs.Internals.{IsColumns};

@@ -5,7 +5,7 @@ ghost use Rattle.std.specs.List.{slice_range};
 ghost use Rattle.vt_cells.specs.Refusals.{OnlyOutOfMemory};
 ghost use Rattle.vt_rows.specs.Basic.{Written, nothing_written};
 ghost use Rattle.vt_redraw.specs.Refusals.{RefusedOnlyIfSome};
-ghost use Rattle.vt_screen.specs.Capture.{IfGiven, StopsBehind, all_rows, basic_texts};
+ghost use Rattle.vt_screen.specs.Capture.{IfGiven, StopsAfter, all_rows, basic_texts};
 ghost use Rattle.vt_screen.specs.Capture.{captured_rows, captured_text, given_state, written_after_all};
 ghost use Rattle.vt_screen.specs.Internals.{WritesRows};
 ghost use Rattle.vt_screen.specs.MadeOf.{IsMadeOf, capture_finals, plain_controls};
@@ -61,7 +61,7 @@ impl Screen {
         ensures state { OnOk result (IfGiven range.exit
             (λ state. state ≡ written_after_all (given_state range.entry) (captured_rows range.entry self.now))) }
         ensures err { OnErr result ((state : Written)
-            × (StopsBehind S.refuses (S.text sink.old) (given_state range.entry) (captured_rows range.entry self.now)
+            × (StopsAfter S.refuses (S.text sink.old) (given_state range.entry) (captured_rows range.entry self.now)
             (S.text sink.new) state × IfGiven range.exit (λ given. given ≡ state))) }
         ensures nonempty { RefusedOnlyIfSome result (captured_text range.entry self.now) }
     {
@@ -102,8 +102,8 @@ impl Screen {
         self.write_rows(sink, state, end - rows.len(), end)
     }
 
-    /// Writes the rows `start..end`, numbered from the first row of scrollback,
-    /// continuing from the capture state `state`.
+    /// Writes the rows `start..end`, counted from 0 at the first row of scrollback, continuing from
+    /// the capture state `state`.
     fn write_rows<S: Sink>(
         &self,
         sink: &mut S,

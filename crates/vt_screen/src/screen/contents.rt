@@ -123,8 +123,9 @@ impl Screen {
         Rows::new(self, start, width)
     }
 
-    /// Returns the plain text of a displayed row in the columns `start..stop`,
-    /// or `None` if there is no such row.
+    /// Returns the plain text of a displayed row in the columns `start..stop`, or
+    /// `Error::OutOfMemory` if the text cannot be allocated. Returns `None` if the row does not
+    /// exist.
     pub(crate) fn row_text(
         &self,
         row: u16,
@@ -160,8 +161,8 @@ impl Screen {
         Ok(())
     }
 
-    /// Writes the text from `start` up to `end`. Rows that aren't displayed
-    /// have no text.
+    /// Writes the text from `start` up to but not including `end`. Rows that aren't displayed have
+    /// no text.
     #[tactic(auto, using(crate::proofs::ContentTexts::parts_more, crate::proofs::ContentTexts::parts_done))]
     fn write_between<S: Sink>(&self, sink: &mut S, start: Pos, end: Pos) -> Result<(), S::Error>
         ensures text { OnOk result
@@ -295,7 +296,7 @@ fn write_end_unless<S: Sink>(
     }
 }
 
-/// Removes the trailing newlines of a string.
+/// Removes the trailing newlines from a string.
 #[tactic(auto, using(crate::proofs::ContentTexts::trim_more))]
 fn drop_line_ends(text: &mut String)
     ensures { string_bytes text.new ≡ without_line_ends (string_bytes text.old) }

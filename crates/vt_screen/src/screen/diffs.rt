@@ -10,6 +10,7 @@ ghost use Rattle.vt_screen.specs.Shown.{IsSameIfEmpty, RedrawsFrom, display, dis
 ghost use Rattle.vt_screen.specs.TextResults.{IfText};
 
 use crate::diff_options::DiffOptions;
+use crate::repeat::Repeat;
 use crate::repeats::with_repeats;
 use crate::screen::Screen;
 use vt_cells::Error;
@@ -20,11 +21,11 @@ impl Screen {
     /// size.
     ///
     /// With `scroll`, the output may move rows or columns before it draws the remaining changes, as
-    /// [`Screen::contents_diff_scrolling`] does. With `repeat`, runs of a one-column character may
-    /// be written as the character followed by REP (CSI `n` `b`, ECMA-48, 8.3.103) if that is
-    /// shorter. Some terminals ignore REP, so use `repeat` only if the receiving terminal performs
-    /// it. Without `repeat`, the output is that of `contents_diff` or, with `scroll`, of
-    /// `contents_diff_scrolling`.
+    /// [`Screen::contents_diff_scrolling`] does. Runs of the one-column characters that `repeat`
+    /// allows may be written as the character followed by REP (CSI `n` `b`, ECMA-48, 8.3.103) if
+    /// that is shorter. Some terminals ignore REP, and tmux 3.3a performs it only after ASCII
+    /// characters, so allow only what the receiving terminal performs. With `Repeat::Never`, the
+    /// output is that of `contents_diff` or, with `scroll`, of `contents_diff_scrolling`.
     ///
     /// The output is never longer than that of `contents_diff` (clause `shorter`). Every terminal
     /// in ground state takes the same steps for the output with REP as for the output with the runs
@@ -48,7 +49,7 @@ impl Screen {
     ///
     /// ```text
     /// // ten `-` on a blank screen: the character, and nine repetitions
-    /// let options = DiffOptions { scroll: false, repeat: true };
+    /// let options = DiffOptions { scroll: false, repeat: Repeat::Ascii };
     /// assert_eq!(screen.contents_diff_with(&blank, options)?, "-\x1b[9b");
     /// ```
     pub fn contents_diff_with(&self, prev: &Screen, options: DiffOptions) -> Result<String, Error>
@@ -69,8 +70,9 @@ impl Screen {
         Ok(text)
     }
 
-    /// Returns the scrolling diff (see [`Screen::contents_diff_scrolling`]) if `scroll` is true,
-    /// otherwise the ordinary diff.
+    /// Returns the output that turns the display of `prev` into that of this screen: the scrolling
+    /// diff (see [`Screen::contents_diff_scrolling`]) if `scroll` is true, otherwise the ordinary
+    /// diff.
     ///
     /// # Errors
     ///
@@ -89,24 +91,27 @@ impl Screen {
         Ok(text)
     }
 
-    /// Returns the diff `plain` or, if `repeat` is true, the same output in which runs of the same
-    /// character are written with REP. The terminal displays `prev` before it reads the diff.
+    /// Returns the diff `plain` in which runs of the characters that `repeat` allows are written
+    /// with REP. The terminal displays `prev` before it reads the diff.
     ///
     /// # Errors
     ///
     /// Returns `Error::OutOfMemory` if the output cannot be allocated.
-    fn diff_with_repeats(&self, prev: &Screen, plain: String, repeat: bool) -> Result<String, Error>
+    #[tactic(auto, using(crate::proofs::RepeatedDiffs::to_may_repeat))]
+    fn diff_with_repeats(
+        &self,
+        prev: &Screen,
+        plain: String,
+        repeat: Repeat,
+    ) -> Result<String, Error>
         ensures text { IfText result (MayRepeat repeat prev.now (string_bytes plain)) }
         ensures memory { OnlyOutOfMemory result }
         ensures nonempty { RefusedOnlyIfSome result (string_bytes plain) }
     {
-        if !repeat {
-            return Ok(plain);
-        }
         let (_, cols) = prev.size();
         let (_, column) = prev.cursor_position();
         let room = cols.get().saturating_sub(column);
-        let text = with_repeats(self.alloc, plain, cols.get(), room)?;
+        let text = with_repeats(self.alloc, plain, repeat, cols.get(), room)?;
         Ok(text)
     }
 }

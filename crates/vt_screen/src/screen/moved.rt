@@ -38,9 +38,9 @@ impl Screen {
     ///
     /// If rows have scrolled, even in only a part of the screen, the output may move them with DL
     /// and IL. If text has moved within its row, the output may move it with DCH and ICH. Either
-    /// can make the output much shorter. If rows are better erased and drawn anew, DL and IL may
-    /// erase them first. The moves are guesses; only the first 256 rows are searched for moved
-    /// rows. The output may touch any row.
+    /// can make the output much shorter. If erasing rows and drawing them again seems shorter, the
+    /// output may begin by erasing them with DL and IL. The moves are chosen heuristically, and
+    /// only the first 256 rows are searched for moved rows. The output may touch any row.
     ///
     /// The cursor is moved with LF, CR, BS, HT or CHA if that is shorter. The tty must therefore
     /// not translate output, and the tab stops must be at every eighth column.

@@ -129,7 +129,8 @@ fn make_other(screen: &mut Screen) -> Result<(), Error>
     Ok(())
 }
 
-/// Switches to the alternate page, which must have been created.
+/// Switches to the alternate page, which must have been created, and stops displaying scrollback.
+/// Does nothing if the alternate page is already active.
 fn show_alternate(screen: &mut Screen)
     requires { IsSome screen.old.other }
     ensures { screen.new ≡ screen_after_enter screen.old }

@@ -83,8 +83,8 @@ pub fn room(screen: &Screen) -> u16
 }
 
 /// Prints a run of printable ASCII in a single edit of the row, with the same effect as calling
-/// [`text`] for each character. The run must fit on the cursor's row. No row scrolls off the page,
-/// and no callback is invoked.
+/// [`text`] for each character. The run must not be empty and must fit on the cursor's row. No row
+/// scrolls off the page, and no callback is invoked.
 #[inline]
 pub fn print_text(screen: &mut Screen, text: &[u8])
     requires nonempty { 0 < length text.now }
@@ -96,9 +96,9 @@ pub fn print_text(screen: &mut Screen, text: &[u8])
     screen.last = Some(char::from(text[text.len() - 1]));
 }
 
-/// Prints a run of narrow characters in a single edit of the row, with the same effect as calling
-/// [`text`] for each character. The run must fit on the cursor's row. No row scrolls off the page,
-/// and no callback is invoked.
+/// Prints a run of one-column characters in a single edit of the row, with the same effect as
+/// calling [`text`] for each character. The run must not be empty and must fit on the cursor's row.
+/// No row scrolls off the page, and no callback is invoked.
 #[inline]
 pub fn print_narrow_text(screen: &mut Screen, text: &[char])
     requires nonempty { 0 < length text.now }
@@ -110,9 +110,9 @@ pub fn print_narrow_text(screen: &mut Screen, text: &[char])
     screen.last = Some(text[text.len() - 1]);
 }
 
-/// Prints a run of wide characters in a single edit of the row, with the same effect as calling
-/// [`text`] for each character. The run must fit on the cursor's row. No row scrolls off the page,
-/// and no callback is invoked.
+/// Prints a run of two-column characters in a single edit of the row, with the same effect as
+/// calling [`text`] for each character. The run must not be empty and must fit on the cursor's row.
+/// No row scrolls off the page, and no callback is invoked.
 #[inline]
 pub fn print_wide_text(screen: &mut Screen, text: &[char])
     requires nonempty { 0 < length text.now }

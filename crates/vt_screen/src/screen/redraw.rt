@@ -62,7 +62,8 @@ impl Screen {
         Ok(copy)
     }
 
-    /// Returns a screen that holds a copy of the active page only.
+    /// Returns a screen with a copy of the active page and with the attributes and modes of this
+    /// screen, but without scrollback or the inactive page.
     ///
     /// # Errors
     ///
@@ -380,7 +381,7 @@ impl Screen {
         write_cursor_state(sink, &self.view())
     }
 
-    /// Returns a view of the picture that the screen displays.
+    /// Returns a view of what the screen displays.
     pub(super) fn view(&self) -> View<'_>
         ensures value { result ≡ display self.now }
         ensures whole { IsScreen self.now }

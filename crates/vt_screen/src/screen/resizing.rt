@@ -244,8 +244,8 @@ fn add_rows(screen: &mut Screen, size: Size) -> Result<(), Error>
     Ok(())
 }
 
-/// Resizes both pages to the width of `size` in place. The main page must be active. `size` must
-/// have the height of the pages and a different width. No row scrolls off.
+/// Resizes both pages to the width of `size` in place, and returns `true`. The main page must be
+/// active. `size` must have the height of the pages and a different width. No row scrolls off.
 ///
 /// Returns `false` and changes nothing if, on either page, the new width exceeds the number of
 /// cells stored for each row or is less than half of that number (rounded down).

@@ -80,8 +80,9 @@ pub fn erase_scrollback<CB: Callbacks>(screen: &mut Screen, callbacks: &mut CB)
 }
 
 impl Screen {
-    /// Scrolls the display back by `rows` rows, clamped to the number of rows
-    /// in scrollback. If `rows` is 0, only the page is displayed.
+    /// Sets the scrollback offset, which is the number of rows by which the display is scrolled
+    /// back. `rows` is clamped to the number of rows in scrollback. If it is 0, only the page is
+    /// displayed.
     ///
     /// The display may be scrolled back by more rows than the screen has. In
     /// that case, the display begins that many rows above the page and contains

@@ -11,7 +11,7 @@ use vt_cells::{Pos, columns};
 /// The maximum number of parameters in an SGR sequence that is recognized as an element.
 const MOST_NUMBERS: u8 = 32;
 
-/// An element of drawing output.
+/// A unit of drawing output: a run of characters, a control or a control sequence.
 #[derive(Clone, Copy, PartialEq, Eq, Debug)]
 pub enum Element {
     /// A run of printable ASCII characters.
@@ -120,7 +120,7 @@ fn next_row(bytes: &[u8]) -> Option<(Element, usize)>
 
 /// Returns the first character of `text` as an element, and its length in bytes. Returns `None` if
 /// `text` is empty, or if the character is ASCII or is not printed.
-fn other_character(text: &str) -> Option<(Element, usize)>
+pub fn other_character(text: &str) -> Option<(Element, usize)>
     ensures nonempty { IfSome result (λ found. 0 < found.1) }
     ensures inside { IfSome result (λ found. found.1 ≤ length text.now) }
     ensures element { IfSome result (λ found. IsElement found.0 (take found.1 text.now)) }
@@ -197,8 +197,8 @@ fn hide(bytes: &[u8]) -> Option<(Element, usize)>
 }
 
 /// Returns the element and the length in bytes of the control sequence with numeric parameters at
-/// the beginning of `bytes`, or `None` if there is no such element. `bytes` must begin with `ESC
-/// [`.
+/// the beginning of `bytes`, or `None` if there is no such element. `bytes` must begin with
+/// `ESC [`.
 fn numbered_sequence(bytes: &[u8]) -> Option<(Element, usize)>
     requires long { 2 ≤ length bytes.now }
     requires introduced { take 2 bytes.now ≡ 0x1B ∷ 0x5B ∷ [] }
@@ -211,30 +211,46 @@ fn numbered_sequence(bytes: &[u8]) -> Option<(Element, usize)>
     Some((element, len + 2))
 }
 
-/// Parses the parameters and the final byte that follow `ESC [` in a control sequence, at the
-/// beginning of `bytes`. Returns the element and the number of bytes parsed, or `None` if the
-/// sequence is not an element.
+/// Parses the parameters and the final byte of a control sequence. `bytes` begins directly after
+/// the `ESC [` of the sequence. Returns the element and the number of bytes parsed, or `None` if
+/// the sequence is not an element.
 fn numbered(bytes: &[u8]) -> Option<(Element, usize)>
     ensures inside { IfSome result (λ found. found.1 ≤ length bytes.now) }
     ensures element { IfSome result (λ found. IsElement found.0 (0x1B ∷ 0x5B ∷ take found.1 bytes.now)) }
 {
-    if let Some(len) = sgr_len(bytes, Wanted::Any, MOST_NUMBERS) {
-        return Some((Element::Attrs, len + 1));
-    }
     let (first, len) = number(bytes)?;
     if len >= bytes.len() {
         return None;
     }
-    let rest = &bytes[len + 1..];
-    if bytes[len] == b';' {
-        let (pos, more) = place(first, rest)?;
+    match bytes[len] {
+        b'm' => {
+            wanted_next(Wanted::Any, first)?;
+            Some((Element::Attrs, len + 1))
+        }
+        b';' => several_numbers(bytes, first, len),
+        last if first >= 2 => {
+            let element = counted_sequence(first, last)?;
+            Some((element, len + 1))
+        }
+        _ => None,
+    }
+}
+
+/// Parses the parameters and the final byte of a control sequence with several parameters, at the
+/// beginning of `bytes`. The first parameter is `first`, and a `;` follows its `len` digits. Returns
+/// the element and the number of bytes parsed, or `None` if the sequence is not an element.
+fn several_numbers(bytes: &[u8], first: u16, len: usize) -> Option<(Element, usize)>
+    requires inside { len < length bytes.now }
+    requires digits { take len bytes.now ≡ decimal first }
+    requires separator { slice_index_or bytes.now len 0 ≡ 0x3B }
+    ensures inside { IfSome result (λ found. found.1 ≤ length bytes.now) }
+    ensures element { IfSome result (λ found. IsElement found.0 (0x1B ∷ 0x5B ∷ take found.1 bytes.now)) }
+{
+    if let Some((pos, more)) = place(first, &bytes[len + 1..]) {
         return Some((Element::Place(pos), len + 1 + more));
     }
-    if first < 2 {
-        return None;
-    }
-    let element = counted_sequence(first, bytes[len])?;
-    Some((element, len + 1))
+    let len = sgr_len(bytes, Wanted::Any, MOST_NUMBERS)?;
+    Some((Element::Attrs, len + 1))
 }
 
 /// Returns the position in a CUP sequence and the number of bytes read. The first parameter is
@@ -259,10 +275,10 @@ fn place(row: u16, bytes: &[u8]) -> Option<(Pos, usize)>
     Some((pos, len + 1))
 }
 
-/// Returns the length of the SGR parameters at the beginning of `bytes`, without the final byte
-/// `m`. The first parameter is interpreted as `wanted` specifies. Returns `None` if there are more
-/// than `most` parameters, if one of them is missing, has a leading zero, is above 65535 or is
-/// unknown, or if no `m` follows them.
+/// Returns the length, in bytes, of the SGR parameters at the beginning of `bytes`, without the
+/// final byte `m`. The first parameter is interpreted as `wanted` specifies. Returns `None` if
+/// there are more than `most` parameters, if one of them is missing, has a leading zero, is above
+/// 65535 or is unknown, or if no `m` follows them.
 fn sgr_len(bytes: &[u8], wanted: Wanted, most: u8) -> Option<usize>
     ensures inside { IfSome result (λ len. len < length bytes.now) }
     ensures last { IfSome result (λ len. slice_index_or bytes.now len 0 ≡ 0x6D) }

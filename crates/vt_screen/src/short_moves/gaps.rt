@@ -87,7 +87,7 @@ fn is_byte_glyph(cell: &Cell) -> bool
     cell::has_attrs(cell, &Attrs::new())
 }
 
-/// Appends the text of the `count` columns of `row` that begin at column `col` to `short`.
+/// Appends to `short` the text of the `count` columns of `row` that begin at column `col`.
 ///
 /// # Errors
 ///

@@ -6,24 +6,25 @@ ghost use Rattle.vt_screen.specs.Gaps.{IsDefaultAfter, IsKeptAfter, IsKeptFrom, 
 use crate::short_moves::elements::Element;
 use vt_cells::Pos;
 
-/// The facts that are known about a terminal that displayed a certain picture and has since read
-/// drawing output.
+/// What is known about a terminal that displayed a certain picture (the display of a screen) and
+/// has since read drawing output.
 #[derive(Clone, Copy, PartialEq, Eq, Debug)]
 pub struct Known {
     /// The position of the cursor. `None` if it is unknown or a wrap is pending.
     pub at: Option<Pos>,
 
-    /// A position at and after which, in reading order, the terminal still displays the narrow
-    /// glyphs of the picture. `None` if the output may have changed any cell.
+    /// A position such that the terminal still displays all narrow glyphs of the picture that are
+    /// at or after it in reading order. `None` if the output may have changed any cell.
     pub kept: Option<Pos>,
 
-    /// Whether the attributes are known to be the default ones. Meaningful only if `kept` is not
+    /// Whether the attributes are known to be the defaults. Meaningful only if `kept` is not
     /// `None`.
     pub is_default: bool,
 }
 
 impl Known {
-    /// Returns the value of `kept` after the terminal has read `element`, or `None` if no such
+    /// Returns the value of `kept` after the terminal has read `element`: a position such that all
+    /// narrow glyphs at or after it in reading order are still displayed. Returns `None` if no such
     /// position is known. `element` is copied to the output unchanged. `to` is the position of the
     /// cursor after `element`, or `None` if it is unknown or a wrap is pending.
     #[inline]
@@ -70,7 +71,7 @@ impl Known {
         Some(later(kept, changed))
     }
 
-    /// Returns whether the attributes are known to be the default ones after the terminal has read
+    /// Returns whether the attributes are known to be the defaults after the terminal has read
     /// `element`, which is copied to the output unchanged.
     #[inline]
     pub fn is_default_after(self, element: Element) -> bool

@@ -7,7 +7,7 @@ ghost use Rattle.vt_screen.specs.ShortMoves.{IsLast, IsRoute, column_after_tabs,
 use vt_cells::term::{BufWrite, MoveRight};
 use vt_cells::{Error, Pos, Sink};
 
-/// The last part of a route.
+/// The last part of a [`Route`]: the cursor movement after its tabs.
 #[derive(Clone, Copy, PartialEq, Eq, Debug)]
 pub enum Last {
     /// The cursor is already at the destination.
@@ -40,6 +40,19 @@ pub struct Route {
     pub last: Last,
 }
 
+/// A way to a column of the cursor's row: tabs, a last part, and the length of their output.
+#[derive(Clone, Copy, PartialEq, Eq, Debug)]
+struct Way {
+    /// The number of tabs.
+    tabs: u16,
+
+    /// The part after the tabs.
+    last: Last,
+
+    /// The length of the output, in bytes.
+    cost: usize,
+}
+
 impl Route {
     /// Returns whether the route leads from `from` to `to` on a terminal with `cols` columns.
     pub fn leads(&self, from: Pos, to: Pos, cols: u16) -> bool
@@ -53,7 +66,8 @@ impl Route {
         self.last.column_after(stop, cols) == Some(to.col)
     }
 
-    /// Appends the route's output to `text`.
+    /// Appends to `text` the control characters and the control sequence, if any, that make up the
+    /// route.
     ///
     /// # Errors
     ///
@@ -68,23 +82,6 @@ impl Route {
         }
         write_repeated(text, "\t", self.tabs)?;
         self.last.write(text)
-    }
-
-    /// Returns the approximate length of the route's output, in bytes.
-    fn cost(&self) -> u32 {
-        u32::from(self.feeds)
-            .saturating_add(u32::from(self.returns))
-            .saturating_add(u32::from(self.tabs))
-            .saturating_add(self.last.cost())
-    }
-
-    /// Returns the cheaper of this route and `other`, or this route if both cost the same.
-    fn or(self, other: Route) -> Route {
-        if other.cost() < self.cost() {
-            other
-        } else {
-            self
-        }
     }
 }
 
@@ -108,7 +105,8 @@ impl Last {
         }
     }
 
-    /// Appends the output of this part of a route to `text`.
+    /// Appends to `text` the BS characters or the control sequence for this part of a route.
+    /// Appends nothing for [`Last::Stay`].
     ///
     /// # Errors
     ///
@@ -125,11 +123,12 @@ impl Last {
         }
     }
 
-    /// Returns the length of the output of this part of a route, in bytes.
-    fn cost(self) -> u32 {
+    /// Returns the number of bytes that this part of a route takes in the output.
+    #[inline]
+    fn cost(self) -> usize {
         match self {
             Last::Stay => 0,
-            Last::Back(count) => u32::from(count),
+            Last::Back(count) => usize::from(count),
             Last::Right(1) => 3,
             Last::Right(count) => 3 + digits(count),
             Last::Column(target) => 3 + digits(target.saturating_add(1)),
@@ -137,7 +136,46 @@ impl Last {
     }
 }
 
-/// Appends `byte`, a string of one byte, to `text` `count` times.
+impl Way {
+    /// Creates a way that consists of `tabs` tabs and the part `last`.
+    #[inline]
+    fn new(tabs: u16, last: Last) -> Self {
+        Way {
+            tabs,
+            last,
+            cost: usize::from(tabs).saturating_add(last.cost()),
+        }
+    }
+
+    /// Returns the way to column `col`, to the right of column `start`, whose output is probably the
+    /// shortest on a terminal with `cols` columns. `start` must not be to the right of `col`.
+    #[inline]
+    fn forward(start: u16, col: u16, cols: u16) -> Self {
+        if col <= start {
+            return Way::new(0, Last::Stay);
+        }
+        let right = Way::new(0, Last::Right(col - start));
+        let tabs = (col / 8).saturating_sub(start / 8);
+        let back = next_stop(col, cols).saturating_sub(col);
+        let past = Way::new(tabs.saturating_add(1), Last::Back(back));
+        if tabs == 0 {
+            return right.or(past);
+        }
+        let last = match col % 8 {
+            0 => Last::Stay,
+            more => Last::Right(more),
+        };
+        right.or(Way::new(tabs, last)).or(past)
+    }
+
+    /// Returns the cheaper of this way and `other`, or this way if both cost the same.
+    #[inline]
+    fn or(self, other: Way) -> Self {
+        if other.cost < self.cost { other } else { self }
+    }
+}
+
+/// Appends `byte`, a string of one byte, `count` times to `text`.
 ///
 /// # Errors
 ///
@@ -154,7 +192,7 @@ fn write_repeated(text: &mut String, byte: &str, count: u16) -> Result<(), Error
     Ok(())
 }
 
-/// Appends the sequence that moves the cursor right by `count` columns (CUF) to `text`.
+/// Appends to `text` the sequence that moves the cursor right by `count` columns (CUF).
 ///
 /// # Errors
 ///
@@ -169,8 +207,7 @@ fn write_right(text: &mut String, count: u16) -> Result<(), Error>
     }
 }
 
-/// Appends the sequence that moves the cursor to column `target` (CHA) to `text`. `target` is
-/// counted from 0.
+/// Appends to `text` the sequence that moves the cursor to column `target`, counted from 0 (CHA).
 ///
 /// # Errors
 ///
@@ -185,8 +222,9 @@ fn write_column(text: &mut String, target: u16) -> Result<(), Error>
     text.write_str("G")
 }
 
-/// Returns the column to which a tab moves the cursor from column `col` on a terminal with `cols`
-/// columns.
+/// Returns the column of the first tab stop to the right of column `col`, or the last column if
+/// there is none. Tab stops are at every eighth column. Columns are counted from 0, and the
+/// terminal has `cols` of them.
 fn next_stop(col: u16, cols: u16) -> u16
     ensures { result ≡ next_stop cols col }
 {
@@ -199,7 +237,7 @@ fn next_stop(col: u16, cols: u16) -> u16
 }
 
 /// Returns the column to which `count` tabs move the cursor from column `col` on a terminal with
-/// `cols` columns.
+/// `cols` columns and a tab stop at every eighth column. Columns are counted from 0.
 #[tactic(auto, using(crate::proofs::Numbers::next_tab))]
 fn column_after_tabs(col: u16, count: u16, cols: u16) -> u16
     ensures { result ≡ column_after_tabs cols count col }
@@ -212,73 +250,35 @@ fn column_after_tabs(col: u16, count: u16, cols: u16) -> u16
 }
 
 /// Returns the route from `from` to `to` whose output is probably the shortest on a terminal with
-/// `cols` columns. If `to` is in a row above `from`, the returned route does not lead to `to`.
-pub fn likely_route(from: Pos, to: Pos, cols: u16) -> Route {
-    let feeds = to.row.saturating_sub(from.row);
-    let returned = forward(feeds, true, 0, to.col, cols);
-    if to.col < from.col {
-        let back = Route {
-            feeds,
-            returns: false,
-            tabs: 0,
-            last: Last::Back(from.col - to.col),
-        };
-        let column = Route {
-            last: Last::Column(to.col),
-            ..back
-        };
-        returned.or(back).or(column)
+/// `cols` columns. Returns `None` if `to` is in a row above `from`, or if no route is likely to take
+/// fewer than `len` bytes.
+pub fn likely_route(from: Pos, to: Pos, cols: u16, len: usize) -> Option<Route> {
+    let feeds = to.row.checked_sub(from.row)?;
+    let returned = Way::forward(0, to.col, cols);
+    let direct = if to.col < from.col {
+        Way::new(0, Last::Back(from.col - to.col)).or(Way::new(0, Last::Column(to.col)))
     } else {
-        returned.or(forward(feeds, false, from.col, to.col, cols))
+        Way::forward(from.col, to.col, cols)
+    };
+    let returns = returned.cost < direct.cost;
+    let way = if returns { returned } else { direct };
+    let cost = way
+        .cost
+        .saturating_add(usize::from(returns))
+        .saturating_add(usize::from(feeds));
+    if cost >= len {
+        return None;
     }
-}
-
-/// Returns the route to column `col` whose output is probably the shortest on a terminal with
-/// `cols` columns. The route begins with `feeds` line feeds and, if `returns` is true, a carriage
-/// return, after which the cursor is in column `start`. `start` must not be to the right of `col`.
-fn forward(feeds: u16, returns: bool, start: u16, col: u16, cols: u16) -> Route {
-    let still = Route {
+    Some(Route {
         feeds,
         returns,
-        tabs: 0,
-        last: Last::Stay,
-    };
-    if col <= start {
-        return still;
-    }
-    let right = Route {
-        last: Last::Right(col - start),
-        ..still
-    };
-    let tabs = (col / 8).saturating_sub(start / 8);
-    let before = Route {
-        tabs,
-        last: if col % 8 == 0 {
-            Last::Stay
-        } else {
-            Last::Right(col % 8)
-        },
-        ..still
-    };
-    let stop = next_stop(col, cols);
-    let past = Route {
-        tabs: tabs.saturating_add(1),
-        last: if stop <= col {
-            Last::Stay
-        } else {
-            Last::Back(stop - col)
-        },
-        ..still
-    };
-    if tabs > 0 {
-        right.or(before).or(past)
-    } else {
-        right.or(past)
-    }
+        tabs: way.tabs,
+        last: way.last,
+    })
 }
 
 /// Returns the number of decimal digits of `number`.
-fn digits(number: u16) -> u32
+fn digits(number: u16) -> usize
     ensures { result ≤ 5 }
 {
     match number {

@@ -51,18 +51,18 @@ returns-then-take_escape_byte-clause-read g c =
     (subst (λ (text : List ℕ). Ran does before text now) (sym (take_more bytes 0 0 c.requires))
     (byte_ran does before now byte (one_event (Escape byte)) fed (stage now, c.escape_sequence.ensures, refl)))
 
-pub returns-then-command_byte-clause-read : goal.returns-then-command_byte-clause-read
-returns-then-command_byte-clause-read g c =
+pub returns-then-take_command_byte-clause-read : goal.returns-then-take_command_byte-clause-read
+returns-then-take_command_byte-clause-read g c =
     let does = g.CB.Callbacks.does in
     let bytes = c.args.bytes.now in
     let byte = get_or bytes 0 0 in
     let before = parser_value c.args.scanner.now c.args.screen.now c.args.callbacks.now in
-    let told = parser_value c.command_byte.new.self c.command.new.screen c.command.new.callbacks in
+    let told = parser_value c.take_command_byte.new.self c.command.new.screen c.command.new.callbacks in
     let now = parser_value c.release_text.new.self c.command.new.screen c.command.new.callbacks in
-    let fed : Feeds c.args.scanner.now byte c.command_byte.new.self (one_event Osc) =
-    subst (λ (held : ScannerValue). Feeds held byte c.command_byte.new.self (one_event Osc))
+    let fed : Feeds c.args.scanner.now byte c.take_command_byte.new.self (one_event Osc) =
+    subst (λ (held : ScannerValue). Feeds held byte c.take_command_byte.new.self (one_event Osc))
     (c.take_escape_byte.ensures.kept c.if-take_escape_byte.false ∙ c.take_final_byte.ensures.kept c.if-take_final_byte.false)
-    (c.command_byte.ensures.fed c.if-command_byte.true) in
+    (c.take_command_byte.ensures.fed c.if-take_command_byte.true) in
     some_read does before now bytes 1 c.requires
     (subst (λ (text : List ℕ). Ran does before text now) (sym (take_more bytes 0 0 c.requires))
     (released_ran does before told c.release_text.new.self (byte ∷ [])
@@ -75,8 +75,8 @@ returns-in-Ok-clause-last g c = inr (omega arith, λ s stands. refl)
 pub returns-then-take_escape_byte-clause-last : goal.returns-then-take_escape_byte-clause-last
 returns-then-take_escape_byte-clause-last g c = inr (omega arith, λ s stands. refl)
 
-pub returns-then-command_byte-clause-last : goal.returns-then-command_byte-clause-last
-returns-then-command_byte-clause-last g c = inr (omega arith, λ s stands. refl)
+pub returns-then-take_command_byte-clause-last : goal.returns-then-take_command_byte-clause-last
+returns-then-take_command_byte-clause-last g c = inr (omega arith, λ s stands. refl)
 
 pub returns-clause-last : goal.returns-clause-last
 returns-clause-last g c = inl refl

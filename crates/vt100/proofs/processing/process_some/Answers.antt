@@ -5,7 +5,7 @@ use Rattle.vt_scan.specs.declared.event.Event.TheVariants.{Executed}
 use Rattle.vt_scan.proofs.Feeding.{one_event}
 use Rattle.vt100.specs.Parser.{CallsByLast, Ran, parser_value, stage}
 use Rattle.vt100.proofs.Refusing.{stopped_at_first}
-use Rattle.vt100.proofs.Running.{byte_ran, later_by_last, map_some, read_behind, some_read, stopped_in, stopped_within}
+use Rattle.vt100.proofs.Running.{byte_ran, later_by_last, map_some, read_after_quiet, some_read, stopped_in, stopped_within}
 use Rattle.vt100.proofs.processing.process_some.Goals as goal
 
 pub returns-in-Err-clause-read : goal.returns-in-Err-clause-read
@@ -46,7 +46,7 @@ returns-clause-read g c =
     let zero : c.in_ok-count-2.count ≡ 0 = omega (arith, c.if-count-gt0.false) in
     let ran : Ran does before (take 0 bytes) led =
     subst (λ (n : ℕ). Ran does before (take n bytes) led) zero c.in_ok-count-2.ensures.read.ran in
-    read_behind does before led now bytes _ ran c.process_rest.ensures.read
+    read_after_quiet does before led now bytes _ ran c.process_rest.ensures.read
 
 pub returns-in-Ok-clause-last : goal.returns-in-Ok-clause-last
 returns-in-Ok-clause-last g c = inr (omega arith, λ s stands. refl)

@@ -19,8 +19,8 @@ returns-in-Some c =
     let run = c.in-Some.run' in
     let size = length-drop at text in
     let whole : at + length run.front.now - 0 ≡ at + length run.front.now = omega arith in
-    finds_run c.args.cols c.args.room c.loop-at.left at run.count run.room text c.in_ok-rest.rest.now run.front.now
-    c.in_ok-front.front.now run.back.now
+    finds_run c.args.repeat c.args.cols c.args.room c.loop-at.left at run.count run.room text c.in_ok-rest.rest.now
+    run.front.now c.in_ok-front.front.now run.back.now
     (c.in_ok-rest.ensures.cases.0 ∙ take_all (length text - at) (drop at text) (omega (arith, size)))
     c.loop-at.invariant.keeps c.in-Some.ensures
     (c.in_ok-front.ensures.cases.0 ∙ ap (λ (n : ℕ). take n text) whole)

@@ -5,7 +5,8 @@ use Rattle.vt_screen.proofs.repeats.write_repeating.Given as goal
 abbrev pub invariant-loop-run : goal.invariant-loop-run
 invariant-loop-run g l = record {
   utf8 : IsUtf8 l.rest;
-  written : Written l.cols l.room l.left l.text l.rest (g.S.Sink.text l.initial.sink) (g.S.Sink.text l.sink);
+  written : Written l.repeat l.cols l.room l.left l.text l.rest (g.S.Sink.text l.initial.sink)
+      (g.S.Sink.text l.sink);
 }
 
 abbrev pub decreases-loop-run : goal.decreases-loop-run

@@ -8,8 +8,8 @@ use Rattle.vt_mirror.proofs.viewers.Viewers.discard_current.Goals as goal
 
 pub invariant_of-self : goal.invariant_of-self
 invariant_of-self c =
-    let same = next_screens c.self.inside.version c.self.inside.notes.entries c.leave_a_version.new.version
-    c.leave_a_version.new.notes.entries c.leave_a_version.ensures in
+    let same = next_screens c.self.inside.version c.self.inside.notes.entries c.ensure_next_version.new.version
+    c.ensure_next_version.new.notes.entries c.ensure_next_version.ensures in
     record {
       viewers =
           subst (λ (es : List (ℕ × ScreenValue)).
@@ -19,20 +19,20 @@ invariant_of-self c =
           shared_next
           (copies_of c.self.inside.notes.entries c.self.inside.current c.self.inside.diff c.self.inside.scrolling)
           (from_of c.clear.new.self.last) (from_of c.clear-2.new.self.last) c.self.inside.version
-          c.leave_a_version.new.version c.leave_a_version.new.notes.entries c.leave_a_version.ensures
+          c.ensure_next_version.new.version c.ensure_next_version.new.notes.entries c.ensure_next_version.ensures
           (ap from_of c.clear.ensures) (ap from_of c.clear-2.ensures) c.self.invariant.shared;
       numbered =
-          next_numbered c.self.inside.version c.self.inside.notes.entries c.leave_a_version.new.version
-          c.leave_a_version.new.notes.entries c.leave_a_version.ensures;
+          next_numbered c.self.inside.version c.self.inside.notes.entries c.ensure_next_version.new.version
+          c.ensure_next_version.new.notes.entries c.ensure_next_version.ensures;
     }
 
 pub returns : goal.returns
 returns c =
     let old : ViewersValue =
     record { last = c.self.inside.last; numbers = c.self.inside.numbers.keys; notes = screens_of c.self.inside.notes.entries } in
-    let same = next_screens c.self.inside.version c.self.inside.notes.entries c.leave_a_version.new.version
-    c.leave_a_version.new.notes.entries c.leave_a_version.ensures in
-    kept_changed old c.leave_a_version.new.notes.entries c.args.self.now.viewers
+    let same = next_screens c.self.inside.version c.self.inside.notes.entries c.ensure_next_version.new.version
+    c.ensure_next_version.new.notes.entries c.ensure_next_version.ensures in
+    kept_changed old c.ensure_next_version.new.notes.entries c.args.self.now.viewers
     (diff_of c.clear.new.self.last) (diff_of c.clear-2.new.self.last)
     (ap (λ (es : List (ℕ × ScreenValue)). record old { notes = es }) same
     ∙ ap (λ (k : KeptValue). k.viewers) c.self.view_is)

@@ -1,7 +1,7 @@
 use Rattle.std.proofs.Common.{inr, refl, rules}
 use Rattle.vt_mirror.specs.declared.copies.Note.{Note}
 use Rattle.vt_mirror.proofs.Keeping.{map_from_retain}
-use Rattle.vt_mirror.proofs.viewers.leave_a_version.Goals as goal
+use Rattle.vt_mirror.proofs.viewers.ensure_next_version.Goals as goal
 
 pub returns : goal.returns
 returns c =
