@@ -93,9 +93,9 @@ fn size_of(words: &str) -> Result<(NonZeroU16, NonZeroU16)> {
     Ok((rows.parse::<NonZeroU16>()?, cols.parse::<NonZeroU16>()?))
 }
 
-/// Returns the first word of the first line whose specified output differs from that of `parser`. If
-/// all output agrees, returns the string `state` if the lines specify a different state, and `None`
-/// otherwise.
+/// Returns the first word of the first line whose specified output differs from that of `parser`.
+/// If all output agrees, returns the string `state` if the lines specify a different state, and
+/// `None` otherwise.
 fn differing_word<'a>(
     alloc: Global,
     parser: &Parser<Notes>,

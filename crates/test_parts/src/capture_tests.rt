@@ -9,7 +9,7 @@ use std::alloc::Global;
 use std::process::Abort;
 use std::test::Fail;
 use vt_cells::{Attrs, Cell, Color, Error, Sink, columns};
-use vt_rows::capture::{lent, trimmed};
+use vt_rows::capture::{row_contents, trimmed};
 use vt_rows::copies::copied;
 use vt_rows::{BasicFormattedCaptureState, Row, RowContents, cells};
 
@@ -66,7 +66,7 @@ fn row_of(cells: &[Cell], is_wrapped: bool) -> RowContents<'_>
     requires paired { IsPaired cells.now }
     requires sound { All IsCell cells.now }
 {
-    lent(cells, cells::flag_left(cells, is_wrapped))
+    row_contents(cells, cells::is_still_wrapped(cells, is_wrapped))
 }
 
 /// Returns the concatenated basic text of consecutive rows.

@@ -223,12 +223,12 @@ fn ends_commands(rt: HostRuntime) -> Result<(), Fail> {
     let mut scanner = Scanner::new(rt.alloc());
     assert_eq!(rt; scanner.take_introducer(b"\x1B\x1B\x1B]2;x"), 4);
     assert_eq!(rt; scanner.take_command_text(b"2;x\x07")?, 3);
-    assert!(rt; !scanner.command_byte(b'\n') && scanner.command_byte(0x07));
+    assert!(rt; !scanner.take_command_byte(b'\n') && scanner.take_command_byte(0x07));
     let parts = scanner.parts();
     assert_eq!(rt; parts.as_slice().len(), 2);
     assert_eq!(rt; parts.as_slice()[1], &b"x"[..]);
     assert_eq!(rt; scanner.take_introducer(b"\x1B]"), 2);
-    assert!(rt; scanner.command_byte(0x1B) && scanner.take_escape_byte(b'\\'));
+    assert!(rt; scanner.take_command_byte(0x1B) && scanner.take_escape_byte(b'\\'));
     assert_eq!(rt; scanner.take_introducer(b"\x1B[?25h"), 5);
     assert_eq!(rt; scanner.intermediates(), &b"?"[..]);
     Ok(())

@@ -32,9 +32,9 @@ pub head_of_short : (head : HeadValue) (contents : List ℕ) (cell : CellValue) 
     → cell_of_parts head contents ≡ cell → IsShort cell → head.shape.len < 8
 head_of_short head contents cell h is short = omega (arith, short, ap (λ h. h.shape.len) (head_stored _ _ _ h is))
 
-zeros_behind : (head : HeadValue) (contents : List ℕ) (cell : CellValue) → IsStored head contents
+zeros_after : (head : HeadValue) (contents : List ℕ) (cell : CellValue) → IsStored head contents
     → cell_of_parts head contents ≡ cell → IsShort cell → (k : ℕ) → 8 ≤ k → slice_index contents k ≡ 0
-zeros_behind head contents cell h is short k le =
+zeros_after head contents cell h is short k le =
     h.zeros k (omega (arith, le, head_of_short head contents cell h is short))
 
 -- If the first eight bytes of a short cell's array replace those of another short cell's array, the arrays are equal.
@@ -44,8 +44,8 @@ pub front_put : (head others : HeadValue) (new old front : List ℕ) (x y : Cell
     → front ++ drop 8 old ≡ new
 front_put head others new old front x y h is_x short k is_y low e =
     let backs : drop 8 old ≡ drop 8 new =
-    same_backs 8 old new (k.room ∙ sym h.room) (zeros_behind others old y k is_y low)
-    (zeros_behind head new x h is_x short) in
+    same_backs 8 old new (k.room ∙ sym h.room) (zeros_after others old y k is_y low)
+    (zeros_after head new x h is_x short) in
     (λ i. (e ∙ sym (front_stored head new x h is_x)) i ++ backs i) ∙ take-append-drop 8 new
 
 -- The glyph of one character is short.

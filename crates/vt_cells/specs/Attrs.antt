@@ -14,7 +14,7 @@ pub record Attrs : Type 0 where
   pub underline : Bool
   pub inverse : Bool
 
--- The attributes of a new screen: default colors and no style.
+-- The attributes of a new screen: default colors, normal intensity, and no italics, underline or inverse video.
 abbrev pub default_attrs : Attrs
 default_attrs = record {
   fgcolor = color.Default;

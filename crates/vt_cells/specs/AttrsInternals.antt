@@ -54,13 +54,13 @@ unfoldable pub same_switches : Attrs → Attrs → Bool
 same_switches a b =
     same_bool a.italic b.italic && (same_bool a.underline b.underline && same_bool a.inverse b.inverse)
 
--- The intensity encoded by a number below 4.
+-- The intensity that a number encodes: normal for 0, bold for 1, and dim for any other number.
 abbrev pub intensity_of : ℕ → Intensity
 intensity_of zero = Normal
 intensity_of (suc zero) = Bold
 intensity_of (suc (suc bits)) = Dim
 
--- The number that encodes an intensity.
+-- The number that encodes an intensity: 0 for normal, 1 for bold and 2 for dim.
 abbrev pub intensity_bits : Intensity → ℕ
 intensity_bits Normal = 0
 intensity_bits Bold = 1
@@ -76,7 +76,7 @@ style_of bits = record {
   inverse = bits / 16 % 2 == 1;
 }
 
--- The five bits into which a style is packed.
+-- A style (all attributes except the colors), packed into the low five bits of a number.
 abbrev pub style_bits : StyleValue → ℕ
 style_bits style =
     intensity_bits style.intensity + (if style.italic then 4 else 0)

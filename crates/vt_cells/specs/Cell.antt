@@ -70,7 +70,7 @@ cell_with_mark mark (blank attrs) = glyph (marked_text (0x20 ∷ []) mark) false
 cell_with_mark mark (glyph text wide attrs) = glyph (marked_text text mark) wide attrs
 cell_with_mark mark right_half = right_half
 
--- The cell after its glyph becomes wide if the flag is set, or narrow otherwise; a cell without a glyph is unchanged.
+-- The cell with its glyph made wide if the flag is true, and narrow otherwise. A cell that is not a glyph is unchanged.
 abbrev pub cell_made_wide : Bool → CellValue → CellValue
 cell_made_wide wide (glyph text was attrs) = glyph text wide attrs
 cell_made_wide wide (blank attrs) = blank attrs

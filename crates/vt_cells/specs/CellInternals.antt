@@ -73,12 +73,13 @@ pub record IsHead (word : ℕ) : Type 0 where
   pub shape : shape_bits (shape_of (word % 128)) ≡ word % 128
   pub attrs : IsAttrsWord (word / 128)
 
--- Unpacking a valid head word and packing the result gives the same word.
+-- Unpacking the head of a cell (its attributes and shape) from a valid word and packing it again gives the same word.
 pub head_back : (word : ℕ) → IsHead word → head_word (head_of word) ≡ word
 head_back word h = (λ i. h.shape i + 128 * word_back (word / 128) h.attrs i) ∙ omega arith
 
--- The given fields of a cell are valid and consistent: the length and bytes of the cell's text, the flags for a wide
--- glyph and for a continuation cell, and the attributes.
+-- The given fields describe a valid cell: `text` is UTF-8 and has `len` bytes, at most `text_room`; a wide cell has
+-- text; a continuation cell (`right`) is not wide, has no text, and has default attributes; and the cell satisfies
+-- `IsCell`.
 pub record IsKept (len : ℕ) (text : List ℕ) (wide right : Bool) (attrs : Attrs) : Type 0 where
   pub bounded : len ≤ text_room
   pub measured : length text ≡ len
@@ -89,7 +90,8 @@ pub record IsKept (len : ℕ) (text : List ℕ) (wide right : Bool) (attrs : Att
   pub wide_text : wide ≡ true → 0 < len
   pub sound : IsCell (cell_of text wide right attrs)
 
--- The invariant of a stored cell: its fields are valid, and the bytes after the text in its text array are zero.
+-- The invariant of a stored cell: its fields are valid, its text array has `text_room` bytes, and the bytes after the
+-- text are zero.
 pub record IsStored (head : HeadValue) (contents : List ℕ) : Type 0 where
   pub kept : IsKept head.shape.len (take head.shape.len contents) head.shape.wide head.shape.right_half head.attrs
   pub room : length contents ≡ text_room
@@ -108,7 +110,8 @@ padded_text text = text ++ replicate (text_room - length text) 0
 unfoldable pub first_eight_bytes : List ℕ → List ℕ
 first_eight_bytes text = take 8 (padded_text text)
 
--- If all bytes of an array after the first `len` are zero, padding the first `len` bytes with zeros gives the array.
+-- If all bytes of a cell's text array after the first `len` are zero, padding the first `len` bytes with zeros gives
+-- the array.
 pub padded_back : (len : ℕ) (contents : List ℕ) → length contents ≡ text_room → len ≤ text_room
     → ((k : ℕ) → len ≤ k → slice_index contents k ≡ 0) → padded_text (take len contents) ≡ contents
 padded_back len contents room bounded zeros =
@@ -142,12 +145,13 @@ cell_text len (b ∷ text) wide true attrs kept = absurd (omega (arith, kept.mea
 cell_text len [] wide false attrs kept = refl
 cell_text len (b ∷ text) wide false attrs kept = rw (cell_of-text (b ∷ text) wide attrs (omega arith)) refl
 
--- A cell built from a valid head and text array has that head.
+-- A cell built from a valid head (attributes and shape) and text array has that head.
 pub stored_head : (head : HeadValue) (contents : List ℕ) → IsStored head contents
     → head_of_cell (cell_of_parts head contents) ≡ head
 stored_head head contents h = cell_head _ _ _ _ _ h.kept
 
--- The padded text of a cell built from a valid head and text array equals that array.
+-- If a cell is built from a valid head (attributes and shape) and text array, its text, padded with zeros, equals the
+-- array.
 pub stored_contents : (head : HeadValue) (contents : List ℕ) → IsStored head contents
     → padded_text (text_of (cell_of_parts head contents)) ≡ contents
 stored_contents head contents h =

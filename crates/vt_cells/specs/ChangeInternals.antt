@@ -9,14 +9,14 @@ abbrev pub numbers_after : ℕ → List ℕ → List ℕ
 numbers_after lead [] = []
 numbers_after lead (n ∷ ns) = (lead ∷ decimal n) ++ numbers_after 0x3B ns
 
--- The character that precedes the number after the given list of numbers: the given character if the list is empty, and
--- `;` otherwise.
+-- `lead_after lead ns` is the character to write before the number that follows the numbers `ns`: `lead` if `ns` is
+-- empty, and `;` otherwise.
 abbrev pub lead_after : ℕ → List ℕ → ℕ
 lead_after lead [] = lead
 lead_after lead (n ∷ ns) = 0x3B
 
--- Appending the numbers `ns`, with `lead` before the first number, changes the text from `old` to `new` and adds at
--- most `most` bytes. The next number must be preceded by `following`.
+-- Appending the numbers `ns` in decimal, with `lead` before the first number, changes the text from `old` to `new` and
+-- adds at most `most` bytes. `following` is the character to write before the next number.
 pub record AppendsNumbers (old new : List ℕ) (lead following most : ℕ) (ns : List ℕ) : Type 0 where
   pub text : new ≡ old ++ numbers_after lead ns
   pub next : following ≡ lead_after lead ns
@@ -34,6 +34,6 @@ abbrev pub style_part : Attrs → Attrs → List ℕ
 style_part was new =
     part (same_intensity was.intensity new.intensity) (intensity_number new.intensity ∷ []) ++ switches_part was new
 
--- The output that moves the cursor from one position to another.
+-- The bytes of the sequence that moves the cursor from `start` to `stop`; empty if the two positions are equal.
 abbrev pub move_text : (start stop : Pos) → List ℕ
 move_text start stop = bytes_of_all (cursor_move_ops start.row start.col stop.row stop.col)

@@ -20,7 +20,7 @@ columns_of c = columns_or c (char_width false c)
 abbrev pub is_selector : ℕ → Bool
 is_selector c = c == 0xFE0F
 
--- The text takes more than one column.
+-- The text takes more than one column according to `unicode_width`.
 unfoldable pub is_wide_text : List ℕ → Bool
 is_wide_text text = nat_lt 1 (str_width false (chars text))
 
@@ -28,11 +28,11 @@ is_wide_text text = nat_lt 1 (str_width false (chars text))
 abbrev pub mark_limit : ℕ
 mark_limit = 26
 
--- The text is short enough for one more combining character.
+-- The text has fewer than `mark_limit` bytes, so that a combining character can be appended to it.
 abbrev pub has_room : List ℕ → Bool
 has_room text = nat_lt (length text) mark_limit
 
--- The text with a combining character appended; unchanged if the text has no room for the character.
+-- The text with a combining character appended; unchanged if the text already has `mark_limit` or more bytes.
 abbrev pub marked_text : List ℕ → ℕ → List ℕ
 marked_text text mark = if has_room text then text ++ encode_utf8 mark else text
 
@@ -40,8 +40,8 @@ marked_text text mark = if has_room text then text ++ encode_utf8 mark else text
 abbrev pub IsMark : ℕ → Type 0
 IsMark c = IsScalar c × (columns_of c ≡ Some 0)
 
--- Appending the given combining characters to the first text gives the last text. Before each of them is appended, the
--- text is short enough for one more combining character.
+-- `Joins text marks whole` holds if appending the combining characters `marks` to `text` gives `whole`, and the text is
+-- shorter than `mark_limit` bytes before each of them is appended.
 abbrev pub Joins : List ℕ → List ℕ → List ℕ → Type 0
 Joins text [] whole = text ≡ whole
 Joins text (mark ∷ marks) whole = (has_room text ≡ true) × Joins (text ++ encode_utf8 mark) marks whole

@@ -30,7 +30,7 @@ application_cursor_text on = if on then mode_set (codes "1") else mode_reset (co
 abbrev pub bracketed_paste_text : Bool → List ℕ
 bracketed_paste_text on = if on then mode_set (codes "2004") else mode_reset (codes "2004")
 
--- The decimal digits of xterm's private mode for a mouse reporting mode; empty for `None`.
+-- The number of xterm's private mode for a mouse reporting mode, in decimal digits; empty for `None`.
 abbrev pub mouse_mode_digits : MouseProtocolMode → List ℕ
 mouse_mode_digits mouse.None = []
 mouse_mode_digits mouse.Press = codes "9"
@@ -49,7 +49,7 @@ mouse_mode_change mouse.AnyMotion mouse.AnyMotion = []
 mouse_mode_change was mouse.None = mode_reset (mouse_mode_digits was)
 mouse_mode_change was new = mode_set (mouse_mode_digits new)
 
--- The decimal digits of xterm's private mode for an encoding of mouse events; empty for the default.
+-- The number of xterm's private mode for an encoding of mouse events, in decimal digits; empty for the default.
 abbrev pub mouse_encoding_digits : MouseProtocolEncoding → List ℕ
 mouse_encoding_digits encoding.Default = []
 mouse_encoding_digits encoding.Utf8 = codes "1005"

@@ -33,7 +33,8 @@ pub data Op : Type 0 where
   -- Prints characters, encoded in UTF-8.
   Print : (text : List ℕ) → Op
 
--- An ECMA-48 control sequence: CSI, parameters and a final byte.
+-- The ECMA-48 control sequence with the given parameter bytes and final byte: CSI (ESC `[`), the parameters, and the
+-- final byte.
 abbrev pub csi : List ℕ → ℕ → List ℕ
 csi parameters final = 0x1B ∷ 0x5B ∷ (parameters ++ final ∷ [])
 
@@ -49,14 +50,14 @@ abbrev pub place : ℕ → ℕ → List ℕ
 place zero zero = []
 place row col = decimal (row + 1) ++ 0x3B ∷ decimal (col + 1)
 
--- Decimal numbers joined by `;`.
+-- The given numbers in decimal, separated by `;`.
 abbrev pub semicolon_list : List ℕ → List ℕ
 semicolon_list [] = []
 semicolon_list (n ∷ []) = decimal n
 semicolon_list (n ∷ m ∷ ns) = decimal n ++ 0x3B ∷ semicolon_list (m ∷ ns)
 
 -- The SGR parameters of a foreground color: one number for the default color and the first 16 palette colors, and
--- xterm's long form for all other colors.
+-- xterm's long form for all other colors (38, 5 and the index, or 38, 2 and the RGB components).
 unfoldable pub foreground_numbers : Color → List ℕ
 foreground_numbers Default = 39 ∷ []
 foreground_numbers (Idx i) =
@@ -64,21 +65,21 @@ foreground_numbers (Idx i) =
 foreground_numbers (Rgb r g b) = 38 ∷ 2 ∷ r ∷ g ∷ b ∷ []
 
 -- The SGR parameters of a background color: one number for the default color and the first 16 palette colors, and
--- xterm's long form for all other colors.
+-- xterm's long form for all other colors (48, 5 and the index, or 48, 2 and the RGB components).
 unfoldable pub background_numbers : Color → List ℕ
 background_numbers Default = 49 ∷ []
 background_numbers (Idx i) =
     if nat_lt i 8 then (40 + i) ∷ [] else if nat_lt i 16 then (92 + i) ∷ [] else 48 ∷ 5 ∷ i ∷ []
 background_numbers (Rgb r g b) = 48 ∷ 2 ∷ r ∷ g ∷ b ∷ []
 
--- The SGR parameter of an intensity.
+-- The SGR parameter that sets an intensity: 22 for normal, 1 for bold and 2 for dim.
 abbrev pub intensity_number : Intensity → ℕ
 intensity_number Normal = 22
 intensity_number Bold = 1
 intensity_number Dim = 2
 
--- The given SGR parameters of one component of the attributes; none if the flag indicates that the component is
--- unchanged.
+-- The given SGR parameters of one component of the attributes, or none if the flag is true, which means that the
+-- component is unchanged.
 abbrev pub part : Bool → List ℕ → List ℕ
 part same numbers = if same then [] else numbers
 

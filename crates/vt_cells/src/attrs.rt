@@ -80,7 +80,7 @@ impl Attrs {
         Attrs { word: 0 }
     }
 
-    /// Packs `parts` into one word.
+    /// Creates attributes by packing `parts` into one word.
     #[inline]
     fn of(parts: Parts) -> Self
         ensures { result ≡ record {
@@ -139,7 +139,7 @@ impl Attrs {
         self.word
     }
 
-    /// Creates attributes from a packed word.
+    /// Creates attributes from `word`, which must be a value that [`Attrs::word`] can return.
     #[inline]
     pub(crate) fn of_word(word: u64) -> Self
         requires { IsAttrsWord word }
@@ -244,7 +244,7 @@ impl Attrs {
         }
     }
 
-    /// Returns whether characters are bold.
+    /// Returns whether the intensity is bold.
     #[inline]
     pub fn bold(&self) -> bool
         ensures { result ≡ is_bold self.now }
@@ -252,7 +252,7 @@ impl Attrs {
         self.intensity() == Intensity::Bold
     }
 
-    /// Returns whether characters are dim.
+    /// Returns whether the intensity is dim.
     #[inline]
     pub fn dim(&self) -> bool
         ensures { result ≡ is_dim self.now }
@@ -260,7 +260,7 @@ impl Attrs {
         self.intensity() == Intensity::Dim
     }
 
-    /// Returns whether characters are italic.
+    /// Returns whether the italic attribute is set.
     #[inline]
     pub fn italic(&self) -> bool
         ensures { result ≡ self.now.italic }
@@ -268,7 +268,7 @@ impl Attrs {
         self.word / ITALIC % 2 == 1
     }
 
-    /// Returns whether characters are underlined.
+    /// Returns whether the underline attribute is set.
     #[inline]
     pub fn underline(&self) -> bool
         ensures { result ≡ self.now.underline }
@@ -276,7 +276,7 @@ impl Attrs {
         self.word / UNDERLINE % 2 == 1
     }
 
-    /// Returns whether the foreground and background colors are swapped (inverse video).
+    /// Returns whether inverse video is set, which swaps the foreground and background colors.
     #[inline]
     pub fn inverse(&self) -> bool
         ensures { result ≡ self.now.inverse }
@@ -382,7 +382,8 @@ impl Default for Attrs {
     }
 }
 
-/// Returns the low five bits of a packed [`Attrs`] word, which hold everything except the colors.
+/// Packs an intensity, italics, underline and inverse video into the low five bits of an [`Attrs`]
+/// word.
 #[inline]
 #[tactic(auto, using(crate::proofs::Packing::style_back, crate::proofs::Packing::style_small))]
 fn style_bits(intensity: Intensity, italic: bool, underline: bool, inverse: bool) -> u64
@@ -401,7 +402,8 @@ fn style_bits(intensity: Intensity, italic: bool, underline: bool, inverse: bool
         + switch_bits(inverse, INVERSE)
 }
 
-/// Returns the low two bits of a packed [`Attrs`] word, which hold the intensity.
+/// Returns the two bits that encode an intensity in a packed [`Attrs`] word: 0 for normal, 1 for
+/// bold, 2 for dim.
 #[inline]
 fn intensity_bits(intensity: Intensity) -> u64
     ensures { result ≡ intensity_bits intensity }

@@ -135,7 +135,8 @@ impl Buffer {
         self.len = end;
     }
 
-    /// Writes the buffered bytes to `sink` if fewer than `len` more bytes fit in the buffer.
+    /// Makes room in the buffer for `len` bytes, at most 256. If fewer than `len` bytes are free,
+    /// writes the buffered bytes to `sink` and empties the buffer.
     ///
     /// # Errors
     ///
@@ -192,8 +193,8 @@ fn copy_one(to: &mut [u8], from: &[u8])
 
 /// Copies `from` into `to`, which must have the same length.
 ///
-/// One to three bytes, the length of most glyphs, are copied inline instead of by a call to
-/// `memcpy`.
+/// Slices of one to three bytes, the length of most glyphs, are copied inline instead of by a call
+/// to `memcpy`.
 #[inline(always)]
 #[tactic(auto, using(crate::proofs::Buffers::one_set, crate::proofs::Buffers::two_set, crate::proofs::Buffers::three_set))]
 fn copy(to: &mut [u8], from: &[u8])

@@ -94,7 +94,8 @@ impl Cell {
         self.head.shape().is_right_half()
     }
 
-    /// Returns whether the two cells have the same text, width, kind and attributes.
+    /// Returns whether the two cells are of the same kind (blank, glyph or continuation cell) and
+    /// have the same text, width and attributes.
     #[inline]
     fn is_same(&self, other: &Cell) -> bool
         ensures { result ≡ same_cell self.now other.now }
@@ -132,8 +133,9 @@ impl Cell {
 
     /// Returns a bit mask that is nonzero if the two cells differ.
     ///
-    /// The mask is also nonzero if `self` has more than seven bytes of text, because only the first
-    /// eight bytes are compared.
+    /// The mask is also nonzero if `self` has more than seven bytes of text. Such cells must be
+    /// compared byte by byte instead, because the mask covers only the first eight bytes of the
+    /// texts.
     #[inline(always)]
     pub(crate) fn odd_bits(&self, other: &Cell) -> u64
         ensures { result ≡ 0 → self.now ≡ other.now }
@@ -220,7 +222,8 @@ impl PartialEq for Cell {
 
     ghost laws = { partial_equiv_from_equiv cell_eq_equiv };
 
-    /// Returns whether the two cells have the same text, width, kind and attributes.
+    /// Returns whether the two cells are of the same kind (blank, glyph or continuation cell) and
+    /// have the same text, width and attributes.
     #[inline]
     fn eq(&self, other: &Self) -> bool
         ensures value { result ≡ cell_eq self.now other.now }
@@ -245,8 +248,8 @@ pub fn is_blank(cell: &Cell) -> bool
     cell.head.shape().is_blank()
 }
 
-/// Returns whether the heads of the two cells are equal: the length and width of the text, whether
-/// the cell is a continuation cell, and the attributes. The text itself is not compared.
+/// Returns whether the two cells agree in everything except the bytes of their texts, that is, in
+/// text length, width and attributes, and in whether they are continuation cells.
 #[inline]
 pub fn has_head_of(cell: &Cell, other: &Cell) -> bool
     ensures value { result ≡ same_head (head_of_cell cell.now) (head_of_cell other.now) }

@@ -3,7 +3,7 @@
 use std::alloc::AllocError;
 use std::{fmt, io};
 
-/// The reason why a call failed.
+/// An error returned by a call to this library.
 #[derive(Clone, Copy, PartialEq, Eq, Debug)]
 pub enum Error {
     /// An allocation failed.
@@ -12,7 +12,8 @@ pub enum Error {
     /// The parser ran out of memory earlier and accepts no more input.
     Failed,
 
-    /// No viewer number is left: the mirror has already assigned `u64::MAX`.
+    /// A mirror cannot add another viewer, because it has already assigned the last viewer number,
+    /// `u64::MAX`.
     NoNumber,
 }
 
@@ -45,7 +46,7 @@ impl From<Error> for io::Error {
     }
 }
 
-/// Displays as `out of memory`, `parser failed` or `no viewer number left`.
+/// Formats the error as `out of memory`, `parser failed` or `no viewer number left`.
 impl fmt::Display for Error {
     ghost use Rattle.std.specs.Prelude.{Some};
     ghost use Rattle.vt_cells.specs.ErrorText.{error_text};

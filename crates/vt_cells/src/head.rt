@@ -8,8 +8,11 @@ use crate::attrs::Attrs;
 use crate::shape::Shape;
 use std::marker::Model;
 
-/// The shape and the attributes of a cell, packed into one word: the shape in the low seven bits,
-/// the attributes above them. Two heads are equal if and only if their words are equal.
+/// The head of a cell: its shape (kind, width and text length) and its attributes, packed into one
+/// word.
+///
+/// The low seven bits of the word hold the shape, and the bits above them hold the attributes. Two
+/// heads are equal if and only if their words are equal.
 #[derive(Clone, Copy, Debug)]
 pub struct Head {
     word: u64,
@@ -30,7 +33,7 @@ impl Model for Head {
 }
 
 impl Head {
-    /// Packs a shape and attributes into one word.
+    /// Creates a head by packing a shape and attributes into one word.
     #[inline]
     pub fn of(shape: Shape, attrs: Attrs) -> Self
         ensures { result ≡ record { attrs = attrs; shape = shape } }
@@ -89,8 +92,8 @@ impl Head {
         self.word / 8 % 4 != 0
     }
 
-    /// Returns the two upper bits of the text length, in their places. They are 0 if and only if the
-    /// text has at most seven bytes.
+    /// Returns the length of the text with its low three bits cleared. The result is 0 if and only
+    /// if the text has at most seven bytes.
     #[inline(always)]
     #[tactic(auto, using(crate::proofs::Shapes::short_bits, crate::proofs::Shapes::no_long_bits))]
     pub fn long_bits(&self) -> u64

@@ -8,9 +8,11 @@ ghost use Rattle.vt_cells.specs.declared.color.Color.TheVariants as color;
 use crate::color::Color;
 use std::marker::Model;
 
-/// A color packed into 26 bits: its kind in the low two bits, and above them three components of
-/// eight bits. Components that the kind does not use are 0. Two colors are equal if and only if
-/// their bits are equal.
+/// A color packed into 26 bits: its kind (default, palette index or RGB) in the low two bits, and
+/// three components of eight bits above them.
+///
+/// Components that the kind does not use are 0. Two colors are equal if and only if their bits are
+/// equal.
 #[derive(Clone, Copy, Debug)]
 pub struct PackedColor {
     bits: u32,
@@ -32,7 +34,7 @@ impl Model for PackedColor {
 }
 
 impl PackedColor {
-    /// Packs a color.
+    /// Packs a color into 26 bits.
     #[inline]
     pub fn of(color: Color) -> Self
         ensures { result ≡ color }
@@ -80,7 +82,7 @@ impl PackedColor {
         }
     }
 
-    /// Returns the packed bits.
+    /// Returns the color as packed bits, of which only the low 26 are used.
     #[inline]
     pub fn bits(&self) -> u32
         ensures value { result ≡ color_bits self.now }
@@ -90,7 +92,8 @@ impl PackedColor {
         self.bits
     }
 
-    /// Creates a packed color from its bits.
+    /// Creates a packed color from `bits`, which must be a value that [`PackedColor::bits`] can
+    /// return.
     #[inline]
     pub fn of_bits(bits: u32) -> Self
         requires { IsColorBits bits }

@@ -67,7 +67,7 @@ impl Shape {
         self.bits
     }
 
-    /// Creates a shape from its packed byte.
+    /// Creates a shape from `bits`, which must be a value that [`Shape::bits`] can return.
     #[inline]
     pub fn of_bits(bits: u8) -> Self
         requires { shape_bits (shape_of bits) ≡ bits }

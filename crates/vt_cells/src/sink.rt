@@ -14,7 +14,7 @@ pub trait Sink {
 
     ghost refuses: { List ℕ → List ℕ → List ℕ → Type 0 } = { λ _ _ _. Unit {0} };
 
-    /// Appends `s`.
+    /// Appends `s` to the contents of the sink.
     ///
     /// # Errors
     ///
@@ -27,7 +27,8 @@ pub trait Sink {
         ensures err { OnErr result (refuses (text self.old) s.now (text self.new)) };
 }
 
-/// A `String` is a sink. A write to it fails only if the string cannot grow.
+/// A sink that appends to a string. A write fails only if the string must grow and the allocation
+/// fails.
 impl Sink for String {
     type Error = Error;
 

@@ -92,10 +92,10 @@ half_deleted : chars_deleted 1 (paged (row (n 0x61 ∷ wide ∷ right_half ∷ n
 unfolding cells_after_delete cells_after_move
 half_deleted = refl
 
-inserted_behind : chars_inserted 1 (paged (row (wide ∷ right_half ∷ n 1 ∷ n 2 ∷ []) ∷ []) 0 1 4 0 0)
+inserted_after : chars_inserted 1 (paged (row (wide ∷ right_half ∷ n 1 ∷ n 2 ∷ []) ∷ []) 0 1 4 0 0)
     ≡ paged (row (wide ∷ right_half ∷ default_blank ∷ n 1 ∷ []) ∷ []) 0 1 4 0 0
 unfolding cells_after_insert cells_after_move
-inserted_behind = refl
+inserted_after = refl
 
 -- If a wrap is pending, ICH moves no column, and clears the wrapped flag.
 pending_inserted : chars_inserted 1 (paged (on (n 1 ∷ n 2 ∷ []) ∷ one 3 ∷ []) 0 2 2 0 1)

@@ -11,8 +11,8 @@ abbrev pub erased_columns : ℕ → ℕ → Attrs → Page → Page
 erased_columns c n attrs page =
     with_row page.row (with_cells (cursor_row page) (cells_after_erase c n attrs (cursor_row page).cells)) page
 
--- The page after ECH erases the given number of columns of the cursor's row, starting at the cursor, but at most up to
--- the end of the row. The page is unchanged if a wrap is pending or the number is 0.
+-- The page after ECH erases the given number of columns of the cursor's row, starting at the cursor and stopping at the
+-- end of the row. The page is unchanged if a wrap is pending or the number is 0.
 unfoldable pub erased_chars : ℕ → Attrs → Page → Page
 erased_chars n attrs page =
     if (n == 0) || (page.column == page.width) then page
@@ -24,13 +24,14 @@ unfoldable pub erased_rest : Attrs → Page → Page
 erased_rest attrs page =
     if page.column == page.width then page else erased_columns page.column (page.width - page.column) attrs page
 
--- The page after all rows below the cursor are blanked.
+-- The page after all rows below the cursor are replaced with blank rows that have the given attributes.
 abbrev pub blanked_below : Attrs → Page → Page
 blanked_below attrs page = record page {
   rows = take (page.row + 1) page.rows ++ replicate (length page.rows - (page.row + 1)) (blank_row attrs page.width);
 }
 
--- The page after the cells from the cursor to the end of the page are erased (ED 0).
+-- The page after the cells from the cursor to the end of the page are erased (ED 0). If a wrap is pending, the cursor's
+-- row is unchanged.
 unfoldable pub erased_below : Attrs → Page → Page
 erased_below attrs page = blanked_below attrs (erased_rest attrs page)
 
@@ -43,12 +44,13 @@ erased_start attrs page = erased_columns 0 (min (page.column + 1) page.width) at
 abbrev pub erased_row : Attrs → Page → Page
 erased_row attrs page = with_row page.row (blank_row attrs page.width) page
 
--- The page after all rows above the cursor are blanked.
+-- The page after all rows above the cursor are replaced with blank rows that have the given attributes.
 abbrev pub blanked_above : Attrs → Page → Page
 blanked_above attrs page =
     record page { rows = replicate page.row (blank_row attrs page.width) ++ drop page.row page.rows }
 
--- The page after the cells from the start of the page through the cursor are erased (ED 1).
+-- The page after the cells from the start of the page through the cursor are erased (ED 1). If a wrap is pending, the
+-- whole row of the cursor is erased.
 unfoldable pub erased_above : Attrs → Page → Page
 erased_above attrs page = blanked_above attrs (erased_start attrs page)
 

@@ -10,7 +10,7 @@ use Rattle.vt_grid.specs.declared.flat.Line.{Line}
 use Rattle.vt_grid.specs.declared.flat.Columns.{Columns}
 use Rattle.vt_grid.specs.declared.flat.Flat.{Flat}
 
--- The cells at the slot with the given index, if each slot has `stored` cells.
+-- The cells in the slot with the given index, if each slot holds `stored` cells.
 abbrev pub cells_at : (stored : ℕ) → List CellValue → ℕ → List CellValue
 cells_at stored cells place = slice_range cells (place * stored) (place * stored + stored)
 
@@ -43,8 +43,8 @@ pub record IsTable (stored : ℕ) (cells : List CellValue) (lines : List Line) :
 abbrev pub IsBlankFrom : ℕ → List CellValue → Type 0
 IsBlankFrom used cells = (k : ℕ) → used ≤ k → at cells k ≡ default_blank
 
--- The number of used columns in a row of the given width, given the number of groups of eight columns in the row's
--- table entry; 255 groups mean the whole row.
+-- The number of used columns in a row of `width` columns: the first `groups` groups of eight columns are used, or all
+-- columns if `groups` is 255.
 abbrev pub used_columns : (width groups : ℕ) → ℕ
 used_columns width groups = if nat_lt groups 255 then min (8 * groups) width else width
 
@@ -61,20 +61,21 @@ pub record IsStored (columns : Columns) (cells : List CellValue) (lines : List L
 abbrev pub rows_of : Flat → List RowValue
 rows_of flat = rows_in flat.columns flat.cells.items flat.lines.items
 
--- The invariant of a page's storage: the cells and the table store a page.
+-- The invariant of a page's storage: `IsStored` holds for its numbers of displayed and stored columns, its cells and
+-- its table.
 abbrev pub IsFlat : Flat → Type 0
 IsFlat flat = IsStored flat.columns flat.cells.items flat.lines.items
 
--- The table of `n` rows with no used columns, in which row `k` is at slot `k` and no row is wrapped.
+-- The table of `n` rows with no used columns, in which row `k` is in slot `k` and no row is wrapped.
 abbrev pub in_order : ℕ → List Line
 in_order n = map (λ place. record { place = place; used = 0; wrapped = false }) (range_with_len 0 n)
 
--- The table entries of `n` rows that have no used columns, are not wrapped, and are stored at consecutive slots,
--- starting at index `first`.
+-- The table entries of `n` rows that have no used columns, are not wrapped, and are stored in consecutive slots,
+-- starting at slot `first`.
 abbrev pub lines_from : (first n : ℕ) → List Line
 lines_from first n = map (λ place. record { place = place; used = 0; wrapped = false }) (range_with_len first n)
 
--- The storage has enough memory for `rows` rows.
+-- The cell vector and the table have capacity for `rows` rows.
 pub record HasRoom (rows : ℕ) (flat : Flat) : Type 0 where
   pub cells : rows * flat.columns.stored ≤ vec_capacity flat.cells
   pub lines : rows ≤ vec_capacity flat.lines

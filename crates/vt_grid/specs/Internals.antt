@@ -1,4 +1,4 @@
--- How the fields of a grid represent its value; for its model and private contracts only.
+-- How the fields of a grid represent a page, and auxiliary definitions for contracts inside this crate.
 use Rattle.std.specs.Prelude.{◌≡◌, ℕ, ◌+◌, ◌-◌, ◌<◌, ◌&&◌, ◌++◌, nat_le, nat_lt, Bool, true, false, List}
 use Rattle.std.specs.Prelude.{[], length, slice_index_or, Some, zero, if◌then◌else◌}
 use Rattle.std.specs.Char.{encode_utf8}
@@ -37,21 +37,23 @@ pub record IsSized (rows cols : ℕ) (page : Page) : Type 0 where
 abbrev pub cleared_row : Attrs → RowValue → RowValue
 cleared_row attrs row = blank_row attrs (length row.cells)
 
--- A combining character that is printed with the cursor at `column` goes to the cell at column `k`. That cell is not a
--- continuation cell and, unless it is wide, is directly before the cursor.
+-- The cell at column `k` can take a combining character that is printed with the cursor at `column`: the cell is not a
+-- continuation cell, and it is either narrow and directly before the cursor, or wide and not in the last column.
 pub record IsMarkPlace (cells : List CellValue) (column k : ℕ) : Type 0 where
   pub inside : k < length cells
   pub shown : is_right_half (at cells k) ≡ false
   pub narrow : is_wide (at cells k) ≡ false → k + 1 ≡ column
   pub wide : is_wide (at cells k) ≡ true → k + 1 < length cells
 
--- U+FE0F was added to the glyph at column `k` of the cursor's row. The width of this glyph may have to change.
+-- The width of the cell at column `k` of the cursor's row may have to change because U+FE0F was added to the cell: the
+-- cell satisfies `IsMarkPlace`, is not blank, and stays valid whether it is made wide or narrow.
 pub record IsSelected (page : Page) (k : ℕ) : Type 0 where
   pub place : IsMarkPlace (cursor_row page).cells page.column k
   pub drawn : is_blank (at (cursor_row page).cells k) ≡ false
   pub either : (wide : Bool) → IsCell (cell_made_wide wide (at (cursor_row page).cells k))
 
--- The rows that scroll off when the cursor wraps because the given number of columns doesn't fit at the cursor.
+-- The rows that scroll off the top of the page when a glyph of the given number of columns is printed and the cursor
+-- wraps first. There are none if the glyph fits on the cursor's row.
 abbrev pub room_out : ℕ → Page → List RowValue
 room_out columns page = if lacks_room columns page then fed_out page else []
 
@@ -64,7 +66,8 @@ abbrev pub wide_printed : ℕ → Attrs → Page → Page
 wide_printed c attrs page =
     if nat_lt 1 page.width then glyph_put (encode_utf8 c) true attrs (room_made 2 page) else page
 
--- The rows that scroll off when a combining character is printed.
+-- The rows that scroll off the top of the page when a combining character is printed. There are none unless the
+-- character makes the cursor wrap.
 abbrev pub mark_out : ℕ → Attrs → Page → List RowValue
 mark_out mark attrs page = if carries mark page then fed_out (left_by (Some zero) attrs page) else []
 
@@ -72,7 +75,9 @@ mark_out mark attrs page = if carries mark page then fed_out (left_by (Some zero
 abbrev pub cells_cut : ℕ → List CellValue → List CellValue
 cells_cut width cells = cells_after_resize width cells ++ blanks default_attrs (length cells - width)
 
--- Row `k` of a formerly blank page after the newest `up` scrollback rows were moved into its first rows.
+-- `given_back up above blank k d` is row `k` of a page after the newest `up` of the scrollback rows `above` are moved
+-- into the first `up` rows of the page and truncated or extended to its width. Row `k` was `blank` before. If there are
+-- fewer than `up` scrollback rows, the topmost rows are unchanged.
 abbrev pub given_back : (up : ℕ) → (above : List RowValue) →
     (blank : RowValue) → (k : ℕ) → (d : RowValue) → RowValue
 given_back up above blank k d =
@@ -80,8 +85,9 @@ given_back up above blank k d =
     then resized_row (length blank.cells) (slice_index_or above (length above + k - up) d)
     else blank
 
--- Row `k` of a formerly blank page after the rows of another page, from row `down` on, were moved into it, starting at
--- row `up`.
+-- `taken_over down up rows blank k d` is row `k` of a page after the rows `rows` of another page, starting at row
+-- `down`, are copied into the page, starting at row `up`, and truncated or extended to its width. Row `k` was `blank`
+-- before, and is unchanged if nothing is copied into it.
 abbrev pub taken_over : (down up : ℕ) → (rows : List RowValue) →
     (blank : RowValue) → (k : ℕ) → (d : RowValue) → RowValue
 taken_over down up rows blank k d =
@@ -89,8 +95,10 @@ taken_over down up rows blank k d =
     then resized_row (length blank.cells) (slice_index_or rows (down + (k - up)) d)
     else blank
 
--- Row `k` of a formerly blank page after a resize moved rows into it: a scrollback row, a row of the old page, or a
--- blank row.
+-- `row_after_refill down up above rows blank k d` is row `k` of a page after a resize fills the page with the newest
+-- `up` of the scrollback rows `above` and, below them, the rows `rows` of the old page, starting at row `down`. These
+-- rows are truncated or extended to the page's width. Row `k` was `blank` before, and is unchanged if nothing is moved
+-- into it.
 abbrev pub row_after_refill : (down up : ℕ) → (above rows : List RowValue) →
     (blank : RowValue) → (k : ℕ) → (d : RowValue) → RowValue
 row_after_refill down up above rows blank k d =

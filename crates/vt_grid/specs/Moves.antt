@@ -16,8 +16,9 @@ upper_edge page = if in_region page then page.top else 0
 unfoldable pub lower_edge : Page → ℕ
 lower_edge page = if in_region page then page.bottom else last_row page
 
--- The page row that a 0-based CUP row addresses, clamped to the last row. In origin mode, the CUP row counts from the
--- top of the scroll region, and the result is clamped to the region's bottom.
+-- The row to which CUP moves the cursor, given its row parameter, counted from 0. In origin mode, the parameter is
+-- relative to the top of the scroll region, and the result is clamped to the region's bottom. Otherwise the result is
+-- the parameter, clamped to the last row.
 abbrev pub target_row : ℕ → Page → ℕ
 target_row r page = if page.origin then min (page.top + r) page.bottom else min r (last_row page)
 

@@ -11,13 +11,13 @@ use Rattle.vt_rows.specs.Row.{RowValue, IsRow, blank_row}
 -- A page of a screen: its rows, cursor, saved cursor, scroll region, and origin mode.
 pub record Page : Type 0 where
   pub rows : List RowValue
-  -- The cursor. If its column equals the width, a wrap is pending.
+  -- The cursor's row and column, counted from 0. If the column equals the width, a wrap is pending.
   pub row : ℕ
   pub column : ℕ
-  -- The saved cursor.
+  -- The row and column of the saved cursor, counted from 0.
   pub saved_row : ℕ
   pub saved_column : ℕ
-  -- The first and last rows of the scroll region.
+  -- The first and last rows of the scroll region, counted from 0.
   pub top : ℕ
   pub bottom : ℕ
   pub origin : Bool
@@ -90,12 +90,12 @@ blank_page height width = record {
 
 -- ---- Moves of rows: row `r` is the former row `source r`, or blank if that index is past the end
 
--- A list of the given number of rows; the function maps a row's index to the row.
+-- `by_row n f` is the list of `n` rows in which row `k` is `f k`.
 abbrev pub by_row : ℕ → (ℕ → RowValue) → List RowValue
 by_row n f = map f (range_with_len 0 n)
 
--- The rows after they have moved; the given function maps each row's index to the index that the row had before. If the
--- former index is past the end, the row is a blank row of the given width.
+-- `moved_rows width source rows` is the list `rows` after its rows have moved: row `r` is the row that was at index
+-- `source r`, or a blank row of the given width if that index is past the end.
 unfoldable pub moved_rows : ℕ → (ℕ → ℕ) → List RowValue → List RowValue
 moved_rows width source rows = by_row (length rows) (λ r. row_or width rows (source r))
 

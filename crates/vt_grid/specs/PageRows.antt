@@ -16,7 +16,8 @@ pub record HasRows (count : ℕ) (page_rows : PageRowsValue) : Type 0 where
   pub inside : count ≤ length page_rows.rows
   pub sound : All (IsRow page_rows.width) page_rows.rows
 
--- The page has `cols` columns and at least `count` rows, so that its first `count` rows can scroll off.
+-- The page has `cols` columns and at least `count` rows, and all its rows are valid and as wide as the page. Its first
+-- `count` rows can therefore scroll off.
 pub record CanLetRowsGo (count cols : ℕ) (page_rows : PageRowsValue) : Type 0 where
   pub rows : HasRows count page_rows
   pub width : cols ≡ page_rows.width
@@ -33,7 +34,8 @@ page_row page_rows r = row_or page_rows.width page_rows.rows r
 abbrev pub with_page_row : ℕ → RowValue → PageRowsValue → PageRowsValue
 with_page_row r row page_rows = record page_rows { rows = slice_set page_rows.rows r row }
 
--- The rows of a page after the cells of the row at the given index are replaced, as when text is printed or erased.
+-- The rows of a page after the cells of the row at the given index are replaced, as when text is printed or erased. The
+-- row's wrapped flag is cleared if its last cell is now a blank.
 abbrev pub with_row_cells : ℕ → List CellValue → PageRowsValue → PageRowsValue
 with_row_cells r cells page_rows = with_page_row r (with_cells (page_row page_rows r) cells) page_rows
 

@@ -11,7 +11,8 @@ use Rattle.vt_rows.specs.Row.{with_cells}
 use Rattle.vt_grid.specs.Page.{Page, row_at, cursor_row, with_row}
 use Rattle.vt_grid.specs.Moves.{line_feed, at_bottom, feeds_out}
 
--- The page after the cells of the cursor's row are replaced with the given cells.
+-- The page after the cells of the cursor's row are replaced with the given cells. The row's wrapped flag is cleared if
+-- its last cell is now a blank.
 abbrev pub with_cursor_cells : List CellValue → Page → Page
 with_cursor_cells cells page = with_row page.row (with_cells (cursor_row page) cells) page
 
@@ -30,8 +31,8 @@ left_row page =
 abbrev pub goes_down : Page → Bool
 goes_down page = if at_bottom page then true else nat_lt (page.row + 1) (length page.rows)
 
--- The page after the wrapped flag of the given row, if any, is set to the given value. The row is the one that the
--- cursor left when it wrapped.
+-- The page after a wrap sets the wrapped flag of the given row, which the cursor left, to the given value. If no row is
+-- given, the page is unchanged.
 abbrev pub flagged_left : Option ℕ → Bool → Page → Page
 flagged_left (Some r) is_wrapped page = page_with_wrapped r is_wrapped page
 flagged_left None is_wrapped page = page
@@ -48,11 +49,13 @@ wrapped_page page =
 abbrev pub lacks_room : ℕ → Page → Bool
 lacks_room columns page = nat_lt (page.width - columns) page.column
 
--- The page after a wrap if the cursor lacks room for the given number of columns, and the unchanged page otherwise.
+-- The page with room for the given number of columns at the cursor: the page after a wrap if `lacks_room` holds,
+-- otherwise the unchanged page.
 unfoldable pub room_made : ℕ → Page → Page
 room_made columns page = if lacks_room columns page then wrapped_page page else page
 
--- The page after a glyph is written at the cursor, which then moves past it.
+-- The page after a glyph with the given text and attributes is written at the cursor, which then moves past it. The
+-- flag says whether the glyph is wide.
 abbrev pub glyph_put : List ℕ → Bool → Attrs → Page → Page
 glyph_put text false attrs page =
     record (with_cursor_cells (put_narrow page.column text attrs (cursor_row page).cells) page)
@@ -102,15 +105,16 @@ lifted_page k attrs page = with_cursor_cells (cells_after_erase k 1 attrs (curso
 abbrev pub mark_put : ℕ → ℕ → Page → Page
 mark_put k mark page = with_cursor_cells (marked_at k mark (cursor_row page).cells) page
 
--- The page after U+FE0F makes the glyph in the last column wide while a wrap is pending. The glyph is removed and
--- written on the next row, together with U+FE0F.
+-- The page after U+FE0F makes the glyph in the last column wide while a wrap is pending. The glyph is removed, the
+-- cursor wraps, and the glyph is written at the cursor together with U+FE0F.
 unfoldable pub page_after_wrap : ℕ → Attrs → Page → Page
 page_after_wrap mark attrs page =
     let k = mark_column page in
     glyph_put (text_of (cell_with_mark mark (at (cursor_row page).cells k)))
     true attrs (wrapped_page (lifted_page k attrs page))
 
--- The page after the glyph at the given column becomes wide in place because U+FE0F was added to it.
+-- The page after the glyph at the given column becomes wide in place because U+FE0F was added to it. The cursor moves
+-- right by one column.
 unfoldable pub made_wide : ℕ → Attrs → Page → Page
 made_wide k attrs page =
     record (with_cursor_cells (widened_at k attrs (cursor_row page).cells) page) { column = page.column + 1 }

@@ -17,10 +17,11 @@ leaving_count height page = (length page.rows - height) - (length page.rows - (p
 abbrev pub returning_count : ℕ → Scrollback → Page → ℕ
 returning_count height above page = min (height - length page.rows) above.theoretical
 
--- The window of `height` rows that begins `up` rows before row `down` of the page, in the list of the scrollback rows
--- `above` followed by the page's `rows`. Rows outside that list, such as discarded scrollback rows, are blank. For
--- example, with one scrollback row, a page of two rows, and `down`, `up` and `height` equal to 0, 2 and 5, the window
--- has a blank row for a discarded row, the scrollback row, the two page rows, and a blank row.
+-- `window width height down up above rows` is a window of `height` rows onto a list: the scrollback rows `above`,
+-- followed by the page's rows `rows`. The window begins `up` rows before row `down` of the page. Rows of the window
+-- outside the list, such as scrollback rows that were not kept, are blank rows of the given width. For example, with
+-- one scrollback row, a page of two rows, and `down`, `up` and `height` equal to 0, 2 and 5, the window has a blank
+-- row, the scrollback row, the two page rows, and a blank row.
 unfoldable pub window : (width height down up : ℕ) → (above rows : List RowValue) → List RowValue
 window width height down up above rows =
     by_row height (λ k. if nat_lt (length above + down + k) up then blank_row default_attrs width
@@ -35,7 +36,9 @@ rows_resized width rows = unflagged width (length rows - 1) (map (resized_row wi
 abbrev pub row_resized : (height down up : ℕ) → ℕ → ℕ
 row_resized height down up row = min (row - down + up) (height - 1)
 
--- The page after a resize. The scroll region is the whole page, and no wrap is pending.
+-- The page after it is resized to the given height and width, with the given scrollback. Rows have scrolled off the top
+-- or returned to it, each row is truncated or extended, and the cursor and the saved cursor have moved with their rows.
+-- The scroll region is the whole page, and no wrap is pending.
 unfoldable pub page_resized : (height width : ℕ) → Scrollback → Page → Page
 page_resized height width above page =
     let down = leaving_count height page in

@@ -36,7 +36,8 @@ before_last n xs = take (length xs - n) xs
 abbrev pub rows_with_scrolled_off : List RowValue → Scrollback → List RowValue
 rows_with_scrolled_off gone above = above.rows ++ map trimmed_row gone
 
--- The maximum theoretical length of scrollback, 2^64 - 1.
+-- 2^64 - 1, the maximum of scrollback's theoretical length (the number of rows that it would have with unlimited
+-- capacity).
 abbrev pub greatest : ℕ
 greatest = 18446744073709551615
 
@@ -51,7 +52,7 @@ kept_after gone above =
       offset = if above.offset == 0 then 0 else min (above.offset + length gone) (length rows);
     }
 
--- The row, extended to the screen's width if the row is narrower.
+-- The row, extended to the given width if it is narrower.
 abbrev pub grown_row : ℕ → RowValue → RowValue
 grown_row width row = if nat_lt (length row.cells) width then resized_row width row else row
 
@@ -71,7 +72,8 @@ grown_in_view height width above =
           ++ (map (grown_row width) (take height (drop first above.rows)) ++ drop (first + height) above.rows);
     }
 
--- Scrollback after the given rows scroll off a page of the given height and width.
+-- Scrollback after the given rows scroll off a page of the given height and width. Displayed scrollback rows that are
+-- narrower than the page are extended to its width. If no rows are given, nothing is changed.
 abbrev pub scrollback_after_push : (height width : ℕ) → List RowValue → Scrollback → Scrollback
 scrollback_after_push height width [] above = above
 scrollback_after_push height width (row ∷ gone) above = grown_in_view height width (kept_after (row ∷ gone) above)
@@ -95,8 +97,9 @@ pub record RecyclesOldest (gone : List RowValue) (above : Scrollback) : Type 0 w
 abbrev pub TakesMemory : List RowValue → Scrollback → Type 0
 TakesMemory gone above = (0 < length gone) × ((0 < above.capacity) × (RecyclesOldest gone above → ⊥))
 
--- The effect of scrolling the given rows off a page: the rows are moved into scrollback, and the rows that are not kept
--- are reported one by one.
+-- The effect of scrolling the given rows off a page: the rows are moved into scrollback, and the rows that scrollback
+-- does not keep are reported one by one. The relation of type `S → RowValue → S → Type 0` says how a reported row
+-- changes the state of the receiver.
 abbrev pub Sends : {S : Type 0} → (S → RowValue → S → Type 0) →
     (height width : ℕ) → List RowValue → Scrollback → S → Scrollback → S → Type 0
 Sends leaves height width gone above old after new =
@@ -112,7 +115,8 @@ with_view height width n above = grown_in_view height width (record above { offs
 abbrev pub ViewTakesMemory : (height width : ℕ) → ℕ → Scrollback → Type 0
 ViewTakesMemory height width n above = 0 < narrow_rows width (take height (last_of n above.rows))
 
--- Scrollback after all of its rows are discarded.
+-- Scrollback after it is cleared: it has no rows, its theoretical length and its offset are 0, and its capacity is
+-- unchanged.
 abbrev pub scrollback_after_clear : Scrollback → Scrollback
 scrollback_after_clear above = no_scrollback above.capacity
 

@@ -1,4 +1,4 @@
--- The effects of calls that scroll rows off the top of a page.
+-- The effects of calls that scroll rows off the top of a page or resize it.
 use Rattle.std.specs.Prelude.{◌≡◌, ℕ, Bool, List, IsErr, IsTrue, OnErr, OnOk, false, length, take}
 use Rattle.std.specs.List.{FoldsTo}
 use Rattle.std.specs.declared.result.Result.{Result}
@@ -9,7 +9,9 @@ use Rattle.vt_grid.specs.Page.{Page}
 use Rattle.vt_grid.specs.Resize.{leaving_count, out_of_view, page_resized, resize_reports, scrollback_resized}
 use Rattle.vt_grid.specs.Scrollback.{Scrollback, Sends, TakesMemory}
 
--- The page becomes `made`, and the rows `gone` are moved to scrollback. If an allocation fails, nothing is changed.
+-- A call changes `before` (a page or its rows) to `made`, moves the rows `gone` to the scrollback `above`, and reports
+-- the rows that scrollback does not keep. If the call fails, the error is `OutOfMemory`, nothing is changed, and
+-- `TakesMemory` holds for `gone` and `above`.
 pub record LetsRowsGo {P S : Type 0} (leaves : S → RowValue → S → Type 0) (height width : ℕ) (gone : List RowValue)
     (before : P) (above : Scrollback) (old : S) (made after : P) (kept : Scrollback) (new : S)
     (result : Result (Unit {0}) Error) : Type 0 where
@@ -19,21 +21,23 @@ pub record LetsRowsGo {P S : Type 0} (leaves : S → RowValue → S → Type 0) 
   pub grows : IsErr result → TakesMemory gone above
   pub memory : OnlyOutOfMemory result
 
--- If the call fails, the error is `OutOfMemory`, and nothing is changed.
+-- If the result is an error, the error is `OutOfMemory`, and nothing is changed: `after` equals `before`, and `new`
+-- equals `old`.
 pub record FailsUnchanged {P S : Type 0} (before : P) (old : S) (after : P) (new : S)
     (result : Result (Unit {0}) Error) : Type 0 where
   pub err : OnErr result ((after ≡ before) × (new ≡ old))
   pub memory : OnlyOutOfMemory result
 
--- The rows `gone` are moved to the scrollback `above`, which becomes `after`. If an allocation fails, `after` equals
--- `before`, and no rows are reported.
+-- The rows `gone` are moved to the scrollback `above`, which becomes `after`, and rows that scrollback does not keep
+-- are reported. If an allocation fails, `after` equals `before`, and no rows are reported.
 pub record SendsOrFails {S : Type 0} (leaves : S → RowValue → S → Type 0) (height width : ℕ) (gone : List RowValue)
     (above : Scrollback) (old : S) (before after : Scrollback) (new : S)
     (result : Result (Unit {0}) Error) : Type 0 where
   pub sent : OnOk result (Sends leaves height width gone above old after new)
   pub refused : FailsUnchanged before old after new result
 
--- The page is resized to the given height and width. If an allocation for the rows that scroll off fails, nothing is
+-- A resize to the given height and width turns the page `before` into `after` and its scrollback `was` into `kept`, and
+-- reports the rows that scrollback does not keep. If an allocation for the rows that scroll off fails, nothing is
 -- changed.
 pub record ResizesPage {S : Type 0} (leaves : S → RowValue → S → Type 0) (height width : ℕ)
     (before : Page) (was : Scrollback) (old : S) (after : Page) (kept : Scrollback) (new : S)
@@ -45,7 +49,8 @@ pub record ResizesPage {S : Type 0} (leaves : S → RowValue → S → Type 0) (
   pub grows : IsErr result → TakesMemory (take (leaving_count height before) before.rows) (out_of_view was)
   pub memory : OnlyOutOfMemory result
 
--- A page that has at most `height` rows is resized to `height` rows. If an allocation fails, nothing is changed.
+-- Extending the page `before`, which has at most `height` rows, to `height` rows turns it into `after`, and its
+-- scrollback `was` into `kept`. If an allocation fails, nothing is changed.
 pub record AddsRows (height : ℕ) (before : Page) (was : Scrollback) (after : Page) (kept : Scrollback)
     (result : Result (Unit {0}) Error) : Type 0 where
   pub page : OnOk result (after ≡ page_resized height before.width was before)
@@ -53,7 +58,8 @@ pub record AddsRows (height : ℕ) (before : Page) (was : Scrollback) (after : P
   pub err : OnErr result ((after ≡ before) × (kept ≡ was))
   pub memory : OnlyOutOfMemory result
 
--- If the result is true, the page is resized to the given width; otherwise, nothing is changed.
+-- If the result is true, a resize to the given width has turned the page `before` into `after` and its scrollback `was`
+-- into `kept`. If the result is false, nothing is changed.
 pub record SetsColumns (width : ℕ) (before : Page) (was : Scrollback) (after : Page) (kept : Scrollback)
     (result : Bool) : Type 0 where
   pub page : IsTrue result → after ≡ page_resized (length before.rows) width was before

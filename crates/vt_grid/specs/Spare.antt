@@ -1,5 +1,5 @@
--- How scrollback allocates memory for the rows that it must extend, before it changes anything; for its private
--- contracts only.
+-- Auxiliary definitions for the contracts of scrollback, which allocates memory for the rows that it must extend before
+-- it changes anything.
 use Rattle.std.specs.Prelude.{◌≡◌, ℕ, ◌+◌, ◌-◌, ◌<◌, ◌≤◌, List, ◌++◌, length, All, take, drop, map, slice_index_or}
 use Rattle.vt_cells.specs.Attrs.{default_attrs}
 use Rattle.vt_rows.specs.Row.{RowValue, IsRow, blank_row, trimmed_row}
@@ -19,7 +19,7 @@ abbrev pub grown_from : (first height width : ℕ) → List RowValue → List Ro
 grown_from first height width rows =
     take first rows ++ (map (grown_row width) (window_from first height rows) ++ drop (first + height) rows)
 
--- The displayed scrollback rows, limited to the given height.
+-- The scrollback rows that a screen of the given height displays.
 abbrev pub in_view : ℕ → Scrollback → List RowValue
 in_view height above = window_from (length above.rows - above.offset) height above.rows
 

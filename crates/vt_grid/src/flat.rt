@@ -19,16 +19,18 @@ use vt_rows::cells;
 use vt_rows::copies::{blank_cells, copied};
 use vt_rows::shifts::turn;
 
-/// The group count with which a [`Line`] marks all columns of its row as used.
+/// The value of [`Line`]'s field `used` that marks all columns of the row as used. Smaller values
+/// count groups of eight columns.
 pub const WHOLE_ROW: u8 = 255;
 
-/// An entry of the row table: the slot of the row's cells, whether the row is wrapped (its text
-/// continues on the next row), and how many columns are used, in groups of eight (255 means the
-/// whole row).
+/// An entry of the row table, which records where the cells of one row are stored.
 ///
-/// All cells after the used columns are default blanks, so blanking a row writes only its used
-/// columns. An entry takes four bytes, which the compiler moves with vector instructions when the
-/// table is rotated.
+/// The entry holds the index of the row's slot in the vector of cells, whether the row is wrapped
+/// (its text continues on the next row), and the number of used columns, in groups of eight (255
+/// means the whole row). All cells after the used columns are default blanks, so blanking a row
+/// writes only its used columns.
+///
+/// An entry is four bytes in size, so the table can be rotated with vector instructions.
 #[derive(Clone, Copy, Debug)]
 pub struct Line {
     pub(crate) place: u16,
@@ -59,7 +61,8 @@ impl Flat {
     ghost use Rattle.vt_grid.specs.Flat.{IsBlankFrom, IsFlat, cells_at, in_order, rows_of};
     ghost use Rattle.vt_grid.specs.Page.{row_or};
 
-    /// Creates rows of default blanks, with row `k` at slot `k`.
+    /// Creates the storage of a page of the given size, filled with default blanks. Row `k` is
+    /// stored in slot `k` of the vector of cells.
     ///
     /// # Errors
     ///
@@ -81,7 +84,7 @@ impl Flat {
         })
     }
 
-    /// Returns a copy in which each row has the same slot as in `self`.
+    /// Returns a copy of the storage, in which each row is in the same slot as in `self`.
     ///
     /// # Errors
     ///
@@ -101,7 +104,8 @@ impl Flat {
         })
     }
 
-    /// Returns the range of a row's cells in the vector, as its start and its end (exclusive).
+    /// Returns the start and the end (exclusive) of the range that a row's cells occupy in the
+    /// vector of cells.
     #[tactic(auto, using(crate::proofs::Flats::rows_counted))]
     #[inline]
     pub fn part(&self, row: usize) -> (usize, usize)
@@ -118,7 +122,7 @@ impl Flat {
         (start, start + usize::from(self.columns.shown))
     }
 
-    /// Returns whether a row is wrapped.
+    /// Returns whether a row is wrapped (its text continues on the next row).
     #[tactic(auto, using(crate::proofs::Flats::rows_counted))]
     #[inline]
     pub fn wrapped(&self, row: usize) -> bool
@@ -155,8 +159,9 @@ impl Flat {
         turn(&mut self.lines, from, to, count);
     }
 
-    /// Turns a row into default blanks and clears its wrapped flag. Only the used columns are
-    /// written. The cells of all other rows are unchanged.
+    /// Fills a row with default blanks and clears its wrapped flag. Writes only the used columns of
+    /// the row, because the cells after them are default blanks already. The cells of all other
+    /// rows are unchanged.
     #[tactic(auto, using(crate::proofs::Flats::rows_counted))]
     pub fn blank(&mut self, row: usize)
         requires flat { IsFlat self.old }
@@ -203,8 +208,8 @@ impl Flat {
         self.set_entry(row, WHOLE_ROW, false);
     }
 
-    /// Sets the number of used column groups of a row to `used` ([`WHOLE_ROW`] for all columns),
-    /// and the wrapped flag of the row to `wrapped`.
+    /// Marks the first `used` groups of eight columns of a row as used ([`WHOLE_ROW`] marks all
+    /// columns), and sets the row's wrapped flag to `wrapped`. The cells are unchanged.
     #[inline]
     pub fn set_entry(&mut self, row: usize, used: u8, wrapped: bool)
         requires { row < length self.old.lines.items }
@@ -222,7 +227,8 @@ impl Flat {
         };
     }
 
-    /// Creates the row table in which row `k` is at slot `k`.
+    /// Creates a row table with `rows` entries, in which row `k` is in slot `k`, has no used
+    /// columns and is not wrapped.
     ///
     /// # Errors
     ///
@@ -243,8 +249,8 @@ impl Flat {
     }
 }
 
-/// Returns the number of used columns of a row of `width` columns: those in the first `groups`
-/// groups of eight, or all columns if `groups` is [`WHOLE_ROW`].
+/// Returns the number of used columns of a row that has `width` columns. These are the first
+/// `groups` groups of eight columns, or all columns if `groups` is [`WHOLE_ROW`].
 #[inline]
 pub fn used_columns(groups: u8, width: u16) -> usize
     ensures { result ≡ used_columns width groups }

@@ -118,7 +118,8 @@ impl Grid {
         self.size
     }
 
-    /// Returns the cursor position. A column past the last one means that a wrap is pending.
+    /// Returns the cursor position, counted from 0. A column equal to the number of columns means
+    /// that a wrap is pending.
     #[inline]
     pub fn pos(&self) -> Pos
         ensures row { result.row ≡ self.now.row }

@@ -27,7 +27,7 @@ use crate::size::Size;
 use std::alloc::Global;
 use std::marker::Model;
 use vt_cells::{Attrs, Cell, Error};
-use vt_rows::capture::lent;
+use vt_rows::capture::row_contents;
 use vt_rows::{Leaving, RowContents, cells, shifts};
 
 /// The rows of a page, all of the same width. Rows are edited in place and reordered by scrolling.
@@ -51,7 +51,7 @@ impl Model for PageRows {
 }
 
 impl PageRows {
-    /// Creates rows of default blanks.
+    /// Creates the rows of a page of the given size, filled with default blanks.
     ///
     /// # Errors
     ///
@@ -106,7 +106,7 @@ impl PageRows {
         ensures { result ≡ page_row self.now row }
     {
         let (start, end) = self.flat.part(row);
-        lent(&self.flat.cells[start..end], self.flat.wrapped(row))
+        row_contents(&self.flat.cells[start..end], self.flat.wrapped(row))
     }
 
     /// Returns whether a row is wrapped (its text continues on the next row).
@@ -149,7 +149,7 @@ impl PageRows {
         self.flat.wrap(row, wrapped);
     }
 
-    /// Sets the wrapped flag of `left`, the row from which the cursor wrapped, to `is_wrapped`.
+    /// Sets the wrapped flag of row `left` to `is_wrapped` after the cursor wraps from that row.
     /// Does nothing if `left` is `None`.
     pub fn wrap_left(&mut self, left: Option<u16>, is_wrapped: bool)
         requires { IfSome left (λ row. row < length self.old.rows) }
@@ -175,7 +175,7 @@ impl PageRows {
         let (start, end) = self.flat.part(row);
         let cells = &mut self.flat.cells[start..end];
         let edited = edit(cells);
-        let is_wrapped = cells::flag_left(cells, is_wrapped);
+        let is_wrapped = cells::is_still_wrapped(cells, is_wrapped);
         self.flat.set_entry(row, WHOLE_ROW, is_wrapped);
         edited
     }
@@ -275,7 +275,8 @@ impl PageRows {
         self.note_used(row, groups, usize::from(col) + 1);
     }
 
-    /// Removes the cell at column `col` of row `row` and returns it, as [`cells::lift`] does.
+    /// Removes the cell at column `col` of row `row` and returns it, leaving a blank with
+    /// attributes `attrs`, as [`cells::lift`] does.
     pub fn lift(&mut self, row: u16, col: u16, attrs: Attrs) -> Cell
         requires inside { row < length self.old.rows }
         requires paired { IsPaired (page_row self.old row).cells }
@@ -320,7 +321,8 @@ impl PageRows {
         self.note_used(row, groups, usize::from(col) + 2);
     }
 
-    /// Sets columns `from..to` of a row to blanks, as [`cells::erase`] does.
+    /// Replaces columns `from..to` of a row with blanks that have attributes `attrs`, as
+    /// [`cells::erase`] does.
     pub fn erase(&mut self, row: u16, from: u16, to: u16, attrs: Attrs)
         requires inside { row < length self.old.rows }
         requires paired { IsPaired (page_row self.old row).cells }

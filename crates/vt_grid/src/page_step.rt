@@ -20,21 +20,24 @@ pub enum PageStep {
     /// Sets the scroll region and moves the cursor to the first column of the region's first row
     /// (DECSTBM). If the region would have fewer than two rows, the whole page becomes the region.
     SetRegion {
-        /// The first row of the region.
+        /// The first row of the region, counted from 0.
         top: u16,
 
-        /// The last row of the region.
+        /// The last row of the region, counted from 0 and clamped to the last row of the page.
         bottom: u16,
     },
 
-    /// Turns origin mode on or off and moves the cursor to its home position in that mode (DECOM).
+    /// Turns origin mode on (`true`) or off (`false`) and moves the cursor home (DECOM): to the
+    /// first column of the scroll region's first row if origin mode is now on, otherwise to the top
+    /// left corner of the page.
     UseOrigin(bool),
 
     /// Erases from the cursor to the end of the page (ED 0). If a wrap is pending, the cursor's row
     /// is unchanged.
     EraseBelow,
 
-    /// Erases from the beginning of the page through the cursor (ED 1).
+    /// Erases from the beginning of the page through the cursor (ED 1). If a wrap is pending,
+    /// erases through the end of the cursor's row.
     EraseAbove,
 
     /// Erases the whole page (ED 2).
@@ -44,7 +47,8 @@ pub enum PageStep {
     /// erased.
     EraseRest,
 
-    /// Erases from the beginning of the cursor's row through the cursor (EL 1).
+    /// Erases from the beginning of the cursor's row through the cursor (EL 1). If a wrap is
+    /// pending, erases the whole row.
     EraseStart,
 
     /// Erases the cursor's row (EL 2).

@@ -1,4 +1,5 @@
-//! Creating, recycling and reporting lists of rows.
+//! Functions that create, copy and extend lists of rows, and that report rows dropped from a page
+//! or scrollback.
 
 ghost use Rattle.std.specs.Prelude.{◌≡◌, ◌<◌, ◌++◌, [], IfOk, IsErr, OnErr, OnOk};
 ghost use Rattle.std.specs.Prelude.{drop, length, map, replicate, take};
@@ -17,7 +18,7 @@ use vt_cells::Error;
 use vt_rows::capture::trimmed;
 use vt_rows::{Leaving, Row};
 
-/// Creates a list of `count` rows of default blanks.
+/// Creates a list of `count` rows, each with `columns` default blanks.
 ///
 /// # Errors
 ///
@@ -71,7 +72,8 @@ pub fn copied_rows(rows: &VecDeque<Row>, alloc: Global) -> Result<VecDeque<Row>,
     Ok(copies)
 }
 
-/// Appends a copy of the first row of a page to `rows`, without the default blanks at its end.
+/// Appends to `rows` a copy of the first row of a page, without the default blanks at the end of
+/// that row.
 ///
 /// # Errors
 ///
@@ -89,8 +91,8 @@ pub fn push_copy(alloc: Global, rows: &mut VecDeque<Row>, page: &PageRows) -> Re
     Ok(())
 }
 
-/// Passes the oldest row to `leaving`, and reuses its memory for a copy of the first row of a page,
-/// which becomes the newest row. The default blanks at the end of the row are not copied.
+/// Passes the oldest row to `leaving`, and reuses the row's memory for a copy of the first row of a
+/// page. The copy becomes the newest row; trailing default blanks are not copied.
 ///
 /// # Errors
 ///
@@ -122,7 +124,7 @@ pub fn recycle_oldest<L: Leaving>(
     Ok(())
 }
 
-/// Removes all rows and passes them to `leaving`, oldest first.
+/// Removes all rows from `rows` and passes them to `leaving`, oldest first.
 pub fn report_all<L: Leaving>(rows: &mut VecDeque<Row>, leaving: &mut L)
     requires { AreRows rows.old.items }
     ensures rows { rows.new.items ≡ [] }

@@ -87,7 +87,7 @@ impl Scrollback {
         })
     }
 
-    /// Returns the number of rows that are kept.
+    /// Returns the number of rows in scrollback.
     #[inline]
     pub fn len(&self) -> usize
         ensures { result ≡ length self.now.rows }
@@ -95,7 +95,7 @@ impl Scrollback {
         self.rows.len()
     }
 
-    /// Returns the maximum number of rows that are kept.
+    /// Returns the maximum number of rows that scrollback keeps.
     #[inline]
     pub fn capacity(&self) -> usize
         ensures { result ≡ self.now.capacity }
@@ -211,7 +211,7 @@ impl Scrollback {
         give_rows(&mut self.rows, page, up);
     }
 
-    /// Reports the first `count` rows of a page, which are about to scroll off, to `leaving`, and
+    /// Reports to `leaving` the first `count` rows of a page, which are about to scroll off, and
     /// counts them in [`Scrollback::theoretical_len`]. [`Scrollback::push`] calls this function if
     /// the capacity is 0.
     fn pass<L: Leaving>(&mut self, page: &PageRows, count: usize, leaving: &mut L)
@@ -225,8 +225,9 @@ impl Scrollback {
         self.theoretical = self.theoretical.saturating_add(count);
     }
 
-    /// Keeps copies of the first `count` rows of a page, which are about to scroll off.
-    /// [`Scrollback::push`] calls this function if the capacity is not 0.
+    /// Appends copies of the first `count` rows of a page, which are about to scroll off, and
+    /// reports the rows in excess of the capacity to `leaving`. [`Scrollback::push`] calls this
+    /// function if the capacity is not 0.
     ///
     /// # Errors
     ///
@@ -420,8 +421,8 @@ fn give_rows(kept: &mut VecDeque<Row>, page: &mut PageRows, up: usize)
     }
 }
 
-/// Returns the new offset after `count` rows have been appended: 0 if `offset`, the previous
-/// offset, is 0, otherwise `offset + count`, clamped to `len`, the number of rows now kept.
+/// Returns the scrollback offset after `count` rows have been appended. An `offset` of 0 stays 0;
+/// any other offset grows by `count`, but not beyond `len`, the number of rows now in scrollback.
 fn followed(offset: usize, count: usize, len: usize) -> usize
     ensures { result ≡ (if offset == 0 then 0 else min (offset + count) len) }
 {

@@ -1,6 +1,6 @@
 -- The calls that notes record, and the values of stored rows.
 use Rattle.std.specs.Prelude.{◌≡◌, map, string_bytes}
-use Rattle.vt_notes.specs.declared.note.KeptRow.{KeptRow}
+use Rattle.vt_notes.specs.declared.note.NotedRow.{NotedRow}
 use Rattle.vt_notes.specs.declared.note.Note.{Note}
 use Rattle.vt_notes.specs.declared.note.Note.TheVariants as note
 use Rattle.vt_rows.specs.Basic.{basic_text, nothing_written}
@@ -8,8 +8,8 @@ use Rattle.vt_rows.specs.Row.{RowValue}
 use Rattle.vt_screen.specs.Calls as value
 use Rattle.vt_screen.specs.Calls.{CallValue}
 
--- The value of a stored row.
-abbrev pub row_of : KeptRow → RowValue
+-- The model value of a stored row: its cells, and whether it is wrapped.
+abbrev pub row_of : NotedRow → RowValue
 row_of row = record { cells = row.cells.items; wrapped = row.wrapped }
 
 -- The call to a callback that a note records.
@@ -29,7 +29,7 @@ value_of (note.UnhandledCsi first second groups byte) =
 value_of (note.UnhandledOsc parts) = value.UnhandledOsc (map (λ part. part.items) parts.items)
 value_of (note.OnScroll row alternate) = value.OnScroll (row_of row) alternate
 
--- If the note records a call to `on_scroll`, the stored text is that of a capture that consists of the reported row.
+-- If the note records a call to `on_scroll`, the stored text is that of a capture of the reported row alone.
 abbrev pub HasText : Note → Type 0
 HasText (note.OnScroll row alternate) = string_bytes row.text ≡ basic_text nothing_written (row_of row)
 HasText _ = Unit {0}

@@ -3,7 +3,7 @@ use Rattle.std.specs.Prelude.{◌≡◌, ◌⊎◌, Bool, true, false, List, [],
 use Rattle.vt_screen.specs.Calls.{CallValue}
 use Rattle.vt_screen.specs.Screen.{ScreenValue}
 
--- The recorded calls, in order, and whether no call is missing.
+-- The recorded calls, in order, and whether all calls were recorded.
 pub record Noted : Type 0 where
   pub calls : List CallValue
   pub is_complete : Bool
@@ -12,7 +12,7 @@ pub record Noted : Type 0 where
 abbrev pub nothing_noted : Noted
 nothing_noted = record { calls = []; is_complete = true }
 
--- The notes after another call is recorded.
+-- The notes with the given call appended.
 abbrev pub with_call : CallValue → Noted → Noted
 with_call call noted = record noted { calls = noted.calls ++ call ∷ [] }
 

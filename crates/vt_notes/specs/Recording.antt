@@ -22,7 +22,7 @@ abbrev pub with_rows : List RowValue → Recorded → Recorded
 with_rows rows old =
     record old { text = old.text ++ basic_texts old.state rows; state = written_after_all old.state rows }
 
--- The row of the main page that the call reports is appended to the capture, or the capture is marked as incomplete.
--- The screen is unchanged.
+-- The row of the main page that the call reports, if any, is appended to the capture, or the capture is marked as
+-- incomplete. The screen is unchanged.
 abbrev pub Records : CallValue → Recorded → ScreenValue → Recorded → ScreenValue → Type 0
 Records call old before new after = (after ≡ before) × ((new ≡ with_rows (row_of_call call) old) ⊎ (new.is_whole ≡ false))

@@ -1,5 +1,5 @@
-//! Theorems about notes and recorders after a run. The functions do nothing when called; proofs may
-//! cite their clauses.
+//! Theorems about what notes and recorders contain after a parser has read input. The functions do
+//! nothing when called; proofs may cite their clauses.
 
 ghost use Rattle.std.specs.List.{FoldsTo};
 ghost use Rattle.std.specs.Prelude.{◌≡◌, ℕ, List, ◌++◌, false, true};
@@ -13,9 +13,9 @@ ghost use Rattle.vt_screen.specs.Capture.{all_rows, basic_texts};
 ghost use Rattle.vt_screen.specs.Streamed.{HasNoRis};
 ghost use Rattle.vt_screen.specs.CallsOfRun.{calls_in, screen_in};
 
-/// States the result of a run whose callbacks record each call in a note. After the run, the screen
-/// is the one that the bytes produce. If no note is missing, the new notes record exactly the calls
-/// that the bytes cause, each once and in order.
+/// States the effect of parsing bytes with callbacks that record each call in a note. The screen
+/// changes exactly as the bytes require. If no note is missing afterward, the notes that were added
+/// record exactly the calls that the bytes cause, each once and in order.
 pub fn runs()
     ensures shown { (old new : ParserValue Noted) (bytes : List ℕ) (scan : State) → Ran NotesIt old bytes new →
         StandsFor old.scanner scan → new.screen ≡ screen_in scan old.screen bytes }
@@ -27,9 +27,9 @@ pub fn runs()
 {}
 
 /// States which rows the text of a recorder contains once a full capture is appended: the rows that
-/// the bytes scrolled off the main page, followed by the rows of the page itself.
+/// the recorder's input scrolled off the main page, followed by the rows of the page itself.
 ///
-/// This text does not depend on the scrollback capacity, on how the bytes were split, or on how far
+/// This text does not depend on the scrollback capacity, on how the input was split, or on how far
 /// the screen was scrolled back in between.
 pub fn recorded()
     ensures recorder { IsRecorder Records (λ recorded. recorded.text)

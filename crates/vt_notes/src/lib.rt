@@ -1,5 +1,6 @@
 //! Callbacks that record each call with all its arguments in a note, for tests and for replaying
-//! recorded cases. The notes after a run are proved to record exactly the calls of that run.
+//! recorded cases. If no note is missing, the notes are proved to record exactly the calls that the
+//! parsed input causes.
 #![tactic(auto)]
 
 pub mod laws;
@@ -9,7 +10,7 @@ pub mod notes;
 mod reading;
 pub mod recorder;
 
-pub use note::{KeptRow, Note};
+pub use note::{Note, NotedRow};
 pub use notes::Notes;
 pub use reading::read;
 pub use recorder::Recorder;

@@ -9,13 +9,13 @@ use std::alloc::{AllocError, Global};
 use vt100::capture::{BasicFormattedCaptureState, RowContents};
 use vt100::{Call, Cell};
 
-/// A row that scrolled off the top of the page.
+/// A copy of a row that was reported to [`Callbacks::on_scroll`](vt100::Callbacks::on_scroll).
 #[derive(Drop)]
-pub struct KeptRow {
+pub struct NotedRow {
     /// The cells, from left to right.
     pub cells: Vec<Cell>,
 
-    /// Whether the row is wrapped, which means that its text continued on the next row.
+    /// Whether the row was wrapped, that is, whether its text continued on the next row.
     pub wrapped: bool,
 
     /// The text of the row with SGR sequences and no other escape sequences, as if the row were the
@@ -39,11 +39,11 @@ pub enum Note {
     UnhandledEscape(Option<u8>, Option<u8>, u8),
     UnhandledCsi(Option<u8>, Option<u8>, Vec<Vec<u16>>, char),
     UnhandledOsc(Vec<Vec<u8>>),
-    OnScroll(KeptRow, bool),
+    OnScroll(NotedRow, bool),
 }
 
 impl Note {
-    /// Creates a record of a callback call, with copies of its arguments.
+    /// Creates a note that records a call to a callback, with copies of the call's arguments.
     ///
     /// # Errors
     ///
@@ -102,7 +102,7 @@ impl Note {
         if row.write_formatted_basic(&mut text, &mut state).is_err() {
             return Err(AllocError);
         }
-        let kept = KeptRow {
+        let kept = NotedRow {
             cells,
             wrapped,
             text,

@@ -10,8 +10,8 @@ use std::marker::Model;
 use vt100::capture::RowContents;
 use vt100::{Call, Callbacks, Screen};
 
-/// The calls noted so far. If a note cannot be allocated, its call is missing, and
-/// [`Notes::is_complete`] returns `false` from then on.
+/// Callbacks that record each call in a note. If a note cannot be allocated, its call is missing,
+/// and [`Notes::is_complete`] returns `false` from then on.
 pub struct Notes {
     alloc: Global,
     calls: Vec<Note>,
@@ -54,8 +54,8 @@ impl Notes {
         }
     }
 
-    /// Returns the calls noted so far, in order. The note that records a row contains the row's
-    /// text with SGR sequences and no other escape sequences.
+    /// Returns the calls noted so far, in order. Each note of a row that scrolled off contains the
+    /// row's text with SGR sequences and no other escape sequences.
     pub fn calls(&self) -> &[Note]
         ensures calls { map value_of result.now ≡ self.now.calls }
         ensures texts { All HasText result.now }
@@ -72,10 +72,11 @@ impl Notes {
 
     /// Returns the calls noted so far as lines of text, one for each call.
     ///
-    /// Each line looks like a call in Rust, with numbers in decimal and bytes in double quotes with
-    /// Rust's escapes. A row that scrolled off is written as `scroll`, followed by two values: its
-    /// text with SGR sequences, encoded in hexadecimal (a dot if the text is empty), and 1 if the
-    /// row was on the alternate page, otherwise 0.
+    /// Each line looks like a call in Rust. Numbers and single bytes are in decimal, except that
+    /// the final byte of a control sequence is a `char` literal; byte strings are in double quotes
+    /// with Rust's escapes. A row that scrolled off is written as `scroll`, followed by two values:
+    /// its text with SGR sequences, encoded in hexadecimal (a dot if the text is empty), and 1 if
+    /// the row was on the alternate page, otherwise 0.
     ///
     /// # Errors
     ///
@@ -93,7 +94,8 @@ impl Notes {
         Ok(lines)
     }
 
-    /// Appends a note, or records that a note is missing.
+    /// Appends `note`, or records that a note is missing if `note` is an error or the list cannot
+    /// grow.
     fn add(&mut self, note: Result<Note, AllocError>)
         requires { IfOk note HasText }
         ensures made { IfOk note

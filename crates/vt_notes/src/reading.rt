@@ -12,7 +12,8 @@ use std::num::NonZeroU16;
 use vt100::{Error, Parser};
 
 /// Creates a parser with a new screen of the given size, without scrollback, and feeds the chunks
-/// in `pieces` to it one by one. The parser's notes record exactly the calls that the bytes cause.
+/// in `pieces` to it one by one. Returns the parser, whose notes record exactly the calls that the
+/// bytes cause.
 ///
 /// # Errors
 ///

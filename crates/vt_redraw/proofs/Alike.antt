@@ -18,7 +18,7 @@ use Rattle.vt_cells.specs.Op.{Print, bytes_of_all}
 use Rattle.vt_cells.proofs.Glyphs.{IsGlyphText-length}
 use Rattle.vt_rows.specs.Cells.{at}
 use Rattle.vt_redraw.specs.Internals.{IsAlike, IsRange, Leads, cells_from}
-use Rattle.vt_redraw.specs.Script.{Scripted, attr_ops, flag_behind, move_ops, pen_at, placed_op}
+use Rattle.vt_redraw.specs.Script.{Scripted, attr_ops, move_ops, pen_at, placed_op, wrapped_after_glyph}
 use Rattle.vt_redraw.specs.declared.pen.Pen.{Pen}
 use Rattle.vt_redraw.proofs.CellSteps.{glyph_inside, glyph_leads, leads_then}
 use Rattle.vt_redraw.proofs.Writing.{change_none, going_none}
@@ -129,7 +129,7 @@ pub alike_leads : (r c n : ℕ) (a : Attrs) (flag then : Bool) (like : CellValue
     own ≡ take (length own) xs → length own ≤ length xs → others ≡ take (length others) ys →
     All (λ cell. is_blank cell ≡ true) (drop (length others) ys) → length xs ≤ length ys →
     n ≡ glyph_columns (is_wide like) → new ≡ old ++ text_of (at own c) →
-    then ≡ flag_behind flag (is_wide like) (drop (c + n) ys) →
+    then ≡ wrapped_after_glyph flag (is_wide like) (drop (c + n) ys) →
     Leads (buffered_text text new) (cells_from r (c + n) (pen_at r (c + n) a) then xs ys)
     (buffered_text text old) (cells_from r c (pen_at r c a) flag xs ys)
 alike_leads r c n a flag then like own others xs ys text old new alike some drawn is_own inside is_others blanks le
@@ -149,10 +149,10 @@ alike_leads r c n a flag then like own others xs ys text old new alike some draw
     (sym (ap (λ (b : Attrs). bytes_of_all (placed_op (pen_at r c a) r c b (Print (text_of x)))) (sym attrs)
     ∙ printed_again r c a (text_of x)))))
     (ap (λ (k : ℕ). pen_at r (c + k) a) columns ∙ ap (λ (b : Attrs). pen_at r (c + glyph_columns (is_wide x)) b) attrs)
-    (flags ∙ ap (λ (w : Bool). flag_behind flag w (drop (c + n) ys)) (sym wide))
+    (flags ∙ ap (λ (w : Bool). wrapped_after_glyph flag w (drop (c + n) ys)) (sym wide))
 
 -- A narrow glyph leaves the wrapped flag unchanged.
-pub narrow_keeps : (flag wide : Bool) (rest : List CellValue) → wide ≡ false → flag ≡ flag_behind flag wide rest
+pub narrow_keeps : (flag wide : Bool) (rest : List CellValue) → wide ≡ false → flag ≡ wrapped_after_glyph flag wide rest
 narrow_keeps true wide rest e = rw e refl
 narrow_keeps false wide rest e = refl
 

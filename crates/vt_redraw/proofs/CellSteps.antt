@@ -18,7 +18,7 @@ use Rattle.vt_redraw.specs.Internals.{Leads, IsRange, Passes, cells_from}
 use Rattle.vt_redraw.proofs.Filling.{room}
 use Rattle.vt_cells.specs.Glyph.{glyph_columns}
 use Rattle.vt_redraw.specs.Script.{Scripted, ops_then, no_ops, placed_op, pen_at, blank_run}
-use Rattle.vt_redraw.specs.Script.{erase_run, flag_behind, flag_past, cells_written}
+use Rattle.vt_redraw.specs.Script.{cells_written, erase_run, wrapped_after_erasure, wrapped_after_glyph}
 use Rattle.vt_redraw.specs.declared.pen.Pen.{Pen}
 
 -- ---- the state of a writer
@@ -106,7 +106,7 @@ glyph_printed : (r c : ℕ) (pen : Pen) (flag : Bool) (x : CellValue)
     cells_written r c pen flag 0 (x ∷ xs) (y ∷ ys)
     ≡ ops_then (placed_op pen r c (attrs_of x) (Print (text_of x)))
     (cells_written r (c + glyph_columns (is_wide x)) (pen_at r (c + glyph_columns (is_wide x)) (attrs_of x))
-    (flag_behind flag (is_wide x) (drop (glyph_columns (is_wide x)) (y ∷ ys))) 0
+    (wrapped_after_glyph flag (is_wide x) (drop (glyph_columns (is_wide x)) (y ∷ ys))) 0
     (drop (glyph_columns (is_wide x)) (x ∷ xs)) (drop (glyph_columns (is_wide x)) (y ∷ ys)))
 unfolding cells_written
 glyph_printed r c pen flag right_half xs y ys h b = absurd cc
@@ -115,9 +115,9 @@ glyph_printed r c pen flag (glyph text false a) xs y ys h b = cond-false (same_c
 glyph_printed r c pen flag (glyph text true a) xs y ys h b =
     cond-false (same_cell (glyph text true a) y) _ _ h
     ∙ ap (ops_then (placed_op pen r c a (Print text)))
-    (settled_passed r (c + 1) (pen_at r (c + 2) a) (flag_behind flag true (drop 1 ys)) 1 xs ys
+    (settled_passed r (c + 1) (pen_at r (c + 2) a) (wrapped_after_glyph flag true (drop 1 ys)) 1 xs ys
     ∙ ap
-    (λ (n : ℕ). cells_written r n (pen_at r (c + 2) a) (flag_behind flag true (drop 1 ys)) 0 (drop 1 xs) (drop 1 ys))
+    (λ (n : ℕ). cells_written r n (pen_at r (c + 2) a) (wrapped_after_glyph flag true (drop 1 ys)) 0 (drop 1 xs) (drop 1 ys))
     (omega arith))
 
 run_first : (a : Attrs) (xs : List CellValue) → blank_run a (blank a ∷ xs) ≡ suc (blank_run a xs)
@@ -128,11 +128,11 @@ run_here : (r c : ℕ) (pen : Pen) (flag : Bool) (a : Attrs) (xs : List CellValu
     cells_written r c pen flag 0 (blank a ∷ xs) (y ∷ ys)
     ≡ ops_then (placed_op pen r c a (erase_run (suc (blank_run a xs)) (drop (blank_run a xs) ys)))
     (cells_written r (c + suc (blank_run a xs)) (pen_at r c a)
-    (flag_past flag (drop (blank_run a xs) ys)) 0 (drop (blank_run a xs) xs) (drop (blank_run a xs) ys))
+    (wrapped_after_erasure flag (drop (blank_run a xs) ys)) 0 (drop (blank_run a xs) xs) (drop (blank_run a xs) ys))
 unfolding cells_written
 run_here r c pen flag a xs y ys h =
     let n = blank_run a xs in
-    let f = flag_past flag (drop n ys) in
+    let f = wrapped_after_erasure flag (drop n ys) in
     cond-false (same_cell (blank a) y) _ _ h
     ∙ ap (ops_then (placed_op pen r c a (erase_run (suc n) (drop n ys))))
     (settled_passed r (c + 1) (pen_at r c a) f n xs ys
@@ -149,12 +149,12 @@ run_erased : (r c : ℕ) (pen : Pen) (flag : Bool) (x : CellValue)
     cells_written r c pen flag 0 (x ∷ xs) (y ∷ ys)
     ≡ ops_then (placed_op pen r c (attrs_of x) (erase_run n (drop n (y ∷ ys))))
     (cells_written r (c + n) (pen_at r c (attrs_of x))
-    (flag_past flag (drop n (y ∷ ys))) 0 (drop n (x ∷ xs)) (drop n (y ∷ ys)))
+    (wrapped_after_erasure flag (drop n (y ∷ ys))) 0 (drop n (x ∷ xs)) (drop n (y ∷ ys)))
 run_erased r c pen flag (blank a) xs y ys n h b count =
     let e : suc (blank_run a xs) ≡ n = sym (count ∙ run_first a xs) in
     run_here r c pen flag a xs y ys h
     ∙ ap (λ (m : ℕ). ops_then (placed_op pen r c a (erase_run m (drop m (y ∷ ys))))
-    (cells_written r (c + m) (pen_at r c a) (flag_past flag (drop m (y ∷ ys)))
+    (cells_written r (c + m) (pen_at r c a) (wrapped_after_erasure flag (drop m (y ∷ ys)))
     0 (drop m (blank a ∷ xs)) (drop m (y ∷ ys))))
     e
 run_erased r c pen flag (glyph text wide a) xs y ys n h b count = absurd cc
@@ -229,7 +229,7 @@ pub next_glyph : (r c n : ℕ) (pen next : Pen) (flag then : Bool) (xs ys : List
     is_blank (at xs c) ≡ false → n ≡ glyph_columns (is_wide (at xs c)) →
     longer ≡ text ++ bytes_of_all (placed_op pen r c (attrs_of (at xs c)) (Print (text_of (at xs c)))) →
     next ≡ pen_at r (c + glyph_columns (is_wide (at xs c))) (attrs_of (at xs c)) →
-    then ≡ flag_behind flag (is_wide (at xs c)) (drop (c + n) ys) →
+    then ≡ wrapped_after_glyph flag (is_wide (at xs c)) (drop (c + n) ys) →
     Leads longer (cells_from r (c + n) next then xs ys) text (cells_from r c pen flag xs ys)
 next_glyph r c n pen next flag then xs ys text longer h le other b count told pens flags =
     let x = at xs c in
@@ -240,16 +240,16 @@ next_glyph r c n pen next flag then xs ys text longer h le other b count told pe
     ∙ (glyph_printed r c pen flag x (drop (c + 1) xs) (at ys c) (drop (c + 1) ys) other b
     ∙ (ap (λ (zs : List CellValue). ops_then ops
     (cells_written r (c + m) (pen_at r (c + m) (attrs_of x))
-    (flag_behind flag (is_wide x) (drop m (at ys c ∷ drop (c + 1) ys))) 0 zs (drop m (at ys c ∷ drop (c + 1) ys))))
+    (wrapped_after_glyph flag (is_wide x) (drop m (at ys c ∷ drop (c + 1) ys))) 0 zs (drop m (at ys c ∷ drop (c + 1) ys))))
     (behind c m xs h)
     ∙ (ap (λ (zs : List CellValue). ops_then ops
-    (cells_written r (c + m) (pen_at r (c + m) (attrs_of x)) (flag_behind flag (is_wide x) zs) 0 (drop (c + m) xs) zs))
+    (cells_written r (c + m) (pen_at r (c + m) (attrs_of x)) (wrapped_after_glyph flag (is_wide x) zs) 0 (drop (c + m) xs) zs))
     (behind c m ys (omega arith))
     ∙ (ap (λ (p : Pen). ops_then ops
-    (cells_written r (c + m) p (flag_behind flag (is_wide x) (drop (c + m) ys)) 0 (drop (c + m) xs) (drop (c + m) ys)))
+    (cells_written r (c + m) p (wrapped_after_glyph flag (is_wide x) (drop (c + m) ys)) 0 (drop (c + m) xs) (drop (c + m) ys)))
     (sym pens)
     ∙ (ap (λ (k : ℕ). ops_then ops
-    (cells_written r (c + k) next (flag_behind flag (is_wide x) (drop (c + k) ys))
+    (cells_written r (c + k) next (wrapped_after_glyph flag (is_wide x) (drop (c + k) ys))
     0 (drop (c + k) xs) (drop (c + k) ys)))
     (sym count)
     ∙ ap (λ (f : Bool). ops_then ops (cells_from r (c + n) next f xs ys)) (sym flags)))))))
@@ -260,7 +260,7 @@ pub next_run : (r c n : ℕ) (pen next : Pen) (flag then : Bool)
     (is_right_half (at xs c) || same_cell (at xs c) (at ys c)) ≡ false →
     is_blank (at xs c) ≡ true → a ≡ attrs_of (at xs c) → n ≡ blank_run a (drop c xs) →
     longer ≡ text ++ bytes_of_all (placed_op pen r c a (erase_run n (drop (c + n) ys))) → next ≡ pen_at r c a →
-    then ≡ flag_past flag (drop (c + n) ys) →
+    then ≡ wrapped_after_erasure flag (drop (c + n) ys) →
     Leads longer (cells_from r (c + n) next then xs ys) text (cells_from r c pen flag xs ys)
 next_run r c n pen next flag then xs ys a text longer h le other b same count told pens flags =
     let x = at xs c in
@@ -272,18 +272,18 @@ next_run r c n pen next flag then xs ys a text longer h le other b same count to
     (at_column r c pen flag xs ys h le
     ∙ (run_erased r c pen flag x (drop (c + 1) xs) (at ys c) (drop (c + 1) ys) n other b counted
     ∙ (ap (λ (z : Attrs). ops_then (placed_op pen r c z (erase_run n (drop n (at ys c ∷ drop (c + 1) ys))))
-    (cells_written r (c + n) (pen_at r c z) (flag_past flag (drop n (at ys c ∷ drop (c + 1) ys)))
+    (cells_written r (c + n) (pen_at r c z) (wrapped_after_erasure flag (drop n (at ys c ∷ drop (c + 1) ys)))
     0 (drop n (x ∷ drop (c + 1) xs)) (drop n (at ys c ∷ drop (c + 1) ys))))
     (sym same)
     ∙ (ap (λ (zs : List CellValue). ops_then (ops (drop n (at ys c ∷ drop (c + 1) ys)))
-    (cells_written r (c + n) (pen_at r c a) (flag_past flag (drop n (at ys c ∷ drop (c + 1) ys)))
+    (cells_written r (c + n) (pen_at r c a) (wrapped_after_erasure flag (drop n (at ys c ∷ drop (c + 1) ys)))
     0 zs (drop n (at ys c ∷ drop (c + 1) ys))))
     (behind c n xs h)
     ∙ (ap (λ (zs : List CellValue). ops_then (ops zs)
-    (cells_written r (c + n) (pen_at r c a) (flag_past flag zs) 0 (drop (c + n) xs) zs))
+    (cells_written r (c + n) (pen_at r c a) (wrapped_after_erasure flag zs) 0 (drop (c + n) xs) zs))
     (behind c n ys (omega arith))
     ∙ (ap (λ (p : Pen). ops_then (ops (drop (c + n) ys))
-    (cells_written r (c + n) p (flag_past flag (drop (c + n) ys)) 0 (drop (c + n) xs) (drop (c + n) ys)))
+    (cells_written r (c + n) p (wrapped_after_erasure flag (drop (c + n) ys)) 0 (drop (c + n) xs) (drop (c + n) ys)))
     (sym pens)
     ∙ ap (λ (f : Bool). ops_then (ops (drop (c + n) ys)) (cells_from r (c + n) next f xs ys)) (sym flags)))))))
 
@@ -322,13 +322,13 @@ pub glyph_leads : (r c n : ℕ) (pen next : Pen) (flag then : Bool)
     is_blank x ≡ false → n ≡ glyph_columns (is_wide x) →
     longer ≡ text ++ bytes_of_all (placed_op pen r c (attrs_of x) (Print (text_of x))) →
     next ≡ pen_at r (c + glyph_columns (is_wide x)) (attrs_of x) →
-    then ≡ flag_behind flag (is_wide x) (drop (c + n) ys) →
+    then ≡ wrapped_after_glyph flag (is_wide x) (drop (c + n) ys) →
     Leads longer (cells_from r (c + n) next then xs ys) text (cells_from r c pen flag xs ys)
 glyph_leads r c n pen next flag then xs ys x text longer e h le other =
     subst (λ (z : CellValue). is_blank z ≡ false → n ≡ glyph_columns (is_wide z) →
     longer ≡ text ++ bytes_of_all (placed_op pen r c (attrs_of z) (Print (text_of z))) →
     next ≡ pen_at r (c + glyph_columns (is_wide z)) (attrs_of z) →
-    then ≡ flag_behind flag (is_wide z) (drop (c + n) ys) →
+    then ≡ wrapped_after_glyph flag (is_wide z) (drop (c + n) ys) →
     Leads longer (cells_from r (c + n) next then xs ys) text (cells_from r c pen flag xs ys))
     (sym e) (λ b count told pens flags. next_glyph r c n pen next
     flag then xs ys text longer h le other b count told pens flags)
@@ -404,13 +404,13 @@ begun_erased : (r c m : ℕ) (pen : Pen) (flag : Bool) (more : List CellValue) (
     m ≡ blank_run default_attrs (default_blank ∷ more) →
     cells_written r c pen flag 0 (default_blank ∷ more) (right_half ∷ under)
     ≡ ops_then (placed_op pen r c default_attrs (erase_run m (drop m (y ∷ under))))
-    (cells_written r (c + m) (pen_at r c default_attrs) (flag_past flag (drop m (y ∷ under)))
+    (cells_written r (c + m) (pen_at r c default_attrs) (wrapped_after_erasure flag (drop m (y ∷ under)))
     0 (drop m (right_half ∷ more)) (drop m (y ∷ under)))
 unfolding same_cell
 begun_erased r c m pen flag more y under e =
     subst (λ (j : ℕ). cells_written r c pen flag 0 (default_blank ∷ more) (right_half ∷ under)
     ≡ ops_then (placed_op pen r c default_attrs (erase_run j (drop j (y ∷ under))))
-    (cells_written r (c + j) (pen_at r c default_attrs) (flag_past flag (drop j (y ∷ under)))
+    (cells_written r (c + j) (pen_at r c default_attrs) (wrapped_after_erasure flag (drop j (y ∷ under)))
     0 (drop j (right_half ∷ more)) (drop j (y ∷ under))))
     (sym (e ∙ run_first default_attrs more))
     (run_erased r c pen flag default_blank more right_half under
@@ -422,7 +422,7 @@ one_erased : (r c m : ℕ) (pen : Pen) (flag : Bool) (x : CellValue)
     cells_written r c pen flag 0 (with_whole_start (x ∷ more)) (with_whole_start_over (x ∷ more) (y ∷ under))
     ≡ ops_then (placed_op pen r c default_attrs (erase_run m (drop m (y ∷ under))))
     (cells_written r (c + m) (pen_at r c default_attrs)
-    (flag_past flag (drop m (y ∷ under))) 0 (drop m (x ∷ more)) (drop m (y ∷ under)))
+    (wrapped_after_erasure flag (drop m (y ∷ under))) 0 (drop m (x ∷ more)) (drop m (y ∷ under)))
 one_erased r c m pen flag right_half more (blank b) under e f k = begun_erased r c m pen flag more (blank b) under k
 one_erased r c m pen flag right_half more (glyph text wide b) under e f k =
     begun_erased r c m pen flag more (glyph text wide b) under k
@@ -435,7 +435,7 @@ pub half_erased : (r c n m : ℕ) (pen next : Pen) (flag then : Bool) (xs ys : L
     c < length xs → length xs ≤ length ys → is_right_half (at xs c) ≡ true → is_right_half (at ys c) ≡ false →
     n ≡ blank_run default_attrs (drop (c + 1) xs) → m ≡ n + 1 →
     longer ≡ text ++ bytes_of_all (placed_op pen r c default_attrs (erase_run m (drop (c + m) ys))) →
-    next ≡ pen_at r c default_attrs → then ≡ flag_past flag (drop (c + m) ys) →
+    next ≡ pen_at r c default_attrs → then ≡ wrapped_after_erasure flag (drop (c + m) ys) →
     Leads longer (cells_from r (c + m) next then xs ys) text
     (cells_written r c pen flag 0 (with_whole_start (drop c xs)) (with_whole_start_over (drop c xs) (drop c ys)))
 half_erased r c n m pen next flag then xs ys text longer h le e f count more told pens flags =
@@ -453,13 +453,13 @@ half_erased r c n m pen next flag then xs ys text longer h le e f count more tol
     ∙ (one_erased r c m pen flag x rest y under e f (more ∙ (ap (λ (k : ℕ). k + 1) count ∙ sym (run_first_one rest)))
     ∙ (ap (λ (zs : List CellValue). ops_then (ops (drop m (y ∷ under)))
     (cells_written r (c + m) (pen_at r c default_attrs)
-    (flag_past flag (drop m (y ∷ under))) 0 zs (drop m (y ∷ under))))
+    (wrapped_after_erasure flag (drop m (y ∷ under))) 0 zs (drop m (y ∷ under))))
     (behind c m xs h)
     ∙ (ap (λ (zs : List CellValue). ops_then (ops zs)
-    (cells_written r (c + m) (pen_at r c default_attrs) (flag_past flag zs) 0 (drop (c + m) xs) zs))
+    (cells_written r (c + m) (pen_at r c default_attrs) (wrapped_after_erasure flag zs) 0 (drop (c + m) xs) zs))
     (behind c m ys (omega arith))
     ∙ (ap (λ (p : Pen). ops_then (ops (drop (c + m) ys))
-    (cells_written r (c + m) p (flag_past flag (drop (c + m) ys)) 0 (drop (c + m) xs) (drop (c + m) ys)))
+    (cells_written r (c + m) p (wrapped_after_erasure flag (drop (c + m) ys)) 0 (drop (c + m) xs) (drop (c + m) ys)))
     (sym pens)
     ∙ ap (λ (b : Bool). ops_then (ops (drop (c + m) ys)) (cells_from r (c + m) next b xs ys)) (sym flags))))))) where
       run_first_one : (zs : List CellValue) →

@@ -20,7 +20,7 @@ use Rattle.vt_redraw.specs.declared.pen.Pen.{Pen}
 use Rattle.vt_grid.proofs.Drawing.{Draws, draws_then}
 use Rattle.vt_redraw.proofs.Steps.{at_pen, Reads, Within, going_draws, changing_draws}
 use Rattle.vt_redraw.specs.Picture.{Saved, with_saved}
-use Rattle.vt_redraw.specs.Script.{is_at, behind_last_glyph, last_column}
+use Rattle.vt_redraw.specs.Script.{after_last_glyph, is_at, last_column}
 use Rattle.vt_redraw.specs.Locality.{placing_row}
 use Rattle.vt_redraw.proofs.Touched.{DrawsIn, in_then, in_to, quiet_in, going_quiet, changing_quiet, feeds_quiet}
 use Rattle.vt_redraw.specs.Redraw.{nearest, blank_passed, over_blank, under_last, pending_at, cursor_written}
@@ -29,7 +29,7 @@ use Rattle.vt_redraw.proofs.Flags.{ends, ends_is, Sound}
 use Rattle.vt_redraw.proofs.Edits.{row_of, mid}
 use Rattle.vt_redraw.proofs.Places.{going_there}
 use Rattle.vt_redraw.proofs.Spaces.{space_prints}
-use Rattle.vt_redraw.proofs.Link.{same_pen, going_behind_draws, erase_last, print_bare}
+use Rattle.vt_redraw.proofs.Link.{erase_last, going_after_draws, print_bare, same_pen}
 use Rattle.vt_redraw.proofs.Rows.{Stands, PrintsRow}
 
 -- ---- rows by index
@@ -155,8 +155,8 @@ under_last_draws May base rows pen i r height reads size all prints le low withi
     let v = split_row rows i d (omega arith) in
     let count = ap length v.is ∙ length-append v.done (x ∷ v.below) in
     let above = v.above in
-    let w = behind_last_glyph i pen x.cells in
-    let goes = going_behind_draws May base v.done v.below x.cells x.wrapped i height pen reads
+    let w = after_last_glyph i pen x.cells in
+    let goes = going_after_draws May base v.done v.below x.cells x.wrapped i height pen reads
     v.above (omega arith) ok.columns ok.paired (sym (ends_is x.cells) ∙ full) p within (λ _. may) in
     let there : DrawsIn May w.ops (at_pen base rows pen) (at_pen base rows w.pen) =
     subst (λ (z : List RowValue). DrawsIn May w.ops (at_pen base z pen) (at_pen base z w.pen)) (sym v.is) goes.draws in

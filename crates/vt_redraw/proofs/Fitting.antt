@@ -22,8 +22,8 @@ use Rattle.vt_redraw.proofs.Runs.{run_bound}
 use Rattle.vt_redraw.proofs.Printable.{printable_text}
 use Rattle.vt_redraw.specs.Picture.{Picture, IsPicture, IsColoredPicture}
 use Rattle.vt_redraw.specs.Script.{Scripted, no_ops, ops_then, placed_op, cells_written, last_column, last_glyph}
-use Rattle.vt_redraw.specs.Script.{is_at, pen_behind, behind_last_glyph, Linked, no_link, first_written, starts_other}
-use Rattle.vt_redraw.specs.Script.{ops_then_link, row_link, break_ops, row_break, flag_behind, flag_past}
+use Rattle.vt_redraw.specs.Script.{Linked, after_last_glyph, first_written, is_at, no_link, pen_after, starts_other}
+use Rattle.vt_redraw.specs.Script.{break_ops, ops_then_link, row_break, row_link, wrapped_after_erasure, wrapped_after_glyph}
 use Rattle.vt_redraw.specs.Redraw.{row_written, link_of, rows_below, rows_written, nearest, over_blank}
 use Rattle.vt_redraw.specs.Redraw.{under_last, pending_at, cursor_written, pen_of, script, cursor_visibility_ops}
 use Rattle.vt_redraw.specs.Redraw.{difference, blank_like, redraw, pending_alone, cursor_state}
@@ -108,17 +108,17 @@ cells_fit r c pen flag zero (blank a ∷ xs) (y ∷ ys) h l was fit =
     let n = blank_run a xs in
     let bound = run_bound a xs in
     let op = erase_run (suc n) (drop n ys) in
-    let rest = cells_written r (c + 1) (pen_at r c a) (flag_past flag (drop n ys)) n xs ys in
+    let rest = cells_written r (c + 1) (pen_at r c a) (wrapped_after_erasure flag (drop n ys)) n xs ys in
     cond_both (same_cell (blank a) y) (cells_written r (c + 1) pen flag zero xs ys)
     (ops_then (placed_op pen r c a op) rest) FitsWritten
     (λ _. cells_fit r (c + 1) pen flag zero xs ys h (omega arith) was fit.1)
     (λ _. fits_after (placed_op pen r c a op) rest
     (doing_fits pen r c a op h (omega arith) was fit.0.1 (erase_run_fits (suc n) (drop n ys) (omega arith)))
-    (cells_fit r (c + 1) (pen_at r c a) (flag_past flag (drop n ys)) n xs ys h (omega arith) fit.0.1 fit.1))
+    (cells_fit r (c + 1) (pen_at r c a) (wrapped_after_erasure flag (drop n ys)) n xs ys h (omega arith) fit.0.1 fit.1))
 cells_fit r c pen flag zero (glyph text wide a ∷ xs) (y ∷ ys) h l was fit =
     let k = glyph_columns wide - 1 in
     let next = pen_at r (c + glyph_columns wide) a in
-    let now = flag_behind flag wide (drop 1 ys) in
+    let now = wrapped_after_glyph flag wide (drop 1 ys) in
     let rest = cells_written r (c + 1) next now k xs ys in
     cond_both (same_cell (glyph text wide a) y) (cells_written r (c + 1) pen flag k xs ys)
     (ops_then (placed_op pen r c a (Print text)) rest) FitsWritten
@@ -134,13 +134,13 @@ last_low cells some h =
     cond_both (is_right_half (at cells (length cells - 1))) (length cells - 2)
     (length cells - 1) (λ (k : ℕ). k < 65535) (λ _. omega arith) (λ _. omega arith)
 
-pub behind_fits : (r : ℕ) (pen : Pen) (cells : List CellValue) → r < 65535 → 0 < length cells →
-    length cells < 2 ^ 16 → FitsAttrs pen.attrs → AllByRecursion IsFit cells → FitsWritten (behind_last_glyph r pen cells)
-behind_fits r pen cells h some l was fit =
+pub after_fits : (r : ℕ) (pen : Pen) (cells : List CellValue) → r < 65535 → 0 < length cells →
+    length cells < 2 ^ 16 → FitsAttrs pen.attrs → AllByRecursion IsFit cells → FitsWritten (after_last_glyph r pen cells)
+after_fits r pen cells h some l was fit =
     let last = at_fits cells (last_column cells) fit in
     let again : Scripted = record {
       ops = placed_op pen r (last_column cells) (attrs_of (last_glyph cells)) (Print (text_of (last_glyph cells)));
-      pen = pen_behind r cells;
+      pen = pen_after r cells;
       flag = true;
     } in
     cond_both (is_at pen r (length cells)) (no_ops pen true) again FitsWritten (λ _. record { ops = tt; attrs = was })
@@ -179,8 +179,8 @@ linked_fits : (r : ℕ) (pen : Pen) (above : List CellValue) (on flag : Bool) (x
     AllByRecursion IsFit above → AllByRecursion IsFit xs → FitsLinked (row_link r pen above on flag xs ys)
 unfolding row_link
 linked_fits r pen above on flag xs ys h some l was over fit =
-    let w = behind_last_glyph r pen above in
-    let one = behind_fits r pen above h some l was over in
+    let w = after_last_glyph r pen above in
+    let one = after_fits r pen above h some l was over in
     let two = first_fits (r + 1) w.pen flag xs ys one.attrs fit in
     cond_both (not on || (is_at pen r (length above) && starts_other xs ys))
     (ops_then_link w.ops (first_written (r + 1) w.pen flag xs ys)) (no_link pen flag) FitsLinked
@@ -302,8 +302,8 @@ pending_fits (Some i) pen width rows r near lt h some l was fit =
     let row = row_at_fits width rows i fit (omega arith) in
     let columns = row.columns in
     let cells = (row_or width rows i).cells in
-    let w = behind_last_glyph i pen cells in
-    let one = behind_fits i pen cells (omega arith) (omega arith) (omega arith) was row.cells in
+    let w = after_last_glyph i pen cells in
+    let one = after_fits i pen cells (omega arith) (omega arith) (omega arith) was row.cells in
     fits_append w.ops (attr_ops w.pen.attrs pen.attrs ++ replicate (r - i) LineFeed) one.ops
     (fits_append (attr_ops w.pen.attrs pen.attrs) (replicate (r - i) LineFeed)
     (changing_fits w.pen.attrs pen.attrs one.attrs was) (feeds_fit (r - i)))

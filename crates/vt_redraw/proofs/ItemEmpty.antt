@@ -16,8 +16,8 @@ use Rattle.vt_grid.specs.Page.{row_or}
 use Rattle.vt_redraw.specs.Items.{in_range, with_whole_start, with_whole_start_over, range_written, is_whole, item_of_difference}
 use Rattle.vt_redraw.specs.Picture.{Picture, IsPicture, SamePictureSize}
 use Rattle.vt_redraw.specs.Script.{Scripted, no_ops, ops_then, pen_at, move_ops, attr_ops, placed_op, blank_run}
-use Rattle.vt_redraw.specs.Script.{erase_run, flag_past, flag_behind, cells_written, last_column}
-use Rattle.vt_redraw.specs.Script.{last_glyph, is_at, pen_behind, behind_last_glyph, row_break}
+use Rattle.vt_redraw.specs.Script.{cells_written, erase_run, last_column, wrapped_after_erasure, wrapped_after_glyph}
+use Rattle.vt_redraw.specs.Script.{after_last_glyph, is_at, last_glyph, pen_after, row_break}
 use Rattle.vt_redraw.specs.declared.pen.Pen.{Pen}
 use Rattle.vt_redraw.proofs.Edits.{glyph_cells}
 use Rattle.vt_redraw.proofs.Flags.{ends, ends_is}
@@ -74,7 +74,7 @@ cells_none r c pen flag (blank a ∷ xs) (y ∷ ys) e h k is none =
         same_cell (blank a) y ≡ t →
         bytes_of_all (if t then cells_written r (c + 1) pen flag 0 xs ys
         else ops_then (placed_op pen r c a (erase_run (suc (blank_run a xs)) (drop (blank_run a xs) ys)))
-        (cells_written r (c + 1) (pen_at r c a) (flag_past flag (drop (blank_run a xs) ys)) (blank_run a xs) xs ys)).ops
+        (cells_written r (c + 1) (pen_at r c a) (wrapped_after_erasure flag (drop (blank_run a xs) ys)) (blank_run a xs) xs ys)).ops
         ≡ [] →
         blank a ∷ xs ≡ y ∷ ys
     by_test more true t none =
@@ -93,7 +93,7 @@ cells_none r c pen flag (glyph text false a ∷ xs) (y ∷ ys) e h k is none =
         same_cell (glyph text false a) y ≡ t →
         bytes_of_all (if t then cells_written r (c + 1) pen flag 0 xs ys
         else ops_then (placed_op pen r c a (Print text))
-        (cells_written r (c + 1) (pen_at r (c + 1) a) (flag_behind flag false (drop 1 ys)) 0 xs ys)).ops
+        (cells_written r (c + 1) (pen_at r (c + 1) a) (wrapped_after_glyph flag false (drop 1 ys)) 0 xs ys)).ops
         ≡ [] →
         glyph text false a ∷ xs ≡ y ∷ ys
     by_test more true t none =
@@ -111,10 +111,10 @@ cells_none r c pen flag (glyph text true a ∷ right_half ∷ xs) (y ∷ z ∷ y
     by_test (λ p n. cells_none r (c + 1 + 1) pen flag xs ys (omega arith) h p is.1.1 n)
     (same_cell (glyph text true a) y) refl none
   where
-    pen_behind : (z : CellValue) → Paired (glyph text true a ∷ z ∷ ys) → (right_half ≡ z) × Paired ys
-    pen_behind right_half p = (refl, p)
-    pen_behind (blank b) p = absurd p
-    pen_behind (glyph other wide b) p = absurd p
+    pen_after : (z : CellValue) → Paired (glyph text true a ∷ z ∷ ys) → (right_half ≡ z) × Paired ys
+    pen_after right_half p = (refl, p)
+    pen_after (blank b) p = absurd p
+    pen_after (glyph other wide b) p = absurd p
 
     next : (z : CellValue) → right_half ≡ z →
         bytes_of_all (cells_written r (c + 1) pen flag 1 (right_half ∷ xs) (z ∷ ys)).ops ≡ [] →
@@ -129,12 +129,12 @@ cells_none r c pen flag (glyph text true a ∷ right_half ∷ xs) (y ∷ z ∷ y
         bytes_of_all (if t then cells_written r (c + 1) pen flag 1 (right_half ∷ xs) (z ∷ ys)
         else ops_then (placed_op pen r c a (Print text))
         (cells_written r (c + 1) (pen_at r (c + 2) a)
-        (flag_behind flag true (drop 1 (z ∷ ys))) 1 (right_half ∷ xs) (z ∷ ys))).ops
+        (wrapped_after_glyph flag true (drop 1 (z ∷ ys))) 1 (right_half ∷ xs) (z ∷ ys))).ops
         ≡ [] →
         glyph text true a ∷ right_half ∷ xs ≡ y ∷ z ∷ ys
     by_test more true t none =
         let same = cell_of-same (glyph text true a) y t in
-        let half = pen_behind z (subst (λ (w : CellValue). Paired (w ∷ z ∷ ys)) (sym same) k) in
+        let half = pen_after z (subst (λ (w : CellValue). Paired (w ∷ z ∷ ys)) (sym same) k) in
         same_ahead (glyph text true a) y (right_half ∷ xs) (z ∷ ys) same
         (same_ahead right_half z xs ys half.0 (more half.1 (next z half.0 none)))
     by_test more false t none =
@@ -159,7 +159,7 @@ last_is_text cells h e is none =
 abbrev end_ops : ℕ → Bool → Bool → List CellValue → List Op
 end_ops r flag wanted cells =
     let b = row_break r (pen_at r 0 default_attrs) flag wanted cells in
-    if wanted && not b.flag then b.ops ++ (behind_last_glyph r b.pen cells).ops else b.ops
+    if wanted && not b.flag then b.ops ++ (after_last_glyph r b.pen cells).ops else b.ops
 
 end_none : (r : ℕ) (flag wanted : Bool) (cells : List CellValue) → 0 < length cells →
     Paired cells → AllByRecursion IsCell cells → (wanted ≡ true → ends cells ≡ false) →
@@ -183,7 +183,7 @@ end_none r false true cells some h is full none =
     (if b then no_ops pen true
     else record {
       ops = placed_op pen r (last_column cells) (attrs_of (last_glyph cells)) (Print (text_of (last_glyph cells)));
-      pen = pen_behind r cells;
+      pen = pen_after r cells;
       flag = true;
     }).ops)
     (sym t)
@@ -215,20 +215,20 @@ range_is r w flag xs ys e h =
     ∙ ap (λ (z : List CellValue). cells_written r 0 (pen_at r 0 default_attrs) flag 0 xs z) (begun_over_paired xs ys h))
 
 -- The operations of an item after those of its cells.
-abbrev item_behind : ℕ → Scripted → Bool → List CellValue → List Op
-item_behind r w wanted cells =
+abbrev item_after : ℕ → Scripted → Bool → List CellValue → List Op
+item_after r w wanted cells =
     let b = row_break r w.pen w.flag wanted cells in
-    if wanted && not b.flag then (w.ops ++ b.ops) ++ (behind_last_glyph r b.pen cells).ops else w.ops ++ b.ops
+    if wanted && not b.flag then (w.ops ++ b.ops) ++ (after_last_glyph r b.pen cells).ops else w.ops ++ b.ops
 
 item_is : (r width : ℕ) (x y : RowValue) → length x.cells ≡ width → Paired x.cells →
     (item_of_difference r 0 width x y).ops
-    ≡ item_behind r (cells_written r 0 (pen_at r 0 default_attrs) y.wrapped 0 x.cells y.cells) x.wrapped x.cells
+    ≡ item_after r (cells_written r 0 (pen_at r 0 default_attrs) y.wrapped 0 x.cells y.cells) x.wrapped x.cells
 item_is r width x y e h =
     let t : is_whole 0 width (length x.cells) ≡ true = grind (arith, nat_tests) in
     let w = range_written r 0 width y.wrapped x.cells y.cells in
     let b = row_break r w.pen w.flag x.wrapped x.cells in
-    rw t (ops_of (x.wrapped && not b.flag) w b (behind_last_glyph r b.pen x.cells)
-    ∙ ap (λ (z : Scripted). item_behind r z x.wrapped x.cells) (range_is r width y.wrapped x.cells y.cells e h))
+    rw t (ops_of (x.wrapped && not b.flag) w b (after_last_glyph r b.pen x.cells)
+    ∙ ap (λ (z : Scripted). item_after r z x.wrapped x.cells) (range_is r width y.wrapped x.cells y.cells e h))
   where
     ops_of : (t : Bool) (w b g : Scripted) →
         (if t then record { ops = (w.ops ++ b.ops) ++ g.ops; pen = g.pen; flag = b.flag } else ops_then w.ops b).ops
@@ -256,11 +256,11 @@ item_none r width x y some hx hy none =
     let is = ap bytes_of_all (sym (item_is r width x y ex px)) ∙ none in
     let same = cells_none r 0 (pen_at r 0 default_attrs) y.wrapped
     x.cells y.cells (ex ∙ sym ey) px (paired_of y.cells hy.paired) cells
-    (front_none (x.wrapped && not b.flag) w.ops b.ops (behind_last_glyph r b.pen x.cells).ops is) in
+    (front_none (x.wrapped && not b.flag) w.ops b.ops (after_last_glyph r b.pen x.cells).ops is) in
     let stands : w ≡ no_ops (pen_at r 0 default_attrs) y.wrapped =
     ap (λ (z : List CellValue). cells_written r 0 (pen_at r 0 default_attrs) y.wrapped 0 x.cells z) (sym same)
     ∙ cells_nothing r 0 0 (pen_at r 0 default_attrs) y.wrapped x.cells in
-    let ends_none = ap (λ (z : Scripted). bytes_of_all (item_behind r z x.wrapped x.cells)) (sym stands) ∙ is in
+    let ends_none = ap (λ (z : Scripted). bytes_of_all (item_after r z x.wrapped x.cells)) (sym stands) ∙ is in
     same_row x y same (end_none r y.wrapped x.wrapped x.cells (omega arith)
     px cells (λ t. sym (ends_is x.cells) ∙ hx.flagged t) ends_none)
 
@@ -270,7 +270,7 @@ item_same r width x y hx e =
     let px = paired_of x.cells hx.paired in
     ap (λ (z : RowValue). bytes_of_all (item_of_difference r 0 width x z).ops) (sym e)
     ∙ (ap bytes_of_all (item_is r width x x hx.columns px)
-    ∙ (ap (λ (z : Scripted). bytes_of_all (item_behind r z x.wrapped x.cells))
+    ∙ (ap (λ (z : Scripted). bytes_of_all (item_after r z x.wrapped x.cells))
     (cells_nothing r 0 0 (pen_at r 0 default_attrs) x.wrapped x.cells)
     ∙ ap bytes_of_all (end_nothing r x.wrapped x.cells)))
 

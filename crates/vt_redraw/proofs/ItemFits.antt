@@ -14,9 +14,9 @@ use Rattle.vt_redraw.specs.Fits.{Fits}
 use Rattle.vt_redraw.specs.Items.{in_range, with_whole_start, with_whole_start_over, range_written, is_whole}
 use Rattle.vt_redraw.specs.Items.{item_of_difference, item_of_redraw, linked_item}
 use Rattle.vt_redraw.specs.Picture.{Picture, IsPicture, IsColoredPicture}
-use Rattle.vt_redraw.specs.Script.{Scripted, ops_then, pen_at, first_written, cells_written, behind_last_glyph, row_break}
+use Rattle.vt_redraw.specs.Script.{Scripted, after_last_glyph, cells_written, first_written, ops_then, pen_at, row_break}
 use Rattle.vt_redraw.proofs.Fitting.{IsFit, IsFitRow, FitsWritten, fits_after, fits_append, cells_fit}
-use Rattle.vt_redraw.proofs.Fitting.{behind_fits, first_fits, broken_fits, row_at_fits, picture_fits}
+use Rattle.vt_redraw.proofs.Fitting.{after_fits, broken_fits, first_fits, picture_fits, row_at_fits}
 
 plain : FitsAttrs default_attrs
 plain = (tt, tt)
@@ -62,11 +62,11 @@ item_fits r start stop width x y low le inside some small fit =
     let w = range_written r start stop y.wrapped x.cells y.cells in
     let b = row_break r w.pen w.flag x.wrapped x.cells in
     let full = ops_then w.ops b in
-    let g = behind_last_glyph r full.pen x.cells in
+    let g = after_last_glyph r full.pen x.cells in
     let one = range_fits r start stop width y.wrapped x y.cells low le inside small fit in
     let two = broken_fits r w.pen w.flag x.wrapped x.cells low (omega arith) (omega arith) one.attrs fit.cells in
     let both = fits_after w.ops b one.ops two in
-    let three = behind_fits r full.pen x.cells low (omega arith) (omega arith) both.attrs fit.cells in
+    let three = after_fits r full.pen x.cells low (omega arith) (omega arith) both.attrs fit.cells in
     cond_both (is_whole start stop (length x.cells)) _ w FitsWritten
     (λ _. cond_both (x.wrapped && not full.flag)
     (record { ops = full.ops ++ g.ops; pen = g.pen; flag = full.flag }) full FitsWritten

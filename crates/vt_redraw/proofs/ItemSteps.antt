@@ -14,7 +14,7 @@ use Rattle.vt_grid.specs.Page.{row_or}
 use Rattle.vt_redraw.specs.Items.{with_whole_start, with_whole_start_over, in_range, is_linked, is_whole, item_of_difference}
 use Rattle.vt_redraw.specs.Items.{item_of_redraw, linked_item, marked_on, range_written}
 use Rattle.vt_redraw.specs.Internals.{IsRange, Links, cells_from, mark_of}
-use Rattle.vt_redraw.specs.Script.{Scripted, ops_then, row_break, cells_written, first_written, behind_last_glyph, pen_at}
+use Rattle.vt_redraw.specs.Script.{Scripted, after_last_glyph, cells_written, first_written, ops_then, pen_at, row_break}
 use Rattle.vt_redraw.specs.declared.links.Link.{Link}
 use Rattle.vt_redraw.specs.declared.pen.Pen.{Pen}
 use Rattle.vt_redraw.proofs.CellSteps.{settled_passed}
@@ -80,12 +80,12 @@ marked_ops r w b wanted cells = by_case (wanted && not b.flag) where
   by_case : (c : Bool) →
       (if c
       then record {
-        ops = (w.ops ++ b.ops) ++ (behind_last_glyph r b.pen cells).ops;
-        pen = (behind_last_glyph r b.pen cells).pen;
+        ops = (w.ops ++ b.ops) ++ (after_last_glyph r b.pen cells).ops;
+        pen = (after_last_glyph r b.pen cells).pen;
         flag = b.flag;
       } else ops_then w.ops b).ops
-      ≡ w.ops ++ (b.ops ++ (if c then (behind_last_glyph r b.pen cells).ops else []))
-  by_case true = append_assoc w.ops b.ops (behind_last_glyph r b.pen cells).ops
+      ≡ w.ops ++ (b.ops ++ (if c then (after_last_glyph r b.pen cells).ops else []))
+  by_case true = append_assoc w.ops b.ops (after_last_glyph r b.pen cells).ops
   by_case false = ap (λ (zs : List Op). w.ops ++ zs) (sym (append-nil b.ops))
 
 pub part_item : (r start stop : ℕ) (x y : RowValue) (w : Scripted) (t0 t1 : List ℕ) →

@@ -13,8 +13,8 @@ use Rattle.vt_cells.specs.Glyph.{glyph_columns}
 use Rattle.vt_redraw.specs.Script.{pen_at, attr_ops}
 use Rattle.vt_redraw.specs.declared.pen.Pen.{Pen}
 use Rattle.vt_redraw.proofs.Steps.{Reads, Within, changing_draws}
-use Rattle.vt_redraw.specs.Script.{is_nil, is_torn, flag_behind, Linked, no_link, first_written}
-use Rattle.vt_redraw.specs.Script.{starts_other, ops_then_link, row_link, is_at, behind_last_glyph, last_column}
+use Rattle.vt_redraw.specs.Script.{Linked, first_written, is_nil, is_torn, no_link, wrapped_after_glyph}
+use Rattle.vt_redraw.specs.Script.{after_last_glyph, is_at, last_column, ops_then_link, row_link, starts_other}
 use Rattle.vt_redraw.proofs.Halves.{Paired, paired_loose, loose_step, opened_paired, opened_twice}
 use Rattle.vt_redraw.proofs.Flags.{ends, kept, Sound, sound_kept, flag_step}
 use Rattle.vt_redraw.proofs.Edits.{row_of, mid, two, two_mid, orphan, chars_erased}
@@ -27,7 +27,7 @@ use Rattle.vt_redraw.proofs.Lets.{Lets, torn_may}
 use Rattle.vt_redraw.proofs.Standing.{starts_none}
 use Rattle.vt_redraw.proofs.Spaces.{space_prints}
 use Rattle.vt_redraw.proofs.Places.{PrintsCells, shown, Ready}
-use Rattle.vt_redraw.proofs.Link.{going_behind_draws, erase_touches, no_tail}
+use Rattle.vt_redraw.proofs.Link.{erase_touches, going_after_draws, no_tail}
 
 -- ---- the first cell, at a pending wrap
 
@@ -50,13 +50,13 @@ first_glyph : (May : ℕ → ℕ → Type 0) (base : Canvas) (done below : List 
     DrawsIn May (attr_ops b a ++ Print text ∷ [])
     (two base done below above on (y ∷ ys) flag (pen_at r base.page.width b))
     (mid base (done ++ row_of above true ∷ []) below (with_glyph [] text wide a ys)
-    (flag_behind flag wide (drop 1 ys)) (pen_at (r + 1) (0 + glyph_columns wide) a))
+    (wrapped_after_glyph flag wide (drop 1 ys)) (pen_at (r + 1) (0 + glyph_columns wide) a))
 first_glyph May base done below above on y ys flag r b text wide a e bottom full paired sound fits prints may =
     let top = done ++ row_of above true ∷ [] in
     let n : length top ≡ r + 1 = let l = length-append done (row_of above true ∷ []) in omega arith in
     let whole = opened_paired default_blank (y ∷ ys) paired in
     let goal = mid base top below (with_glyph [] text wide a ys)
-    (flag_behind flag wide (drop 1 ys)) (pen_at (r + 1) (0 + glyph_columns wide) a) in
+    (wrapped_after_glyph flag wide (drop 1 ys)) (pen_at (r + 1) (0 + glyph_columns wide) a) in
     let spot : Spot base top [] default_blank y ys flag (r + 1) 0 wide =
     record { row = n; col = refl; fits = omega arith; front = tt; sound = subst (Sound flag) (sym whole) sound } in
     let there : two base done below above (not (ends above)) (y ∷ ys) flag (pen_at (r + 1) 0 a)
@@ -81,14 +81,14 @@ pub first_blank : (May : ℕ → ℕ → Type 0) (base : Canvas) (done below : L
     (y : CellValue) (ys : List CellValue) (flag : Bool) (r : ℕ) (a : Attrs) →
     length done ≡ r → 0 < base.page.width → Paired (y ∷ ys) → Sound flag (y ∷ ys) → May r 0 →
     DrawsIn May (Backspace ∷ EraseChars 1 ∷ [])
-    (mid base done below (with_glyph [] (0x20 ∷ []) false a ys) (flag_behind flag false (drop 1 ys)) (pen_at r 1 a))
+    (mid base done below (with_glyph [] (0x20 ∷ []) false a ys) (wrapped_after_glyph flag false (drop 1 ys)) (pen_at r 1 a))
     (mid base done below (blank a ∷ cells_after_cut (orphan false a) ys) (flag && not (is_nil ys)) (pen_at r 0 a))
 first_blank May base done below y ys flag r a e pos paired sound may =
     let row = λ (z : List CellValue). blank a ∷ z in
     let pen = pen_at r 0 a in
     let whole = opened_paired default_blank (y ∷ ys) paired in
     let spaced = with_glyph [] (0x20 ∷ []) false a ys in
-    let now = flag_behind flag false (drop 1 ys) in
+    let now = wrapped_after_glyph flag false (drop 1 ys) in
     let start = mid base done below spaced now (pen_at r 1 a) in
     let middle = mid base done below spaced now pen in
     let goal = mid base done below (row (cells_after_cut (orphan false a) ys)) (flag && not (is_nil ys)) pen in
@@ -133,9 +133,9 @@ first_sound y ys flag a paired sound =
     ∙ first_flag flag (is_nil ys) (is_torn ys))
 
 pub glyph_sound : (y : CellValue) (ys : List CellValue) (flag : Bool) (text : List ℕ) (wide : Bool) (a : Attrs) →
-    Paired (y ∷ ys) → Sound flag (y ∷ ys) → Sound (flag_behind flag wide (drop 1 ys)) (with_glyph [] text wide a ys)
+    Paired (y ∷ ys) → Sound flag (y ∷ ys) → Sound (wrapped_after_glyph flag wide (drop 1 ys)) (with_glyph [] text wide a ys)
 glyph_sound y ys flag text wide a paired sound =
-    sound_kept flag (with_glyph [] text wide a ys) (flag_behind flag wide (drop 1 ys))
+    sound_kept flag (with_glyph [] text wide a ys) (wrapped_after_glyph flag wide (drop 1 ys))
     (glyph_flag [] default_blank y ys flag text wide a
     (subst (Sound flag) (sym (opened_paired default_blank (y ∷ ys) paired)) sound))
 
@@ -156,7 +156,7 @@ first_draws May base done below above (right_half ∷ xs) (y ∷ ys) on flag r
     height b e bottom rows hx hy pos full h k sound prints lets begin second = absurd h
 first_draws May base done below above (glyph text false a ∷ xs) (y ∷ ys) on flag
     r height b e bottom rows hx hy pos full h k sound prints lets begin second =
-    let now = flag_behind flag false (drop 1 ys) in
+    let now = wrapped_after_glyph flag false (drop 1 ys) in
     record {
       torn = orphan false a;
       draws = in_to May (attr_ops b a ++ Print text ∷ []) _ _ _
@@ -187,7 +187,7 @@ first_draws May base done below above (blank a ∷ xs) (y ∷ ys) on flag r
     let now = flag && not (is_nil ys) in
     let start = two base done below above on (y ∷ ys) flag (pen_at r base.page.width b) in
     let spaced = mid base top below (with_glyph [] (0x20 ∷ []) false a ys)
-    (flag_behind flag false (drop 1 ys)) (pen_at (r + 1) 1 a) in
+    (wrapped_after_glyph flag false (drop 1 ys)) (pen_at (r + 1) 1 a) in
     record {
       torn = orphan false a;
       draws =
@@ -231,7 +231,7 @@ first_draws May base done below above (glyph text true a ∷ right_half ∷ xs) 
     flag r height b e bottom rows hx hy pos full h k sound prints lets begin second = absurd (omega arith)
 first_draws May base done below above (glyph text true a ∷ right_half ∷ xs) (y ∷ y2 ∷ ys)
     on flag r height b e bottom rows hx hy pos full h k sound prints lets begin second =
-    let now = flag_behind flag true ys in
+    let now = wrapped_after_glyph flag true ys in
     record {
       torn = orphan true a;
       draws = in_to May (attr_ops b a ++ Print text ∷ []) _ _ _
@@ -330,13 +330,13 @@ pub link_draws : (May : ℕ → ℕ → Type 0) (base : Canvas) (done below : Li
 unfolding row_link
 link_draws May base done below above xs ys on flag r height pen reads e
     rows ha hx hy pa full above_prints h k sound prints within last near =
-    let behind = behind_last_glyph r pen above in
+    let behind = after_last_glyph r pen above in
     let start = two base done below above on ys flag pen in
     let test = not on || (is_at pen r (length above) && starts_other xs ys) in
     cond_both test (ops_then_link behind.ops (first_written (r + 1) behind.pen flag xs ys))
     (no_link pen flag) (λ (j : Linked). Joins May j base done below start above true xs ys height)
     (λ (t : test ≡ true).
-    let goes = going_behind_draws May base done (row_of ys flag ∷ below) above on r height pen reads e rows ha pa
+    let goes = going_after_draws May base done (row_of ys flag ∷ below) above on r height pen reads e rows ha pa
     full above_prints within (λ f. last (at_other on (is_at pen r (length above)) (starts_other xs ys) t f)) in
     let may = near (by_cases (link_cases on (is_at pen r (length above)) (starts_other xs ys) t)) in
     joins_after May behind.ops (first_written (r + 1) behind.pen flag xs ys) base done below

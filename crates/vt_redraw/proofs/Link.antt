@@ -14,7 +14,7 @@ use Rattle.vt_redraw.specs.Script.{pen_at, move_ops, attr_ops}
 use Rattle.vt_redraw.specs.declared.pen.Pen.{Pen}
 use Rattle.vt_redraw.proofs.Steps.{Reads, Within, changing_draws}
 use Rattle.vt_redraw.specs.Script.{Scripted, no_ops, placed_op, cells_written, last_column}
-use Rattle.vt_redraw.specs.Script.{last_glyph, is_at, pen_behind, behind_last_glyph, break_ops, row_break}
+use Rattle.vt_redraw.specs.Script.{after_last_glyph, break_ops, is_at, last_glyph, pen_after, row_break}
 use Rattle.vt_redraw.specs.Redraw.{row_written}
 use Rattle.vt_redraw.proofs.Halves.{Paired, opened_paired}
 use Rattle.vt_redraw.proofs.Flags.{ends, ends_append, kept, Sound}
@@ -154,7 +154,7 @@ print_again May base done below pre text true a flag r prints e w h sound may =
     (ap (λ (f : Bool). mid base done below row f (pen_at r (length pre + 2) a)) (still flag))
 
 -- The operations move the pen after the last glyph of the row, and nothing else changes.
-pub record GoesBehind (May : ℕ → ℕ → Type 0) (w : Scripted) (base : Canvas) (done below : List RowValue)
+pub record GoesAfter (May : ℕ → ℕ → Type 0) (w : Scripted) (base : Canvas) (done below : List RowValue)
     (cells : List CellValue) (flag : Bool) (r : ℕ) (pen : Pen) : Type 0 where
   pub draws : DrawsIn May w.ops (mid base done below cells flag pen) (mid base done below cells flag w.pen)
   pub there : w.pen ≡ pen_at r base.page.width w.pen.attrs
@@ -166,21 +166,21 @@ same_pen pen r c t =
     let f = eqb-true pen.col c both.1 in
     ap (λ (z : ℕ). pen_at z pen.col pen.attrs) e ∙ ap (λ (z : ℕ). pen_at r z pen.attrs) f
 
-pub going_behind_draws : (May : ℕ → ℕ → Type 0) (base : Canvas) (done below : List RowValue)
+pub going_after_draws : (May : ℕ → ℕ → Type 0) (base : Canvas) (done below : List RowValue)
     (xs : List CellValue) (flag : Bool) (r height : ℕ) (pen : Pen) →
     Reads base height base.page.width → length done ≡ r → r + suc (length below) ≡ height →
     length xs ≡ base.page.width →
     Paired xs → ends xs ≡ false → PrintsCells base.page.width xs → Within pen height base.page.width →
     (is_at pen r (length xs) ≡ false → (k : ℕ) → last_column xs ≤ k → k < base.page.width → May r k) →
-    GoesBehind May (behind_last_glyph r pen xs) base done below xs flag r pen
-going_behind_draws May base done below xs flag r height pen reads e rows w h full prints within may =
+    GoesAfter May (after_last_glyph r pen xs) base done below xs flag r pen
+going_after_draws May base done below xs flag r height pen reads e rows w h full prints within may =
     let again : Scripted = record {
       ops = placed_op pen r (last_column xs) (attrs_of (last_glyph xs)) (Print (text_of (last_glyph xs)));
-      pen = pen_behind r xs;
+      pen = pen_after r xs;
       flag = true;
     } in
     cond_both (is_at pen r (length xs)) (no_ops pen true) again
-    (λ (v : Scripted). GoesBehind May v base done below xs flag r pen)
+    (λ (v : Scripted). GoesAfter May v base done below xs flag r pen)
     (λ (t : is_at pen r (length xs) ≡ true).
     record {
       draws = record { draws = refl; touches = tt };

@@ -13,7 +13,7 @@ use Rattle.vt_redraw.specs.Script.{pen_at, move_ops, attr_ops, erase_run}
 use Rattle.vt_redraw.specs.declared.pen.Pen.{Pen}
 use Rattle.vt_grid.proofs.Drawing.{Draws}
 use Rattle.vt_redraw.proofs.Steps.{at_pen, Reads, Within, going_draws, changing_draws}
-use Rattle.vt_redraw.specs.Script.{Scripted, ops_then, placed_op, is_nil, is_torn, flag_past}
+use Rattle.vt_redraw.specs.Script.{Scripted, is_nil, is_torn, ops_then, placed_op, wrapped_after_erasure}
 use Rattle.vt_redraw.proofs.Halves.{Paired, Loose, drop_opened}
 use Rattle.vt_redraw.proofs.Flags.{ends_append, ends_blanks, kept, Sound, flag_step}
 use Rattle.vt_redraw.proofs.Edits.{row_of, mid, run_erased}
@@ -149,7 +149,7 @@ run_flag f n t = grind (arith)
 
 pub run_flagged : (pre : List CellValue) (o y : CellValue) (ys : List CellValue) (flag : Bool) (n : ℕ) (attrs : Attrs) →
     Sound flag (pre ++ cells_after_cut o (y ∷ ys)) →
-    kept flag (pre ++ (blanks attrs (suc n) ++ cells_after_cut default_blank (drop n ys))) ≡ flag_past flag (drop n ys)
+    kept flag (pre ++ (blanks attrs (suc n) ++ cells_after_cut default_blank (drop n ys))) ≡ wrapped_after_erasure flag (drop n ys)
 run_flagged pre o y ys flag n attrs sound =
     flag_step pre (blanks attrs (suc n)) y ys default_blank o n flag true
     (ends_append pre (blank attrs) (blanks attrs n) ∙ ends_blanks n attrs) sound
@@ -162,7 +162,7 @@ pub run_draws : (base : Canvas) (done below : List RowValue) (pre : List CellVal
     c + suc (length ys) ≡ base.page.width → n ≤ length ys → Sound flag (pre ++ cells_after_cut o (y ∷ ys)) →
     Draws (erase_run (suc n) (drop n ys) ∷ []) (mid base done below (pre ++ cells_after_cut o (y ∷ ys)) flag (pen_at r c attrs))
     (mid base done below (pre ++ (blanks attrs (suc n) ++ cells_after_cut default_blank (drop n ys)))
-    (flag_past flag (drop n ys)) (pen_at r c attrs))
+    (wrapped_after_erasure flag (drop n ys)) (pen_at r c attrs))
 run_draws base done below pre o y ys flag r c n attrs e l h fits le sound =
     let pen = pen_at r c attrs in
     let row = λ (rest : List CellValue). pre ++ (blanks attrs (suc n) ++ cells_after_cut default_blank rest) in
@@ -178,10 +178,10 @@ at_drop zero ys = refl
 at_drop (suc n) [] = refl
 at_drop (suc n) (y ∷ ys) = at_drop n ys
 
-at_behind : (o y : CellValue) (ys : List CellValue) (n : ℕ) → at (cells_after_cut o (y ∷ ys)) (suc n) ≡ at (drop n ys) 0
-at_behind o (blank a) ys n = sym (at_drop n ys)
-at_behind o (glyph text wide a) ys n = sym (at_drop n ys)
-at_behind o right_half ys n = sym (at_drop n ys)
+at_after : (o y : CellValue) (ys : List CellValue) (n : ℕ) → at (cells_after_cut o (y ∷ ys)) (suc n) ≡ at (drop n ys) 0
+at_after o (blank a) ys n = sym (at_drop n ys)
+at_after o (glyph text wide a) ys n = sym (at_drop n ys)
+at_after o right_half ys n = sym (at_drop n ys)
 
 run_touches : (May : ℕ → ℕ → Type 0) (base : Canvas) (done below : List RowValue)
     (pre rest more : List CellValue) (flag : Bool) (r c n : ℕ) (attrs : Attrs) →
@@ -205,12 +205,12 @@ pub run_in : (May : ℕ → ℕ → Type 0) (base : Canvas) (done below : List R
     DrawsIn May (erase_run (suc n) (drop n ys) ∷ [])
     (mid base done below (pre ++ cells_after_cut o (y ∷ ys)) flag (pen_at r c attrs))
     (mid base done below (pre ++ (blanks attrs (suc n) ++ cells_after_cut default_blank (drop n ys)))
-    (flag_past flag (drop n ys)) (pen_at r c attrs))
+    (wrapped_after_erasure flag (drop n ys)) (pen_at r c attrs))
 run_in May base done below pre o y ys flag r c n attrs e l h fits le sound inside behind =
     let d = length-drop n ys in
     record {
       draws = run_draws base done below pre o y ys flag r c n attrs e l h fits le sound;
       touches = run_touches May base done below pre (cells_after_cut o (y ∷ ys)) (drop n ys) flag r c n attrs (omega arith)
           (changes_at May base done below pre (cells_after_cut o (y ∷ ys)) flag r c (suc n) c attrs
-          e l h inside (λ t. behind (sym (ap is_right_half (at_behind o y ys n)) ∙ t)));
+          e l h inside (λ t. behind (sym (ap is_right_half (at_after o y ys n)) ∙ t)));
     }

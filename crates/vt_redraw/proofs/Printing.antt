@@ -15,11 +15,11 @@ use Rattle.vt_grid.specs.Printing.{carries, glyph_put, lacks_room, room_made, wr
 use Rattle.vt_grid.specs.Canvas.{Canvas, and_then, drawn_char, drawn_text, drawn_all}
 use Rattle.vt_redraw.specs.Script.{pen_at}
 use Rattle.vt_grid.proofs.Drawing.{Draws}
-use Rattle.vt_redraw.specs.Script.{is_torn, flag_behind}
+use Rattle.vt_redraw.specs.Script.{is_torn, wrapped_after_glyph}
 use Rattle.vt_redraw.proofs.Halves.{drop_opened, put_at}
 use Rattle.vt_redraw.proofs.Flags.{ends, kept}
 use Rattle.vt_redraw.proofs.Edits.{mid, two, glyph_cells, orphan, edited_at, room_there, room_is, not_bottom, wraps}
-use Rattle.vt_redraw.proofs.Spots.{Spot, spot, put, rest_behind, with_glyph, glyph_flag}
+use Rattle.vt_redraw.proofs.Spots.{Spot, glyph_flag, put, rest_after, spot, with_glyph}
 use Rattle.vt_redraw.proofs.Spots.{first_drawn, char_drawn, char_drawn-mark}
 use Rattle.vt_redraw.proofs.Texts.{next, Grows, Prints, glyph_at, mark_column_is}
 use Rattle.vt_redraw.proofs.Texts.{marked_cell, stays, followed, mark_printed_is}
@@ -44,7 +44,7 @@ grown_wide base done below pre o y ys flag r c text attrs at_spot =
     let page = (put base done below pre ys flag r c text false attrs).page in
     let row = with_glyph pre text false attrs ys in
     let new = with_glyph pre text true attrs ys in
-    let flagged = flag_behind flag false (drop 1 ys) in
+    let flagged = wrapped_after_glyph flag false (drop 1 ys) in
     let col : c + 1 + 1 ≡ c + 2 = omega arith in
     let wider : widened_at c attrs row ≡ new =
     ap (λ (x : CellValue). put_cells c (blank attrs) (cell_made_wide true x ∷ right_half ∷ []) 2 row)
@@ -53,13 +53,13 @@ grown_wide base done below pre o y ys flag r c text attrs at_spot =
     (glyph text true attrs ∷ right_half ∷ []) (blank attrs) c 2 at_spot.col at_spot.front
     ∙ ap (λ (rest : List CellValue). pre ++ (glyph_cells text true attrs ++ cells_after_cut (blank attrs) rest))
     (drop_opened 0 (orphan false attrs) ys)) in
-    let flags : kept flagged new ≡ flag_behind flag true (drop 1 ys) =
+    let flags : kept flagged new ≡ wrapped_after_glyph flag true (drop 1 ys) =
     ap (λ (f : Bool). kept f new) (no_tear flag (is_torn (drop 1 ys)))
     ∙ glyph_flag pre o y ys flag text true attrs at_spot.sound in
     ap (λ (q : Page). record q { column = c + 1 + 1 })
     (edited_at base done below row flagged (pen_at r (c + 1) attrs) (widened_at c attrs) new at_spot.row wider)
     ∙ (ap (λ (f : Bool). (mid base done below new f (pen_at r (c + 1 + 1) attrs)).page) flags
-    ∙ ap (λ (k : ℕ). (mid base done below new (flag_behind flag true (drop 1 ys)) (pen_at r k attrs)).page) col)
+    ∙ ap (λ (k : ℕ). (mid base done below new (wrapped_after_glyph flag true (drop 1 ys)) (pen_at r k attrs)).page) col)
 
 -- A glyph takes on the width that its text requires, unless it would be made narrow.
 settled : (page : Bool → Page) (c : ℕ) (attrs : Attrs) (s q wide : Bool) →
@@ -111,8 +111,8 @@ mark_follows base done below pre o y ys flag r c text wide attrs m is_mark room 
     let longer = text ++ encode_utf8 m in
     let canvas = put base done below pre ys flag r c text wide attrs in
     let made = (put base done below pre ys flag r c longer wide attrs).page in
-    let rest = cells_after_cut (orphan wide attrs) (rest_behind wide ys) in
-    let flagged = flag_behind flag wide (drop 1 ys) in
+    let rest = cells_after_cut (orphan wide attrs) (rest_after wide ys) in
+    let flagged = wrapped_after_glyph flag wide (drop 1 ys) in
     let some = some_column wide c in
     let never : carries m canvas.page ≡ false =
     stays m canvas.page c text wide attrs

@@ -14,7 +14,7 @@ use Rattle.vt_rows.specs.Row.{RowValue}
 use Rattle.vt_redraw.specs.Items.{is_whole, item_of_difference, range_written}
 use Rattle.vt_redraw.specs.Internals.{AppendsOrStops, GathersOrStops, Leads, Links, Writes, cells_from, mark_of}
 use Rattle.vt_redraw.specs.Redraw.{row_written, under_last}
-use Rattle.vt_redraw.specs.Script.{Linked, Scripted, row_break, cells_written, attr_ops, behind_last_glyph}
+use Rattle.vt_redraw.specs.Script.{Linked, Scripted, after_last_glyph, attr_ops, cells_written, row_break}
 use Rattle.vt_redraw.specs.declared.links.Link.{Link}
 use Rattle.vt_redraw.specs.declared.pen.Pen.{Pen}
 use Rattle.vt_redraw.proofs.ItemSteps.{part_item, whole_item}
@@ -25,8 +25,8 @@ use Rattle.vt_redraw.proofs.RowSteps.{from_settled}
 pub some_first : (xs ys : List ℕ) → 0 < length xs → 0 < length (xs ++ ys)
 some_first xs ys some = let size = length-append xs ys in omega arith
 
-pub some_behind : (xs ys : List ℕ) → 0 < length ys → 0 < length (xs ++ ys)
-some_behind xs ys some = let size = length-append xs ys in omega arith
+pub some_after : (xs ys : List ℕ) → 0 < length ys → 0 < length (xs ++ ys)
+some_after xs ys some = let size = length-append xs ys in omega arith
 
 -- ---- concatenated operations
 
@@ -35,10 +35,10 @@ ops_first xs ys some =
     subst (λ (z : List ℕ). 0 < length z) (sym (flat_map-append bytes_of xs ys))
     (some_first (bytes_of_all xs) (bytes_of_all ys) some)
 
-pub ops_behind : (xs ys : List Op) → 0 < length (bytes_of_all ys) → 0 < length (bytes_of_all (xs ++ ys))
-ops_behind xs ys some =
+pub ops_after : (xs ys : List Op) → 0 < length (bytes_of_all ys) → 0 < length (bytes_of_all (xs ++ ys))
+ops_after xs ys some =
     subst (λ (z : List ℕ). 0 < length z) (sym (flat_map-append bytes_of xs ys))
-    (some_behind (bytes_of_all xs) (bytes_of_all ys) some)
+    (some_after (bytes_of_all xs) (bytes_of_all ys) some)
 
 -- ---- output after what was written or buffered
 
@@ -72,9 +72,9 @@ rest_some old mid rest whole leads le some =
     omega arith
 
 -- The whole output is nonempty if the part that is written next is nonempty.
-pub behind_some : (old mid more : List ℕ) (rest whole : Scripted) → Leads (mid ++ more) rest old whole →
+pub after_some : (old mid more : List ℕ) (rest whole : Scripted) → Leads (mid ++ more) rest old whole →
     length old ≤ length mid → 0 < length more → 0 < length (bytes_of_all whole.ops)
-behind_some old mid more rest whole leads le some =
+after_some old mid more rest whole leads le some =
     let longer = length-append mid more in
     let wrote = length-append (mid ++ more) (bytes_of_all rest.ops) in
     let all = length-append old (bytes_of_all whole.ops) in
@@ -94,29 +94,29 @@ buffer_some [] xs ys more some = more some
 buffer_some (x ∷ buffer) xs ys more some = omega arith
 
 -- The buffer is written before other output, so the output has not become shorter.
-pub grown_behind : (before buffer mid more after : List ℕ) → mid ≡ buffered_text before buffer → after ≡ mid ++ more →
+pub grown_after : (before buffer mid more after : List ℕ) → mid ≡ buffered_text before buffer → after ≡ mid ++ more →
     length before ≤ length after
-grown_behind before buffer mid more after e f =
+grown_after before buffer mid more after e f =
     let first = grown_gathered before buffer mid e in
     let then = grown mid more after f in
     omega arith
 
 -- Appending operations after the buffer is flushed has the effect of appending them through the buffer.
-pub gathers_behind : {A E : Type 0} (result : Result A E) (start before mid end behind : List ℕ) (ops : List Op) →
+pub gathers_after : {A E : Type 0} (result : Result A E) (start before mid end behind : List ℕ) (ops : List Op) →
     mid ≡ buffered_text start before → behind ≡ [] → AppendsOrStops result mid end ops →
     GathersOrStops result start before end behind ops
-gathers_behind result start before mid end behind ops flushed empty appends = record {
+gathers_after result start before mid end behind ops flushed empty appends = record {
   text =
       on_ok_weaker result (λ more. ap (λ (xs : List ℕ). buffered_text end xs) empty
       ∙ (nothing_gathered end ∙ (more ∙ ap (λ (xs : List ℕ). xs ++ bytes_of_all ops) flushed))) appends.text;
-  grows = on_ok_weaker result (grown_behind start before mid (bytes_of_all ops) end flushed) appends.text;
-  nonempty = on_err_weaker result (some_behind before (bytes_of_all ops)) appends.nonempty;
+  grows = on_ok_weaker result (grown_after start before mid (bytes_of_all ops) end flushed) appends.text;
+  nonempty = on_err_weaker result (some_after before (bytes_of_all ops)) appends.nonempty;
 }
 
 -- A text is nonempty if a part after its first part is nonempty.
-pub text_behind_some : (old first mid more whole : List ℕ) → mid ≡ old ++ first → mid ++ more ≡ old ++ whole →
+pub text_after_some : (old first mid more whole : List ℕ) → mid ≡ old ++ first → mid ++ more ≡ old ++ whole →
     0 < length more → 0 < length whole
-text_behind_some old first mid more whole e f some =
+text_after_some old first mid more whole e f some =
     let before = grown old first mid e in
     let wrote = length-append mid more in
     let all = length-append old whole in
@@ -169,12 +169,12 @@ range_some r start stop x y w e some = by_case (is_whole start stop (length x.ce
 -- ---- a wrap that is made pending after the last glyph
 
 pub under_last_text : (pen last : Pen) (i r : ℕ) (cells : List CellValue) (t0 t1 t2 t3 : List ℕ) →
-    t1 ≡ t0 ++ bytes_of_all (behind_last_glyph i pen cells).ops → last ≡ (behind_last_glyph i pen cells).pen →
+    t1 ≡ t0 ++ bytes_of_all (after_last_glyph i pen cells).ops → last ≡ (after_last_glyph i pen cells).pen →
     t2 ≡ t1 ++ bytes_of_all (attr_ops last.attrs pen.attrs) →
     t3 ≡ t2 ++ bytes_of_all (replicate (r - i) LineFeed) → t3 ≡ t0 ++ bytes_of_all (under_last pen i r cells)
 unfolding under_last
 under_last_text pen last i r cells t0 t1 t2 t3 e p f g =
-    let went = behind_last_glyph i pen cells in
+    let went = after_last_glyph i pen cells in
     let feeds = replicate (r - i) LineFeed in
     let change = attr_ops went.pen.attrs pen.attrs in
     g ∙ (ap (λ (xs : List ℕ). xs ++ bytes_of_all feeds)
@@ -185,12 +185,12 @@ under_last_text pen last i r cells t0 t1 t2 t3 e p f g =
     ∙ (append_assoc t0 (bytes_of_all went.ops) (bytes_of_all (change ++ feeds))
     ∙ ap (λ (xs : List ℕ). t0 ++ xs) (sym (flat_map-append bytes_of went.ops (change ++ feeds)))))))
 
-pub under_last_some : (pen last : Pen) (i r : ℕ) (cells : List CellValue) → last ≡ (behind_last_glyph i pen cells).pen →
+pub under_last_some : (pen last : Pen) (i r : ℕ) (cells : List CellValue) → last ≡ (after_last_glyph i pen cells).pen →
     0 < length (bytes_of_all (attr_ops last.attrs pen.attrs)) → 0 < length (bytes_of_all (under_last pen i r cells))
 unfolding under_last
 under_last_some pen last i r cells p some =
-    let went = behind_last_glyph i pen cells in
-    ops_behind went.ops (attr_ops went.pen.attrs pen.attrs ++ replicate (r - i) LineFeed)
+    let went = after_last_glyph i pen cells in
+    ops_after went.ops (attr_ops went.pen.attrs pen.attrs ++ replicate (r - i) LineFeed)
     (ops_first (attr_ops went.pen.attrs pen.attrs) (replicate (r - i) LineFeed)
     (subst (λ (q : Pen). 0 < length (bytes_of_all (attr_ops q.attrs pen.attrs))) p some))
 
@@ -198,6 +198,6 @@ pub feeds_some : (pen : Pen) (i r : ℕ) (cells : List CellValue) →
     0 < length (bytes_of_all (replicate (r - i) LineFeed)) → 0 < length (bytes_of_all (under_last pen i r cells))
 unfolding under_last
 feeds_some pen i r cells some =
-    let went = behind_last_glyph i pen cells in
-    ops_behind went.ops (attr_ops went.pen.attrs pen.attrs ++ replicate (r - i) LineFeed)
-    (ops_behind (attr_ops went.pen.attrs pen.attrs) (replicate (r - i) LineFeed) some)
+    let went = after_last_glyph i pen cells in
+    ops_after went.ops (attr_ops went.pen.attrs pen.attrs ++ replicate (r - i) LineFeed)
+    (ops_after (attr_ops went.pen.attrs pen.attrs) (replicate (r - i) LineFeed) some)

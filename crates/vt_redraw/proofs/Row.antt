@@ -16,7 +16,7 @@ use Rattle.vt_redraw.specs.Script.{pen_at, blank_run, erase_run, is_blank_of}
 use Rattle.vt_redraw.specs.declared.pen.Pen.{Pen}
 use Rattle.vt_redraw.proofs.Steps.{Within}
 use Rattle.vt_redraw.proofs.Runs.{run_bound, run_blanks, blank_of_is}
-use Rattle.vt_redraw.specs.Script.{Scripted, ops_then, placed_op, flag_behind, flag_past, cells_written}
+use Rattle.vt_redraw.specs.Script.{Scripted, cells_written, ops_then, placed_op, wrapped_after_erasure, wrapped_after_glyph}
 use Rattle.vt_redraw.proofs.Halves.{Paired, paired_append, paired_blanks, Loose}
 use Rattle.vt_redraw.proofs.Halves.{paired_loose, loose_step, loose_drop, opened_paired}
 use Rattle.vt_redraw.proofs.Flags.{Sound, sound_kept}
@@ -39,11 +39,11 @@ run_paired a (x ∷ xs) h =
     subst (λ (n : ℕ). Paired (drop n (x ∷ xs))) (sym e) more)
     (λ _. h)
 
-behind_wide : (text : List ℕ) (a : Attrs) (y : CellValue) (ys : List CellValue) →
+after_wide : (text : List ℕ) (a : Attrs) (y : CellValue) (ys : List CellValue) →
     Paired (glyph text true a ∷ y ∷ ys) → (y ≡ right_half) × Paired ys
-behind_wide text a right_half ys h = (refl, h)
-behind_wide text a (blank b) ys h = absurd h
-behind_wide text a (glyph other wide b) ys h = absurd h
+after_wide text a right_half ys h = (refl, h)
+after_wide text a (blank b) ys h = absurd h
+after_wide text a (glyph other wide b) ys h = absurd h
 
 -- A pen in the row, at most directly after its last column, is within the page.
 pen_within : (base : Canvas) (done below : List RowValue) (pre : List CellValue) (r c height left col : ℕ) (a : Attrs) →
@@ -148,7 +148,7 @@ cells_draw May base done below (blank a ∷ xs) (y ∷ ys) pre o r c zero pen fl
     let next = next_place base done below pre (blank a) r c height (length ys) at in
     cond_both (same_cell (blank a) y) (cells_written r (c + 1) pen flag 0 xs ys)
     (ops_then (placed_op pen r c a (erase_run (suc n) (drop n ys)))
-    (cells_written r (c + 1) (pen_at r c a) (flag_past flag (drop n ys)) n xs ys))
+    (cells_written r (c + 1) (pen_at r c a) (wrapped_after_erasure flag (drop n ys)) n xs ys))
     (λ (w : Scripted). Wrote May w base done below
     (mid base done below (pre ++ cells_after_cut o (y ∷ ys)) flag pen) goal height)
     (λ (t : same_cell (blank a) y ≡ true).
@@ -167,7 +167,7 @@ cells_draw May base done below (blank a ∷ xs) (y ∷ ys) pre o r c zero pen fl
     sound))
     (λ _.
     let q = pen_at r c a in
-    let now = flag_past flag (drop n ys) in
+    let now = wrapped_after_erasure flag (drop n ys) in
     let taken : blanks a n ≡ take n xs = sym (run_blanks a xs) in
     let row = λ (z : List CellValue). pre ++ blank a ∷ (z ++ cells_after_cut default_blank (drop n ys)) in
     let sound : Sound now (row (take n xs)) =
@@ -200,7 +200,7 @@ cells_draw May base done below (glyph text false a ∷ xs) (y ∷ ys)
     let goal = pre ++ x ∷ (xs ++ drop (length xs) ys) in
     let same = h.same in
     let here = at.columns in
-    let now = flag_behind flag false (drop 1 ys) in
+    let now = wrapped_after_glyph flag false (drop 1 ys) in
     let more = lets.1 in
     let q = pen_at r (c + 1) a in
     let next = next_place base done below pre x r c height (length ys) at in
@@ -255,7 +255,7 @@ cells_draw May base done below (glyph text true a ∷ right_half ∷ xs)
     let goal = pre ++ x ∷ right_half ∷ (xs ++ drop (length xs) ys) in
     let same = h.same in
     let here = at.columns in
-    let now = flag_behind flag true ys in
+    let now = wrapped_after_glyph flag true ys in
     let more = lets.1 in
     let q = pen_at r (c + 2) a in
     let next = next_place base done below pre x r c height (suc (length ys)) at in
@@ -266,7 +266,7 @@ cells_draw May base done below (glyph text true a ∷ right_half ∷ xs)
     (mid base done below (pre ++ cells_after_cut o (y ∷ y2 ∷ ys)) flag pen) goal height)
     (λ (t : same_cell x y ≡ true).
     same_draws May w1 base done below x y pre (y2 ∷ ys) goal o flag pen height t h.old refl h.sound (λ old sound.
-    let pair = behind_wide text a y2 ys old in
+    let pair = after_wide text a y2 ys old in
     subst (λ (z : List CellValue). Sound flag (pre ++ x ∷ z) →
     Wrote May w1 base done below (mid base done below (pre ++ x ∷ z) flag pen) goal height)
     (ap (λ (z : List CellValue). right_half ∷ z) (opened_paired o ys pair.1)

@@ -11,7 +11,7 @@ use Rattle.vt_grid.specs.Canvas.{Canvas}
 use Rattle.vt_redraw.specs.declared.pen.Pen.{Pen}
 use Rattle.vt_redraw.proofs.Steps.{at_pen, Reads, Within}
 use Rattle.vt_redraw.specs.Script.{Scripted, ops_then, is_torn, Linked, no_link, first_written, starts_other}
-use Rattle.vt_redraw.specs.Script.{ops_then_link, row_link, is_at, behind_last_glyph, last_column}
+use Rattle.vt_redraw.specs.Script.{after_last_glyph, is_at, last_column, ops_then_link, row_link}
 use Rattle.vt_redraw.specs.Redraw.{row_written, link_of, rows_below, rows_written}
 use Rattle.vt_redraw.proofs.Halves.{Paired, opened_paired}
 use Rattle.vt_redraw.proofs.Flags.{Sound}
@@ -109,9 +109,9 @@ linked_same : (r : ℕ) (pen : Pen) (above : List CellValue) (on flag : Bool) (x
 unfolding row_link
 linked_same r pen above on flag xs h sound =
     cond_both (not on || (is_at pen r (length above) && starts_other xs xs))
-    (ops_then_link (behind_last_glyph r pen above).ops (first_written (r + 1) (behind_last_glyph r pen above).pen flag xs xs))
+    (ops_then_link (after_last_glyph r pen above).ops (first_written (r + 1) (after_last_glyph r pen above).pen flag xs xs))
     (no_link pen flag) (λ (j : Linked). j.flag ≡ flag)
-    (λ _. first_same (r + 1) (behind_last_glyph r pen above).pen flag xs h sound) (λ _. refl)
+    (λ _. first_same (r + 1) (after_last_glyph r pen above).pen flag xs h sound) (λ _. refl)
 
 link_same : (r : ℕ) (pen : Pen) (above : RowValue) (on : Bool) (x y : RowValue) → Paired x.cells →
     Sound y.wrapped x.cells → x ≡ y → (link_of r pen above on x y).flag ≡ y.wrapped

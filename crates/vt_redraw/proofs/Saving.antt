@@ -14,9 +14,9 @@ use Rattle.vt_grid.specs.Page.{row_or}
 use Rattle.vt_redraw.specs.declared.pen.Pen.{Pen}
 use Rattle.vt_redraw.specs.Picture.{Picture}
 use Rattle.vt_redraw.specs.Script.{pen_at, move_ops, attr_ops, blank_run, erase_run, no_ops, ops_then, placed_op}
-use Rattle.vt_redraw.specs.Script.{cells_written, last_column, last_glyph, is_at, pen_behind, behind_last_glyph}
+use Rattle.vt_redraw.specs.Script.{after_last_glyph, cells_written, is_at, last_column, last_glyph, pen_after}
 use Rattle.vt_redraw.specs.Script.{Scripted, no_link, first_written, starts_other, ops_then_link, row_link}
-use Rattle.vt_redraw.specs.Script.{break_ops, row_break, flag_behind, flag_past}
+use Rattle.vt_redraw.specs.Script.{break_ops, row_break, wrapped_after_erasure, wrapped_after_glyph}
 use Rattle.vt_redraw.specs.Redraw.{row_written, link_of, rows_below, rows_written, nearest, over_blank, under_last}
 use Rattle.vt_redraw.specs.Redraw.{blank_passed, pending_at, cursor_written, pen_of, script, cursor_visibility_ops, difference}
 use Rattle.vt_redraw.specs.Redraw.{blank_like, redraw, pending_alone, cursor_state}
@@ -86,16 +86,16 @@ cells_safe r c pen flag zero (right_half ∷ xs) (y ∷ ys) = cells_safe r (c + 
 cells_safe r c pen flag zero (blank a ∷ xs) (y ∷ ys) =
     let n = blank_run a xs in
     let op = erase_run (suc n) (drop n ys) in
-    let rest = cells_written r (c + 1) (pen_at r c a) (flag_past flag (drop n ys)) n xs ys in
+    let rest = cells_written r (c + 1) (pen_at r c a) (wrapped_after_erasure flag (drop n ys)) n xs ys in
     cond_both (same_cell (blank a) y) (cells_written r (c + 1) pen flag zero xs ys)
     (ops_then (placed_op pen r c a op) rest) SafeWritten
     (λ _. cells_safe r (c + 1) pen flag zero xs ys)
     (λ _. safe_append (placed_op pen r c a op) rest.ops (doing_safe pen r c a op (erase_run_safe (suc n) (drop n ys)))
-    (cells_safe r (c + 1) (pen_at r c a) (flag_past flag (drop n ys)) n xs ys))
+    (cells_safe r (c + 1) (pen_at r c a) (wrapped_after_erasure flag (drop n ys)) n xs ys))
 cells_safe r c pen flag zero (glyph text wide a ∷ xs) (y ∷ ys) =
     let k = glyph_columns wide - 1 in
     let next = pen_at r (c + glyph_columns wide) a in
-    let now = flag_behind flag wide (drop 1 ys) in
+    let now = wrapped_after_glyph flag wide (drop 1 ys) in
     let rest = cells_written r (c + 1) next now k xs ys in
     cond_both (same_cell (glyph text wide a) y) (cells_written r (c + 1) pen flag k xs ys)
     (ops_then (placed_op pen r c a (Print text)) rest) SafeWritten
@@ -103,11 +103,11 @@ cells_safe r c pen flag zero (glyph text wide a ∷ xs) (y ∷ ys) =
     (λ _. safe_append (placed_op pen r c a (Print text)) rest.ops (doing_safe pen r c a (Print text) (λ s. (tt, tt)))
     (cells_safe r (c + 1) next now k xs ys))
 
-behind_safe : (r : ℕ) (pen : Pen) (cells : List CellValue) → SafeWritten (behind_last_glyph r pen cells)
-behind_safe r pen cells =
+after_safe : (r : ℕ) (pen : Pen) (cells : List CellValue) → SafeWritten (after_last_glyph r pen cells)
+after_safe r pen cells =
     let again : Scripted = record {
       ops = placed_op pen r (last_column cells) (attrs_of (last_glyph cells)) (Print (text_of (last_glyph cells)));
-      pen = pen_behind r cells;
+      pen = pen_after r cells;
       flag = true;
     } in
     cond_both (is_at pen r (length cells)) (no_ops pen true) again SafeWritten (λ _. λ s. tt)
@@ -128,10 +128,10 @@ linked_safe : (r : ℕ) (pen : Pen) (above : List CellValue) (on flag : Bool) (x
     IsSafe (row_link r pen above on flag xs ys).ops
 unfolding row_link
 linked_safe r pen above on flag xs ys =
-    let w = behind_last_glyph r pen above in
+    let w = after_last_glyph r pen above in
     cond_both (not on || (is_at pen r (length above) && starts_other xs ys))
     (ops_then_link w.ops (first_written (r + 1) w.pen flag xs ys)) (no_link pen flag) (λ link. IsSafe link.ops)
-    (λ _. safe_append w.ops (first_written (r + 1) w.pen flag xs ys).ops (behind_safe r pen above)
+    (λ _. safe_append w.ops (first_written (r + 1) w.pen flag xs ys).ops (after_safe r pen above)
     (first_safe (r + 1) w.pen flag xs ys))
     (λ _. λ s. tt)
 
@@ -198,9 +198,9 @@ pending_safe None pen width rows r =
     safe_append (move_ops pen r (width - 1)) (blank_passed pen.attrs b) (going_safe pen r (width - 1))
     (passed_safe pen.attrs b)
 pending_safe (Some i) pen width rows r =
-    let w = behind_last_glyph i pen (row_or width rows i).cells in
+    let w = after_last_glyph i pen (row_or width rows i).cells in
     safe_append w.ops (attr_ops w.pen.attrs pen.attrs ++ replicate (r - i) LineFeed)
-    (behind_safe i pen (row_or width rows i).cells)
+    (after_safe i pen (row_or width rows i).cells)
     (safe_append (attr_ops w.pen.attrs pen.attrs) (replicate (r - i) LineFeed) (changing_safe w.pen.attrs pen.attrs)
     (feeds_safe (r - i)))
 

@@ -13,20 +13,20 @@ use Rattle.vt_grid.specs.Printing.{glyph_put, printed_by, page_after_print, wrap
 use Rattle.vt_grid.specs.Moves.{feeds_out}
 use Rattle.vt_grid.specs.Canvas.{Canvas, drawn_char}
 use Rattle.vt_redraw.specs.Script.{pen_at}
-use Rattle.vt_redraw.specs.Script.{is_nil, is_torn, flag_behind}
+use Rattle.vt_redraw.specs.Script.{is_nil, is_torn, wrapped_after_glyph}
 use Rattle.vt_redraw.proofs.Halves.{Paired, drop_opened}
 use Rattle.vt_redraw.proofs.Flags.{ends_append, kept, Sound, flag_step}
 use Rattle.vt_redraw.proofs.Edits.{mid, glyph_cells, orphan, glyph_put_at, room_there, room_is}
 
 -- The cells after a glyph of the given width, if `ys` are the cells after its first column.
-abbrev pub rest_behind : Bool → List CellValue → List CellValue
-rest_behind false ys = ys
-rest_behind true ys = drop 1 ys
+abbrev pub rest_after : Bool → List CellValue → List CellValue
+rest_after false ys = ys
+rest_after true ys = drop 1 ys
 
 -- The cells of a row after a glyph is printed over the cells `ys`, directly after the cells `pre`.
 abbrev pub with_glyph : List CellValue → List ℕ → Bool → Attrs → List CellValue → List CellValue
 with_glyph pre text wide attrs ys =
-    pre ++ (glyph_cells text wide attrs ++ cells_after_cut (orphan wide attrs) (rest_behind wide ys))
+    pre ++ (glyph_cells text wide attrs ++ cells_after_cut (orphan wide attrs) (rest_after wide ys))
 
 -- There is room for a glyph of the given width at a boundary, over the cells y and ys, the first of which may be an
 -- orphaned continuation cell.
@@ -47,7 +47,7 @@ abbrev pub put : Canvas → (done below : List RowValue) → (pre : List CellVal
     (ys : List CellValue) → Bool → (r c : ℕ) → (text : List ℕ) → (wide : Bool) → Attrs → Canvas
 put base done below pre ys flag r c text wide attrs =
     mid base done below (with_glyph pre text wide attrs ys)
-    (flag_behind flag wide (drop 1 ys)) (pen_at r (c + glyph_columns wide) attrs)
+    (wrapped_after_glyph flag wide (drop 1 ys)) (pen_at r (c + glyph_columns wide) attrs)
 
 narrow_flag : (f n t : Bool) → (f && not ((n && false) || (t && false))) ≡ (f && not false)
 narrow_flag f n t = grind (arith)
@@ -58,7 +58,7 @@ wide_flag f n t = grind (arith)
 pub glyph_flag : (pre : List CellValue) (o y : CellValue) (ys : List CellValue)
     (flag : Bool) (text : List ℕ) (wide : Bool) (attrs : Attrs) →
     Sound flag (pre ++ cells_after_cut o (y ∷ ys)) →
-    kept flag (with_glyph pre text wide attrs ys) ≡ flag_behind flag wide (drop 1 ys)
+    kept flag (with_glyph pre text wide attrs ys) ≡ wrapped_after_glyph flag wide (drop 1 ys)
 glyph_flag pre o y ys flag text false attrs sound =
     flag_step pre (glyph text false attrs ∷ []) y ys (orphan false attrs)
     o 0 flag false (ends_append pre (glyph text false attrs) []) sound
@@ -68,10 +68,10 @@ glyph_flag pre o y ys flag text true attrs sound =
     o 1 flag false (ends_append pre (glyph text true attrs) (right_half ∷ [])) sound
     ∙ wide_flag flag (is_nil (drop 1 ys)) (is_torn (drop 1 ys))
 
-behind_opened : (wide : Bool) (o y : CellValue) (ys : List CellValue) →
-    drop (glyph_columns wide) (cells_after_cut o (y ∷ ys)) ≡ rest_behind wide ys
-behind_opened false o y ys = drop_opened 0 o (y ∷ ys)
-behind_opened true o y ys = drop_opened 1 o (y ∷ ys)
+after_opened : (wide : Bool) (o y : CellValue) (ys : List CellValue) →
+    drop (glyph_columns wide) (cells_after_cut o (y ∷ ys)) ≡ rest_after wide ys
+after_opened false o y ys = drop_opened 0 o (y ∷ ys)
+after_opened true o y ys = drop_opened 1 o (y ∷ ys)
 
 pub glyph_put_here : (base : Canvas) (done below : List RowValue) (pre : List CellValue) (o y : CellValue)
     (ys : List CellValue) (flag : Bool) (r c : ℕ) (text : List ℕ) (wide : Bool) (attrs : Attrs) →
@@ -83,7 +83,7 @@ glyph_put_here base done below pre o y ys flag r c text wide attrs at =
     let row = λ (rest : List CellValue). pre ++ (glyph_cells text wide attrs ++ cells_after_cut (orphan wide attrs) rest) in
     glyph_put_at base done below pre (cells_after_cut o (y ∷ ys)) flag r c text wide attrs at.row at.col at.front
     ∙ (ap (λ (rest : List CellValue). (mid base done below (row rest) (kept flag (row rest)) pen).page)
-    (behind_opened wide o y ys)
+    (after_opened wide o y ys)
     ∙ ap (λ (f : Bool). (mid base done below (with_glyph pre text wide attrs ys) f pen).page)
     (glyph_flag pre o y ys flag text wide attrs at.sound))
 

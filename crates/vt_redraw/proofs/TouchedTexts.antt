@@ -15,11 +15,11 @@ use Rattle.vt_grid.specs.Page.{Page, cursor_row}
 use Rattle.vt_grid.specs.Printing.{room_made, lacks_room}
 use Rattle.vt_grid.specs.Canvas.{Canvas}
 use Rattle.vt_redraw.specs.Script.{pen_at}
-use Rattle.vt_redraw.specs.Script.{flag_behind}
+use Rattle.vt_redraw.specs.Script.{wrapped_after_glyph}
 use Rattle.vt_redraw.specs.Touching.{Changes, WideTouches, FollowTouches, MarkTouches, CharTouches, TextTouches}
 use Rattle.vt_redraw.proofs.Flags.{ends, kept}
 use Rattle.vt_redraw.proofs.Edits.{two, glyph_cells, orphan, room_is, wraps}
-use Rattle.vt_redraw.proofs.Spots.{Spot, spot, put, rest_behind, first_drawn}
+use Rattle.vt_redraw.proofs.Spots.{Spot, first_drawn, put, rest_after, spot}
 use Rattle.vt_redraw.proofs.Texts.{next, Grows, Prints, marking, mark_column_is, marked_cell, put_marked}
 use Rattle.vt_redraw.proofs.Printing.{mark_drawn, print_draws, print_wraps, wider_spot}
 use Rattle.vt_redraw.proofs.Printing.{grows_le, first_wraps, wrapped_room}
@@ -29,7 +29,7 @@ use Rattle.vt_redraw.proofs.Touched.{DrawsIn, some_same, changes_at}
 pub record MayGlyph (May : ℕ → ℕ → Type 0) (r c : ℕ) (wide : Bool) (ys : List CellValue) : Type 0 where
   pub first : May r c
   pub second : wide ≡ true → May r (c + 1)
-  pub torn : is_right_half (at (rest_behind wide ys) 0) ≡ true → May r (c + glyph_columns wide)
+  pub torn : is_right_half (at (rest_after wide ys) 0) ≡ true → May r (c + glyph_columns wide)
 
 at_opened : (o y : CellValue) (ys : List CellValue) (k : ℕ) → at (cells_after_cut o (y ∷ ys)) (suc k) ≡ at ys k
 at_opened o (blank a) ys k = refl
@@ -95,7 +95,7 @@ wide_touches : (May : ℕ → ℕ → Type 0) (base : Canvas) (done below : List
     was ≡ false → wide ≡ true →
     Spot base done pre o y ys flag r c wide → MayGlyph May r c wide ys →
     WideTouches May c attrs
-    (marking base done below pre text was attrs (cells_after_cut (orphan was attrs) (rest_behind was ys)) now r c)
+    (marking base done below pre text was attrs (cells_after_cut (orphan was attrs) (rest_after was ys)) now r c)
 wide_touches May base done below pre o y ys now flag r c text true wide attrs w v at_spot may = absurd (cc)
 wide_touches May base done below pre o y ys now flag r c text false false attrs w v at_spot may = absurd (cc)
 wide_touches May base done below pre o y ys now flag r c text false true attrs w v at_spot may =
@@ -120,8 +120,8 @@ mark_touches : (May : ℕ → ℕ → Type 0) (base : Canvas) (done below : List
 mark_touches May base done below pre o y ys flag r c text was wide attrs m is_mark room grows more at_spot may =
     let page = (put base done below pre ys flag r c text was attrs).page in
     let longer = text ++ encode_utf8 m in
-    let rest = cells_after_cut (orphan was attrs) (rest_behind was ys) in
-    let flagged = flag_behind flag was (drop 1 ys) in
+    let rest = cells_after_cut (orphan was attrs) (rest_after was ys) in
+    let flagged = wrapped_after_glyph flag was (drop 1 ys) in
     let now = kept flagged (pre ++ (glyph_cells longer was attrs ++ rest)) in
     let made = marking base done below pre longer was attrs rest now r c in
     let here = marked_cell base done below pre longer was attrs rest now r c at_spot.row at_spot.col in

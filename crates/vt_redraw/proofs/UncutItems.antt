@@ -12,8 +12,8 @@ use Rattle.vt_grid.specs.Page.{row_or}
 use Rattle.vt_redraw.specs.Items.{range_written, is_whole, item_of_difference, linked_item, CutsNone}
 use Rattle.vt_redraw.specs.Picture.{Picture, IsPicture}
 use Rattle.vt_cells.specs.Glyph.{glyph_columns}
-use Rattle.vt_redraw.specs.Script.{Scripted, ops_then, pen_at, blank_run, placed_op, erase_run, flag_past}
-use Rattle.vt_redraw.specs.Script.{flag_behind, cells_written, first_written, row_break, behind_last_glyph}
+use Rattle.vt_redraw.specs.Script.{Scripted, blank_run, erase_run, ops_then, pen_at, placed_op, wrapped_after_erasure}
+use Rattle.vt_redraw.specs.Script.{after_last_glyph, cells_written, first_written, row_break, wrapped_after_glyph}
 use Rattle.vt_redraw.specs.declared.pen.Pen.{Pen}
 use Rattle.vt_redraw.proofs.Halves.{Paired, paired_of}
 use Rattle.vt_redraw.proofs.RangeDraws.{IsClean}
@@ -91,14 +91,14 @@ cells_off r c pen (suc k) (x ∷ xs) (y ∷ ys) = cells_off r (c + 1) pen k xs y
 cells_off r c pen zero (right_half ∷ xs) (y ∷ ys) = cells_off r (c + 1) pen zero xs ys
 cells_off r c pen zero (blank a ∷ xs) (y ∷ ys) =
     let n = blank_run a xs in
-    let rest = cells_written r (c + 1) (pen_at r c a) (flag_past false (drop n ys)) n xs ys in
+    let rest = cells_written r (c + 1) (pen_at r c a) (wrapped_after_erasure false (drop n ys)) n xs ys in
     cond_both (same_cell (blank a) y) (cells_written r (c + 1) pen false zero xs ys)
     (ops_then (placed_op pen r c a (erase_run (suc n) (drop n ys))) rest) (λ (w : Scripted). w.flag ≡ false)
     (λ _. cells_off r (c + 1) pen zero xs ys) (λ _. cells_off r (c + 1) (pen_at r c a) n xs ys)
 cells_off r c pen zero (glyph text wide a ∷ xs) (y ∷ ys) =
     let k = glyph_columns wide - 1 in
     let next = pen_at r (c + glyph_columns wide) a in
-    let rest = cells_written r (c + 1) next (flag_behind false wide (drop 1 ys)) k xs ys in
+    let rest = cells_written r (c + 1) next (wrapped_after_glyph false wide (drop 1 ys)) k xs ys in
     cond_both (same_cell (glyph text wide a) y) (cells_written r (c + 1) pen false k xs ys)
     (ops_then (placed_op pen r c a (Print text)) rest) (λ (w : Scripted). w.flag ≡ false)
     (λ _. cells_off r (c + 1) pen k xs ys) (λ _. cells_off r (c + 1) next k xs ys)
@@ -134,8 +134,8 @@ item_off r width x y e off =
     ap (λ (f : Bool). (row_break r w.pen w.flag f x.cells).flag) off ∙ broken_off r w.pen w.flag x.cells in
     rw t (cond_both (x.wrapped && not b.flag)
     (record {
-      ops = (ops_then w.ops b).ops ++ (behind_last_glyph r (ops_then w.ops b).pen x.cells).ops;
-      pen = (behind_last_glyph r (ops_then w.ops b).pen x.cells).pen;
+      ops = (ops_then w.ops b).ops ++ (after_last_glyph r (ops_then w.ops b).pen x.cells).ops;
+      pen = (after_last_glyph r (ops_then w.ops b).pen x.cells).pen;
       flag = b.flag;
     })
     (ops_then w.ops b) (λ (v : Scripted). v.flag ≡ false)

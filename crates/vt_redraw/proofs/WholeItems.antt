@@ -16,8 +16,8 @@ use Rattle.vt_redraw.specs.Script.{pen_at, attr_ops}
 use Rattle.vt_redraw.specs.declared.pen.Pen.{Pen}
 use Rattle.vt_grid.proofs.Drawing.{Draws}
 use Rattle.vt_redraw.proofs.Steps.{Reads, Within, changing_draws}
-use Rattle.vt_redraw.specs.Script.{Scripted, ops_then, is_nil, flag_behind, Linked}
-use Rattle.vt_redraw.specs.Script.{first_written, cells_written, behind_last_glyph, row_break}
+use Rattle.vt_redraw.specs.Script.{Linked, Scripted, is_nil, ops_then, wrapped_after_glyph}
+use Rattle.vt_redraw.specs.Script.{after_last_glyph, cells_written, first_written, row_break}
 use Rattle.vt_redraw.specs.Items.{range_written, with_range, is_whole, marked_on, item_of_difference, linked_item}
 use Rattle.vt_redraw.proofs.Halves.{Paired, paired_loose, paired_blanks, loose_step, opened_paired}
 use Rattle.vt_redraw.proofs.Flags.{ends, Sound}
@@ -29,7 +29,7 @@ use Rattle.vt_redraw.proofs.Touched.{DrawsIn, in_then, in_to, quiet_in, changing
 use Rattle.vt_redraw.proofs.TouchedTexts.{print_in}
 use Rattle.vt_redraw.proofs.Places.{PrintsCells, Place, shown, Ready, Wrote}
 use Rattle.vt_redraw.proofs.Row.{cells_draw}
-use Rattle.vt_redraw.proofs.Link.{broken_draws, going_behind_draws, no_tail}
+use Rattle.vt_redraw.proofs.Link.{broken_draws, going_after_draws, no_tail}
 use Rattle.vt_redraw.proofs.Joining.{first_blank, first_draws, first_sound, glyph_sound}
 use Rattle.vt_redraw.proofs.Rows.{Stands}
 use Rattle.vt_redraw.proofs.RangeDraws.{Any, IsItem, range_draws, lets_any}
@@ -76,18 +76,18 @@ whole_item_draws base done below r height x y item hx hy =
     subst (λ (t : Bool). DrewRow (if t then marked_on r full x.wrapped x.cells else w) base done below start x) (sym t)
     (cond_both (x.wrapped && not full.flag)
     (record {
-      ops = full.ops ++ (behind_last_glyph r full.pen x.cells).ops;
-      pen = (behind_last_glyph r full.pen x.cells).pen;
+      ops = full.ops ++ (after_last_glyph r full.pen x.cells).ops;
+      pen = (after_last_glyph r full.pen x.cells).pen;
       flag = full.flag;
     })
     full (λ (v : Scripted). DrewRow v base done below start x)
     (λ (u : (x.wrapped && not full.flag) ≡ true).
-    let goes = going_behind_draws Any base done below x.cells full.flag r
+    let goes = going_after_draws Any base done below x.cells full.flag r
     height full.pen item.reads item.above item.rows hx.columns hx.paired
     (hx.sound (and_true x.wrapped (not full.flag) u)) item.prints two.within (λ f k low high. tt) in
-    let all = in_then Any full.ops (behind_last_glyph r full.pen x.cells).ops
+    let all = in_then Any full.ops (after_last_glyph r full.pen x.cells).ops
     start (mid base done below x.cells b.flag b.pen)
-    (mid base done below x.cells full.flag (behind_last_glyph r full.pen x.cells).pen) both goes.draws in
+    (mid base done below x.cells full.flag (after_last_glyph r full.pen x.cells).pen) both goes.draws in
     record { draws = all.draws; keeps = two.keeps })
     (λ _. record { draws = both.draws; keeps = two.keeps }))
   where
@@ -122,13 +122,13 @@ begin_draws base done below (glyph text wide a ∷ xs) (y ∷ ys) flag r height 
         Paired (y ∷ ys) → Sound flag (y ∷ ys) → Prints base.page.width text wide →
         DrawsIn Any (attr_ops b a ++ Print text ∷ []) (mid base done below (y ∷ ys) flag (pen_at r 0 b))
         (mid base done below (with_glyph [] text wide a ys)
-        (flag_behind flag wide (drop 1 ys)) (pen_at r (0 + glyph_columns wide) a))
+        (wrapped_after_glyph flag wide (drop 1 ys)) (pen_at r (0 + glyph_columns wide) a))
     printed wide ys fits k sound p =
         let whole = opened_paired default_blank (y ∷ ys) k in
         let d0 = mid base done below (y ∷ ys) flag (pen_at r 0 b) in
         let d1 = mid base done below (y ∷ ys) flag (pen_at r 0 a) in
         let goal = mid base done below (with_glyph [] text wide a ys)
-        (flag_behind flag wide (drop 1 ys)) (pen_at r (0 + glyph_columns wide) a) in
+        (wrapped_after_glyph flag wide (drop 1 ys)) (pen_at r (0 + glyph_columns wide) a) in
         let spot : Spot base done [] default_blank y ys flag r 0 wide =
         record { row = e; col = refl; fits = omega arith; front = tt; sound = subst (Sound flag) (sym whole) sound } in
         in_then Any (attr_ops b a) (Print text ∷ []) d0 d1 goal
@@ -181,7 +181,7 @@ begin_draws base done below (blank a ∷ xs) (y ∷ ys) flag r height b e rows h
     let d0 = mid base done below (y ∷ ys) flag (pen_at r 0 b) in
     let d1 = mid base done below (y ∷ ys) flag (pen_at r 0 a) in
     let spaced =
-    mid base done below (with_glyph [] (0x20 ∷ []) false a ys) (flag_behind flag false (drop 1 ys)) (pen_at r 1 a) in
+    mid base done below (with_glyph [] (0x20 ∷ []) false a ys) (wrapped_after_glyph flag false (drop 1 ys)) (pen_at r 1 a) in
     let goal = mid base done below (blank a ∷ cells_after_cut (orphan false a) ys) (flag && not (is_nil ys)) (pen_at r 0 a) in
     let spot : Spot base done [] default_blank y ys flag r 0 false =
     record { row = e; col = refl; fits = omega arith; front = tt; sound = subst (Sound flag) (sym whole) sound } in

@@ -7,13 +7,14 @@ use Rattle.vt_cells.specs.Glyph.{columns_of}
 use Rattle.vt_cells.specs.Op.{Op, Hide, ClearAttrs, MoveTo, MoveRight, NextRow, LineFeed, Backspace, EraseBelow}
 use Rattle.vt_cells.specs.Op.{EraseRest, EraseChars, SaveCursor, RestoreCursor, ChangeAttrs, Print, FitsAttrs}
 
--- The character is printed, or is added to the glyph before the cursor.
+-- The character is a Unicode scalar value that a terminal prints or adds to the glyph before the cursor. It is not
+-- U+FFFD, which is reported instead of being printed.
 pub record IsDrawn (c : ℕ) : Type 0 where
   pub scalar : IsScalar c
   pub shown : columns_of c ≢ None
   pub reported : c ≢ 0xFFFD
 
--- The text is the UTF-8 encoding of characters that are printed.
+-- The text is the UTF-8 encoding of characters that a terminal prints or adds to a glyph.
 pub record IsDrawnText (text : List ℕ) : Type 0 where
   pub characters : List ℕ
   pub spelled : encode_utf8_all characters ≡ text

@@ -16,7 +16,7 @@ use Rattle.vt_grid.specs.Scrollback.{Scrollback, IsScrollback, visible}
 use Rattle.vt_redraw.specs.Picture.{Picture, cut_rows}
 use Rattle.vt_redraw.specs.Items.{with_whole_start, with_whole_start_over}
 use Rattle.vt_redraw.specs.Refusals.{RefusedOnlyIfSome}
-use Rattle.vt_redraw.specs.Script.{Scripted, Linked, cells_written, behind_last_glyph, row_break}
+use Rattle.vt_redraw.specs.Script.{Linked, Scripted, after_last_glyph, cells_written, row_break}
 use Rattle.vt_redraw.specs.Script.{erase_run, placed_op}
 use Rattle.vt_redraw.specs.Redraw.{row_written, rows_below}
 use Rattle.vt_redraw.specs.Moved.{rows_moved}
@@ -96,16 +96,16 @@ pub record IsSource (above : Scrollback) (rows : List RowValue) (width : ℕ) (p
   pub row : pen.row < length rows
   pub column : pen.col ≤ width
 
--- The rows of a page and of its scrollback are valid, and the page has `columns` columns, where `columns` is at least
--- 1.
+-- The rows of the scrollback are valid, all rows of the page are valid and `full` columns wide, and `full` equals
+-- `columns`, which is at least 1.
 pub record IsPageUnder (scrollback : Scrollback) (full : ℕ) (rows : List RowValue) (columns : ℕ) : Type 0 where
   pub above : IsScrollback scrollback
   pub page : All (IsRow full) rows
   pub width : full ≡ columns
   pub nonempty : 0 < columns
 
--- The row at the given index of a picture made from the given displayed rows, or a blank row if the index is past the
--- end. If `is_last` is true, the row is not wrapped.
+-- The row at index `r` of the given displayed rows, truncated or extended to the given width, or a blank row if `r` is
+-- past the end. The row is not wrapped if `is_last` is true, if `r` is the last index, or if its last column is blank.
 abbrev pub row_seen : (is_last : Bool) → ℕ → List RowValue → ℕ → RowValue
 row_seen is_last width rows r = cut_row (is_last || (r + 1 == length rows)) width (row_or width rows r)
 
@@ -116,7 +116,8 @@ source_rows InView above rows width = cut_rows width (visible above rows)
 source_rows Blank above rows width = replicate (length rows) (blank_row default_attrs width)
 source_rows (Moved band) above rows width = rows_moved width band (cut_rows width (visible above rows))
 
--- The picture that is built from the given source, with the position and attributes of the given pen.
+-- The picture of the given width that is built from the given source, scrollback and page rows, with the cursor
+-- position and attributes of the given pen. The last argument is true if the cursor is hidden.
 abbrev pub picture_of_source : Source → Scrollback → List RowValue → ℕ → Pen → Bool → Picture
 picture_of_source source above rows width pen hidden = record {
   rows = source_rows source above rows width;
@@ -192,22 +193,29 @@ range_over pos pen flag x y =
 pub record Passes (c next : ℕ) (xs ys : List CellValue) : Type 0 where
   pub same : (r : ℕ) (pen : Pen) (flag : Bool) → cells_from r c pen flag xs ys ≡ cells_from r next pen flag xs ys
 
--- The effect of appending the output of `ops` to the contents of a sink. The call fails only if the sink rejects some
--- nonempty output.
+-- `result` is the result of a call that appends the output of `ops` to a sink, whose contents are `start` before the
+-- call and `end` after it. If the call succeeds, `end` is `start` followed by this output. The call fails only if this
+-- output is not empty.
 pub record AppendsOrStops {A E : Type 0} (result : Result A E) (start end : List ℕ) (ops : List Op) : Type 0 where
   pub text : OnOk result (end ≡ start ++ bytes_of_all ops)
   pub nonempty : RefusedOnlyIfSome result (bytes_of_all ops)
 
--- The effect of appending the output of `ops` through a buffer for small writes. The call fails only if the sink
--- rejects some nonempty output.
+-- `result` is the result of a call that appends the output of `ops` to a sink through a buffer. The sink and the buffer
+-- hold `start` and `before` before the call, and `end` and `behind` after it. If the call succeeds, `end` followed by
+-- `behind` is `start` followed by `before` and this output, and `end` is not shorter than `start`. The call fails only
+-- if `before` or this output is not empty.
 pub record GathersOrStops {A E : Type 0} (result : Result A E) (start before end behind : List ℕ)
     (ops : List Op) : Type 0 where
   pub text : OnOk result (buffered_text end behind ≡ buffered_text start before ++ bytes_of_all ops)
   pub grows : OnOk result (length start ≤ length end)
   pub nonempty : RefusedOnlyIfSome result (before ++ bytes_of_all ops)
 
--- The effect of writing the output for the next cells of a row, starting at the given position. The call returns the
--- number of columns that it has drawn, at least one. It fails only if the sink rejects nonempty output.
+-- `result` is the result of a call that writes, through a buffer, the output for the next cells of the row `x` over the
+-- displayed row `y`, starting at `pos`. The sink and the buffer hold `start` and `before` before the call, and `end`
+-- and `behind` after it. If the call succeeds, it returns the number of columns that it has drawn, which is at least
+-- one and at most the number of columns left in `y`. In this case, `end`, then `behind`, then the output for the rest
+-- of the row (from `pen` and `flag`, the state after the call) equal `start`, then `before`, then the output `whole`;
+-- and `end` is not shorter than `start`. The call fails only if `before` or the output `whole` is not empty.
 pub record SettlesOrStops {E : Type 0} (result : Result ℕ E) (start before end behind : List ℕ)
     (pen : Pen) (flag : Bool) (pos : Pos) (x y : RowValue) (whole : Scripted) : Type 0 where
   pub leads : IfOk result (λ n. Leads (buffered_text end behind)
@@ -225,8 +233,9 @@ pub record Links (start text : List ℕ) (pen : Pen) (link : Link) (whole : Link
   pub is_wrapped : link.flag ≡ whole.flag
   pub done : link.settled ≡ whole.settled
 
--- The effect of writing a link, which is the output that joins a row to the wrapped row above it. The call fails only
--- if the sink rejects some nonempty output.
+-- `result` is the result of a call that writes a link, which is the output that joins a row to the wrapped row above
+-- it. If the call succeeds, `text` is `start` followed by the output `whole`, and `pen` and the returned link describe
+-- the terminal after this output. The call fails only if this output is not empty.
 pub record LinksOrStops {E : Type 0} (result : Result Link E)
     (start text : List ℕ) (pen : Pen) (whole : Linked) : Type 0 where
   pub links : IfOk result (λ link. Links start text pen link whole)
@@ -243,19 +252,23 @@ pub record Writes (start text : List ℕ) (pen : Pen) (flag : Bool) (whole : Scr
 abbrev pub row_behind : ℕ → Link → Pen → (x y : RowValue) → Scripted
 row_behind r link pen x y = row_written r link.settled pen link.flag x y.cells
 
--- The output that turns the part of the terminal's rows `ys` below row `r` into the same part of `xs`.
+-- The output that turns the rows of `ys` below row `r`, which the terminal displays, into the rows of `xs` below row
+-- `r`.
 abbrev pub rows_under : (r width : ℕ) → Pen → Bool → (xs ys : List RowValue) → Scripted
 rows_under r width pen on xs ys = rows_below r pen (row_or width xs r) on (drop (r + 1) xs) (drop (r + 1) ys)
 
--- The operations that set the wrapped flag of the terminal's row if the flag is wanted and not yet set; otherwise none.
+-- The operations that leave a wrap pending at the end of row `r` by printing its last glyph again, if the row must be
+-- wrapped (`wanted`) and the terminal's row is not (`flag`); otherwise none.
 abbrev pub mark_of : ℕ → Pen → (flag wanted : Bool) → List CellValue → List Op
-mark_of r pen flag wanted cells = if wanted && not flag then (behind_last_glyph r pen cells).ops else []
+mark_of r pen flag wanted cells = if wanted && not flag then (after_last_glyph r pen cells).ops else []
 
--- The output that clears the wrapped flag of the terminal's row if the row to be drawn is not wrapped.
+-- The output that clears the wrapped flag of the terminal's row if the flag is set and the row `x` is not wrapped;
+-- otherwise empty.
 abbrev pub break_of : ℕ → Pen → Bool → RowValue → Scripted
 break_of r pen flag x = row_break r pen flag x.wrapped x.cells
 
--- The operations that follow the cells of a whole row and clear or set the wrapped flag of the terminal's row.
+-- The operations that follow the cells of a whole row `x`. They clear the wrapped flag of the terminal's row if only
+-- the terminal's row is wrapped, and leave a wrap pending if only the row `x` is wrapped.
 abbrev pub end_ops : ℕ → Pen → Bool → RowValue → List Op
 end_ops r pen flag x =
     (break_of r pen flag x).ops

@@ -12,7 +12,7 @@ use Rattle.vt_grid.specs.Page.{IsPlainPage, row_at, row_or, with_row}
 use Rattle.vt_redraw.specs.Picture.{Picture, IsPicture, SamePictureSize, picture_of}
 use Rattle.vt_redraw.specs.Script.{pen_at}
 use Rattle.vt_redraw.specs.declared.pen.Pen.{Pen}
-use Rattle.vt_redraw.specs.Script.{Scripted, ops_then, cells_written, first_written, behind_last_glyph, row_break}
+use Rattle.vt_redraw.specs.Script.{Scripted, after_last_glyph, cells_written, first_written, ops_then, row_break}
 
 -- The cells of a row in the columns `start..stop`.
 abbrev pub in_range : (start stop : ℕ) → List CellValue → List CellValue
@@ -49,8 +49,8 @@ abbrev pub marked_on : ℕ → Scripted → Bool → List CellValue → Scripted
 marked_on r w wanted cells =
     if wanted && not w.flag
     then record {
-      ops = w.ops ++ (behind_last_glyph r w.pen cells).ops;
-      pen = (behind_last_glyph r w.pen cells).pen;
+      ops = w.ops ++ (after_last_glyph r w.pen cells).ops;
+      pen = (after_last_glyph r w.pen cells).pen;
       flag = w.flag;
     } else w
 
@@ -60,15 +60,16 @@ is_linked width rows zero = false
 is_linked width rows (suc r) = (row_or width rows r).wrapped
 
 -- The output that replaces a range of the terminal's row `y` with the same range of the row `x`. If the range is the
--- whole row, the output also sets or clears the wrapped flag.
+-- whole row, the output also clears the wrapped flag if only `y` is wrapped, and leaves a wrap pending if only `x` is
+-- wrapped.
 abbrev pub item_of_difference : (r start stop : ℕ) → (x y : RowValue) → Scripted
 item_of_difference r start stop x y =
     let w = range_written r start stop y.wrapped x.cells y.cells in
     let b = row_break r w.pen w.flag x.wrapped x.cells in
     if is_whole start stop (length x.cells) then marked_on r (ops_then w.ops b) x.wrapped x.cells else w
 
--- The output for a whole row below a wrapped row: the row's first cell is printed while a wrap is pending in the
--- wrapped row.
+-- The output that draws a whole row on a blank row below a wrapped row. The row's first cell is printed while a wrap is
+-- pending in the wrapped row.
 abbrev pub linked_item : ℕ → List CellValue → Scripted
 linked_item r xs =
     let first = first_written r (pen_at r 0 default_attrs) false xs (blanks default_attrs (length xs)) in

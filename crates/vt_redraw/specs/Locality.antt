@@ -37,20 +37,22 @@ MayDraw self prev r c =
     → (begin_of (row_of_picture self r).cells c ≡ 0)
     ⊎ (begin_of (row_of_picture self r).cells c ≡ last_column (row_of_picture self r).cells))
 
--- The row in which the cursor is placed to make a wrap pending in the given row: the row that the first argument
--- contains, or the given row itself if the first argument is `None`.
+-- The row in which the cursor is placed to make a wrap pending in the given row: that row itself if the first argument
+-- is `None`, or row `i` if it is `Some i`.
 abbrev pub placing_row : Option ℕ → ℕ → ℕ
 placing_row None r = r
 placing_row (Some i) r = i
 
--- A wrap is pending in the picture, and a redraw may print at the given row and column to make the wrap pending: the
--- position is in the last glyph of a row or in a row's blank last column.
+-- A wrap is pending in the picture, and a redraw or a diff may print at row `r`, column `c` to make it pending: row `r`
+-- is the row in which the cursor is placed for this, and column `c` is in the last glyph or the blank last column of
+-- row `r`.
 abbrev pub MayPlace : Picture → ℕ → ℕ → Type 0
 MayPlace self r c =
     (self.column ≡ self.width)
     × ((r ≡ placing_row (nearest self.width self.rows self.row) self.row)
     × (last_column (row_of_picture self r).cells ≤ c))
 
--- A diff that turns the picture `prev` into `self` may touch the position.
+-- A diff from `prev` to `self` may touch row `r`, column `c`, either because it may draw there or because it may print
+-- there to make a wrap pending.
 abbrev pub IsLocal : (self prev : Picture) → ℕ → ℕ → Type 0
 IsLocal self prev r c = MayDraw self prev r c ⊎ MayPlace self r c

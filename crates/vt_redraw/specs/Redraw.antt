@@ -11,25 +11,26 @@ use Rattle.vt_grid.specs.Page.{row_or}
 use Rattle.vt_redraw.specs.Script.{pen_at, move_ops, attr_ops}
 use Rattle.vt_redraw.specs.declared.pen.Pen.{Pen}
 use Rattle.vt_redraw.specs.Picture.{Picture}
-use Rattle.vt_redraw.specs.Script.{Scripted, no_ops, ops_then, is_at, behind_last_glyph, last_column}
+use Rattle.vt_redraw.specs.Script.{Scripted, after_last_glyph, is_at, last_column, no_ops, ops_then}
 use Rattle.vt_redraw.specs.Script.{last_glyph, cells_written, Linked, no_link, row_link, row_break}
 
 -- ---- the rows, from top to bottom
 
--- The output for row `r`: the row's cells, except for the first `settled` cells, and then the break, which clears the
--- wrapped flag if the row must not be wrapped.
+-- The output for row `r`: the row's cells, except for the first `settled` cells, followed by the row break, that is, the
+-- output that clears the wrapped flag if the row must not be wrapped.
 unfoldable pub row_written : (r settled : ℕ) → Pen → Bool → RowValue → List CellValue → Scripted
 row_written r settled pen flag x ys =
     let cells = cells_written r 0 pen flag settled x.cells ys in
     ops_then cells.ops (row_break r cells.pen cells.flag x.wrapped x.cells)
 
--- The output that joins row `r` to the next row if row `r` is wrapped; empty otherwise.
+-- The output that joins row `r` to the next row if the picture's row `above` is wrapped and the terminal must be made
+-- to wrap (see `row_link`); otherwise empty.
 abbrev pub link_of : ℕ → Pen → RowValue → Bool → RowValue → RowValue → Linked
 link_of r pen above on x y =
     if above.wrapped then row_link r pen above.cells on y.wrapped x.cells y.cells else no_link pen y.wrapped
 
--- The output that turns the rows `ys` into the rows `xs`. The terminal displays `ys` below a given row, and the flag
--- indicates whether the given row is wrapped on the terminal.
+-- The output that turns the rows `ys`, which the terminal displays below row `r`, into the rows `xs`. `above` is row
+-- `r` of the new picture, and `on` is true if row `r` of the terminal is wrapped.
 unfoldable pub rows_below : ℕ → Pen → RowValue → Bool → (xs ys : List RowValue) → Scripted
 rows_below r pen above on [] ys = no_ops pen on
 rows_below r pen above on (x ∷ xs) [] = no_ops pen on
@@ -52,8 +53,8 @@ abbrev pub nearest : ℕ → List RowValue → ℕ → Option ℕ
 nearest width rows zero = if ends_blank (row_or width rows 0).cells then None else Some 0
 nearest width rows (suc n) = if ends_blank (row_or width rows (suc n)).cells then nearest width rows n else Some (suc n)
 
--- The operations that move the cursor past a last column that holds a blank with the attributes `attrs`: a space is
--- printed and then erased. The pen has the attributes `was` before and afterward.
+-- The operations that make a wrap pending when the cursor is in the last column and the column holds a blank with the
+-- attributes `attrs`: a space is printed and then erased. The pen has the attributes `was` before and afterward.
 abbrev pub blank_passed : (was attrs : Attrs) → List Op
 blank_passed was attrs =
     Print (0x20 ∷ [])
@@ -68,8 +69,8 @@ over_blank pen r width attrs = move_ops pen r (width - 1) ++ blank_passed pen.at
 -- down to row `r`.
 unfoldable pub under_last : Pen → (i r : ℕ) → List CellValue → List Op
 under_last pen i r cells =
-    (behind_last_glyph i pen cells).ops
-    ++ (attr_ops (behind_last_glyph i pen cells).pen.attrs pen.attrs ++ replicate (r - i) LineFeed)
+    (after_last_glyph i pen cells).ops
+    ++ (attr_ops (after_last_glyph i pen cells).pen.attrs pen.attrs ++ replicate (r - i) LineFeed)
 
 abbrev pub pending_at : Option ℕ → Pen → ℕ → List RowValue → ℕ → List Op
 pending_at None pen width rows r = over_blank pen r width (attrs_of (at (row_or width rows r).cells (width - 1)))
@@ -138,7 +139,8 @@ cursor_state self = Hide self.hidden ∷ cursor_alone self
 
 -- ---- pictures in sequence
 
--- The operations that turn the first picture into each picture of the list in turn.
+-- The operations that display the pictures of a list one after another: the diff from the given picture to the first
+-- picture of the list, and then from each picture of the list to the next.
 abbrev pub differences : Picture → List Picture → List Op
 differences prev [] = []
 differences prev (x ∷ xs) = difference x prev ++ differences x xs

@@ -69,13 +69,13 @@ is_torn _ = false
 
 -- Whether the terminal's row is still wrapped after a glyph is printed. Printing a wide glyph clears the wrapped flag
 -- if the only cell after the glyph is a continuation cell, which becomes blank.
-abbrev pub flag_behind : Bool → Bool → List CellValue → Bool
-flag_behind flag wide rest = flag && not (wide && is_torn rest)
+abbrev pub wrapped_after_glyph : Bool → Bool → List CellValue → Bool
+wrapped_after_glyph flag wide rest = flag && not (wide && is_torn rest)
 
--- Whether the terminal's row is still wrapped after a run of blanks: the row was wrapped before, and the run neither
--- reaches the last column nor is followed only by a continuation cell.
-abbrev pub flag_past : Bool → List CellValue → Bool
-flag_past flag rest = flag && not (is_nil rest || is_torn rest)
+-- Whether the terminal's row is still wrapped after a run of blanks is erased: the row was wrapped before, and the run
+-- neither reaches the last column nor is followed only by a continuation cell.
+abbrev pub wrapped_after_erasure : Bool → List CellValue → Bool
+wrapped_after_erasure flag rest = flag && not (is_nil rest || is_torn rest)
 
 -- ---- the cells of a row, from left to right
 
@@ -89,12 +89,12 @@ cells_written r c pen flag zero (right_half ∷ xs) (y ∷ ys) = cells_written r
 cells_written r c pen flag zero (blank a ∷ xs) (y ∷ ys) =
     if same_cell (blank a) y then cells_written r (c + 1) pen flag zero xs ys
     else ops_then (placed_op pen r c a (erase_run (suc (blank_run a xs)) (drop (blank_run a xs) ys)))
-    (cells_written r (c + 1) (pen_at r c a) (flag_past flag (drop (blank_run a xs) ys)) (blank_run a xs) xs ys)
+    (cells_written r (c + 1) (pen_at r c a) (wrapped_after_erasure flag (drop (blank_run a xs) ys)) (blank_run a xs) xs ys)
 cells_written r c pen flag zero (glyph text wide a ∷ xs) (y ∷ ys) =
     if same_cell (glyph text wide a) y then cells_written r (c + 1) pen flag (glyph_columns wide - 1) xs ys
     else ops_then (placed_op pen r c a (Print text))
     (cells_written r (c + 1) (pen_at r (c + glyph_columns wide) a)
-    (flag_behind flag wide (drop 1 ys)) (glyph_columns wide - 1) xs ys)
+    (wrapped_after_glyph flag wide (drop 1 ys)) (glyph_columns wide - 1) xs ys)
 
 -- ---- the last glyph of a row whose last column is not blank
 
@@ -107,17 +107,17 @@ last_glyph cells = at cells (last_column cells)
 abbrev pub is_at : Pen → ℕ → ℕ → Bool
 is_at pen row col = (pen.row == row) && (pen.col == col)
 
--- The pen after the last glyph of the given row is printed.
-abbrev pub pen_behind : ℕ → List CellValue → Pen
-pen_behind r cells = pen_at r (length cells) (attrs_of (last_glyph cells))
+-- The pen after the last glyph of the given row has been printed.
+abbrev pub pen_after : ℕ → List CellValue → Pen
+pen_after r cells = pen_at r (length cells) (attrs_of (last_glyph cells))
 
 -- The operations that print the last glyph of the given row again, unless the pen is already after it.
-abbrev pub behind_last_glyph : ℕ → Pen → List CellValue → Scripted
-behind_last_glyph r pen cells =
+abbrev pub after_last_glyph : ℕ → Pen → List CellValue → Scripted
+after_last_glyph r pen cells =
     if is_at pen r (length cells) then no_ops pen true
     else record {
       ops = placed_op pen r (last_column cells) (attrs_of (last_glyph cells)) (Print (text_of (last_glyph cells)));
-      pen = pen_behind r cells;
+      pen = pen_after r cells;
       flag = true;
     }
 
@@ -149,7 +149,7 @@ first_written r pen flag (blank a ∷ xs) (y ∷ ys) = record {
 first_written r pen flag (glyph text wide a ∷ xs) (y ∷ ys) = record {
   ops = attr_ops pen.attrs a ++ Print text ∷ [];
   pen = pen_at r (glyph_columns wide) a;
-  flag = flag_behind flag wide (drop 1 ys);
+  flag = wrapped_after_glyph flag wide (drop 1 ys);
   settled = glyph_columns wide;
 }
 
@@ -163,13 +163,14 @@ abbrev pub ops_then_link : List Op → Linked → Linked
 ops_then_link ops link =
     record { ops = ops ++ link.ops; pen = link.pen; flag = link.flag; settled = link.settled }
 
--- The link from the wrapped row `r`, whose cells are `above`, to the next row; `on` is true if row `r` of the terminal
--- is wrapped.
+-- The link from the wrapped row `r`, whose cells are `above`, to the next row: output that makes the terminal wrap from
+-- row `r` into the next row. Empty if row `r` of the terminal is already wrapped (`on` is true), unless a wrap is
+-- pending in row `r` and the next row must begin with a glyph that the terminal does not display there yet.
 unfoldable pub row_link : ℕ → Pen → (above : List CellValue) →
     (on : Bool) → (flag : Bool) → (xs ys : List CellValue) → Linked
 row_link r pen above on flag xs ys =
     if not on || (is_at pen r (length above) && starts_other xs ys)
-    then ops_then_link (behind_last_glyph r pen above).ops (first_written (r + 1) (behind_last_glyph r pen above).pen flag xs ys)
+    then ops_then_link (after_last_glyph r pen above).ops (first_written (r + 1) (after_last_glyph r pen above).pen flag xs ys)
     else no_link pen flag
 
 -- ---- the break before the row below
@@ -181,7 +182,7 @@ break_ops r pen cells = record {
   ops =
       move_ops pen r (last_column cells)
       ++ (EraseChars 1 ∷ (attr_ops pen.attrs (attrs_of (last_glyph cells)) ++ Print (text_of (last_glyph cells)) ∷ []));
-  pen = pen_behind r cells;
+  pen = pen_after r cells;
   flag = false;
 }
 

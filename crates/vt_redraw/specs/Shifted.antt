@@ -20,12 +20,13 @@ pub record IsRowShift (height width : ℕ) (shift : RowShift) : Type 0 where
   pub row : shift.row < height
   pub columns : shift.col + shift.count ≤ width
 
--- The move is valid for a picture of the given size.
+-- The move is valid for a picture of the given size: it is a valid move of a band (`IsBand`) or a valid shift of
+-- columns (`IsRowShift`).
 abbrev pub IsMove : (height width : ℕ) → Move → Type 0
 IsMove height width (Rows band) = IsBand height band
 IsMove height width (Columns shift) = IsRowShift height width shift
 
--- A row after a shift inserts blanks into it or deletes columns from it.
+-- A row after a shift has inserted blanks into it or deleted columns from it.
 abbrev pub shifted_row : RowShift → RowValue → RowValue
 shifted_row shift row =
     if shift.insert then inserted_row shift.col shift.count row else deleted_row shift.col shift.count row
@@ -54,8 +55,8 @@ abbrev pub shifted_all : List RowShift → Picture → Picture
 shifted_all [] picture = picture
 shifted_all (shift ∷ shifts) picture = shifted_all shifts (shifted shift picture)
 
--- The picture with its current attributes reset to the defaults; its cells are unchanged. The attributes are reset before
--- columns are shifted, because a terminal may fill inserted columns with the current background color.
+-- The picture with its current attributes reset to the defaults; its cells are unchanged. The attributes are reset
+-- before columns are shifted, because a terminal may fill inserted columns with the current background color.
 abbrev pub in_default_attrs : Picture → Picture
 in_default_attrs picture = record picture { attrs = default_attrs }
 

@@ -3,15 +3,15 @@
 ghost use Rattle.std.specs.Prelude.{◌≡◌, ◌<◌, ℕ, true, unwrap_or};
 ghost use Rattle.vt_redraw.specs.Moved.{IsBand, band_source, last_moved};
 
-/// A band of rows that move up or down within a range of rows. Rows that move past one end of the
-/// range are lost, and blank rows enter at the other. If the distance is the height of the range,
-/// all rows of the range are erased.
+/// A range of rows whose contents move up or down together. Rows that move past one end of the
+/// range are lost, and blank rows enter at the other end. If the distance is the height of the
+/// range, all its rows become blank.
 #[derive(Clone, Copy, PartialEq, Eq, Debug)]
 pub struct Band {
     /// The first row of the range, counted from 0.
     pub top: u16,
 
-    /// The row after the last row of the range.
+    /// The row after the last row of the range, counted from 0.
     pub bottom: u16,
 
     /// The number of rows by which the band moves.
@@ -22,8 +22,8 @@ pub struct Band {
 }
 
 impl Band {
-    /// Returns whether the band moves and lies within a picture of `height`
-    /// rows.
+    /// Returns whether the band lies within a picture of `height` rows and moves by at least one
+    /// row and at most its own height.
     pub fn is_within(&self, height: u16) -> bool
         ensures { result ≡ true → IsBand height self.now }
     {
@@ -32,8 +32,8 @@ impl Band {
             && self.bottom <= height
     }
 
-    /// Returns the row at which the last escape sequence of the move deletes or
-    /// inserts rows, in a picture of `height` rows.
+    /// Returns the row in which the escape sequences of the move leave the cursor: the row at which
+    /// the last of them deletes or inserts rows. `height` is the height of the picture in rows.
     pub(crate) fn last_moved(&self, height: u16) -> u16
         requires { IsBand height self.now }
         ensures value { result ≡ last_moved height self.now }

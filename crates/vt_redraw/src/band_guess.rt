@@ -29,20 +29,20 @@ const MARGIN: u16 = 8;
 /// The minimum length, in bytes, of a diff for which a move is considered.
 const LEAST_TEXT: usize = 20;
 
-/// The maximum length, in bytes, of a diff that is examined for moved columns or for rows to erase.
-/// A longer diff is not worth the time that it takes to write it a second time.
+/// The maximum length, in bytes, of a diff for which moved columns and rows to erase are
+/// considered. Writing a longer diff a second time would take too long.
 const MOST_TEXT: usize = 4096;
 
-/// The number of columns, starting after the margin, whose text determines the
-/// key of a row.
+/// The number of columns after the left margin ([`MARGIN`]) whose text is hashed into the key of a
+/// row (see [`key`]).
 const KEYED: u16 = 16;
 
 /// The cost of a row, in bytes, above which the row is examined for columns that have moved.
 const LEAST_COST: i32 = 12;
 
-/// A shift of columns is the first one only if it is expected to save more than one byte of the diff
-/// in so many.
-const LEAST_SHARE: i32 = 64;
+/// The divisor that determines the minimum saving of the first column shift of a diff: the shift
+/// must be expected to save more bytes than the length of the diff divided by this number.
+const SHARE_DIVISOR: i32 = 64;
 
 /// The maximum number of rows that are examined in the search for a row whose columns seem to have
 /// moved.
@@ -58,8 +58,8 @@ struct Shift {
     up: bool,
 }
 
-/// A range of rows of `view` that a shift fills with rows of `prev`, and the approximate number of
-/// bytes that moving these rows saves.
+/// A range of rows of the new picture that a shift fills with rows of the displayed picture, and
+/// the approximate number of bytes that this saves.
 #[derive(Clone, Copy)]
 struct Stretch {
     gain: i32,
@@ -67,7 +67,7 @@ struct Stretch {
     behind: u16,
 }
 
-/// A movement of rows or columns with which a diff may begin, before it draws what else differs.
+/// A move of rows or columns that a diff performs first, before it draws the remaining changes.
 #[derive(Clone, Copy, PartialEq, Eq, Debug)]
 pub enum Move {
     /// A band of rows moves up or down.
@@ -79,10 +79,10 @@ pub enum Move {
 }
 
 /// Returns the move of rows or columns that most likely happened between `prev` and `view`. If no
-/// rows or columns seem to have moved, returns a move that erases rows. Returns `None` if no move is
-/// expected to shorten the output enough, or if `text`, the diff written without a move, is shorter
-/// than 20 bytes. Only the first 256 rows are examined, and if `text` is longer than 4096 bytes, only
-/// moves of rows are considered.
+/// rows or columns seem to have moved, returns a move that erases rows. Returns `None` if no move
+/// is expected to shorten the output enough, or if `text`, the diff written without a move, is
+/// shorter than 20 bytes. Only the first 256 rows are examined, and if `text` is longer than 4096
+/// bytes, only moves of rows are considered.
 pub fn likely_move(view: &View<'_>, prev: &View<'_>, text: &str) -> Option<Move>
     requires { SamePictureSize view.now prev.now }
     ensures inside { IfSome result (IsMove (length prev.now.rows) prev.now.width) }
@@ -125,9 +125,9 @@ fn likely_band(view: &View<'_>, prev: &View<'_>, height: u16, here: &Numbers) ->
 }
 
 /// Returns the shift of the first row whose columns seem to have moved between `prev` and `view`,
-/// or `None` if there is no such row. Only the first [`MOST_TRIED`] rows that cost more than
-/// [`LEAST_COST`] bytes are examined. Skips shifts that save too small a share of the `len` bytes of
-/// the diff.
+/// or `None` if there is no such row. Examines only the first [`MOST_TRIED`] rows that cost more
+/// than [`LEAST_COST`] bytes. Skips a shift unless the number of bytes that it is expected to save
+/// exceeds `len`, the length of the diff in bytes, divided by [`SHARE_DIVISOR`].
 fn first_row_shift(
     view: &View<'_>,
     prev: &View<'_>,
@@ -140,7 +140,7 @@ fn first_row_shift(
     requires few { height ≤ 256 }
     ensures { IfSome result (IsRowShift (length prev.now.rows) prev.now.width) }
 {
-    let least = i32::try_from(len).ok()? / LEAST_SHARE;
+    let least = i32::try_from(len).ok()? / SHARE_DIVISOR;
     let mut tried = 0;
     for row in 0..height {
         if here[usize::from(row)] > LEAST_COST && tried < MOST_TRIED {
@@ -153,8 +153,8 @@ fn first_row_shift(
     None
 }
 
-/// Returns, for each row, a key for its text after the margin. Equal rows have
-/// equal keys.
+/// Returns a key for each of the first `height` rows, computed from the row's text after the left
+/// margin ([`MARGIN`]). Equal rows have equal keys.
 fn keys(view: &View<'_>, height: u16) -> Keys
     requires inside { height ≤ length view.now.rows }
     requires few { height ≤ 256 }
@@ -167,7 +167,8 @@ fn keys(view: &View<'_>, height: u16) -> Keys
 }
 
 /// Returns the key of a row, computed from the first byte of each cell's text in the [`KEYED`]
-/// columns after the margin. Blanks add nothing to it, because a row need not store its last blanks.
+/// columns after the left margin ([`MARGIN`]). Blanks add nothing to the key, because the blanks at
+/// the end of a row need not be stored.
 fn key(cells: &PictureRow<'_>) -> u32 {
     let own = cells.own_cells();
     let stop = own.len().min(usize::from(MARGIN + KEYED));
@@ -201,11 +202,13 @@ fn likely_shift(view: &View<'_>, prev: &View<'_>, height: u16, here: &Numbers) -
     if voted { heaviest(&votes) } else { None }
 }
 
-/// Adds `weight` to the votes for each shift that would move a row of `prev` equal to `cells` to
-/// row `row`. Adds no votes if `cells` has no text. Returns whether it added votes. `keys` holds the
+/// Adds `weight` to the votes for each shift that would move a row of `prev` that matches `cells`
+/// to row `row`. Two rows match if they are equal from the column that [`compared_from`] returns to
+/// the end. Adds no votes if `cells` has no text. Returns whether it added votes. `keys` holds the
 /// keys of the rows of `prev`.
 ///
-/// Element `256 + n` of `votes` holds the votes for moving rows up by `n` rows.
+/// Element `256 + n` of `votes` holds the votes for moving rows up by `n` rows, or down if `n` is
+/// negative.
 fn vote(
     votes: &mut [i32; 512],
     cells: &PictureRow<'_>,
@@ -236,8 +239,8 @@ fn vote(
 }
 
 /// Returns the first column of the part of a row that is compared with other rows: the column after
-/// the margin if the row has text there or to the right, otherwise 0. Returns `None` if the row has
-/// no text.
+/// the left margin ([`MARGIN`]) if the row has text there or to the right, otherwise 0. Returns
+/// `None` if the row has no text.
 fn compared_from(cells: &PictureRow<'_>) -> Option<u16> {
     let cols = cells.cols();
     let margin = MARGIN.min(cols);
@@ -345,10 +348,10 @@ impl Shift {
         if from < height { Some(from) } else { None }
     }
 
-    /// Returns the number of bytes saved in the rows that become blank above a range that the shift
-    /// moves down. These are the rows `from..row` if the first row of the range moves from `from`
-    /// to `row`. Returns 0 if the shift moves rows up, because no row above the range then becomes
-    /// blank. `savings` is the result of [`savings`].
+    /// Returns the number of bytes saved in the rows that become blank above a range of rows if the
+    /// shift moves the range down. These are the rows `from..row` if the first row of the range
+    /// moves from `from` to `row`. Returns 0 if the shift moves rows up, because no row above the
+    /// range then becomes blank. `savings` is the result of [`savings`].
     fn opening(&self, savings: &[i32; 257], from: u16, row: u16) -> i32
         requires from { from ≤ 256 }
         requires row { row ≤ 256 }
@@ -363,8 +366,8 @@ impl Shift {
 
 impl Stretch {
     /// Returns this range extended by row `row`, or a new range that consists of row `row` if the
-    /// new range saves more bytes. `gain` is the number of bytes saved in row `row`. `opening` is the
-    /// number of bytes that a range beginning at row `row` saves in the rows above it (see
+    /// new range saves more bytes. `gain` is the number of bytes saved in row `row`. `opening` is
+    /// the number of bytes that a range beginning at row `row` saves in the rows above it (see
     /// [`Shift::opening`]).
     fn and_row(&self, row: u16, opening: i32, gain: i32) -> Stretch
         requires { row < 65535 }
@@ -411,7 +414,7 @@ impl Stretch {
             .saturating_sub(sequences(bottom < height, attrs))
     }
 
-    /// Returns the band that, moved by `shift`, fills this range.
+    /// Returns the band that covers this range and the rows from which `shift` fills it.
     fn band(&self, shift: Shift) -> Band {
         let Shift { count, up } = shift;
         if up {

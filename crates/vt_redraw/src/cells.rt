@@ -16,7 +16,7 @@ ghost use Rattle.vt_redraw.specs.Internals.{AppendsOrStops, GathersOrStops, IsAl
 ghost use Rattle.vt_redraw.specs.Internals.{SettlesOrStops, Writes, cells_from, cells_over, columns_of, glyph_ops};
 ghost use Rattle.vt_redraw.specs.Internals.{run_ops};
 ghost use Rattle.vt_redraw.specs.Refusals.{RefusedOnlyIfSome};
-ghost use Rattle.vt_redraw.specs.Script.{erase_run, flag_behind, flag_past, pen_at};
+ghost use Rattle.vt_redraw.specs.Script.{erase_run, pen_at, wrapped_after_erasure, wrapped_after_glyph};
 
 use crate::passing::{next_other, stands_at};
 use crate::pen::Pen;
@@ -28,7 +28,8 @@ use vt_cells::{Attrs, Buffer, Cell, Pos, Sink, cell};
 /// enough for a cursor movement, an SGR sequence, and the longest text of a cell.
 const RUN_ROOM: usize = 118;
 
-/// Returns the number of columns that a glyph takes.
+/// Returns the number of columns that the glyph in a cell takes: 2 if the glyph is wide, otherwise
+/// 1.
 #[inline]
 pub fn columns(cell: &Cell) -> u16
     ensures { result ≡ columns_of cell.now }
@@ -51,8 +52,9 @@ pub fn write_text<S: Sink>(sink: &mut S, text: &str) -> Result<(), S::Error>
     sink.write_str(text)
 }
 
-/// Writes a glyph at a position. The caller must then update the pen's
-/// position.
+/// Writes the output that prints the glyph `cell` at position `pos`, including the cursor movement
+/// and the SGR sequence that it requires. Afterward, the pen is still at `pos`; the caller must
+/// move it past the glyph.
 ///
 /// # Errors
 ///
@@ -67,8 +69,8 @@ pub fn print_at<S: Sink>(sink: &mut S, pen: &mut Pen, pos: Pos, cell: &Cell) -> 
     write_text(sink, cell.contents())
 }
 
-/// Buffers the output that prints a glyph at the position `pos` of the screen. The caller must then
-/// update the pen's position.
+/// Buffers the output that prints the glyph `cell` at position `pos`. Afterward, the pen is still
+/// at `pos`; the caller must move it past the glyph.
 #[inline]
 fn gather_at<S: Sink>(
     sink: &mut S,
@@ -88,7 +90,8 @@ fn gather_at<S: Sink>(
     Ok(())
 }
 
-/// Buffers a glyph at a position, and moves the pen past it.
+/// Buffers the output that prints the glyph `cell` at position `pos`, and moves the pen past the
+/// glyph.
 #[inline]
 fn gather_glyph<S: Sink>(
     sink: &mut S,
@@ -107,7 +110,8 @@ fn gather_glyph<S: Sink>(
     Ok(())
 }
 
-/// Buffers a narrow glyph, whose text is one byte long, at a position, and moves the pen past it.
+/// Buffers the output that prints the narrow glyph `cell`, whose text is one byte long, at position
+/// `pos`, and moves the pen past the glyph.
 #[inline(always)]
 fn gather_byte<S: Sink>(
     sink: &mut S,
@@ -220,8 +224,8 @@ fn gather_run<S: Sink>(
 /// Returns whether the terminal's row is still wrapped after printing a glyph
 /// that ends just before column `col`. `flag` is true if the row was wrapped,
 /// and `wide` if the glyph is wide.
-pub fn flag_behind(flag: bool, wide: bool, over: &PictureRow<'_>, col: u16) -> bool
-    ensures { result ≡ flag_behind flag wide (drop col over.now.cells) }
+pub fn wrapped_after_glyph(flag: bool, wide: bool, over: &PictureRow<'_>, col: u16) -> bool
+    ensures { result ≡ wrapped_after_glyph flag wide (drop col over.now.cells) }
 {
     flag && !(wide && over.is_torn(col))
 }
@@ -230,9 +234,9 @@ pub fn flag_behind(flag: bool, wide: bool, over: &PictureRow<'_>, col: u16) -> b
 /// columns that ends just before column `col`. `flag` is true if the row was
 /// wrapped.
 #[tactic(auto, using(crate::proofs::Filling::nil_at))]
-pub fn flag_past(flag: bool, over: &PictureRow<'_>, col: u16) -> bool
+pub fn wrapped_after_erasure(flag: bool, over: &PictureRow<'_>, col: u16) -> bool
     requires { col ≤ length over.now.cells }
-    ensures { result ≡ flag_past flag (drop col over.now.cells) }
+    ensures { result ≡ wrapped_after_erasure flag (drop col over.now.cells) }
 {
     if col == over.cols() {
         return false;
@@ -240,8 +244,9 @@ pub fn flag_past(flag: bool, over: &PictureRow<'_>, col: u16) -> bool
     flag && !over.is_torn(col)
 }
 
-/// Returns whether `own` has a stored cell in column `col` that looks like the glyph `like` and
-/// differs from the stored cell of `others` in that column, if `others` has one.
+/// Returns whether `own` has a stored cell in column `col` that has the same attributes, width and
+/// text length as the glyph `like`, and that differs from the stored cell of `others` in that
+/// column, if there is one.
 #[inline(always)]
 fn is_alike(like: &Cell, own: &[Cell], others: &[Cell], col: u16) -> bool
     ensures { IsTrue result → IsAlike col like.now own.now others.now }
@@ -253,11 +258,12 @@ fn is_alike(like: &Cell, own: &[Cell], others: &[Cell], col: u16) -> bool
     col >= others.len() || !(own[col] == others[col])
 }
 
-/// Buffers consecutive glyphs, starting at the pen, that look like the narrow glyph `like`, whose
-/// text is one byte long, and moves the pen past them. Stops at a glyph that needs no output or
-/// does not fit in the buffer. `flag` is true if the terminal's row is wrapped.
+/// Buffers consecutive narrow glyphs, starting at the pen, whose text is one byte long and whose
+/// attributes are those of `like`, and moves the pen past them. Stops at a glyph that the terminal
+/// already displays or that does not fit in the buffer. `like` must itself be narrow, with a text
+/// of one byte. `flag` is true if the terminal's row is wrapped.
 #[inline(always)]
-fn gather_bytes(
+fn gather_alike(
     buffer: &mut Buffer,
     pen: &mut Pen,
     flag: bool,
@@ -288,9 +294,10 @@ fn gather_bytes(
     pen.col = col;
 }
 
-/// Buffers consecutive glyphs, starting at the pen, that look like `like` (with the same
-/// attributes, width and length of text), and moves the pen past them. Stops at a glyph that needs
-/// no output or does not fit in the buffer.
+/// Buffers consecutive glyphs, starting at the pen, that have the same attributes, width and text
+/// length as the glyph `like`, and moves the pen past them. Stops at a glyph that the terminal
+/// already displays or that does not fit in the buffer. `flag` is true if the terminal's row is
+/// wrapped, and is updated.
 #[inline(never)]
 fn gather_more(
     buffer: &mut Buffer,
@@ -322,15 +329,15 @@ fn gather_more(
     while bytes <= buffer.room() && is_alike(like, own, others, col) {
         buffer.push(own[usize::from(col)].contents());
         col += count;
-        on = flag_behind(on, wide, over, col);
+        on = wrapped_after_glyph(on, wide, over, col);
     }
     pen.col = col;
     *flag = on;
 }
 
 /// Buffers the narrow glyph `cell` at position `pos`, whose text is one byte long, and the glyphs
-/// after it that look like it (with the same attributes, width and length of text). Returns the
-/// number of columns that they take. `flag` is true if the terminal's row is wrapped.
+/// directly after it that have the same attributes, width and text length. Returns the number of
+/// columns that they take. `flag` is true if the terminal's row is wrapped.
 #[inline(always)]
 fn gather_short<S: Sink>(
     sink: &mut S,
@@ -351,12 +358,12 @@ fn gather_short<S: Sink>(
         pen.new flag pos cells.now over.now (cells_over pos pen.old flag cells.now over.now) }
 {
     gather_byte(sink, buffer, pen, pos, cell)?;
-    gather_bytes(buffer, pen, flag, cell, cells, over);
+    gather_alike(buffer, pen, flag, cell, cells, over);
     Ok(pen.col - pos.col)
 }
 
-/// Buffers the glyph at position `pos` and the glyphs after it that look like it (with the same
-/// attributes, width and length of text). Returns the number of columns that they take.
+/// Buffers the glyph at position `pos` and the glyphs directly after it that have the same
+/// attributes, width and text length. Returns the number of columns that they take.
 fn gather_long<S: Sink>(
     sink: &mut S,
     buffer: &mut Buffer,
@@ -373,13 +380,13 @@ fn gather_long<S: Sink>(
 {
     let cell = cells.cell(pos.col);
     gather_glyph(sink, buffer, pen, pos, cell)?;
-    *flag = flag_behind(*flag, cell.is_wide(), over, pen.col);
+    *flag = wrapped_after_glyph(*flag, cell.is_wide(), over, pen.col);
     gather_more(buffer, pen, flag, cell, cells, over);
     Ok(pen.col - pos.col)
 }
 
-/// Buffers the glyph `cell` at position `pos` and the glyphs after it that look like it. Returns the
-/// number of columns that they take.
+/// Buffers the glyph `cell` at position `pos` and the glyphs directly after it that have the same
+/// attributes, width and text length. Returns the number of columns that they take.
 #[inline]
 fn gather_glyphs<S: Sink>(
     sink: &mut S,
@@ -426,12 +433,12 @@ fn write_next<S: Sink>(
     let attrs = cell::attrs(cell);
     let count = cells.run(pos.col, attrs);
     gather_run(sink, buffer, pen, pos, attrs, count, over)?;
-    *flag = flag_past(*flag, over, pos.col + count);
+    *flag = wrapped_after_erasure(*flag, over, pos.col + count);
     Ok(count)
 }
 
 /// Writes the output that makes the terminal's row `over` display `cells`, starting at `pos`.
-/// Writes nothing if no cell needs output.
+/// Writes nothing if no cell needs to be drawn.
 ///
 /// # Errors
 ///
@@ -457,8 +464,8 @@ pub fn write_cells<S: Sink>(
     write_others(sink, pen, flag, Pos { row, col: first }, cells, over)
 }
 
-/// Writes the output that the cells of a row need, starting at the position `pos`. Consecutive
-/// glyphs are buffered and written together.
+/// Writes the output that makes the terminal's row `over` display `cells`, starting at `pos`.
+/// Consecutive glyphs are buffered and written together.
 #[tactic(auto, using(vt_cells::proofs::Buffers::nothing_gathered))]
 fn write_others<S: Sink>(
     sink: &mut S,

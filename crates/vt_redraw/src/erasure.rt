@@ -8,14 +8,15 @@ use crate::row_costs::{Numbers, fresh_cost, sequences};
 use crate::view::View;
 use vt_cells::Attrs;
 
-/// Rows are erased only if that is expected to save more than one byte in this many bytes of the diff.
-const LEAST_SHARE: i32 = 16;
+/// The divisor that determines the minimum saving of an erasure of rows: it must be expected to
+/// save more bytes than the length of the diff divided by this number.
+const SHARE_DIVISOR: i32 = 16;
 
 /// Returns the range of rows that saves the most bytes if it is erased and drawn anew, as a band
 /// that moves by its whole height. Returns `None` if every range is expected to save too few bytes
-/// (see [`LEAST_SHARE`]). Only the first `height` rows are examined. `here` holds the costs of the
-/// rows if nothing is erased, `attrs` are the terminal's attributes, and `len` is the length of the
-/// diff if nothing is erased, in bytes.
+/// (see [`SHARE_DIVISOR`]). Only the first `height` rows are examined. `here` holds the costs of
+/// the rows if nothing is erased, `attrs` are the terminal's attributes, and `len` is the length of
+/// the diff if nothing is erased, in bytes.
 pub(crate) fn likely_erasure(
     view: &View<'_>,
     height: u16,
@@ -27,7 +28,7 @@ pub(crate) fn likely_erasure(
     requires few { height ≤ 256 }
     ensures { IfSome result (λ band. IsBand (length view.now.rows) band) }
 {
-    let least = i32::try_from(len).ok()? / LEAST_SHARE;
+    let least = i32::try_from(len).ok()? / SHARE_DIVISOR;
     let (top, bottom) = best_range(view, height, here, attrs, least)?;
     let band = Band {
         top,
@@ -42,12 +43,12 @@ pub(crate) fn likely_erasure(
     }
 }
 
-/// Returns the range of rows for which it saves the most bytes to erase them and draw them anew: its
-/// first row, and the row after its last. Returns `None` if that saves at most `least` bytes in any
-/// range. See [`likely_erasure`] for the other parameters.
+/// Returns the first row, and the row after the last row, of the range of rows that saves the most
+/// bytes if it is erased and drawn anew. Returns `None` if no range saves more than `least` bytes.
+/// See [`likely_erasure`] for the other parameters.
 ///
-/// `saved` is the number of bytes saved in the range that begins at `first` and ends at `row`. A row
-/// at which it is not positive begins no range.
+/// Adds up the bytes saved row by row, and begins a new range after each row at which the sum is
+/// not positive.
 fn best_range(
     view: &View<'_>,
     height: u16,

@@ -17,17 +17,17 @@ ghost use Rattle.vt_redraw.specs.Internals.{range_over};
 ghost use Rattle.vt_redraw.specs.Picture.{SamePictureSize};
 ghost use Rattle.vt_redraw.specs.Refusals.{RefusedOnlyIfSome};
 
-use crate::cells::{flag_past, write_cells, write_run};
+use crate::cells::{wrapped_after_erasure, write_cells, write_run};
 use crate::links::{write_break, write_first, write_last};
 use crate::pen::Pen;
 use crate::picture_row::PictureRow;
 use crate::view::View;
 use vt_cells::{Attrs, Pos, Sink};
 
-/// Erases the first column of a range, along with any default blanks after it, if `cells` holds a
-/// continuation cell there, whose wide character begins before the range. Writes nothing if `over`
-/// also holds a continuation cell there. Returns the first column that has not been handled. `pos`
-/// is the row and the first column of the range.
+/// Erases the first column of a range, and any default blanks after it, if that column of `cells`
+/// holds a continuation cell, whose wide character begins before the range. Writes nothing if that
+/// column of `over` also holds a continuation cell. Returns the first column that has not been
+/// handled. `pos` is the row and the first column of the range.
 fn write_begin<S: Sink>(
     sink: &mut S,
     pen: &mut Pen,
@@ -54,14 +54,13 @@ fn write_begin<S: Sink>(
     let attrs = Attrs::new();
     let count = cells.run(col + 1, attrs) + 1;
     write_run(sink, pen, pos, attrs, count, over)?;
-    *flag = flag_past(*flag, over, col + count);
+    *flag = wrapped_after_erasure(*flag, over, col + count);
     Ok(col + count)
 }
 
-/// Writes the sequences that turn a range of columns of the terminal's row `over` into those of the
-/// picture's row `cells`. The range extends from the position `pos` to the end of `cells`; the
-/// caller has cut `cells` where the range ends. `flag` is true if the terminal's row is wrapped,
-/// and is updated.
+/// Writes the sequences that draw the picture's row `cells`, from position `pos` to its end, over
+/// the terminal's row `over`. The caller has cut `cells` at the end of the range to draw. `flag` is
+/// true if the terminal's row is wrapped, and is updated.
 fn write_range<S: Sink>(
     sink: &mut S,
     pen: &mut Pen,
@@ -226,8 +225,8 @@ fn is_linked(view: &View<'_>, row: u16) -> bool
     row > 0 && view.row(row - 1).wrapped()
 }
 
-/// Returns whether the columns `start..stop` are a whole row and the row above
-/// it is wrapped.
+/// Returns whether the columns `start..stop` span the whole of row `row` and the row above it is
+/// wrapped.
 fn needs_link(view: &View<'_>, row: u16, start: u16, stop: u16, cells: &PictureRow<'_>) -> bool
     requires { row < length view.now.rows }
     ensures { result ≡ (is_whole start stop (length cells.now.cells) && is_linked view.now.width view.now.rows row) }

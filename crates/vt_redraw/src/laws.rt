@@ -73,8 +73,9 @@ pub fn redraws_only()
 
 /// States that a plain canvas displays the last of several pictures after the output for each of
 /// them has been drawn on it in order: for the first picture a redraw, and for each later picture
-/// the diff from the picture before it. All pictures must be steady and have the size of the canvas.
-/// Apart from what is displayed, only the saved cursor, origin mode and attributes may change.
+/// the diff from the picture before it. All pictures must be steady and have the size of the
+/// canvas. Apart from what is displayed, only the saved cursor, origin mode and attributes may
+/// change.
 pub fn chain_draws()
     ensures { (self : Picture) → (nexts : List Picture) → (any : Canvas) →
         IsOfSize any.page.width (length any.page.rows) self →
@@ -104,9 +105,9 @@ pub fn cursor_state_fits()
     ensures { (self : Picture) → IsPicture self → IsColoredPicture self → AllByRecursion Fits (cursor_state self) }
 {}
 
-/// States that the output for the cursor gives a plain canvas the picture's cursor position, and hides
-/// or shows the cursor as in the picture. The picture must be steady. The canvas must display the
-/// rows of the picture and have default attributes.
+/// States that the output for the cursor gives a plain canvas the picture's cursor position, and
+/// hides or shows the cursor as in the picture. The picture must be steady. The canvas must display
+/// the rows of the picture and have default attributes.
 pub fn cursor_state_draws()
     ensures { (self : Picture) → (any : Canvas) → IsPicture self → IsSteady self → IsPlainPage any.page →
         any.page.rows ≡ self.rows → any.page.width ≡ self.width → any.attrs ≡ default_attrs →
@@ -140,9 +141,10 @@ pub fn whole_cuts_none()
 {}
 
 /// States that drawing the diff for a range of columns in a row gives the canvas row the new cells
-/// in that range, provided that the canvas is plain and displays the old row. Apart from those
-/// cells, only the row's wrapped flag, the cursor and the attributes may change. The new picture
-/// must be steady, and the range must cut no wide character in two.
+/// in that range. Apart from those cells, only the row's wrapped flag, the cursor and the
+/// attributes may change. The canvas must be plain and have default attributes, its row must be the
+/// old row, and its cursor must be at the start of the range. The new picture must be steady, and
+/// the range must cut no wide character in two.
 pub fn difference_item_draws()
     ensures { (self : Picture) → (r start stop : ℕ) → (y : RowValue) → (any : Canvas) → IsPicture self → IsSteady self →
         AwaitsItem self r start y any → start ≤ stop → stop ≤ self.width →
@@ -169,9 +171,10 @@ pub fn difference_item_empty()
 {}
 
 /// States that drawing the redraw for a range of columns in a row gives the canvas row the
-/// picture's cells in that range, provided that the canvas is plain and the row consists of default
-/// blanks. Apart from those cells, only the cursor and the attributes change. The picture must be
-/// steady, and the range must cut no wide character in two.
+/// picture's cells in that range. Apart from those cells, only the cursor and the attributes
+/// change. The canvas must be plain and have default attributes, its row must consist of default
+/// blanks, and its cursor must be at the start of the range. The picture must be steady, and the
+/// range must cut no wide character in two.
 pub fn redraw_item_draws()
     ensures { (self : Picture) → (r start stop : ℕ) → (linked : Bool) → (any : Canvas) → IsPicture self →
         IsSteady self → AwaitsItem self r start (blank_row default_attrs self.width) any → start ≤ stop →
@@ -182,8 +185,8 @@ pub fn redraw_item_draws()
 {}
 
 /// States that the redraw for a whole row, drawn while a wrap is pending after a glyph at the end
-/// of the row above, draws the row and makes the row above wrapped. The canvas row must consist of
-/// default blanks, and the picture must be steady.
+/// of the row above, draws the row and makes the row above wrapped. The canvas must be plain and
+/// have default attributes, its row must consist of default blanks, and the picture must be steady.
 pub fn redraw_item_wraps()
     ensures { (self : Picture) → (r : ℕ) → (above : RowValue) → (any : Canvas) → IsPicture self → IsSteady self →
         AwaitsItem self r self.width above any → ends_blank above.cells ≡ false → r + 1 < length self.rows →

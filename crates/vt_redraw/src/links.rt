@@ -11,22 +11,24 @@ ghost use Rattle.vt_rows.specs.Cells.{IsPaired};
 ghost use Rattle.vt_redraw.specs.Internals.{AppendsOrStops, IsRowOver, IsRowUnder, LinksOrStops, Writes, break_of};
 ghost use Rattle.vt_redraw.specs.Redraw.{link_of};
 ghost use Rattle.vt_redraw.specs.Refusals.{RefusedOnlyIfSome};
-ghost use Rattle.vt_redraw.specs.Script.{first_written, behind_last_glyph, is_at, starts_other};
+ghost use Rattle.vt_redraw.specs.Script.{after_last_glyph, first_written, is_at, starts_other};
 
-use crate::cells::{columns, flag_behind, print_at, write_text};
+use crate::cells::{columns, print_at, wrapped_after_glyph, write_text};
 use crate::pen::Pen;
 use crate::picture_row::PictureRow;
 use vt_cells::term::{Backspace, BufWrite, EraseChar};
 use vt_cells::{Cell, Pos, Sink, cell};
 
-/// The state of a row of the terminal after the link from the row above: whether the row is itself
-/// wrapped, and how many of its leading cells the link has already written.
+/// The state of a row after a *link*, that is, output that makes the terminal wrap into the row
+/// from the row above: whether the row is itself wrapped, and how many of its leading cells the
+/// link has already written.
 #[derive(Clone, Copy, Debug)]
 pub struct Link {
-    /// Whether the terminal's lower row is wrapped.
+    /// Whether the lower of the two linked rows is itself wrapped on the terminal.
     pub flag: bool,
 
-    /// The number of leading cells of the terminal's lower row that the link has already written.
+    /// The number of leading cells of the lower of the two linked rows that the link has already
+    /// written.
     pub settled: u16,
 }
 
@@ -45,8 +47,8 @@ pub fn write_last<S: Sink>(
     requires nonempty { 0 < length cells.now.cells }
     requires paired { IsPaired cells.now.cells }
     ensures ops { AppendsOrStops result (S.text sink.old) (S.text sink.new)
-        (behind_last_glyph row pen.old cells.now.cells).ops }
-    ensures pen { OnOk result (pen.new ≡ (behind_last_glyph row pen.old cells.now.cells).pen) }
+        (after_last_glyph row pen.old cells.now.cells).ops }
+    ensures pen { OnOk result (pen.new ≡ (after_last_glyph row pen.old cells.now.cells).pen) }
 {
     if pen.is_at(row, cells.cols()) {
         return Ok(());
@@ -58,7 +60,8 @@ pub fn write_last<S: Sink>(
 }
 
 /// Writes the blank `cell` in the first column of a row while a wrap is pending in the row above.
-/// Prints a space, which makes the terminal wrap into the row, and then erases the space.
+/// Prints a space, which makes the terminal wrap into the row, and then erases the space. Returns
+/// the state of the row afterward.
 fn write_first_blank<S: Sink>(
     sink: &mut S,
     pen: &mut Pen,
@@ -93,7 +96,7 @@ fn is_wrapped(flag: bool, over: &PictureRow<'_>) -> bool
 }
 
 /// Prints the glyph `cell` at the beginning of a row while a wrap is pending in the row above,
-/// which makes the terminal wrap into the row.
+/// which makes the terminal wrap into the row. Returns the state of the row afterward.
 fn write_first_glyph<S: Sink>(
     sink: &mut S,
     pen: &mut Pen,
@@ -113,14 +116,15 @@ fn write_first_glyph<S: Sink>(
     pen.row = row;
     pen.col = settled;
     Ok(Link {
-        flag: flag_behind(flag, cell.is_wide(), over, settled),
+        flag: wrapped_after_glyph(flag, cell.is_wide(), over, settled),
         settled,
     })
 }
 
 /// Writes the first cell of a row while a wrap is pending in the row above, which makes the
-/// terminal wrap into the row. `cells` is the row of the picture, and `over` is the row that the
-/// terminal displays.
+/// terminal wrap into the row. Returns the state of the row afterward. `cells` is the row of the
+/// picture, and `over` is the row that the terminal displays; `flag` is true if the latter is
+/// wrapped.
 ///
 /// # Errors
 ///
@@ -159,10 +163,11 @@ fn starts_other(cells: &PictureRow<'_>, over: &PictureRow<'_>) -> bool
     cell.has_contents() && !(cell == over.cell(0))
 }
 
-/// Returns whether a link is needed between the picture's row `above`, which is wrapped, and the
-/// row `cells` below it. A link is needed if the terminal's upper row is not wrapped (`on` is
-/// false). It is also needed if a wrap is pending at the end of that row and `cells` begins with a
-/// glyph that the terminal's lower row, `over`, does not begin with.
+/// Returns whether a link, that is, output that makes the terminal wrap, is needed between the
+/// picture's row `above`, which is wrapped, and the row `cells` below it. A link is needed if the
+/// terminal's upper row is not wrapped (`on` is false). It is also needed if a wrap is pending at
+/// the end of that row and `cells` begins with a glyph that the terminal's lower row, `over`, does
+/// not begin with.
 fn needs_link(
     pen: &Pen,
     row: u16,
@@ -180,9 +185,9 @@ fn needs_link(
 }
 
 /// Writes the link between row `row` and the next row, if the picture's row `row` is wrapped and a
-/// link is needed. The link makes the terminal wrap into the next row. `above` and `cells` are the
-/// picture's upper and lower row, and `over` is the terminal's lower row. `on` is true if the
-/// terminal's upper row is already wrapped.
+/// link is needed. The link makes the terminal wrap into the next row. Returns the state of the
+/// next row afterward. `above` and `cells` are the picture's upper and lower row, and `over` is the
+/// terminal's lower row. `on` is true if the terminal's upper row is already wrapped.
 ///
 /// # Errors
 ///
@@ -214,9 +219,10 @@ pub fn write_link<S: Sink>(
     Ok(link)
 }
 
-/// Writes the break after a row if the terminal's row is wrapped (`flag` is true) and the picture's
-/// row `cells` is not. The break erases the last glyph of the row and prints it again. Returns
-/// whether the terminal's row is wrapped afterward.
+/// Writes the row break, that is, the output that erases the last glyph of a row and prints it
+/// again, so that the terminal's row is no longer wrapped. Writes nothing unless the terminal's row
+/// is wrapped (`flag` is true) and the picture's row `cells` is not. Returns whether the terminal's
+/// row is wrapped afterward.
 ///
 /// # Errors
 ///

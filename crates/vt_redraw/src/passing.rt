@@ -8,8 +8,8 @@ ghost use Rattle.vt_redraw.specs.Internals.{IsRange, Passes, stands};
 use crate::picture_row::PictureRow;
 use vt_cells::Cell;
 
-/// Returns whether `cell`, the picture's cell in column `col`, needs no output, because the terminal
-/// already displays it there or because it is the continuation cell of a wide glyph.
+/// Returns whether `cell`, the picture's cell in column `col`, needs no output, because the
+/// terminal already displays it there or because it is the continuation cell of a wide glyph.
 #[inline(always)]
 pub fn stands_at(cell: &Cell, over: &PictureRow<'_>, col: u16) -> bool
     requires { col < length over.now.cells }
@@ -60,10 +60,9 @@ fn pass_same(cells: &PictureRow<'_>, over: &PictureRow<'_>, col: u16) -> u16
     col + cells.same_run(over, col) as u16
 }
 
-/// Skips consecutive columns, starting at `col`, in which the cells of the row
-/// equal the blank after the stored cells of `over` and therefore need no
-/// output. Returns the first column that was not skipped; its cells may still be
-/// equal.
+/// Skips consecutive columns, starting at `col`, in which the cells of `cells` equal the blank
+/// after the stored cells of `over` and therefore need no output. Returns the first column that was
+/// not skipped; its cell may still equal that blank.
 #[inline]
 fn pass_ended(cells: &PictureRow<'_>, over: &PictureRow<'_>, col: u16) -> u16
     requires short { length cells.now.cells < 65536 }

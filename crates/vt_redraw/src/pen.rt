@@ -47,7 +47,8 @@ impl Pen {
         self.row == row && self.col == col
     }
 
-    /// Moves the pen to a position, and writes the cursor movement.
+    /// Moves the pen to position `to`, and writes the cursor movement, or nothing if the pen is
+    /// already there.
     ///
     /// # Errors
     ///
@@ -81,7 +82,8 @@ impl Pen {
         Ok(())
     }
 
-    /// Changes the pen's attributes to `new`, and writes the change.
+    /// Changes the pen's attributes to `new`, and writes the SGR sequence for the change, or
+    /// nothing if the attributes are equal.
     ///
     /// # Errors
     ///
@@ -100,7 +102,8 @@ impl Pen {
         Ok(())
     }
 
-    /// Moves the pen to a position, and appends the cursor movement to `buffer`.
+    /// Moves the pen to position `to`, and appends the cursor movement to `buffer`, or nothing if
+    /// the pen is already there.
     #[inline]
     pub fn push_move(&mut self, buffer: &mut Buffer, to: Pos)
         requires { length buffer.old + 25 ≤ 256 }
@@ -132,7 +135,8 @@ impl Pen {
         self.col = to.col;
     }
 
-    /// Changes the pen's attributes to `new`, and appends the change to `buffer`.
+    /// Changes the pen's attributes to `new`, and appends the SGR sequence for the change to
+    /// `buffer`, or nothing if the attributes are equal.
     #[inline]
     pub fn push_attrs(&mut self, buffer: &mut Buffer, new: Attrs)
         requires { length buffer.old + 64 ≤ 256 }

@@ -62,7 +62,7 @@ impl<'a> PictureRow<'a> {
         ensures { result ≡ cut_row is_last cols row.now }
     {
         let mut cut = PictureRow::unwrapped(cells_of(row), cols);
-        let is_wrapped = cut.keeps_flag(row.wrapped(), is_last);
+        let is_wrapped = cut.is_wrapped_after_cut(row.wrapped(), is_last);
         cut.wrapped = is_wrapped;
         cut
     }
@@ -70,7 +70,7 @@ impl<'a> PictureRow<'a> {
     /// Returns whether the row is wrapped after it has been cut. It is wrapped if it was wrapped
     /// before (`wrapped`), its last column is not blank, and it is not the last row of the picture
     /// (`is_last`).
-    fn keeps_flag(&self, wrapped: bool, is_last: bool) -> bool
+    fn is_wrapped_after_cut(&self, wrapped: bool, is_last: bool) -> bool
         requires { 0 < length self.now.cells }
         ensures { result ≡ (not is_last && (wrapped && not (ends_blank self.now.cells))) }
     {
@@ -96,7 +96,8 @@ impl<'a> PictureRow<'a> {
         }
     }
 
-    /// Returns the first `stop` columns of the row.
+    /// Returns a row that consists of the first `stop` columns of this row and is wrapped if this
+    /// row is.
     #[tactic(auto, using(crate::proofs::Filling::filled_taken))]
     pub fn up_to(&self, stop: u16) -> PictureRow<'_>
         requires { stop ≤ length self.now.cells }
@@ -139,7 +140,7 @@ impl<'a> PictureRow<'a> {
         self.cells
     }
 
-    /// Returns the cell at a column.
+    /// Returns the cell in column `col`, counted from 0.
     #[inline]
     pub fn cell(&self, col: u16) -> &Cell
         requires { col < length self.now.cells }
@@ -168,9 +169,9 @@ impl<'a> PictureRow<'a> {
         same_run(&self.cells[start..stop], &other.cells[start..stop])
     }
 
-    /// Returns a lower bound on the number of consecutive stored cells of this row, starting at column
-    /// `col`, that equal the blank that fills `other` after its last stored cell. Returns 0 if
-    /// `other` has a stored cell at or after `col`.
+    /// Returns a lower bound on the number of consecutive stored cells of this row, starting at
+    /// column `col`, that equal the blank that fills `other` after its last stored cell. Returns 0
+    /// if `other` has a stored cell at or after `col`.
     pub fn end_run(&self, other: &PictureRow<'_>, col: u16) -> usize
         ensures inside { 0 < result → col + result ≤ length self.now.cells }
         ensures same { (k : ℕ) → k < result
@@ -271,8 +272,8 @@ fn end_cell(cells: &[Cell], cols: u16) -> Cell
     cell::default_blank()
 }
 
-/// Returns the number of leading cells that equal the blank `end`. Cells without
-/// text are equal if their heads are, so no text is compared.
+/// Returns the number of leading cells that equal the blank `end`. Only attributes, widths and text
+/// lengths are compared, which suffices because a blank has no text.
 #[inline(always)]
 fn blank_run(cells: &[Cell], end: &Cell) -> usize
     requires { is_blank end.now ≡ true }

@@ -11,7 +11,7 @@ use crate::view::View;
 use vt_cells::{Attrs, Cell, cell};
 
 /// The approximate number of bytes that it takes to move the cursor within a row, or to erase a run
-/// of blanks.
+/// of blanks. Diffs of recorded streams are shortest with this value.
 const RUN: i32 = 3;
 
 /// The cost of each examined row: the approximate number of bytes that it takes to draw the row.
@@ -32,7 +32,7 @@ pub(crate) fn costs(view: &View<'_>, prev: &View<'_>, height: u16) -> Numbers
 }
 
 /// Returns the approximate number of bytes that it takes to draw the row `cells` over the row
-/// `over`. Columns after the stored cells of a row are taken for default blanks.
+/// `over`. Assumes that the columns after the stored cells of a row are default blanks.
 pub(crate) fn cost(cells: &PictureRow<'_>, over: &PictureRow<'_>) -> i32 {
     let own = cells.own_cells();
     let others = over.own_cells();
@@ -72,16 +72,17 @@ pub(crate) fn fresh_cost(cells: &PictureRow<'_>) -> i32 {
 struct Tally {
     bytes: i32,
 
-    /// The number of bytes that it takes, beside those of its text, to draw the next cell if it is
-    /// a glyph.
+    /// The number of bytes that it takes, in addition to those of its text, to draw the next cell
+    /// if it is a glyph.
     before_glyph: i32,
 
-    /// The number of bytes that it takes to erase the next cell and the blanks after it.
+    /// The number of bytes that it takes to erase the next cell and the blanks after it, if the
+    /// next cell is a blank.
     before_blank: i32,
 }
 
 impl Tally {
-    /// Creates the tally of a row of which no cell has been counted.
+    /// Creates a tally in which no cell has been counted yet.
     fn new() -> Tally {
         Tally {
             bytes: 0,
@@ -90,8 +91,9 @@ impl Tally {
         }
     }
 
-    /// Counts a cell that is drawn: one byte, or, if it is blank, [`RUN`] bytes to erase all blanks
-    /// up to the next glyph. Moving the cursor to the first of several cells takes [`RUN`] bytes.
+    /// Counts a cell that is drawn. A glyph takes one byte. The first blank of a run takes [`RUN`]
+    /// bytes, which erase the whole run. The first of several consecutive drawn cells takes [`RUN`]
+    /// more bytes, which move the cursor to it.
     #[inline(always)]
     fn draw(&mut self, cell: &Cell) {
         if cell::is_blank(cell) {
@@ -141,13 +143,13 @@ pub(crate) fn savings(view: &View<'_>, height: u16, here: &Numbers) -> [i32; 257
     savings
 }
 
-/// Returns the number of bytes saved if rows `first..behind` are drawn over blank rows instead of
+/// Returns the number of bytes saved if rows `first..end` are drawn over blank rows instead of
 /// the rows that the terminal displays. `savings` is the result of [`savings`].
-pub(crate) fn between(savings: &[i32; 257], first: u16, behind: u16) -> i32
+pub(crate) fn between(savings: &[i32; 257], first: u16, end: u16) -> i32
     requires first { first ≤ 256 }
-    requires behind { behind ≤ 256 }
+    requires end { end ≤ 256 }
 {
-    savings[usize::from(behind)].saturating_sub(savings[usize::from(first)])
+    savings[usize::from(end)].saturating_sub(savings[usize::from(first)])
 }
 
 /// Returns the approximate number of bytes in the escape sequences of a move. If `both` is true,

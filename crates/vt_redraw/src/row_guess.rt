@@ -14,8 +14,8 @@ use crate::shift_counts::likely_counts;
 use crate::view::View;
 use vt_cells::{Attrs, Cell, cell};
 
-/// The approximate number of bytes that it takes to move the cursor within a
-/// row, or to erase a run of blanks.
+/// The approximate number of bytes that it takes to move the cursor within a row, or to erase a run
+/// of blanks, rounded up so that few shifts are tried in vain.
 const RUN: i32 = 4;
 
 /// The approximate number of bytes that it takes to change attributes.
@@ -43,8 +43,8 @@ struct Estimate {
     attrs: Attrs,
 }
 
-/// Returns the shift of columns in row `row` that most likely happened between `prev` and `view`, or
-/// `None` if no shift is expected to save more than `least` bytes.
+/// Returns the shift of columns in row `row` that most likely happened between `prev` and `view`,
+/// or `None` if no shift is expected to save more than `least` bytes.
 pub fn likely_row_shift(view: &View<'_>, prev: &View<'_>, row: u16, least: i32) -> Option<RowShift>
     requires size { SamePictureSize view.now prev.now }
     requires row { row < length view.now.rows }
@@ -111,8 +111,8 @@ fn best_shift(
 }
 
 impl Best {
-    /// Makes `shift` the best shift if it leaves fewer bytes to draw in the row than the best shift
-    /// so far. Skips a shift by no columns.
+    /// Makes `shift` the best shift if drawing the row after it takes fewer bytes than drawing the
+    /// row after the best shift so far. Ignores a shift by zero columns.
     fn consider(&mut self, cells: &PictureRow<'_>, over: &PictureRow<'_>, shift: RowShift) {
         if shift.count == 0 {
             return;
@@ -149,8 +149,9 @@ fn drawing(cells: &PictureRow<'_>, over: &PictureRow<'_>, shift: RowShift) -> i3
 }
 
 impl Estimate {
-    /// Adds the estimated output size for one cell. If `same` is true, the terminal displays the cell
-    /// already, and it is not drawn. A continuation cell is drawn with the glyph before it.
+    /// Adds the estimated length of the output for one cell. If `same` is true, the terminal
+    /// already displays the cell, and it is not drawn. A continuation cell adds nothing, because it
+    /// is drawn with the glyph before it.
     fn add(&mut self, cell: &Cell, same: bool) {
         if cell.is_wide_continuation() {
             return;

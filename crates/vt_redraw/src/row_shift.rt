@@ -16,7 +16,7 @@ pub struct RowShift {
     /// The row, counted from 0.
     pub row: u16,
 
-    /// The column at which blanks are inserted or columns are deleted.
+    /// The column at which blanks are inserted or columns are deleted, counted from 0.
     pub col: u16,
 
     /// The number of columns that are inserted or deleted.
@@ -76,7 +76,7 @@ impl RowShift {
         }
     }
 
-    /// Returns the column that holds, before the shift, the cell that is in column `col` after it,
+    /// Returns the column, before the shift, of the cell that is in column `col` after the shift,
     /// in a row of `cols` columns. Returns `None` if column `col` becomes blank.
     pub(crate) fn source(&self, col: u16, cols: u16) -> Option<u16>
         ensures { IfSome result (λ from. col < cols → from < cols) }

@@ -12,7 +12,7 @@ use crate::view::View;
 use vt_cells::Sink;
 use vt_grid::Grid;
 
-/// Writes the sequences of a shift, and applies the shift to `grid`.
+/// Writes the sequences for a shift, and applies the shift to `grid`.
 fn write_shift<S: Sink>(sink: &mut S, grid: &mut Grid, shift: RowShift) -> Result<(), S::Error>
     requires { IsRowShift (length grid.old.rows) grid.old.width shift }
     ensures text { OnOk result (S.text sink.new ≡ S.text sink.old ++ shift_text shift) }

@@ -1,4 +1,5 @@
-//! The script that turns the display of one picture into that of another.
+//! The output that turns the display of one picture into that of another, apart from hiding or
+//! showing the cursor.
 //!
 //! Throughout this module, the *terminal* is the terminal that reads the output, and `pen` holds
 //! its cursor position and attributes. `cells` is a row of the picture, and `over` is the row that
@@ -20,8 +21,9 @@ use crate::view::View;
 use vt_cells::{Pos, Sink};
 
 /// Writes the sequences that turn the terminal's row `over` into the picture's row `cells`, except
-/// for the leading cells that `link` has already written. Then writes the break after the row if
-/// one is needed. Returns whether the terminal's row is wrapped afterward.
+/// for the leading cells that `link` has already written. If only the terminal's row is then
+/// wrapped, also writes the row break, that is, the output that clears the wrapped flag. Returns
+/// whether the terminal's row is wrapped afterward.
 #[tactic(auto, using(crate::proofs::CellSteps::range_of))]
 fn write_row<S: Sink>(
     sink: &mut S,
@@ -101,8 +103,8 @@ fn write_rows<S: Sink>(
     Ok(())
 }
 
-/// Writes the script that turns the display of `prev` into that of `view`: the
-/// rows, the cursor and the attributes.
+/// Writes the sequences that turn the display of `prev` into that of `view`: first the rows, then
+/// the cursor position and the attributes. Does not hide or show the cursor.
 ///
 /// # Errors
 ///

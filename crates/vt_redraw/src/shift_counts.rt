@@ -4,8 +4,8 @@ ghost use Rattle.std.specs.Prelude.{◌<◌};
 
 use vt_cells::Cell;
 
-/// The number of votes above which a distance is likely.
-const LEAST_VOTES: u16 = 2;
+/// The number of votes that a distance must exceed to be considered likely.
+const FEW_VOTES: u16 = 2;
 
 /// The number of columns that were most likely deleted from a row, and the number that were most
 /// likely inserted. Each is 0 if no number is likely.
@@ -15,8 +15,8 @@ pub(crate) struct Counts {
     pub(crate) inserted: u16,
 }
 
-/// Votes for the number of columns by which text has moved in one direction, and the number with the
-/// most votes so far.
+/// Votes for the number of columns by which text has moved in one direction, and the number with
+/// the most votes so far, which is 0 if no number has more than [`FEW_VOTES`] votes.
 #[derive(Drop)]
 struct Votes {
     votes: [u16; 256],
@@ -24,11 +24,12 @@ struct Votes {
     count: u16,
 }
 
-/// Returns the number of columns that were most likely deleted from the row `over` at column `start`,
-/// and the number that were most likely inserted there, if the row has become `cells`.
+/// Returns the number of columns that were most likely deleted from the row `over` at column
+/// `start`, and the number that were most likely inserted there, if the row has become `cells`.
 ///
-/// Each cell of `cells` votes for a distance: that to the last cell of `over` at which the same four
-/// characters end. Only the first bytes of the characters are compared.
+/// Each cell of `cells` from column `start` on votes for its distance from the end of the last
+/// occurrence in `over` of the four characters that end with this cell. These characters are
+/// compared by a hash of their first bytes; only the last of them is compared exactly.
 pub(crate) fn likely_counts(cells: &[Cell], over: &[Cell], start: usize) -> Counts {
     let places = last_places(over, start);
     let mut deleted = Votes::new();
@@ -48,8 +49,8 @@ pub(crate) fn likely_counts(cells: &[Cell], over: &[Cell], start: usize) -> Coun
     }
 }
 
-/// Returns, for each key, the last column at or after `start` at which four characters with this key
-/// end, or 0 if there is none.
+/// Returns, for each key (see [`key`]), the last column at or after `start` that ends a group of four
+/// cells with that key, or 0 if there is none.
 fn last_places(cells: &[Cell], start: usize) -> [usize; 256] {
     let mut places = [0; 256];
     let mut window = 0_u32;
@@ -60,8 +61,9 @@ fn last_places(cells: &[Cell], start: usize) -> [usize; 256] {
     places
 }
 
-/// Returns the first bytes of the texts of four cells, as one word. `window` is the word of the four
-/// cells before `cell`; the first of these is dropped. The byte of a cell without text is 0.
+/// Returns the first bytes of the texts of four cells, packed into one 32-bit word. `window` holds
+/// the bytes of the four cells before `cell`; the first of these bytes is dropped, and the first
+/// byte of `cell` is appended. The byte of a cell without text is 0.
 #[inline(always)]
 fn shifted_window(window: u32, cell: &Cell) -> u32 {
     let byte = match cell.contents().as_bytes().first() {
@@ -84,7 +86,7 @@ impl Votes {
     fn new() -> Votes {
         Votes {
             votes: [0; 256],
-            most: LEAST_VOTES,
+            most: FEW_VOTES,
             count: 0,
         }
     }

@@ -83,8 +83,10 @@ impl<'a> View<'a> {
         }
     }
 
-    /// Creates a view of the page `grid`, with `above` as its scrollback, as a terminal displays it
-    /// after moving the displayed rows of `band`. `hidden` is true if the cursor is hidden.
+    /// Creates a view of what a terminal displays after moving `band`, if it previously displayed
+    /// the page `grid` with `above` as its scrollback. The view has default attributes, and its
+    /// cursor is in the first column of the row that [`Band::last_moved`] returns. `hidden` is true
+    /// if the cursor is hidden.
     pub fn moved(above: &'a Scrollback, grid: &'a Grid, hidden: bool, band: Band) -> View<'a>
         requires above { IsScrollback above.now }
         requires page { IsPage grid.now }
@@ -159,7 +161,7 @@ impl<'a> View<'a> {
         self.hidden
     }
 
-    /// Returns a row of the picture.
+    /// Returns the row of the picture at index `row`, counted from 0.
     pub fn row(&self, row: u16) -> PictureRow<'_>
         requires { row < length self.now.rows }
         ensures value { result ≡ row_or self.now.width self.now.rows row }

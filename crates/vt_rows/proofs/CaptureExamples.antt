@@ -6,7 +6,7 @@ use Rattle.std.specs.Char.{encode_utf8}
 use Rattle.vt_rows.specs.CaptureRows.{AreRowsOf}
 use Rattle.vt_rows.specs.Pieces.{ArePiecesOf, Piece}
 use Rattle.vt_rows.specs.Stretches.{shown_columns}
-use Rattle.vt_rows.proofs.CutRows.{rows_are, slices_behind}
+use Rattle.vt_rows.proofs.CutRows.{rows_are, slices_after}
 use Rattle.vt_rows.proofs.Outside.{pieces_are}
 
 abbrev esc : ℕ
@@ -22,9 +22,9 @@ no_piece : ArePiecesOf (esc ∷ 0x5B ∷ 0x33 ∷ 0x31 ∷ []) []
 no_piece = pieces_are _
 
 rows_of_characters : (width : ℕ) (cs : List ℕ) (capture : List ℕ) (utf8 : IsUtf8 capture) →
-    chars capture ≡ cs → (rows : List Piece) → slices_behind width 0 [] cs ≡ rows → AreRowsOf width capture rows
+    chars capture ≡ cs → (rows : List Piece) → slices_after width 0 [] cs ≡ rows → AreRowsOf width capture rows
 rows_of_characters width cs capture utf8 e rows same =
-    subst (AreRowsOf width capture) (ap (slices_behind width 0 []) e ∙ same) (rows_are width capture utf8)
+    subst (AreRowsOf width capture) (ap (slices_after width 0 []) e ∙ same) (rows_are width capture utf8)
 
 -- The capture `ab` at a width of 0 columns has one row for each character.
 one_character_each : (utf8 : IsUtf8 (0x61 ∷ 0x62 ∷ [])) →

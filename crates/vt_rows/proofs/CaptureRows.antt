@@ -13,7 +13,7 @@ use Rattle.std.proofs.lemmas.Bool.Decides.{nat_tests}
 use Rattle.std.proofs.lemmas.Str.{length-encode, len_utf8_ascii, IsUtf8-past_char, chars_past_char}
 use Rattle.std.proofs.lemmas.Str.{encodes-append, drop_past_char, IsCharBoundary-from_drop, chars-nil}
 use Rattle.vt_rows.specs.CaptureRows.{ends_row, is_beyond, overflows}
-use Rattle.vt_rows.specs.Internals.{rows_behind, rows_of}
+use Rattle.vt_rows.specs.Internals.{rows_after, rows_of}
 use Rattle.vt_rows.specs.Stretches.{begins_stretch, shown_columns, shown_columns_or, is_within_after}
 use Rattle.vt_rows.specs.Stretches.{ends_within, columns_added, columns_from, columns_in}
 
@@ -40,7 +40,7 @@ columns_in-more row c = columns_more false row c
 pub record IsRead (width : ℕ) (text row rest : List ℕ) : Type 0 where
   pub parts : text ≡ encode_utf8_all row ++ rest
   pub utf8 : IsUtf8 rest
-  pub rows : rows_behind width row (chars rest) ≡ rows_behind width [] (chars text)
+  pub rows : rows_after width row (chars rest) ≡ rows_after width [] (chars text)
 
 pub beyond_outside : (width used : ℕ) (within : Bool) (c : ℕ) →
     is_beyond width used (columns_added within c) ≡ true → within ≡ false
@@ -52,12 +52,12 @@ module _ (width : ℕ) (text row rest later : List ℕ) (c : ℕ)
   characters : chars rest ≡ c ∷ chars later
   characters = chars_past_char rest later c read.utf8 next
 
-  seen : rows_behind width row (c ∷ chars later) ≡ rows_behind width [] (chars text)
-  seen = ap (rows_behind width row) (sym characters) ∙ read.rows
+  seen : rows_after width row (c ∷ chars later) ≡ rows_after width [] (chars text)
+  seen = ap (rows_after width row) (sym characters) ∙ read.rows
 
   pub row_ended : ends_row row c ≡ true → rows_of width text ≡ encode_utf8_all row ∷ rows_of width later
   row_ended ends =
-      let step : rows_behind width row (c ∷ chars later) ≡ row ∷ rows_behind width [] (chars later) = rw ends refl in
+      let step : rows_after width row (c ∷ chars later) ≡ row ∷ rows_after width [] (chars later) = rw ends refl in
       ap (map encode_utf8_all) (sym seen ∙ step)
 
   pub row_full : ends_row row c ≡ false → overflows width row c ≡ true →
@@ -66,16 +66,16 @@ module _ (width : ℕ) (text row rest later : List ℕ) (c : ℕ)
       let outside : ends_within row ≡ false = beyond_outside width (columns_in row) (ends_within row) c full in
       let other : ends_row [] c ≡ false = rw outside at goes in
       let fits : overflows width [] c ≡ false = refl in
-      let step : rows_behind width row (c ∷ chars later) ≡ row ∷ rows_behind width (c ∷ []) (chars later) =
+      let step : rows_after width row (c ∷ chars later) ≡ row ∷ rows_after width (c ∷ []) (chars later) =
       rw (goes, full) refl in
-      let anew : rows_behind width [] (c ∷ chars later) ≡ rows_behind width (c ∷ []) (chars later) =
+      let anew : rows_after width [] (c ∷ chars later) ≡ rows_after width (c ∷ []) (chars later) =
       rw (other, fits) refl in
       ap (map encode_utf8_all)
-      (sym seen ∙ step ∙ ap (λ rows. row ∷ rows) (sym anew ∙ ap (rows_behind width []) (sym characters)))
+      (sym seen ∙ step ∙ ap (λ rows. row ∷ rows) (sym anew ∙ ap (rows_after width []) (sym characters)))
 
   pub row_goes_on : ends_row row c ≡ false → overflows width row c ≡ false → IsRead width text (row ++ c ∷ []) later
   row_goes_on goes fits =
-      let step : rows_behind width row (c ∷ chars later) ≡ rows_behind width (row ++ c ∷ []) (chars later) =
+      let step : rows_after width row (c ∷ chars later) ≡ rows_after width (row ++ c ∷ []) (chars later) =
       rw (goes, fits) refl in
       let whole : encode_utf8_all (row ++ c ∷ []) ++ later ≡ text =
       ap (λ (front : List ℕ). front ++ later)
@@ -91,7 +91,7 @@ pub row_last : (width : ℕ) (text row rest : List ℕ) →
 row_last width text row [] read e =
     let none : chars [] ≡ [] = chars-nil in
     let whole : encode_utf8_all row ≡ text = sym (read.parts ∙ append-nil (encode_utf8_all row)) in
-    let last : rows_behind width row [] ≡ rows_behind width [] (chars text) = rw none at read.rows in
+    let last : rows_after width row [] ≡ rows_after width [] (chars text) = rw none at read.rows in
     ap (map encode_utf8_all) (sym last) ∙ ap (λ only. only ∷ []) whole
 row_last width text row (b ∷ rest) read e = absurd (omega arith)
 
@@ -109,20 +109,20 @@ back_part text front back n parts e = rw (parts, e) (drop-append_seam front back
 pub line_end : (row : List ℕ) (c : ℕ) → ends_row row c ≡ true → c ≡ 0x0A
 line_end row c ends = eqb-true c 0x0A (and_parts (not (ends_within row)) (c == 0x0A) ends).1
 
-pub behind_line_end : (text row rest later : List ℕ) (c n : ℕ) → text ≡ encode_utf8_all row ++ rest →
+pub after_line_end : (text row rest later : List ℕ) (c n : ℕ) → text ≡ encode_utf8_all row ++ rest →
     rest ≡ encode_utf8 c ++ later → n ≡ length (encode_utf8_all row) → c ≡ 0x0A → drop (n + 1) text ≡ later
-behind_line_end text row rest later c n parts next e lf =
+after_line_end text row rest later c n parts next e lf =
     let width : len_utf8 c ≡ 1 = rw lf refl in
     let seam : drop n text ≡ encode_utf8 c ++ later = back_part text (encode_utf8_all row) rest n parts e ∙ next in
     rw width at (drop_past_char text later n c seam)
 
-pub boundary_behind : (text row rest later : List ℕ) (c n : ℕ) → text ≡ encode_utf8_all row ++ rest → IsUtf8 rest →
+pub boundary_after : (text row rest later : List ℕ) (c n : ℕ) → text ≡ encode_utf8_all row ++ rest → IsUtf8 rest →
     rest ≡ encode_utf8 c ++ later → n ≡ length (encode_utf8_all row) → c ≡ 0x0A → IsCharBoundary text (n + 1)
-boundary_behind text row rest later c n parts utf8 next e lf =
+boundary_after text row rest later c n parts utf8 next e lf =
     let width : length (encode_utf8 c) ≡ 1 = length-encode c ∙ len_utf8_ascii c (omega (arith, lf)) in
     let whole = ap length parts ∙ length-append (encode_utf8_all row) rest in
     let left = ap length next ∙ length-append (encode_utf8 c) later in
-    let behind = behind_line_end text row rest later c n parts next e lf in
+    let behind = after_line_end text row rest later c n parts next e lf in
     IsCharBoundary-from_drop text (n + 1) (omega (arith, whole, left, width, e))
     (subst IsUtf8 (sym behind) (IsUtf8-past_char rest later c utf8 next))
 

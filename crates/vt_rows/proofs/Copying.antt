@@ -26,9 +26,9 @@ at-copied n k copies cells le lt =
     get_or_append_left (take n copies) (drop n cells) default_blank k (omega arith)
     ∙ get_or-take n copies k default_blank lt
 
-pub at-behind_copied : (n k : ℕ) (copies cells : List CellValue) → n ≤ length copies → n ≤ k →
+pub at-after_copied : (n k : ℕ) (copies cells : List CellValue) → n ≤ length copies → n ≤ k →
     at (take n copies ++ drop n cells) k ≡ at cells k
-at-behind_copied n k copies cells le ge =
+at-after_copied n k copies cells le ge =
     let there : n + (k - n) ≡ k = omega arith in
     get_or-append_right (take n copies) (drop n cells) n k default_blank (length-take-le n copies le) ge
     ∙ (get_or-drop n cells (k - n) default_blank ∙ ap (λ (j : ℕ). at cells j) there)

@@ -10,9 +10,9 @@ use Rattle.std.proofs.lemmas.List.{take-append-le, get_or_append_left, take-appe
 use Rattle.std.proofs.lemmas.Str.{chars-encodes, encodes-append, encodes-chars, chars-append, chars-nil}
 use Rattle.std.proofs.lemmas.Str.{chars_past_char, IsUtf8-past_char, IsUtf8-drop, IsCharBoundary-from_take}
 use Rattle.std.proofs.Math.Seq.{take-append_seam, get_or-append_seam}
-use Rattle.vt_rows.specs.CaptureRows.{ends_row, overflows, IsUncut, IsRowOf, IsBehindEnd}
-use Rattle.vt_rows.specs.CaptureRows.{IsBehindFull, AreRowsFrom, AreRowsOf}
-use Rattle.vt_rows.specs.Internals.{rows_behind}
+use Rattle.vt_rows.specs.CaptureRows.{IsAfterEnd, IsRowOf, IsUncut, ends_row, overflows}
+use Rattle.vt_rows.specs.CaptureRows.{AreRowsFrom, AreRowsOf, IsAfterFull}
+use Rattle.vt_rows.specs.Internals.{rows_after}
 use Rattle.vt_rows.specs.Pieces.{Piece, piece_end, texts_of}
 use Rattle.vt_rows.specs.Stretches.{ends_within, columns_in}
 use Rattle.vt_rows.proofs.CaptureRows.{beyond_outside, line_end}
@@ -28,17 +28,17 @@ line_end_text c lf = ap encode_utf8 lf
 
 -- The rows, with their indices, formed by the unfinished row `row`, which begins at byte `at`, and the characters after
 -- it.
-abbrev pub slices_behind : ℕ → ℕ → List ℕ → List ℕ → List Piece
-slices_behind width at row [] = (at, encode_utf8_all row) ∷ []
-slices_behind width at row (c ∷ text) =
+abbrev pub slices_after : ℕ → ℕ → List ℕ → List ℕ → List Piece
+slices_after width at row [] = (at, encode_utf8_all row) ∷ []
+slices_after width at row (c ∷ text) =
     if ends_row row c
-    then (at, encode_utf8_all row) ∷ slices_behind width (at + length (encode_utf8_all row) + 1) [] text
+    then (at, encode_utf8_all row) ∷ slices_after width (at + length (encode_utf8_all row) + 1) [] text
     else if overflows width row c
-    then (at, encode_utf8_all row) ∷ slices_behind width (at + length (encode_utf8_all row)) (c ∷ []) text
-    else slices_behind width at (row ++ c ∷ []) text
+    then (at, encode_utf8_all row) ∷ slices_after width (at + length (encode_utf8_all row)) (c ∷ []) text
+    else slices_after width at (row ++ c ∷ []) text
 
 pub same_texts : (width at : ℕ) (row text : List ℕ) →
-    texts_of (slices_behind width at row text) ≡ map encode_utf8_all (rows_behind width row text)
+    texts_of (slices_after width at row text) ≡ map encode_utf8_all (rows_after width row text)
 same_texts width at row [] = refl
 same_texts width at row (c ∷ text) =
     let ended = same_texts width (at + length (encode_utf8_all row) + 1) [] text in
@@ -125,7 +125,7 @@ module _ (width : ℕ) (capture : List ℕ) (at : ℕ) (row : List ℕ) (rest : 
 
   cut_behind : (next : ℕ) (begun : List ℕ) (slices : List Piece) → Cut width capture next begun slices
       → ((first : Piece) → first.0 ≡ next → (more : List ℕ) → chars first.1 ≡ begun ++ more
-      → IsBehindEnd capture (at, encode_utf8_all row) first ⊎ IsBehindFull width (at, encode_utf8_all row) first)
+      → IsAfterEnd capture (at, encode_utf8_all row) first ⊎ IsAfterFull width (at, encode_utf8_all row) first)
       → Cut width capture at row ((at, encode_utf8_all row) ∷ slices)
   cut_behind next begun slices cut behind = record {
     first = (at, encode_utf8_all row);
@@ -177,9 +177,9 @@ module _ (width : ℕ) (capture : List ℕ) (at : ℕ) (row text : List ℕ) (c 
       stands ∙ sym (append_assoc front (encode_utf8 c) (encode_utf8_all text))
       ∙ ap (λ (bytes : List ℕ). bytes ++ encode_utf8_all text) (sym last)
 
-  behind_end : StandsAt capture at (front ++ encode_utf8_all (c ∷ text)) →
+  after_end : StandsAt capture at (front ++ encode_utf8_all (c ∷ text)) →
       c ≡ 0x0A → StandsAt capture (at + length front + 1) (encode_utf8_all text)
-  behind_end stands lf =
+  after_end stands lf =
       let one = line_end_text c lf in
       let same : encode_utf8_all (c ∷ text) ≡ (0x0A ∷ []) ++ encode_utf8_all text =
       ap (λ (bytes : List ℕ). bytes ++ encode_utf8_all text) one in
@@ -201,7 +201,7 @@ module _ (width : ℕ) (capture : List ℕ) (at : ℕ) (row text : List ℕ) (c 
 cut_at : (width : ℕ) (capture : List ℕ) (at : ℕ) (row text : List ℕ)
     → StandsAt capture at (encode_utf8_all row ++ encode_utf8_all text) → at ≤ length capture
     → all_scalars row ≡ true → all_scalars text ≡ true → IsUncut width row
-    → Cut width capture at row (slices_behind width at row text)
+    → Cut width capture at row (slices_after width at row text)
 cut_at width capture at row [] stands inside own others uncut =
     cut_last width capture at row [] stands inside own uncut refl
 cut_at width capture at row (c ∷ text) stands inside own others uncut =
@@ -215,7 +215,7 @@ cut_at width capture at row (c ∷ text) stands inside own others uncut =
     let lf : c ≡ 0x0A = line_end row c ends in
     let one : length (encode_utf8 c) ≡ 1 = ap length (line_end_text c lf) in
     let later = cut_at width capture (at + length (encode_utf8_all row) + 1)
-    [] text (behind_end width capture at row text c stands lf)
+    [] text (after_end width capture at row text c stands lf)
     (omega (arith, size, some, one)) refl each.1 (λ k lt. absurd (omega (arith, lt))) in
     rw ends (cut_behind width capture at row (encode_utf8_all (c ∷ text)) stands inside own uncut _ [] _ later
     (λ next e more begins. inl
@@ -238,7 +238,7 @@ cut_at width capture at row (c ∷ text) stands inside own others uncut =
     rw (goes, fits) (longer_more width capture at row c _ longer)))
 
 pub rows_are : (width : ℕ) (capture : List ℕ) → IsUtf8 capture →
-    AreRowsOf width capture (slices_behind width 0 [] (chars capture))
+    AreRowsOf width capture (slices_after width 0 [] (chars capture))
 rows_are width capture utf8 =
     let same : chars capture ≡ utf8.0 = ap chars (sym utf8.1.1) ∙ chars-encodes utf8.0 utf8.1.0 in
     rw same (are_from width capture 0 [] _
@@ -247,17 +247,17 @@ rows_are width capture utf8 =
 -- ---- The rows of a capture are unique
 
 read_on : (width at : ℕ) (row back rest : List ℕ) → IsUncut width (row ++ back) →
-    slices_behind width at row (back ++ rest) ≡ slices_behind width at (row ++ back) rest
-read_on width at row [] rest uncut = ap (λ whole. slices_behind width at whole rest) (sym (append-nil row))
+    slices_after width at row (back ++ rest) ≡ slices_after width at (row ++ back) rest
+read_on width at row [] rest uncut = ap (λ whole. slices_after width at whole rest) (sym (append-nil row))
 read_on width at row (c ∷ back) rest uncut =
     let here = uncut_at width row back c uncut in
     let whole = append_assoc row (c ∷ []) back in
     let on = read_on width at (row ++ c ∷ []) back rest (rw whole uncut) in
-    rw (here.0, here.1) (on ∙ ap (λ front. slices_behind width at front rest) whole)
+    rw (here.0, here.1) (on ∙ ap (λ front. slices_after width at front rest) whole)
 
 -- Dropping a prefix that is UTF-8 from UTF-8 text leaves UTF-8 text.
-utf8_behind : (text : List ℕ) (n : ℕ) → IsUtf8 text → IsUtf8 (take n text) → n ≤ length text → IsUtf8 (drop n text)
-utf8_behind text n whole front le = IsUtf8-drop text n whole (IsCharBoundary-from_take text n whole le front)
+utf8_after : (text : List ℕ) (n : ℕ) → IsUtf8 text → IsUtf8 (take n text) → n ≤ length text → IsUtf8 (drop n text)
+utf8_after text n whole front le = IsUtf8-drop text n whole (IsCharBoundary-from_take text n whole le front)
 
 first_is : (width : ℕ) (capture : List ℕ) (at : ℕ) (row : Piece) (rows : List Piece) →
     AreRowsFrom width capture at (row ∷ rows) → (row.0 ≡ at) × IsRowOf width capture row
@@ -286,11 +286,11 @@ module _ (width : ℕ) (capture : List ℕ) (at : ℕ) (row : Piece)
       let most = length-take (length row.1) text in
       omega (arith, cut, most)
 
-  behind_utf8 : IsUtf8 behind
-  behind_utf8 = utf8_behind text (length row.1) utf8 (subst IsUtf8 (sym front_is) is.utf8) fits_in
+  after_utf8 : IsUtf8 behind
+  after_utf8 = utf8_after text (length row.1) utf8 (subst IsUtf8 (sym front_is) is.utf8) fits_in
 
-  behind_stands : StandsAt capture (piece_end row) behind
-  behind_stands = stands_later capture at row.1 behind (piece_end row) (stands ∙ sym text_parts) (omega (arith, begin))
+  after_stands : StandsAt capture (piece_end row) behind
+  after_stands = stands_later capture at row.1 behind (piece_end row) (stands ∙ sym text_parts) (omega (arith, begin))
 
   characters : chars text ≡ own ++ chars behind
   characters = ap chars (sym text_parts) ∙ chars-append row.1 behind is.utf8
@@ -298,17 +298,17 @@ module _ (width : ℕ) (capture : List ℕ) (at : ℕ) (row : Piece)
   row_at : (at, encode_utf8_all own) ≡ row
   row_at = ap₂ (λ n t. (n, t)) (sym begin) (encodes-chars row.1 is.utf8)
 
-  rows_on : slices_behind width at [] (chars text) ≡ slices_behind width at own (chars behind)
-  rows_on = ap (slices_behind width at []) characters ∙ read_on width at [] own (chars behind) is.uncut
+  rows_on : slices_after width at [] (chars text) ≡ slices_after width at own (chars behind)
+  rows_on = ap (slices_after width at []) characters ∙ read_on width at [] own (chars behind) is.uncut
 
-  only_row : piece_end row ≡ length capture → row ∷ [] ≡ slices_behind width at [] (chars text)
+  only_row : piece_end row ≡ length capture → row ∷ [] ≡ slices_after width at [] (chars text)
   only_row end =
       let left = length-drop (piece_end row) capture in
-      let none : length behind ≡ 0 = omega (arith, left, ap length behind_stands, end) in
+      let none : length behind ≡ 0 = omega (arith, left, ap length after_stands, end) in
       sym (rows_on ∙ nothing behind none ∙ ap (λ only. only ∷ []) row_at) where
         nothing : (rest : List ℕ) → length rest ≡ 0 →
-            slices_behind width at own (chars rest) ≡ (at, encode_utf8_all own) ∷ []
-        nothing [] e = ap (slices_behind width at own) chars-nil
+            slices_after width at own (chars rest) ≡ (at, encode_utf8_all own) ∷ []
+        nothing [] e = ap (slices_after width at own) chars-nil
         nothing (b ∷ rest) e = absurd (omega (arith, e))
 
   row_with : (size : ℕ) → size ≡ length (encode_utf8_all own) → at + size ≡ piece_end row
@@ -316,79 +316,79 @@ module _ (width : ℕ) (capture : List ℕ) (at : ℕ) (row : Piece)
       let same = ap length (encodes-chars row.1 is.utf8) in
       omega (arith, e, same, begin)
 
-  row_behind_end : (next : Piece) (rows : List Piece) → IsBehindEnd capture row next
+  row_after_end : (next : Piece) (rows : List Piece) → IsAfterEnd capture row next
       → ((rest : List ℕ) → StandsAt capture next.0 rest → IsUtf8 rest
-      → next ∷ rows ≡ slices_behind width next.0 [] (chars rest))
-      → row ∷ next ∷ rows ≡ slices_behind width at [] (chars text)
-  row_behind_end next rows cut others = by behind refl where
+      → next ∷ rows ≡ slices_after width next.0 [] (chars rest))
+      → row ∷ next ∷ rows ≡ slices_after width at [] (chars text)
+  row_after_end next rows cut others = by behind refl where
     lf : get_or capture (piece_end row) 0 ≡ 0x0A
     lf = line_end own (get_or capture (piece_end row) 0) cut.ends
 
     first : (bytes : List ℕ) → behind ≡ bytes → get_or bytes 0 0 ≡ 0x0A
     first bytes e =
         let here : piece_end row + 0 ≡ piece_end row = omega arith in
-        ap (λ (l : List ℕ). get_or l 0 0) (sym (behind_stands ∙ e))
+        ap (λ (l : List ℕ). get_or l 0 0) (sym (after_stands ∙ e))
         ∙ get_or-drop (piece_end row) capture 0 0 ∙ ap (λ n. get_or capture n 0) here ∙ lf
 
-    by : (bytes : List ℕ) → behind ≡ bytes → row ∷ next ∷ rows ≡ slices_behind width at [] (chars text)
+    by : (bytes : List ℕ) → behind ≡ bytes → row ∷ next ∷ rows ≡ slices_after width at [] (chars text)
     by [] e = absurd (omega (arith, first [] e))
     by (b ∷ rest) e =
         let same : b ≡ 0x0A = first (b ∷ rest) e in
         let spelt : behind ≡ encode_utf8 0x0A ++ rest =
         e ∙ ap (λ (c : ℕ). c ∷ rest) same ∙ ap (λ (l : List ℕ). l ++ rest) (sym (line_end_text 0x0A refl)) in
-        let later = stands_later capture (piece_end row) (b ∷ []) rest next.0 (behind_stands ∙ e) cut.place in
-        let ih = others rest later (IsUtf8-past_char behind rest 0x0A behind_utf8 spelt) in
+        let later = stands_later capture (piece_end row) (b ∷ []) rest next.0 (after_stands ∙ e) cut.place in
+        let ih = others rest later (IsUtf8-past_char behind rest 0x0A after_utf8 spelt) in
         let ends : ends_row own 0x0A ≡ true = rw lf at cut.ends in
-        let step : slices_behind width at own (0x0A ∷ chars rest)
-        ≡ (at, encode_utf8_all own) ∷ slices_behind width (at + length (encode_utf8_all own) + 1) [] (chars rest) =
+        let step : slices_after width at own (0x0A ∷ chars rest)
+        ≡ (at, encode_utf8_all own) ∷ slices_after width (at + length (encode_utf8_all own) + 1) [] (chars rest) =
         rw ends refl in
         let there : at + length (encode_utf8_all own) + 1 ≡ next.0 =
         omega (arith, row_with (length (encode_utf8_all own)) refl, cut.place) in
-        sym (rows_on ∙ ap (slices_behind width at own) (chars_past_char behind rest 0x0A behind_utf8 spelt) ∙ step
+        sym (rows_on ∙ ap (slices_after width at own) (chars_past_char behind rest 0x0A after_utf8 spelt) ∙ step
         ∙ ap₂ (λ (r : Piece) (rs : List Piece). r ∷ rs) row_at
-        (ap (λ n. slices_behind width n [] (chars rest)) there ∙ sym ih))
+        (ap (λ n. slices_after width n [] (chars rest)) there ∙ sym ih))
 
-  row_behind_full : (next : Piece) (rows : List Piece) → IsBehindFull width row next
+  row_after_full : (next : Piece) (rows : List Piece) → IsAfterFull width row next
       → IsUncut width (chars next.1) → (tail : List ℕ) → chars behind ≡ chars next.1 ++ tail
-      → next ∷ rows ≡ slices_behind width next.0 [] (chars behind)
-      → row ∷ next ∷ rows ≡ slices_behind width at [] (chars text)
-  row_behind_full next rows cut uncut tail parts ih =
+      → next ∷ rows ≡ slices_after width next.0 [] (chars behind)
+      → row ∷ next ∷ rows ≡ slices_after width at [] (chars text)
+  row_after_full next rows cut uncut tail parts ih =
       let c = cut.first in
       let follow : chars behind ≡ c ∷ (cut.rest ++ tail) = parts ∙ ap (λ (l : List ℕ). l ++ tail) cut.begins in
       let other = (uncut_at width [] cut.rest c (rw cut.begins at uncut)).0 in
       let goes : ends_row own c ≡ false = full_goes width own c cut.overflows ∙ other in
-      let step : slices_behind width at own (c ∷ (cut.rest ++ tail))
+      let step : slices_after width at own (c ∷ (cut.rest ++ tail))
       ≡ (at, encode_utf8_all own)
-      ∷ slices_behind width (at + length (encode_utf8_all own)) (c ∷ []) (cut.rest ++ tail) =
+      ∷ slices_after width (at + length (encode_utf8_all own)) (c ∷ []) (cut.rest ++ tail) =
       rw (goes, cut.overflows) refl in
-      let anew : slices_behind width next.0 [] (c ∷ (cut.rest ++ tail))
-      ≡ slices_behind width next.0 (c ∷ []) (cut.rest ++ tail) = rw other refl in
+      let anew : slices_after width next.0 [] (c ∷ (cut.rest ++ tail))
+      ≡ slices_after width next.0 (c ∷ []) (cut.rest ++ tail) = rw other refl in
       let there : at + length (encode_utf8_all own) ≡ next.0 =
       omega (arith, row_with (length (encode_utf8_all own)) refl, cut.place) in
-      sym (rows_on ∙ ap (slices_behind width at own) follow ∙ step
+      sym (rows_on ∙ ap (slices_after width at own) follow ∙ step
       ∙ ap₂ (λ (r : Piece) (rs : List Piece). r ∷ rs) row_at
-      (ap (λ n. slices_behind width n (c ∷ []) (cut.rest ++ tail)) there
-      ∙ sym anew ∙ ap (slices_behind width next.0 []) (sym follow) ∙ sym ih))
+      (ap (λ n. slices_after width n (c ∷ []) (cut.rest ++ tail)) there
+      ∙ sym anew ∙ ap (slices_after width next.0 []) (sym follow) ∙ sym ih))
 
 only_rows : (width : ℕ) (capture : List ℕ) (at : ℕ) (rows : List Piece) → AreRowsFrom width capture at rows →
-    (text : List ℕ) → StandsAt capture at text → IsUtf8 text → rows ≡ slices_behind width at [] (chars text)
+    (text : List ℕ) → StandsAt capture at text → IsUtf8 text → rows ≡ slices_after width at [] (chars text)
 only_rows width capture at [] are text stands utf8 = absurd are
 only_rows width capture at (row ∷ []) are text stands utf8 =
     only_row width capture at row text stands utf8 are.0 are.1 are.2
 only_rows width capture at (row ∷ next ∷ rows) are text stands utf8 =
     by are.2 (λ rest later own. only_rows width capture next.0 (next ∷ rows) are.3 rest later own) where
-      by : IsBehindEnd capture row next ⊎ IsBehindFull width row next
+      by : IsAfterEnd capture row next ⊎ IsAfterFull width row next
           → ((rest : List ℕ) → StandsAt capture next.0 rest → IsUtf8 rest
-          → next ∷ rows ≡ slices_behind width next.0 [] (chars rest))
-          → row ∷ next ∷ rows ≡ slices_behind width at [] (chars text)
-      by (inl cut) others = row_behind_end width capture at row text stands utf8 are.0 are.1 next rows cut others
+          → next ∷ rows ≡ slices_after width next.0 [] (chars rest))
+          → row ∷ next ∷ rows ≡ slices_after width at [] (chars text)
+      by (inl cut) others = row_after_end width capture at row text stands utf8 are.0 are.1 next rows cut others
       by (inr cut) others =
           let left = drop (length row.1) text in
           let there : StandsAt capture next.0 left =
-          ap (λ n. drop n capture) cut.place ∙ behind_stands width capture at row text stands utf8 are.0 are.1 in
-          let own = behind_utf8 width capture at row text stands utf8 are.0 are.1 in
+          ap (λ n. drop n capture) cut.place ∙ after_stands width capture at row text stands utf8 are.0 are.1 in
+          let own = after_utf8 width capture at row text stands utf8 are.0 are.1 in
           let is = (first_is width capture next.0 next rows are.3).1 in
-          row_behind_full width capture at row text stands utf8 are.0 are.1 next rows cut is.uncut
+          row_after_full width capture at row text stands utf8 are.0 are.1 next rows cut is.uncut
           _ (characters width capture next.0 next left there own refl is) (others left there own)
 
 pub rows_are_one : (width : ℕ) (capture : List ℕ) (rows others : List Piece) → IsUtf8 capture →

@@ -86,11 +86,11 @@ pair_torn_at_end : (a : Attrs) →
 unfolding cells_after_insert cells_after_move
 pair_torn_at_end a = refl
 
-inserted_behind_pair : (a : Attrs) →
+inserted_after_pair : (a : Attrs) →
     cells_after_insert 1 1 (wide a ∷ right_half ∷ letter 0x61 a ∷ letter 0x62 a ∷ [])
     ≡ wide a ∷ right_half ∷ default_blank ∷ letter 0x61 a ∷ []
 unfolding cells_after_insert cells_after_move
-inserted_behind_pair a = refl
+inserted_after_pair a = refl
 
 cut_in_pair : (a : Attrs) → cells_after_resize 2 (letter 0x61 a ∷ wide a ∷ right_half ∷ []) ≡ letter 0x61 a ∷ blank a ∷ []
 unfolding cells_after_resize cells_after_move
@@ -137,9 +137,9 @@ unfolding plain_text
 whole_text a = refl
 
 -- A wide glyph is written whole if its first cell is in the last column of the range.
-cut_behind_left_half : (a : Attrs) → plain_text 0 2 (mixed a) ≡ 0x61 ∷ 0xE4 ∷ 0xB8 ∷ 0xAD ∷ []
+cut_after_left_half : (a : Attrs) → plain_text 0 2 (mixed a) ≡ 0x61 ∷ 0xE4 ∷ 0xB8 ∷ 0xAD ∷ []
 unfolding plain_text
-cut_behind_left_half a = refl
+cut_after_left_half a = refl
 
 -- The continuation cell of a wide glyph that begins before the range is written as a space.
 cut_before_right_half : (a : Attrs) → plain_text 2 6 (mixed a) ≡ 0x20 ∷ 0x20 ∷ 0x62 ∷ []

@@ -7,7 +7,7 @@ use Rattle.std.proofs.lemmas.Bool.{eqb-true, ne_eqb}
 use Rattle.std.proofs.lemmas.Bool.Decides.{nat_tests}
 use Rattle.std.proofs.lemmas.List.{length-append, drop-drop}
 use Rattle.std.proofs.Math.Seq.{take-append_seam, drop-append_seam}
-use Rattle.vt_rows.specs.Internals.{piece_at, pieces_behind, pieces_within, pieces_from}
+use Rattle.vt_rows.specs.Internals.{piece_at, pieces_after, pieces_from, pieces_within}
 use Rattle.vt_rows.specs.Pieces.{Piece, piece_end, IsInSome, AreApart, ArePiecesOf, texts_of}
 use Rattle.vt_rows.specs.Pieces.{plain_from, without_stretches}
 use Rattle.vt_rows.specs.Stretches.{IsInStretch, begins_stretch, ends_stretch, ends_within, is_within_after}
@@ -103,17 +103,17 @@ free (b ∷ text) (suc k) h lt rest =
     ap (λ within. in_stretch within (text ++ rest) k) goes
     ∙ free text k (λ i low. h (suc i) (omega (arith, low))) (omega (arith, lt)) rest
 
-behind_free : (text rest : List ℕ) (k : ℕ) → Lacks 0x1B text →
+after_free : (text rest : List ℕ) (k : ℕ) → Lacks 0x1B text →
     in_stretch false (text ++ rest) (length text + k) ≡ in_stretch false rest k
-behind_free [] rest k h =
+after_free [] rest k h =
     let same : 0 + k ≡ k = omega arith in
     ap (in_stretch false rest) same
-behind_free (b ∷ text) rest k h =
+after_free (b ∷ text) rest k h =
     let goes : is_within_after false b ≡ false = ne_eqb b 0x1B (h 0 (omega arith)) in
     let same : length (b ∷ text) + k ≡ suc (length text + k) = omega arith in
     ap (in_stretch false (b ∷ text ++ rest)) same
     ∙ ap (λ within. in_stretch within (text ++ rest) (length text + k)) goes
-    ∙ behind_free text rest k (λ i low. h (suc i) (omega (arith, low)))
+    ∙ after_free text rest k (λ i low. h (suc i) (omega (arith, low)))
 
 -- Pieces that begin at byte `at` or later contain no earlier byte.
 none_before : (capture : List ℕ) (at k : ℕ) (pieces : List Piece) →
@@ -195,14 +195,14 @@ covers_begin capture at piece text later lacks apart covers k lt = by (place k (
       later apart (omega arith) ((not_in_one at 0 piece later).0 h))
 
   here : in_stretch false (piece ++ 0x1B ∷ text) (length piece + 0) ≡ true
-  here = behind_free piece (0x1B ∷ text) 0 lacks
+  here = after_free piece (0x1B ∷ text) 0 lacks
 
   behind : (j : ℕ) → k ≡ length piece + suc j →
       IsInSome (at + k) (piece_at at piece ++ later) ↔ (in_stretch false (piece ++ 0x1B ∷ text) k ≡ false)
   behind j e =
       let same : at + (length piece + suc j) ≡ at + length piece + 1 + j = omega arith in
       let inside : j < length text = omega (arith, lt, e, length-append piece (0x1B ∷ text)) in
-      let flag = behind_free piece (0x1B ∷ text) (suc j) lacks in
+      let flag = after_free piece (0x1B ∷ text) (suc j) lacks in
       let parts = not_in_one at (suc j) piece later in
       let ih = covers j inside in
       rw e (λ h. flag ∙ ih.0 (rw same at (parts.0 h)), λ f. parts.1 (rw same (ih.1 (sym flag ∙ f))))
@@ -245,13 +245,13 @@ begin_differs b e same = grind (arith, nat_tests)
 module _ (capture : List ℕ) (at b : ℕ) (piece text : List ℕ)
     (stands : StandsAt capture at (piece ++ b ∷ text)) (lacks : Lacks 0x1B piece) where
   abbrev Longer : Type 0
-  Longer = b ≢ 0x1B → Good capture false at ((piece ++ b ∷ []) ++ text) (pieces_behind at (piece ++ b ∷ []) text)
+  Longer = b ≢ 0x1B → Good capture false at ((piece ++ b ∷ []) ++ text) (pieces_after at (piece ++ b ∷ []) text)
 
   abbrev Later : Type 0
   Later = Good capture true (at + length piece + 1) text (pieces_within (at + length piece + 1) text)
 
   good_byte : (begins : Bool) → begins ≡ begins_stretch b → Later → Longer →
-      Good capture false at (piece ++ b ∷ text) (pieces_behind at piece (b ∷ text))
+      Good capture false at (piece ++ b ∷ text) (pieces_after at piece (b ∷ text))
   good_byte true same later longer =
       let esc : b ≡ 0x1B = eqb-true b 0x1B (sym same) in
       rw esc (record {
@@ -265,13 +265,13 @@ module _ (capture : List ℕ) (at b : ℕ) (piece text : List ℕ)
   stands_more : StandsAt capture at ((piece ++ b ∷ []) ++ text)
   stands_more = stands ∙ sym (append_assoc piece (b ∷ []) text)
 
-  stands_behind : StandsAt capture (at + length piece + 1) text
-  stands_behind =
+  stands_after : StandsAt capture (at + length piece + 1) text
+  stands_after =
       let seam : length (piece ++ b ∷ []) ≡ length piece + 1 = length-append piece (b ∷ []) in
       stands_later capture at (piece ++ b ∷ []) text (at + length piece + 1) stands_more (omega (arith, seam))
 
 good_in : (capture : List ℕ) (at b : ℕ) (text : List ℕ) (ends : Bool) → ends ≡ ends_stretch b
-    → Good capture false (at + 1) text (pieces_behind (at + 1) [] text)
+    → Good capture false (at + 1) text (pieces_after (at + 1) [] text)
     → Good capture true (at + 1) text (pieces_within (at + 1) text)
     → Good capture true at (b ∷ text) (pieces_within at (b ∷ text))
 good_in capture at b text true same outside inside =
@@ -287,13 +287,13 @@ good_in capture at b text false same outside inside =
     })
 
 mutual
-  good_behind : (capture : List ℕ) (at : ℕ) (piece text : List ℕ) → StandsAt capture at (piece ++ text) →
-      Lacks 0x1B piece → Good capture false at (piece ++ text) (pieces_behind at piece text)
-  good_behind capture at piece [] e lacks = good_end capture at piece e lacks
-  good_behind capture at piece (b ∷ text) e lacks =
+  good_after : (capture : List ℕ) (at : ℕ) (piece text : List ℕ) → StandsAt capture at (piece ++ text) →
+      Lacks 0x1B piece → Good capture false at (piece ++ text) (pieces_after at piece text)
+  good_after capture at piece [] e lacks = good_end capture at piece e lacks
+  good_after capture at piece (b ∷ text) e lacks =
       good_byte capture at b piece text e lacks (begins_stretch b) refl
-      (good_within capture (at + length piece + 1) text (stands_behind capture at b piece text e lacks))
-      (λ ne. good_behind capture at (piece ++ b ∷ []) text
+      (good_within capture (at + length piece + 1) text (stands_after capture at b piece text e lacks))
+      (λ ne. good_after capture at (piece ++ b ∷ []) text
       (stands_more capture at b piece text e lacks) (lacks_more 0x1B b piece lacks ne))
 
   good_within : (capture : List ℕ) (at : ℕ) (text : List ℕ) →
@@ -302,7 +302,7 @@ mutual
   good_within capture at (b ∷ text) e =
       let next = stands_later capture at (b ∷ []) text (at + 1) e (omega arith) in
       good_in capture at b text (ends_stretch b) refl
-      (good_behind capture (at + 1) [] text next (λ i lt. absurd (omega (arith, lt))))
+      (good_after capture (at + 1) [] text next (λ i lt. absurd (omega (arith, lt))))
       (good_within capture (at + 1) text next)
 
 -- The test for being inside an SGR sequence agrees with the definition by indices.
@@ -334,7 +334,7 @@ within_by_places text = (
 
 pub pieces_are : (capture : List ℕ) → ArePiecesOf capture (pieces_from 0 capture)
 pieces_are capture =
-    let good = good_behind capture 0 [] capture refl (λ i lt. absurd (omega (arith, lt))) in
+    let good = good_after capture 0 [] capture refl (λ i lt. absurd (omega (arith, lt))) in
     record {
       apart = good.apart;
       plain = λ k lt.
@@ -352,36 +352,36 @@ joined_piece at (b ∷ piece) later = refl
 
 byte_kept : (at b : ℕ) (piece text : List ℕ) (begins : Bool) → begins ≡ begins_stretch b
     → concat (texts_of (pieces_within (at + length piece + 1) text)) ≡ plain_from true text
-    → concat (texts_of (pieces_behind at (piece ++ b ∷ []) text)) ≡ (piece ++ b ∷ []) ++ plain_from false text
-    → concat (texts_of (pieces_behind at piece (b ∷ text))) ≡ piece ++ plain_from false (b ∷ text)
+    → concat (texts_of (pieces_after at (piece ++ b ∷ []) text)) ≡ (piece ++ b ∷ []) ++ plain_from false text
+    → concat (texts_of (pieces_after at piece (b ∷ text))) ≡ piece ++ plain_from false (b ∷ text)
 byte_kept at b piece text true same later longer =
     rw (sym same) (joined_piece at piece _ ∙ ap (λ rest. piece ++ rest) later)
 byte_kept at b piece text false same later longer =
     rw (sym same) (longer ∙ append_assoc piece (b ∷ []) (plain_from false text))
 
 byte_left : (at b : ℕ) (text : List ℕ) (ends : Bool) → ends ≡ ends_stretch b
-    → concat (texts_of (pieces_behind (at + 1) [] text)) ≡ plain_from false text
+    → concat (texts_of (pieces_after (at + 1) [] text)) ≡ plain_from false text
     → concat (texts_of (pieces_within (at + 1) text)) ≡ plain_from true text
     → concat (texts_of (pieces_within at (b ∷ text))) ≡ plain_from true (b ∷ text)
 byte_left at b text true same outside inside = rw (sym same) outside
 byte_left at b text false same outside inside = rw (sym same) inside
 
 mutual
-  joined_behind : (at : ℕ) (piece text : List ℕ) →
-      concat (texts_of (pieces_behind at piece text)) ≡ piece ++ plain_from false text
-  joined_behind at piece [] =
+  joined_after : (at : ℕ) (piece text : List ℕ) →
+      concat (texts_of (pieces_after at piece text)) ≡ piece ++ plain_from false text
+  joined_after at piece [] =
       ap (λ only. concat (texts_of only)) (sym (append-nil (piece_at at piece))) ∙ joined_piece at piece []
-  joined_behind at piece (b ∷ text) =
+  joined_after at piece (b ∷ text) =
       byte_kept at b piece text (begins_stretch b) refl
-      (joined_within (at + length piece + 1) text) (joined_behind at (piece ++ b ∷ []) text)
+      (joined_within (at + length piece + 1) text) (joined_after at (piece ++ b ∷ []) text)
 
   joined_within : (at : ℕ) (text : List ℕ) → concat (texts_of (pieces_within at text)) ≡ plain_from true text
   joined_within at [] = refl
   joined_within at (b ∷ text) =
-      byte_left at b text (ends_stretch b) refl (joined_behind (at + 1) [] text) (joined_within (at + 1) text)
+      byte_left at b text (ends_stretch b) refl (joined_after (at + 1) [] text) (joined_within (at + 1) text)
 
 pub pieces_joined : (capture : List ℕ) → concat (texts_of (pieces_from 0 capture)) ≡ without_stretches capture
-pieces_joined capture = joined_behind 0 [] capture
+pieces_joined capture = joined_after 0 [] capture
 
 -- The pieces that an iterator over a whole capture has yet to return are the pieces of the capture.
 pub whole_are : (capture : List ℕ) (len : ℕ) → len ≡ length capture →

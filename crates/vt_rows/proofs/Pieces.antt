@@ -2,7 +2,7 @@
 use Rattle.std.proofs.Common.{◌≡◌, ◌≢◌, ℕ, suc, ◌+◌, ◌<◌, false, List, [], ◌∷◌, ◌++◌, length}
 use Rattle.std.proofs.Common.{get_or, refl, sym, ap, ◌∙◌, append_assoc, append-nil, arith}
 use Rattle.std.proofs.lemmas.Bool.{ne_eqb}
-use Rattle.vt_rows.specs.Internals.{piece_at, pieces_behind, pieces_within, pieces_from}
+use Rattle.vt_rows.specs.Internals.{piece_at, pieces_after, pieces_from, pieces_within}
 use Rattle.vt_rows.specs.Pieces.{Piece}
 use Rattle.vt_rows.specs.Stretches.{begins_stretch, ends_stretch}
 
@@ -34,25 +34,25 @@ within_over at (b ∷ inside) rest h =
     rw (no_end b inside h)
     (within_over (at + 1) inside rest (others_lack 0x6D b inside h) ∙ ap (λ n. pieces_from n rest) e)
 
-pub behind_to_end : (at : ℕ) (piece text : List ℕ) → Lacks 0x1B text →
-    pieces_behind at piece text ≡ piece_at at (piece ++ text)
-behind_to_end at piece [] h = ap (piece_at at) (sym (append-nil piece))
-behind_to_end at piece (b ∷ text) h =
+pub after_to_end : (at : ℕ) (piece text : List ℕ) → Lacks 0x1B text →
+    pieces_after at piece text ≡ piece_at at (piece ++ text)
+after_to_end at piece [] h = ap (piece_at at) (sym (append-nil piece))
+after_to_end at piece (b ∷ text) h =
     rw (no_begin b text h)
-    (behind_to_end at (piece ++ b ∷ []) text (others_lack 0x1B b text h)
+    (after_to_end at (piece ++ b ∷ []) text (others_lack 0x1B b text h)
     ∙ ap (piece_at at) (append_assoc piece (b ∷ []) text))
 
-pub behind_over : (at : ℕ) (piece text rest : List ℕ) → Lacks 0x1B text →
-    pieces_behind at piece (text ++ 0x1B ∷ rest)
+pub after_over : (at : ℕ) (piece text rest : List ℕ) → Lacks 0x1B text →
+    pieces_after at piece (text ++ 0x1B ∷ rest)
     ≡ piece_at at (piece ++ text) ++ pieces_within (at + length (piece ++ text) + 1) rest
-behind_over at piece [] rest h = rw (append-nil piece) refl
-behind_over at piece (b ∷ text) rest h =
+after_over at piece [] rest h = rw (append-nil piece) refl
+after_over at piece (b ∷ text) rest h =
     rw (no_begin b text h)
-    (behind_over at (piece ++ b ∷ []) text rest (others_lack 0x1B b text h)
+    (after_over at (piece ++ b ∷ []) text rest (others_lack 0x1B b text h)
     ∙ ap (λ whole. piece_at at whole ++ pieces_within (at + length whole + 1) rest) (append_assoc piece (b ∷ []) text))
 
 -- The pieces of a text that is split at its first ESC.
 pub pieces_over : (at : ℕ) (text rest : List ℕ) → Lacks 0x1B text → (later : List Piece) →
     pieces_within (at + length text + 1) rest ≡ later → pieces_from at (text ++ 0x1B ∷ rest) ≡ piece_at at text ++ later
 pieces_over at text rest h later e =
-    behind_over at [] text rest h ∙ ap (λ (pieces : List Piece). piece_at at text ++ pieces) e
+    after_over at [] text rest h ∙ ap (λ (pieces : List Piece). piece_at at text ++ pieces) e

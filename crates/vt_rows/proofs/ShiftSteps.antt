@@ -139,9 +139,9 @@ grown_is n cells p le =
 
 -- ---- Inserted
 
-pub inserted_behind : (c : ℕ) (cells : List CellValue) → IsPaired cells →
+pub inserted_after : (c : ℕ) (cells : List CellValue) → IsPaired cells →
     is_right_half (at cells (insert_column c cells)) ≡ false
-inserted_behind c cells p = by_half (is_right_half (at cells c)) refl where
+inserted_after c cells p = by_half (is_right_half (at cells c)) refl where
   by_half : (b : Bool) → is_right_half (at cells c) ≡ b → is_right_half (at cells (if b then c + 1 else c)) ≡ false
   by_half true e = let h = p.halves c in let n = not_both (at cells c) in grind (arith)
   by_half false e = e
@@ -265,7 +265,7 @@ pub insert_code : (c n s m : ℕ) (cells slid new : List CellValue) → IsPaired
 unfolding cells_after_insert
 insert_code c n s m cells slid new p is le e l before behind b =
     let rs : is_right_half (at cells s) ≡ false =
-    ap (λ (j : ℕ). is_right_half (at cells j)) is ∙ inserted_behind c cells p in
+    ap (λ (j : ℕ). is_right_half (at cells j)) is ∙ inserted_after c cells p in
     let size : length new ≡ m = ap length b ∙ length-replicate m default_blank in
     let fits : s + m ≤ length slid = omega arith in
     insert_steps s n cells (put_mid s m slid new) p le rs (length-put_mid s m slid new size fits ∙ l)

@@ -10,7 +10,7 @@ pub record Written : Type 0 where
   pub attrs : Attrs
   pub is_due : Bool
 
--- The initial state of a capture, before any text is written.
+-- The initial state of a capture, before any text is written: default attributes, and no newline due.
 abbrev pub nothing_written : Written
 nothing_written = record { attrs = default_attrs; is_due = false }
 
@@ -29,8 +29,8 @@ shown_text right_half = []
 abbrev pub attrs_after : Attrs → CellValue → Attrs
 attrs_after attrs cell = if is_bare cell then attrs else attrs_of cell
 
--- The text of a list of cells, each preceded by the SGR change to the cell's attributes. Default blanks and
--- continuation cells don't change the attributes.
+-- The text of a list of cells. The text of each cell is preceded by the SGR sequence that changes the current
+-- attributes to those of the cell. Default blanks and continuation cells don't change the attributes.
 abbrev pub cells_text : Attrs → List CellValue → List ℕ
 cells_text attrs [] = []
 cells_text attrs (cell ∷ cells) =
@@ -45,7 +45,8 @@ attrs_after_all attrs (cell ∷ cells) = attrs_after_all (attrs_after attrs cell
 abbrev pub basic_text : Written → RowValue → List ℕ
 basic_text written row = (if written.is_due then 0x0A ∷ [] else []) ++ cells_text written.attrs (cells_without_end row.cells)
 
--- The state of a capture after a row is written: a newline is due unless the row is wrapped.
+-- The state of a capture after a row is written: the attributes are those after the row's cells, and a newline is due
+-- unless the row is wrapped.
 abbrev pub written_after : Written → RowValue → Written
 written_after written row =
     record { attrs = attrs_after_all written.attrs (cells_without_end row.cells); is_due = not row.wrapped }

@@ -10,7 +10,7 @@ use Rattle.vt_cells.specs.Attrs.{Attrs}
 abbrev pub at : List CellValue → ℕ → CellValue
 at cells k = slice_index_or cells k default_blank
 
--- The cells of a row with the given number of columns; the function maps a column's index to the column's cell.
+-- `by_column n f` is the row of `n` cells whose cell at column `k` is `f k`.
 abbrev pub by_column : ℕ → (ℕ → CellValue) → List CellValue
 by_column n f = map f (range_with_len 0 n)
 
@@ -19,7 +19,7 @@ pub record IsPaired (cells : List CellValue) : Type 0 where
   pub halves : (k : ℕ) → is_wide (at cells k) ≡ is_right_half (at cells (k + 1))
   pub first : is_right_half (at cells 0) ≡ false
 
--- The last column of the row is blank.
+-- The last cell of the row is a blank, or the row has no cells.
 abbrev pub ends_blank : List CellValue → Bool
 ends_blank cells = is_blank (at cells (length cells - 1))
 
@@ -66,13 +66,15 @@ column_of c n orphan new cells k =
     else if (k == c + n) && is_right_half (at cells k) then orphan
     else at cells k
 
--- The cells that result from writing a narrow glyph at the given column. A continuation cell that loses its wide glyph
--- becomes a space with the attributes of the new glyph.
+-- `put_narrow c text attrs cells` is the row `cells` after a narrow glyph is written at column `c`. An old wide glyph
+-- that loses its continuation cell becomes a blank with its own attributes. A continuation cell that loses its wide
+-- glyph becomes a space with the attributes of the new glyph.
 abbrev pub put_narrow : ℕ → List ℕ → Attrs → List CellValue → List CellValue
 put_narrow c text attrs cells = put_cells c (glyph (0x20 ∷ []) false attrs) (glyph text false attrs ∷ []) 1 cells
 
--- The cells that result from writing a wide glyph at the given column and the next one. A continuation cell that loses
--- its own wide glyph becomes a blank with the attributes of the new glyph.
+-- `put_wide c text attrs cells` is the row `cells` after a wide glyph is written at columns `c` and `c + 1`. An old
+-- wide glyph that loses its continuation cell becomes a blank with its own attributes. An old continuation cell that
+-- loses its wide glyph becomes a blank with the attributes of the new glyph.
 abbrev pub put_wide : ℕ → List ℕ → Attrs → List CellValue → List CellValue
 put_wide c text attrs cells = put_cells c (blank attrs) (glyph text true attrs ∷ right_half ∷ []) 2 cells
 
@@ -87,22 +89,22 @@ cells_after_erase c n attrs cells = put_cells c default_blank (blanks attrs n) n
 abbrev pub marked_at : ℕ → ℕ → List CellValue → List CellValue
 marked_at k mark cells = slice_set cells k (cell_with_mark mark (at cells k))
 
--- The cells of a row in which the narrow glyph at the given column has become wide. If the new continuation cell
--- overwrites the first cell of another wide glyph, that glyph's continuation cell becomes a blank with the given
--- attributes.
+-- `widened_at k attrs cells` is the row `cells` after the narrow glyph at column `k` becomes wide. If its continuation
+-- cell overwrites the first cell of another wide glyph, that glyph's own continuation cell becomes a blank with
+-- attributes `attrs`.
 abbrev pub widened_at : ℕ → Attrs → List CellValue → List CellValue
 widened_at k attrs cells = put_cells k (blank attrs) (cell_made_wide true (at cells k) ∷ right_half ∷ []) 2 cells
 
--- The cells of a row in which the wide glyph at the given column has become narrow. The glyph's continuation cell has
--- become a space with the given attributes.
+-- `narrowed_at k attrs cells` is the row `cells` after the wide glyph at column `k` becomes narrow. The glyph's
+-- continuation cell becomes a space with attributes `attrs`.
 abbrev pub narrowed_at : ℕ → Attrs → List CellValue → List CellValue
 narrowed_at k attrs cells = put_cells k (glyph (0x20 ∷ []) false attrs) (cell_made_wide false (at cells k) ∷ []) 1 cells
 
 -- ---- Moves of columns: column `k` is the former column `source k`, or a default blank if that index is past the end
 
--- `moved_at n source cells k` is column `k` of the row of `n` columns that results from moving the columns of `cells`.
--- The function `source` maps each column to the column that its cell came from. A cell that is no longer next to the
--- other cell of its wide glyph becomes a blank with the cell's own attributes.
+-- `moved_at n source cells k` is column `k` of the row of `n` columns that results from moving the columns of `cells`:
+-- the cell that was at column `source k`, or a default blank if that column is past the end. A cell that is no longer
+-- next to the other cell of its wide glyph becomes a blank with the cell's own attributes.
 abbrev pub moved_at : ℕ → (ℕ → ℕ) → List CellValue → ℕ → CellValue
 moved_at n source cells k =
     if is_wide (at cells (source k)) && not (nat_lt (k + 1) n && (source (k + 1) == source k + 1))
@@ -110,8 +112,8 @@ moved_at n source cells k =
     else if is_right_half (at cells (source k)) && not (source k == source (k - 1) + 1) then default_blank
     else at cells (source k)
 
--- `cells_after_move n source cells` is the row of `n` columns that results from moving the columns of `cells`. The
--- function `source` maps each column to the column that its cell came from. A cell that is no longer next to the other
+-- `cells_after_move n source cells` is the row of `n` columns whose column `k` holds the cell that was at column
+-- `source k` of `cells`, or a default blank if that column is past the end. A cell that is no longer next to the other
 -- cell of its wide glyph becomes a blank.
 unfoldable pub cells_after_move : ℕ → (ℕ → ℕ) → List CellValue → List CellValue
 cells_after_move n source cells = by_column n (moved_at n source cells)
@@ -130,16 +132,18 @@ insert_source past c n k = if nat_lt k c then k else if nat_lt k (c + n) then pa
 abbrev pub delete_source : ℕ → ℕ → ℕ → ℕ
 delete_source c n k = if nat_lt k c then k else k + n
 
--- `cells_after_insert c n cells` is the row `cells` after `n` default blanks are inserted at column `c` (ICH). Cells
--- that are pushed past the end are lost.
+-- `cells_after_insert c n cells` is the row `cells` after `n` default blanks are inserted at column `c` (ICH), or at
+-- the next column if column `c` holds a continuation cell. Cells that are pushed past the end are lost; a wide glyph
+-- that loses its continuation cell becomes a blank.
 unfoldable pub cells_after_insert : ℕ → ℕ → List CellValue → List CellValue
 cells_after_insert c n cells = cells_after_move (length cells) (insert_source (length cells) (insert_column c cells) n) cells
 
--- `cells_after_delete c n cells` is the row `cells` after `n` columns, starting at column `c`, are deleted (DCH).
--- Default blanks fill the end of the row.
+-- `cells_after_delete c n cells` is the row `cells` after `n` columns, starting at column `c`, are deleted (DCH). If
+-- only one cell of a wide glyph is deleted, the other cell becomes a blank. Default blanks fill the end of the row.
 unfoldable pub cells_after_delete : ℕ → ℕ → List CellValue → List CellValue
 cells_after_delete c n cells = cells_after_move (length cells) (delete_source c n) cells
 
--- The cells of a row, truncated or extended to the given number of columns.
+-- The cells of a row, truncated or extended with default blanks to the given number of columns. A wide glyph that loses
+-- its continuation cell becomes a blank.
 unfoldable pub cells_after_resize : ℕ → List CellValue → List CellValue
 cells_after_resize n cells = cells_after_move n (λ k. k) cells

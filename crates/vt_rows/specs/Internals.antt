@@ -23,8 +23,7 @@ left_blanked c cells =
 unfoldable pub right_replaced : ℕ → CellValue → List CellValue → List CellValue
 right_replaced c cell cells = if is_wide (at cells c) then slice_set cells (c + 1) cell else cells
 
--- If the given column holds the first cell of a wide glyph, there is a further column for the glyph's continuation
--- cell.
+-- If the given column holds the first cell of a wide glyph, it is not the last column of the row.
 abbrev pub HasRoom : ℕ → List CellValue → Type 0
 HasRoom c cells = is_wide (at cells c) ≡ true → c + 1 < length cells
 
@@ -47,8 +46,8 @@ pub record Gathers (before buffer text after left : List ℕ) : Type 0 where
   pub bytes : buffered_text after left ≡ buffered_text before buffer ++ text
   pub grows : length before ≤ length after
 
--- The SGR change from the current attributes to those of a cell, followed by the text of the cell. A default blank or
--- continuation cell doesn't change the attributes.
+-- The SGR sequence that changes the current attributes to those of a cell, followed by the text of the cell. A default
+-- blank or continuation cell doesn't change the attributes.
 abbrev pub cell_text : Attrs → CellValue → List ℕ
 cell_text attrs cell = change_text attrs (attrs_after attrs cell) ++ shown_text cell
 
@@ -65,31 +64,32 @@ piece_at at (b ∷ text) = (at, b ∷ text) ∷ []
 abbrev mutual
   -- The plain-text pieces formed by an unfinished piece and the text after it. The unfinished piece begins at the given
   -- byte index.
-  pub pieces_behind : ℕ → List ℕ → List ℕ → List Piece
-  pieces_behind at piece [] = piece_at at piece
-  pieces_behind at piece (b ∷ text) =
+  pub pieces_after : ℕ → List ℕ → List ℕ → List Piece
+  pieces_after at piece [] = piece_at at piece
+  pieces_after at piece (b ∷ text) =
       if begins_stretch b then piece_at at piece ++ pieces_within (at + length piece + 1) text
-      else pieces_behind at (piece ++ b ∷ []) text
+      else pieces_after at (piece ++ b ∷ []) text
 
   -- The plain-text pieces in the remaining text of a capture. The remaining text begins inside an SGR sequence, at the
   -- given byte index.
   pub pieces_within : ℕ → List ℕ → List Piece
   pieces_within at [] = []
-  pieces_within at (b ∷ text) = if ends_stretch b then pieces_behind (at + 1) [] text else pieces_within (at + 1) text
+  pieces_within at (b ∷ text) = if ends_stretch b then pieces_after (at + 1) [] text else pieces_within (at + 1) text
 
 -- The plain-text pieces in the remaining text of a capture. The remaining text begins outside SGR sequences, at the
 -- given byte index.
 abbrev pub pieces_from : ℕ → List ℕ → List Piece
-pieces_from at text = pieces_behind at [] text
+pieces_from at text = pieces_after at [] text
 
--- The rows of the given width that are formed by an unfinished row and the characters that follow this row. A newline
--- ends a row and is dropped, and a character that doesn't fit in the width begins the next row.
-abbrev pub rows_behind : ℕ → List ℕ → List ℕ → List (List ℕ)
-rows_behind width row [] = row ∷ []
-rows_behind width row (c ∷ text) = if ends_row row c then row ∷ rows_behind width [] text
-    else if overflows width row c then row ∷ rows_behind width (c ∷ []) text
-    else rows_behind width (row ++ c ∷ []) text
+-- `rows_after width row text` is the list of rows that results from splitting the characters `text` into rows of
+-- `width` columns, starting on the unfinished row `row`. A newline outside SGR sequences ends a row and is dropped; a
+-- character that doesn't fit in the width begins the next row.
+abbrev pub rows_after : ℕ → List ℕ → List ℕ → List (List ℕ)
+rows_after width row [] = row ∷ []
+rows_after width row (c ∷ text) = if ends_row row c then row ∷ rows_after width [] text
+    else if overflows width row c then row ∷ rows_after width (c ∷ []) text
+    else rows_after width (row ++ c ∷ []) text
 
 -- The rows of the given width that the remaining text of a capture forms, in order; the last row may be empty.
 abbrev pub rows_of : ℕ → List ℕ → List (List ℕ)
-rows_of width text = map encode_utf8_all (rows_behind width [] (chars text))
+rows_of width text = map encode_utf8_all (rows_after width [] (chars text))

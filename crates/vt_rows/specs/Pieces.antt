@@ -3,11 +3,11 @@ use Rattle.std.specs.Prelude.{◌≡◌, ◌≢◌, ◌<◌, ◌≤◌, ◌↔�
 use Rattle.std.specs.Prelude.{◌∷◌, ◌+◌, length, take, drop, map, if◌then◌else◌, ⊤}
 use Rattle.vt_rows.specs.Stretches.{IsInStretch, begins_stretch, is_within_after}
 
--- A slice of a capture, together with the number of bytes before the slice.
+-- A piece of a capture: the byte index at which it begins, and its bytes.
 abbrev pub Piece : Type 0
 Piece = ℕ × List ℕ
 
--- The index of the end of a piece in the capture.
+-- The byte index in the capture at which a piece ends.
 abbrev pub piece_end : Piece → ℕ
 piece_end piece = piece.0 + length piece.1
 
@@ -24,15 +24,15 @@ IsInSome k (piece ∷ pieces) = IsIn k piece ⊎ IsInSome k pieces
 abbrev pub IsPieceOf : List ℕ → Piece → Type 0
 IsPieceOf capture piece = (piece.1 ≢ []) × (take (length piece.1) (drop piece.0 capture) ≡ piece.1)
 
--- The pieces are nonempty slices of the capture, are in order, begin at or after the given byte, and are separated by
--- at least one byte.
+-- The pieces are nonempty slices of the capture, are in order, begin at or after the given byte index, and are
+-- separated by at least one byte.
 abbrev pub AreApart : List ℕ → ℕ → List Piece → Type 0
 AreApart capture at [] = ⊤
 AreApart capture at (piece ∷ pieces) =
     IsPieceOf capture piece × (at ≤ piece.0) × AreApart capture (piece_end piece + 1) pieces
 
--- The pieces are the plain text of the capture: a byte is in one of the pieces if and only if it is not in an SGR
--- sequence.
+-- The pieces are the plain text of the capture: nonempty slices, in order and separated by at least one byte. A byte is
+-- in one of them if and only if it is not in an SGR sequence.
 pub record ArePiecesOf (capture : List ℕ) (pieces : List Piece) : Type 0 where
   pub apart : AreApart capture 0 pieces
   pub plain : (k : ℕ) → k < length capture → IsInSome k pieces ↔ ¬ (IsInStretch capture k)

@@ -11,7 +11,7 @@ use Rattle.vt_rows.specs.Cells.{cells_after_cut}
 abbrev pub columns_between : (start stop : ℕ) → List CellValue → List CellValue
 columns_between start stop cells = cells_after_cut default_blank (drop start (take stop cells))
 
--- The cells up to and including the last glyph.
+-- The cells up to and including the last glyph; none if there is no glyph.
 abbrev pub up_to_last_glyph : List CellValue → List CellValue
 up_to_last_glyph [] = []
 up_to_last_glyph (cell ∷ cells) = if list_any is_glyph (cell ∷ cells) then cell ∷ up_to_last_glyph cells else []

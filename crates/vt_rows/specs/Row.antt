@@ -14,13 +14,13 @@ pub record RowValue : Type 0 where
 abbrev pub blank_row : Attrs → ℕ → RowValue
 blank_row attrs width = record { cells = blanks attrs width; wrapped = false }
 
--- The row after printing or erasing replaces its cells with the given cells. The wrapped flag is cleared if the last
--- column is now blank.
+-- The row with its cells replaced by the given cells, as when text is printed or erased. The wrapped flag is cleared if
+-- the last cell is now a blank.
 abbrev pub with_cells : RowValue → List CellValue → RowValue
 with_cells row cells = record { cells = cells; wrapped = row.wrapped && not (ends_blank cells) }
 
--- The invariant of every row of a page: the row has the page's width, its wide glyphs are complete, its wrapped flag is
--- clear if its last column is blank, and its cells are valid.
+-- The row is valid: it has `width` columns, wide glyphs and continuation cells occur only in pairs, the row is not
+-- wrapped if its last column is blank, and its cells are valid.
 pub record IsRow (width : ℕ) (row : RowValue) : Type 0 where
   pub columns : length row.cells ≡ width
   pub paired : IsPaired row.cells
@@ -37,8 +37,8 @@ inserted_row c n row = record { cells = cells_after_insert c n row.cells; wrappe
 abbrev pub deleted_row : ℕ → ℕ → RowValue → RowValue
 deleted_row c n row = record { cells = cells_after_delete c n row.cells; wrapped = false }
 
--- The row, truncated or extended to the given number of columns. The wrapped flag is cleared if the row's width
--- changes.
+-- The row, truncated or extended with default blanks to the given number of columns. The wrapped flag is cleared if the
+-- row's width changes.
 abbrev pub resized_row : ℕ → RowValue → RowValue
 resized_row n row = record { cells = cells_after_resize n row.cells; wrapped = row.wrapped && (length row.cells == n) }
 

@@ -6,7 +6,7 @@ use Rattle.vt_cells.specs.Cell.{CellValue, glyph}
 use Rattle.vt_cells.specs.Glyph.{columns_of}
 use Rattle.vt_rows.specs.Cells.{put_cells}
 
--- The bytes are printable ASCII, each a character of one column.
+-- All bytes are printable ASCII, from 0x20 to 0x7E.
 abbrev pub IsPrintableAscii : List ℕ → Type 0
 IsPrintableAscii text = All (λ b. (0x20 ≤ b) × (b < 0x7F)) text
 
@@ -26,7 +26,8 @@ narrow_glyph attrs c = glyph (encode_utf8 c) false attrs
 abbrev pub glyphs_of : Attrs → List ℕ → List CellValue
 glyphs_of attrs text = map (narrow_glyph attrs) text
 
--- The cells that result from writing the narrow glyphs of a string, starting at the given column. A continuation cell
--- that loses its wide glyph becomes a space with the attributes of the new glyphs.
+-- `put_text c text attrs cells` is the row `cells` after the narrow glyphs of `text` are written, starting at column
+-- `c`. An old wide glyph that loses its continuation cell becomes a blank with its own attributes. A continuation cell
+-- that loses its wide glyph becomes a space with attributes `attrs`.
 abbrev pub put_text : ℕ → List ℕ → Attrs → List CellValue → List CellValue
 put_text c text attrs cells = put_cells c (glyph (0x20 ∷ []) false attrs) (glyphs_of attrs text) (length text) cells

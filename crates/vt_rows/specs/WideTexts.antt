@@ -23,12 +23,14 @@ abbrev pub wide_glyphs_of : Attrs → List ℕ → List CellValue
 wide_glyphs_of attrs [] = []
 wide_glyphs_of attrs (c ∷ text) = wide_glyph attrs c ∷ right_half ∷ wide_glyphs_of attrs text
 
--- The cells that result from writing the wide glyphs of a string, starting at the given column. A continuation cell
--- that loses its own wide glyph becomes a blank with the attributes of the new glyphs.
+-- `put_wide_text c text attrs cells` is the row `cells` after the wide glyphs of `text` are written, starting at column
+-- `c`. An old wide glyph that loses its continuation cell becomes a blank with its own attributes. An old continuation
+-- cell that loses its wide glyph becomes a blank with attributes `attrs`.
 abbrev pub put_wide_text : ℕ → List ℕ → Attrs → List CellValue → List CellValue
 put_wide_text c text attrs cells = put_cells c (blank attrs) (wide_glyphs_of attrs text) (2 * length text) cells
 
--- The cells that result from writing each character of a string in turn with `put_wide`, starting at the given column.
+-- `put_each_wide c text attrs cells` is the row `cells` after the characters of `text` are written one after the other
+-- with `put_wide`, starting at column `c`.
 abbrev pub put_each_wide : ℕ → List ℕ → Attrs → List CellValue → List CellValue
 put_each_wide c [] attrs cells = cells
 put_each_wide c (x ∷ text) attrs cells = put_each_wide (c + 2) text attrs (put_wide c (encode_utf8 x) attrs cells)

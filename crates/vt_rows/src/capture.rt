@@ -67,16 +67,20 @@ impl<'a> RowContents<'a> {
     }
 }
 
-/// Creates the contents of a row from its cells and its wrapped flag.
+/// Creates the contents of a row that borrows `cells`. The row is wrapped (its text continues on
+/// the next row) if `wrapped` is true.
+///
+/// Every wide glyph must be followed by its continuation cell, and a wrapped row must not end with
+/// a blank.
 #[inline]
-pub fn lent<'a>(cells: &'a [Cell], wrapped: bool) -> RowContents<'a>
+pub fn row_contents<'a>(cells: &'a [Cell], wrapped: bool) -> RowContents<'a>
     requires { IsRow (length cells.now) (record { cells = cells.now; wrapped = wrapped }) }
     ensures { result ≡ record { cells = cells.now; wrapped = wrapped } }
 {
     RowContents { cells, wrapped }
 }
 
-/// Returns a reference to the cells of a row, with the lifetime of the borrowed row.
+/// Returns the cells of a row. The returned reference can outlive `row`.
 #[inline]
 pub fn cells_of<'a>(row: &RowContents<'a>) -> &'a [Cell]
     ensures { result.now ≡ row.now.cells }
@@ -97,7 +101,7 @@ pub fn cell_of<'a>(row: &RowContents<'a>, column: usize) -> Option<&'a Cell>
     }
 }
 
-/// Returns the row without the default blanks at its end.
+/// Returns the row without its trailing default blanks, which are blanks with default attributes.
 pub fn trimmed<'a>(row: &RowContents<'a>) -> RowContents<'a>
     ensures { result ≡ trimmed_row row.now }
 {
@@ -114,6 +118,6 @@ impl Row {
         requires { IsRow (length self.now.cells) self.now }
         ensures { result ≡ self.now }
     {
-        lent(self.cells(), self.wrapped())
+        row_contents(self.cells(), self.wrapped())
     }
 }

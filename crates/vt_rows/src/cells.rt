@@ -43,8 +43,8 @@ pub fn put_narrow(cells: &mut [Cell], column: usize, c: char, attrs: Attrs)
     cell::set_glyph(cell, c, false, attrs);
 }
 
-/// Puts the bytes of `text`, which must be printable ASCII, at consecutive columns as narrow
-/// glyphs.
+/// Puts the bytes of `text` as narrow glyphs at consecutive columns, starting at `column`. The text
+/// must be printable ASCII and must not be empty.
 ///
 /// The result is the same as that of calling [`put_narrow`] for each byte. If the first column held
 /// the continuation cell of a wide glyph, the first cell of that glyph becomes a blank and keeps
@@ -85,7 +85,8 @@ fn write_text(cells: &mut [Cell], text: &[u8], attrs: Attrs)
 }
 
 /// Sets each cell to the narrow glyph for the corresponding byte of `text`, which must be printable
-/// ASCII. The lengths of the old texts are tested together.
+/// ASCII. A single test determines whether every cell has at most seven bytes of text before it is
+/// overwritten.
 #[inline(always)]
 fn write_group(cells: &mut [Cell], text: &[u8], attrs: Attrs)
     requires same { length cells.old ≡ length text.now }
@@ -100,10 +101,10 @@ fn write_group(cells: &mut [Cell], text: &[u8], attrs: Attrs)
 }
 
 /// Sets each cell to the narrow glyph for the corresponding byte of `text`, which must be printable
-/// ASCII. Called if a cell has long text, which few have.
+/// ASCII. Called if a cell has more than seven bytes of text, which is rare.
 ///
-/// This function is kept out of line: when it is inlined, the text lengths of the group are not
-/// combined.
+/// This function is kept out of line: if it is inlined, the compiler no longer combines the text
+/// lengths of the cells into one word to test them.
 #[inline(never)]
 fn write_long(cells: &mut [Cell], text: &[u8], attrs: Attrs)
     requires same { length cells.old ≡ length text.now }
@@ -142,7 +143,8 @@ fn write_each(cells: &mut [Cell], text: &[u8], attrs: Attrs)
     }
 }
 
-/// Puts the characters of `text` at consecutive columns as narrow glyphs.
+/// Puts the characters of `text` as narrow glyphs at consecutive columns, starting at `column`. The
+/// text must not be empty, and each character must take one column and not be U+FFFD.
 ///
 /// The result is the same as that of calling [`put_narrow`] for each character. If the first column
 /// held the continuation cell of a wide glyph, the first cell of that glyph becomes a blank and
@@ -197,8 +199,9 @@ pub fn put_wide(cells: &mut [Cell], column: usize, c: char, attrs: Attrs)
 
 /// Puts the wide glyph `cell` at `column`, and its continuation cell at the next column.
 ///
-/// Wide glyphs that are partly overwritten are handled as in [`put_wide`], with the attributes of
-/// `cell`.
+/// If the first column held the continuation cell of a wide glyph, the first cell of that glyph
+/// becomes a blank and keeps its attributes. If the second column held the first cell of a wide
+/// glyph, the continuation cell of that glyph becomes a blank with the attributes of `cell`.
 #[inline(always)]
 pub fn put_wide_cell(cells: &mut [Cell], column: usize, cell: Cell)
     requires paired { IsPaired cells.old }
@@ -214,7 +217,9 @@ pub fn put_wide_cell(cells: &mut [Cell], column: usize, cell: Cell)
     cell::set_right_half(&mut cells[column + 1]);
 }
 
-/// Puts the characters of `text` at consecutive pairs of columns as wide glyphs.
+/// Puts the characters of `text` as wide glyphs at consecutive pairs of columns, starting at
+/// `column`. The text must not be empty, and each character must take two columns and not be
+/// U+FFFD.
 ///
 /// The result is the same as that of calling [`put_wide`] for each character. If the first column
 /// held the continuation cell of a wide glyph, the first cell of that glyph becomes a blank and
@@ -271,7 +276,8 @@ pub fn lift(cells: &mut [Cell], column: usize, attrs: Attrs) -> Cell
 /// Adds the combining character `mark`, of width 0, to the cell at column `column`.
 ///
 /// A blank first becomes a space with the same attributes. A cell that already has
-/// [`MARK_LIMIT`](vt_cells::MARK_LIMIT) or more bytes of text is unchanged.
+/// [`MARK_LIMIT`](vt_cells::MARK_LIMIT) or more bytes of text is unchanged. The cell must not be a
+/// continuation cell: a combining character belongs to the first cell of a wide glyph.
 pub fn append(cells: &mut [Cell], column: usize, mark: char)
     requires inside { column < length cells.old }
     requires shown { is_right_half (at cells.old column) ≡ false }
@@ -351,8 +357,8 @@ fn clear_default(cells: &mut [Cell])
     clear_each(&mut cells[done..len], attrs);
 }
 
-/// Sets all cells to blanks with attributes `attrs`. The lengths of the old texts are tested
-/// together.
+/// Sets all cells to blanks with attributes `attrs`. A single test determines whether every cell
+/// has at most seven bytes of text before it is overwritten.
 #[inline(always)]
 fn clear_group(cells: &mut [Cell], attrs: Attrs)
     ensures { cells.new ≡ blanks attrs (length cells.old) }
@@ -378,8 +384,8 @@ fn clear_short(cells: &mut [Cell], attrs: Attrs)
 
 /// Sets all cells to blanks with attributes `attrs`, one by one.
 ///
-/// This function is kept out of line: when it is inlined in [`clear_group`], the text lengths of
-/// the group are not combined.
+/// This function is kept out of line: if it is inlined in [`clear_group`], the compiler no longer
+/// combines the text lengths of the cells into one word to test them.
 #[inline(never)]
 fn clear_each(cells: &mut [Cell], attrs: Attrs)
     ensures { cells.new ≡ blanks attrs (length cells.old) }
@@ -417,11 +423,10 @@ pub fn ends_blank(cells: &[Cell]) -> bool
     }
 }
 
-/// Returns whether a row is wrapped after an edit, which is the case if it was wrapped before and
-/// its last cell is not a blank. `wrapped` is true if the row was wrapped before the edit, and
-/// `cells` are its cells after the edit.
+/// Returns whether a row is still wrapped after an edit, that is, whether it was wrapped before the
+/// edit (`wrapped`) and its last cell is not a blank. `cells` are the cells after the edit.
 #[inline]
-pub fn flag_left(cells: &[Cell], wrapped: bool) -> bool
+pub fn is_still_wrapped(cells: &[Cell], wrapped: bool) -> bool
     ensures { result ≡ (wrapped && not (ends_blank cells.now)) }
 {
     wrapped && !ends_blank(cells)

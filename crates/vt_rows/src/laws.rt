@@ -11,7 +11,8 @@ pub fn pieces_are_one()
         ArePiecesOf capture pieces → ArePiecesOf capture others → pieces ≡ others }
 {}
 
-/// States that a capture and a terminal width uniquely determine the list of rows.
+/// States that a UTF-8 capture and a terminal width uniquely determine the list of the capture's
+/// rows.
 pub fn rows_are_one()
     ensures { (width : ℕ) (capture : List ℕ) (rows others : List Piece) → IsUtf8 capture →
         AreRowsOf width capture rows → AreRowsOf width capture others → rows ≡ others }

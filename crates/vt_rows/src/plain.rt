@@ -80,7 +80,7 @@ fn text_end(cells: &[Cell]) -> usize
     len
 }
 
-/// Returns whether the first cell is a continuation cell.
+/// Returns whether the first cell is a continuation cell. Returns `false` if there are no cells.
 fn begins_cut(cells: &[Cell]) -> bool
     ensures { result ≡ is_right_half (at cells.now 0) }
 {

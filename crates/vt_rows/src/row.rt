@@ -29,7 +29,7 @@ impl Model for Row {
 }
 
 impl Row {
-    /// Creates a row of default blanks that is not wrapped.
+    /// Creates a row of `columns` blanks with default attributes. The row is not wrapped.
     ///
     /// # Errors
     ///
@@ -61,8 +61,8 @@ impl Row {
         })
     }
 
-    /// Creates a row that is a copy of `cells` without the default blanks at their end. The row is
-    /// wrapped if `wrapped` is true.
+    /// Creates a row from a copy of `cells` without the trailing default blanks, which are blanks
+    /// with default attributes. The row is wrapped if `wrapped` is true.
     ///
     /// # Errors
     ///
@@ -100,8 +100,8 @@ impl Row {
         self.wrapped
     }
 
-    /// Passes the row to `leaving` and then reuses its memory: the row becomes a copy of `cells`
-    /// without the default blanks at their end, and is wrapped if `wrapped` is true.
+    /// Passes the row to `leaving` and then reuses the row's memory: the row becomes a copy of
+    /// `cells` without the trailing default blanks, and is wrapped if `wrapped` is true.
     ///
     /// # Errors
     ///
@@ -141,15 +141,14 @@ impl Row {
         requires paired { IsPaired from.cells }
         ensures { self.new ≡ resized_row (length self.old.cells) from }
     {
-        self.wrapped = flag_kept(from.wrapped, from.cells.len() == self.cells.len());
+        self.wrapped = is_wrapped_after_resize(from.wrapped, from.cells.len() == self.cells.len());
         trimming::refit(&mut self.cells, &from.cells);
     }
 }
 
-/// Returns whether a row is wrapped after it is resized. `wrapped` is true if it was wrapped
-/// before, and `same` is true if its width has not changed. A row whose width has changed is not
-/// wrapped.
-pub fn flag_kept(wrapped: bool, same: bool) -> bool
+/// Returns whether a row is still wrapped after it is resized, that is, whether it was wrapped
+/// before (`wrapped`) and its width has not changed (`same`).
+pub fn is_wrapped_after_resize(wrapped: bool, same: bool) -> bool
     ensures { result ≡ (wrapped && same) }
 {
     wrapped && same

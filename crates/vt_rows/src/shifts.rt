@@ -53,7 +53,8 @@ pub fn delete(cells: &mut [Cell], column: usize, count: usize)
 }
 
 /// Shifts the cells at and after `start` right by `count` columns. Cells that are pushed past the
-/// end of the row are lost, and the cells of the gap are left for the caller to overwrite.
+/// end of the row are lost. The cells in `start..start + count` are unspecified and must be
+/// overwritten by the caller.
 ///
 /// If `count` is 1, the cells are rotated: all but one of them move as one block of memory.
 /// Otherwise they are copied, because a rotation by more columns moves each cell several times.
@@ -73,10 +74,10 @@ fn open_gap(cells: &mut [Cell], start: usize, count: usize)
 }
 
 /// Shifts the cells at and after `column + count` left by `count` columns. The last `count` cells
-/// of the row are left for the caller to overwrite.
+/// of the row are unspecified and must be overwritten by the caller.
 ///
-/// As in [`open_gap`], the cells are rotated if `count` is 1 and copied otherwise, because only a
-/// rotation by one column is fast.
+/// If `count` is 1, the cells are rotated: all but one of them move as one block of memory.
+/// Otherwise they are copied, because a rotation by more columns moves each cell several times.
 fn close_gap(cells: &mut [Cell], column: usize, count: usize)
     requires inside { column + count ≤ length cells.old }
     ensures len { length cells.new ≡ length cells.old }

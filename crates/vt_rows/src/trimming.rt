@@ -10,7 +10,7 @@ ghost use Rattle.vt_rows.specs.Row.{cells_without_end};
 use crate::copies::copy_over;
 use vt_cells::{Attrs, Cell, cell};
 
-/// Returns the number of columns, not counting the default blanks at the end.
+/// Returns the number of cells in a row, not counting its trailing default blanks.
 pub fn trimmed_len(cells: &[Cell]) -> usize
     ensures inside { result ≤ length cells.now }
     ensures value { take result cells.now ≡ cells_without_end cells.now }
@@ -59,8 +59,8 @@ pub fn refit(cells: &mut [Cell], from: &[Cell])
     blank_end(cells);
 }
 
-/// If the last cell is the first cell of a wide glyph, turns it into a blank, which keeps the
-/// cell's attributes.
+/// Turns the last cell into a blank with the same attributes if it is the first cell of a wide
+/// glyph.
 #[tactic(auto, unfolding(crate::specs::Internals::end_blanked))]
 pub fn blank_end(cells: &mut [Cell])
     ensures { cells.new ≡ end_blanked cells.old }
@@ -75,7 +75,7 @@ pub fn blank_end(cells: &mut [Cell])
     }
 }
 
-/// Returns whether the cell is a default blank.
+/// Returns whether the cell is a default blank, that is, a blank with default attributes.
 #[inline]
 pub(crate) fn is_default(cell: &Cell) -> bool
     ensures { result ≡ is_default_blank cell.now }

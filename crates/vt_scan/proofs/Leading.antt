@@ -442,8 +442,8 @@ begins_opened old = record {
   intermediates = λ e. absurd cc;
 }
 
-begins_behind : (old led : ScannerValue) → Begins old led CsiEntry → Begins (opened old) led CsiEntry
-begins_behind old led begun = record {
+begins_after : (old led : ScannerValue) → Begins old led CsiEntry → Begins (opened old) led CsiEntry
+begins_after old led begun = record {
   kind = begun.kind;
   reads = begun.reads;
   text = λ e. ⊎_elim (λ (f : CsiEntry ≡ Ground). absurd cc) (λ (f : CsiEntry ≡ Escape). absurd cc) e;
@@ -460,4 +460,4 @@ opening_feeds old led new (a ∷ b ∷ bytes) n is none opens begun fed =
     feeds_first old (opened old) new a (b ∷ take n bytes)
     (escape_feeds old (opened old) a is none opens.first (begins_opened old))
     (feeds_first (opened old) led new b (take n bytes)
-    (bracket_feeds (opened old) led b refl opens.second (begins_behind old led begun)) fed)
+    (bracket_feeds (opened old) led b refl opens.second (begins_after old led begun)) fed)

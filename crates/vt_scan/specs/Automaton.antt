@@ -19,7 +19,7 @@ pub record State : Type 0 where
   pub kind : Kind
   pub collected : List ℕ
 
--- An event of the automaton: a character, a control, or a complete sequence or command.
+-- An event of the automaton: a character, a control character, or a complete sequence or command.
 pub data Event : Type 0 where
   -- A character to print.
   Character : (code : ℕ) → Event

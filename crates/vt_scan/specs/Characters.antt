@@ -11,7 +11,8 @@ is_within low high byte = nat_le low byte && nat_le byte high
 abbrev pub continues : ℕ → Bool
 continues byte = is_within 0x80 0xBF byte
 
--- The second byte can follow the first byte in the encoding of a character, if the first byte can begin a character.
+-- `is_second first byte` holds if `byte` can follow `first` in the UTF-8 encoding of a character, provided that `first`
+-- can be the first of two or more bytes.
 abbrev pub is_second : ℕ → ℕ → Bool
 is_second first byte =
     if first == 0xE0 then is_within 0xA0 0xBF byte

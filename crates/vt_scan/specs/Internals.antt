@@ -42,14 +42,14 @@ FitsEnding old new ending.OscDispatch = (old ≡ kinds.OscString) × ((new ≡ k
 FitsEnding old new ending.OscDispatchAndExecuted = (old ≡ kinds.OscString) × (new ≡ kinds.Ground)
 
 -- A transition from a state of the given kind is consistent: it collects bytes only within a sequence or within an
--- operating system command, and it dispatches a sequence or command only if it leaves that sequence or command.
+-- operating system command, and it take_dispatch a sequence or command only if it leaves that sequence or command.
 abbrev pub Fits : Kind → Transition → Type 0
 Fits old (Collect new) = (InSequence old × InSequence new) ⊎ ((old ≡ kinds.OscString) × (new ≡ kinds.OscString))
 Fits old Drop = Unit {0}
 Fits old Execute = Unit {0}
 Fits old (End new ending) = FitsEnding old new ending
 
--- The bytes of an incomplete character.
+-- The bytes of an incomplete character, as a list.
 abbrev pub bytes_in : Bytes → List ℕ
 bytes_in Zero = []
 bytes_in (One a) = a ∷ []
@@ -74,7 +74,7 @@ Extends old b Broken new = (is_character (old ++ b ∷ []) ≡ false) × (is_beg
 abbrev pub is_digit : ℕ → Bool
 is_digit b = nat_le 0x30 b && nat_le b 0x39
 
--- The byte does not end a skipped string: it is not CAN, SUB or ESC.
+-- The byte does not end an ignored control string (DCS, SOS, PM or APC): it is not CAN, SUB or ESC.
 abbrev pub IsUnended : ℕ → Type 0
 IsUnended b = (b ≢ 0x18) × (b ≢ 0x1A) × (b ≢ 0x1B)
 
@@ -84,14 +84,15 @@ pub record Opens (bytes : List ℕ) : Type 0 where
   pub first : slice_index_or bytes 0 0 ≡ 0x1B
   pub second : slice_index_or bytes 1 0 ≡ 0x5B
 
--- The numbers of a list from the first index up to the second, divided into consecutive groups. The list of indices
--- contains the end of each group except the last, which ends at the second index.
+-- `groups_from from ends len numbers` is the part of `numbers` from index `from` up to but not including index `len`,
+-- divided into consecutive groups. `ends` lists the index just past the last number of each group except the last
+-- group, which ends at `len`.
 abbrev pub groups_from : ℕ → List ℕ → ℕ → List ℕ → List (List ℕ)
 groups_from from [] len numbers = take (len - from) (drop from numbers) ∷ []
 groups_from from (to ∷ ends) len numbers = take (to - from) (drop from numbers) ∷ groups_from to ends len numbers
 
--- The first index, the listed indices at which groups end, and the total length are strictly ascending, so every group
--- has at least one number.
+-- The index `from`, the listed indices at which groups end, and the total length `len` are strictly ascending, so every
+-- group has at least one number.
 abbrev pub Ascends : ℕ → List ℕ → ℕ → Type 0
 Ascends from [] len = from < len
 Ascends from (to ∷ ends) len = (from < to) × Ascends to ends len

@@ -95,7 +95,7 @@ abbrev pub FeedsAll : ScannerValue → List ℕ → ScannerValue → List automa
 FeedsAll old bytes new events =
     (state : State) → StandsFor old state → StandsFor new (run state bytes).state × ((run state bytes).events ≡ events)
 
--- From every state that the scanner can be in, reading the given bytes produces no events.
+-- Reading the given bytes produces no events, whichever state the given scanner stands for.
 abbrev pub HasNoEvent : ScannerValue → List ℕ → Type 0
 HasNoEvent held bytes = (state : State) → StandsFor held state → (run state bytes).events ≡ []
 

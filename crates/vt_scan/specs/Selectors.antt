@@ -5,10 +5,10 @@ use Rattle.std.specs.List.{AllByRecursion}
 use Rattle.vt_scan.specs.Automaton.{State, Character}
 use Rattle.vt_scan.specs.Run.{run}
 
--- The bytes don't contain the sequence EF B8 8F.
+-- The bytes don't contain the sequence EF B8 8F, the UTF-8 encoding of U+FE0F.
 abbrev pub SpellsNoSelector : List ℕ → Type 0
 SpellsNoSelector bytes = (i : ℕ) → take 3 (drop i bytes) ≢ 0xEF ∷ 0xB8 ∷ 0x8F ∷ []
 
--- No event of a run over the given bytes is the character U+FE0F.
+-- Parsing the given bytes from the given state yields no event for the character U+FE0F.
 abbrev pub ReadsNoSelector : State → List ℕ → Type 0
 ReadsNoSelector state bytes = AllByRecursion (λ event. event ≢ Character 0xFE0F) (run state bytes).events

@@ -91,7 +91,7 @@ impl Scanner {
     /// # Errors
     ///
     /// Returns [`Error::OutOfMemory`] if the byte belongs to the text of an operating system
-    /// command and the allocation fails. On error, the scanner is unchanged, and the byte may be
+    /// command and memory for it cannot be allocated. On error, the scanner is unchanged, and the byte may be
     /// passed again.
     #[inline]
     pub fn feed(&mut self, byte: u8) -> Result<Events, Error>
@@ -106,7 +106,8 @@ impl Scanner {
         }
     }
 
-    /// States that every scanner represents at least one state of the automaton.
+    /// States that the scanner represents at least one state of the automaton. Does nothing when
+    /// called.
     pub fn stands(&self)
         ensures { ∥ ((state : State) × StandsFor self.now state) ∥₁ }
     {
@@ -122,8 +123,8 @@ impl Scanner {
         &self.parameters
     }
 
-    /// Returns the private marker and the intermediates of the sequence that the last event
-    /// reported. Returns only the first two bytes if there are more.
+    /// Returns the first two bytes, if any, among the private marker and the intermediates of the
+    /// sequence that the last event reported.
     #[inline]
     pub fn intermediates(&self) -> &[u8]
         ensures { result.now ≡ self.now.intermediates }
@@ -174,7 +175,7 @@ impl Scanner {
         }
     }
 
-    /// Parses a byte in the ground state.
+    /// Parses a byte in the ground state, and returns its events.
     #[inline]
     fn feed_ground(&mut self, byte: u8) -> Events
         requires { self.old.kind ≡ Kind.Ground }
@@ -193,7 +194,8 @@ impl Scanner {
         }
     }
 
-    /// Parses a byte in the ground state when no character is incomplete.
+    /// Parses a byte in the ground state when no character is incomplete, and returns the event,
+    /// if any.
     #[inline]
     fn feed_fresh(&mut self, byte: u8) -> Events
         requires kind { self.old.kind ≡ Kind.Ground }
@@ -217,12 +219,12 @@ impl Scanner {
         }
     }
 
-    /// Parses a byte inside a sequence.
+    /// Parses a byte in any state other than the ground state, and returns its events.
     ///
     /// # Errors
     ///
     /// Returns [`Error::OutOfMemory`] if the byte belongs to the text of an operating system
-    /// command and the allocation fails. On error, the scanner is unchanged.
+    /// command and memory for it cannot be allocated. On error, the scanner is unchanged.
     fn feed_sequence(&mut self, byte: u8) -> Result<Events, Error>
         requires { self.old.kind ≢ Kind.Ground }
         ensures fed { IfOk result (Feeds self.old byte self.new) }
@@ -244,12 +246,13 @@ impl Scanner {
         }
     }
 
-    /// Collects a byte and enters the state `kind`.
+    /// Adds a byte to the parameters, the intermediates or the text of an operating system command,
+    /// and enters the state `kind`.
     ///
     /// # Errors
     ///
     /// Returns [`Error::OutOfMemory`] if the byte belongs to the text of an operating system
-    /// command and the allocation fails. On error, the scanner is unchanged.
+    /// command and memory for it cannot be allocated. On error, the scanner is unchanged.
     fn collect(&mut self, kind: Kind, byte: u8) -> Result<(), Error>
         requires { Fits self.old.kind (Transition.Collect kind) }
         ensures kind { OnOk result (self.new.kind ≡ kind) }

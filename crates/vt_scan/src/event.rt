@@ -57,7 +57,8 @@ impl Events {
         }
     }
 
-    /// Returns `event`, followed by the first event of `events` if there is one.
+    /// Returns `event`, followed by the first event of `events` if there is one. A second event of
+    /// `events` is dropped.
     #[inline]
     pub fn after(event: Event, events: Events) -> Self
         ensures { result ≡ record { first = Some event; second = events.first } }

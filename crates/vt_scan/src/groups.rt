@@ -4,11 +4,12 @@ ghost use Rattle.std.specs.Prelude.{◌≡◌, ℕ, ◌<◌, ◌≤◌, List, []
 
 use std::marker::Model;
 
-/// The maximum number of parameters kept for a control sequence, and therefore also the maximum
-/// number of groups.
+/// The maximum number of numbers (parameters and subparameters) kept for a control sequence, and
+/// therefore also the maximum number of parameter groups.
 pub(crate) const MAX_NUMBERS: usize = 32;
 
-/// The parameter groups of a control sequence as slices, at most 32.
+/// The parameter groups of a control sequence, at most 32. Each group is a slice that holds a
+/// parameter and its subparameters.
 ///
 /// The slices are stored in a fixed-size array, so no memory is allocated.
 #[derive(Drop)]
@@ -37,7 +38,7 @@ impl<'a> Groups<'a> {
         }
     }
 
-    /// Appends a group. The list must have fewer than 32 groups.
+    /// Appends a parameter group. The list must have fewer than 32 groups.
     #[inline]
     pub fn push(&mut self, group: &'a [u16])
         requires { length self.old < 32 }

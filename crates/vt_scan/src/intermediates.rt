@@ -4,7 +4,7 @@ ghost use Rattle.std.specs.Prelude.{◌≡◌, ℕ, ◌≤◌, List, [], ◌∷�
 
 use std::marker::Model;
 
-/// The maximum number of intermediates kept, including the private marker.
+/// The maximum number of intermediates kept for a sequence, counting the private marker.
 const MAX_MARKS: usize = 2;
 
 /// A list that keeps the first two intermediates pushed to it. The private marker counts as an

@@ -25,9 +25,9 @@ pub fn pieces()
 
 /// States that the contents of a scanner determine how it parses all further input.
 ///
-/// From any two states that a scanner represents, the same bytes yield the same events. A scanner
-/// that represents the state reached from one of the two also represents the state reached from the
-/// other.
+/// If the contents of a scanner represent two states of the automaton, the same bytes yield the
+/// same events from both states. Contents that represent one of the two resulting states also
+/// represent the other.
 pub fn futures()
     ensures events { (held : ScannerValue) (s t : State) (bytes : List ℕ) → StandsFor held s →
         StandsFor held t → (run s bytes).events ≡ (run t bytes).events }
@@ -62,8 +62,8 @@ pub fn sequences()
         run start (csi (0x3F ∷ text) final) ≡ back_with (CsiDispatch (table_of text).groups (0x3F ∷ []) final ∷ []) }
 {}
 
-/// States that decimal numbers up to 65535 are parsed as written. An empty parameter is 0, and
-/// each of the numbers joined by `;` forms its own group.
+/// States that decimal numbers up to 65535 are parsed as written: each of up to 32 numbers joined
+/// by `;` forms its own group, and an empty parameter string yields the single number 0.
 pub fn numbers()
     ensures empty { (table_of []).groups ≡ (0 ∷ []) ∷ [] }
     ensures one { (n : ℕ) → n ≤ 65535 → (table_of (decimal n)).groups ≡ (n ∷ []) ∷ [] }

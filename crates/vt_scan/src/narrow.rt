@@ -34,7 +34,7 @@ pub fn narrow_characters(bytes: &[u8], text: &mut [char]) -> (usize, usize)
 
 /// Decodes the narrow character below U+3000 at the start of `bytes`. Returns the character and its
 /// length in bytes, or `None` if there is no such character. An ASCII character is decoded only if
-/// [`is_between`] returns `true`.
+/// at least one of the next two bytes is not ASCII (see [`is_between`]).
 #[inline(always)]
 fn narrow_character(bytes: &[u8]) -> Option<(char, usize)>
     ensures inside { IfSome result (λ found. found.1 ≤ length bytes.now) }

@@ -19,7 +19,7 @@ pub struct Parameters {
     numbers: [u16; MAX_NUMBERS],
     len: usize,
 
-    /// For each group except the last, the index in `numbers` at which the group ends.
+    /// For each group except the last, the index in `numbers` just past the group's last number.
     ends: [usize; MAX_NUMBERS],
     closed: usize,
 
@@ -76,7 +76,8 @@ impl Parameters {
         }
     }
 
-    /// Appends a digit to the last number.
+    /// Appends a decimal digit to the last number, which is clamped to 65535. Does nothing if
+    /// `is_cut` is set, because the digit then belongs to a dropped number.
     fn push_digit(&mut self, byte: u8)
         requires from { 0x30 ≤ byte }
         requires to { byte < 0x3A }
@@ -185,6 +186,8 @@ impl Parameters {
     }
 
     /// Appends the leading digits of `bytes` to the last number, and returns how many it appended.
+    /// Returns 0 if `is_cut` is set, because the digits then belong to a dropped number.
+    ///
     /// The number is stored only once, after the last digit.
     #[inline(always)]
     fn push_digits(&mut self, bytes: &[u8]) -> usize
@@ -207,7 +210,7 @@ impl Parameters {
         count
     }
 
-    /// Returns the number of groups, 1 to 32.
+    /// Returns the number of parameter groups, 1 to 32.
     #[inline]
     pub fn group_count(&self) -> usize
         ensures { result ≡ length self.now.groups }
@@ -215,7 +218,8 @@ impl Parameters {
         self.closed + 1
     }
 
-    /// Returns the numbers of the group at index `i`, which must exist.
+    /// Returns the numbers of the parameter group at index `i`, counted from 0. The group must
+    /// exist.
     #[inline]
     pub fn group(&self, i: usize) -> &[u16]
         requires { i < length self.now.groups }
@@ -226,7 +230,8 @@ impl Parameters {
         &self.numbers[start..end]
     }
 
-    /// Returns the first number of the group at index `i`, or 0 if there is no such group.
+    /// Returns the first number of the parameter group at index `i`, counted from 0, or 0 if there
+    /// is no such group.
     #[inline]
     pub fn number(&self, i: usize) -> u16
         ensures { result ≡ slice_index_or (slice_index_or self.now.groups i []) 0 0 }
@@ -237,7 +242,8 @@ impl Parameters {
         self.numbers[group_start(&self.ends, i)]
     }
 
-    /// Returns all numbers as one slice if each group has exactly one number, otherwise `None`.
+    /// Returns all numbers as one slice if each parameter group has exactly one number, otherwise
+    /// `None`.
     #[inline(always)]
     pub fn lone_numbers(&self) -> Option<&[u16]>
         ensures some { IfSome result (λ numbers. self.now.groups ≡ map (λ number. number ∷ []) numbers.now) }
@@ -250,7 +256,7 @@ impl Parameters {
         Some(&self.numbers[..count])
     }
 
-    /// Returns the groups as slices that borrow the numbers.
+    /// Returns the parameter groups as slices that borrow the numbers.
     pub fn groups(&self) -> Groups<'_>
         ensures { result ≡ self.now.groups }
     {
@@ -266,7 +272,8 @@ impl Parameters {
     }
 }
 
-/// Returns the index at which group `i` begins. `ends` holds the indices at which the groups end.
+/// Returns the index of the first number of group `i`. `ends` holds the index just past the last
+/// number of each earlier group.
 #[inline(always)]
 fn group_start(ends: &[usize; MAX_NUMBERS], i: usize) -> usize
     requires { i < 32 }
@@ -275,8 +282,8 @@ fn group_start(ends: &[usize; MAX_NUMBERS], i: usize) -> usize
     if i == 0 { 0 } else { ends[i - 1] }
 }
 
-/// Returns the index at which group `i` ends. The first `closed` groups end at the indices in
-/// `ends`, and the group after them at `len`.
+/// Returns the index just past the last number of group `i`. `ends` holds these indices for the
+/// first `closed` groups, and the group after them ends at `len`.
 #[inline(always)]
 fn group_end(ends: &[usize; MAX_NUMBERS], closed: usize, len: usize, i: usize) -> usize
     requires { closed ≤ 32 }

@@ -91,16 +91,16 @@ pub enum Ending {
     /// The byte itself is executed as a control character.
     Executed,
 
-    /// The escape sequence that the byte ends is reported.
+    /// The byte completes an escape sequence, which is reported.
     EscDispatch,
 
-    /// The control sequence that the byte ends is reported.
+    /// The byte completes a control sequence, which is reported.
     CsiDispatch,
 
-    /// The operating system command that the byte ends is reported.
+    /// The byte ends an operating system command, which is reported.
     OscDispatch,
 
-    /// The operating system command that the byte ends is reported, and then the byte itself is
+    /// The byte ends an operating system command, which is reported. The byte itself is then
     /// executed as a control character.
     OscDispatchAndExecuted,
 }

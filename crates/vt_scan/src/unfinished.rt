@@ -10,7 +10,7 @@ ghost use Rattle.vt_scan.specs.WideTexts.{AreWideThrees, IsWideThree};
 use std::marker::Model;
 use vt_cells::columns;
 
-/// The bytes read so far of an incomplete character.
+/// The bytes read so far of an incomplete UTF-8 character, at most three.
 #[derive(Clone, Copy, PartialEq, Eq, Debug)]
 enum Bytes {
     Zero,
@@ -32,7 +32,7 @@ pub enum Extended {
     Broken,
 }
 
-/// The bytes read so far of an incomplete UTF-8 character. There are none if no character is
+/// A buffer for the bytes of an incomplete UTF-8 character. It is empty if no character is
 /// incomplete.
 #[derive(Drop)]
 pub struct Unfinished {
@@ -48,7 +48,7 @@ impl Model for Unfinished {
 }
 
 impl Unfinished {
-    /// Creates an empty `Unfinished`, for when there is no incomplete character.
+    /// Creates an empty buffer, which means that no character is incomplete.
     pub fn new() -> Self
         ensures { result ≡ [] }
     {
@@ -78,7 +78,7 @@ impl Unfinished {
     /// whether it was stored.
     pub fn begin(&mut self, byte: u8) -> bool
         requires { self.old ≡ [] }
-        ensures answers { result ≡ is_beginning (byte ∷ []) }
+        ensures value { result ≡ is_beginning (byte ∷ []) }
         ensures keeps { self.new ≡ (if result then byte ∷ [] else []) }
     {
         let is_first = (0xC2..=0xF4).contains(&byte);
@@ -88,8 +88,8 @@ impl Unfinished {
         is_first
     }
 
-    /// Adds `byte` to the incomplete character. If `byte` completes the character or cannot
-    /// continue it, the stored bytes are cleared.
+    /// Adds `byte` to the incomplete character, and returns the result (see [`Extended`]). If
+    /// `byte` completes the character or cannot continue it, the stored bytes are cleared.
     pub fn extend(&mut self, byte: u8) -> Extended
         requires { self.old ≢ [] }
         ensures { Extends self.old byte result self.new }
@@ -181,8 +181,9 @@ fn extend_bytes(bytes: Bytes, byte: u8) -> (Bytes, Extended)
     }
 }
 
-/// Adds `byte` to the incomplete character that has the byte `first`. Returns the character's bytes
-/// if it is still incomplete, or no bytes otherwise, together with the result of adding `byte`.
+/// Adds `byte` to the incomplete character that so far consists of the byte `first`. Returns the
+/// character's bytes if it is still incomplete, or no bytes otherwise, together with the result of
+/// adding `byte`.
 fn extend_one(first: u8, byte: u8) -> (Bytes, Extended)
     requires { is_beginning (first ∷ []) ≡ true }
     ensures extends { Extends (first ∷ []) byte result.1 (bytes_in result.0) }
@@ -197,9 +198,9 @@ fn extend_one(first: u8, byte: u8) -> (Bytes, Extended)
     (Bytes::Two(first, byte), Extended::Further)
 }
 
-/// Adds `byte` to the incomplete character that has the bytes `first` and `second`. Returns the
-/// character's bytes if it is still incomplete, or no bytes otherwise, together with the result of
-/// adding `byte`.
+/// Adds `byte` to the incomplete character that so far consists of the bytes `first` and `second`.
+/// Returns the character's bytes if it is still incomplete, or no bytes otherwise, together with
+/// the result of adding `byte`.
 fn extend_two(first: u8, second: u8, byte: u8) -> (Bytes, Extended)
     requires { is_beginning (first ∷ second ∷ []) ≡ true }
     ensures extends { Extends (first ∷ second ∷ []) byte result.1 (bytes_in result.0) }
@@ -217,9 +218,9 @@ fn extend_two(first: u8, second: u8, byte: u8) -> (Bytes, Extended)
     (Bytes::Three(first, second, byte), Extended::Further)
 }
 
-/// Adds `byte` to the incomplete character that has the bytes `first`, `second` and `third`.
-/// Returns no bytes, together with the result of adding `byte`: a fourth byte never leaves the
-/// character incomplete.
+/// Adds `byte` to the incomplete character that so far consists of the bytes `first`, `second` and
+/// `third`. Returns no bytes, together with the result of adding `byte`: a fourth byte never leaves
+/// the character incomplete.
 fn extend_three(first: u8, second: u8, third: u8, byte: u8) -> (Bytes, Extended)
     requires { is_beginning (first ∷ second ∷ third ∷ []) ≡ true }
     ensures extends { Extends (first ∷ second ∷ third ∷ []) byte result.1 (bytes_in result.0) }

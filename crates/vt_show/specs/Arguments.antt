@@ -4,7 +4,8 @@ use Rattle.std.specs.Str.Parse.{IsNumeral, digits_value}
 use Rattle.vt_show.specs.declared.mode.Mode.{Mode}
 use Rattle.vt_show.specs.declared.mode.Mode.TheVariants.{Plain, Formatted, Basic}
 
--- The argument is a number of rows or columns: a decimal number from 1 to 65535, possibly with leading zeros.
+-- The argument `word` is the decimal form of `n`, a number of rows or columns from 1 to 65535. Leading zeros are
+-- allowed.
 abbrev pub IsSize : List ℕ → ℕ → Type 0
 IsSize word n = IsNumeral 10 word × (digits_value 10 word ≡ n) × (0 < n) × (n < 2 ^ 16)
 

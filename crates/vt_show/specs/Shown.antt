@@ -39,15 +39,16 @@ IsOfMode Plain text = IsMadeOf [] plain_controls text
 IsOfMode Formatted text = IsMadeOf drawing_finals drawing_controls text
 IsOfMode Basic text = IsMadeOf capture_finals plain_controls text
 
--- The output grew by `text` or by a prefix of `text`.
+-- The output grew from `old` to `new` by a prefix of `text`, possibly all of it.
 pub record AppendsPart (old new : Option (List ℕ)) (text : List ℕ) : Type 0 where
   pub taken : List ℕ
   pub lost : List ℕ
   pub parts : text ≡ taken ++ lost
   pub appends : Appends old new taken
 
--- The input was `left` before and is `rest` now, and the predicate `Holds` is true of the output produced by the bytes
--- read in between.
+-- The input was `left` before and is `rest` now, and the predicate `Holds` is true of the output of `vtshow` for the
+-- bytes read in between, with the given mode and screen size. The output has only the control characters and sequences
+-- that the mode allows.
 pub record ReadsForText (mode : Mode) (rows cols : ℕ) (left rest : Option (List ℕ))
     (Holds : List ℕ → Type 0) : Type 0 where
   pub input : List ℕ

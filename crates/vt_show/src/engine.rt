@@ -135,7 +135,7 @@ pub fn write_text<W: Write>(writer: &mut W, text: &str) -> Result<(), Fault>
 
 /// Writes all of `bytes`. Returns [`Fault::Write`] if a write fails or the writer accepts no bytes;
 /// an interrupted write is retried. This function is used instead of `Write::write_all`, whose
-/// contract does not state what a writer holds after an error.
+/// contract does not state what has been written when an error occurs.
 fn write_bytes<W: Write>(writer: &mut W, bytes: &[u8]) -> Result<(), Fault>
     ensures all { OnOk result (Appends (W.contents writer.old) (W.contents writer.new) bytes.now) }
     ensures part { OnErr result (AppendsPart (W.contents writer.old) (W.contents writer.new) bytes.now) }

@@ -3,7 +3,7 @@
 ghost use Rattle.std.specs.Prelude.{◌≡◌};
 ghost use Rattle.vt_show.specs.Endings.{line_of, status_of};
 
-/// The reason why a run did not write all of its output.
+/// The reason why a run of the program failed.
 #[derive(Clone, Copy, PartialEq, Eq, Debug)]
 pub enum Fault {
     /// An allocation failed.

@@ -1,5 +1,5 @@
 //! The engine of the program `vtshow`, which writes what a terminal displays after reading the
-//! program's input. The parts that the engine of `vtmirror` also uses are public.
+//! program's input. The engine of `vtmirror` also uses some of the public items.
 #![tactic(auto)]
 
 mod engine;

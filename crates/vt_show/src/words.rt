@@ -58,7 +58,8 @@ pub fn arguments(words: &[&str]) -> Option<(NonZeroU16, NonZeroU16, Mode)>
     Some((rows, cols, mode))
 }
 
-/// Parses owned command-line arguments, as [`arguments`] does.
+/// Parses the number of rows, the number of columns and the mode from owned command-line arguments,
+/// as [`arguments`] does. Returns `None` if the arguments are invalid.
 pub(crate) fn asked(words: &[String]) -> Option<(NonZeroU16, NonZeroU16, Mode)>
     ensures some { IfSome result (λ a.
         AsksToShow (map (λ word. string_bytes word) words.now) (non_zero_u16_get a.0) (non_zero_u16_get a.1) a.2) }

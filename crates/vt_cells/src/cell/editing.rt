@@ -19,7 +19,11 @@ pub fn clear(cell: &mut Cell, attrs: Attrs)
     overwrite(cell, blank(attrs));
 }
 
-/// Turns the cell into the glyph that [`glyph`] creates from the same arguments.
+/// Turns the cell into a glyph of one character, which takes two columns if `wide` is true,
+/// otherwise one.
+///
+/// `wide` must agree with the width that [`columns`](crate::columns) returns for `c`. `c` must not
+/// be U+FFFD, which is never drawn.
 #[inline(always)]
 pub fn set_glyph(cell: &mut Cell, c: char, wide: bool, attrs: Attrs)
     requires reported { c ≢ 0xFFFD }
@@ -29,7 +33,7 @@ pub fn set_glyph(cell: &mut Cell, c: char, wide: bool, attrs: Attrs)
     overwrite(cell, glyph(c, wide, attrs));
 }
 
-/// Turns the cell into a glyph of one printable ASCII character.
+/// Turns the cell into the narrow glyph for `byte`, which must be printable ASCII.
 #[inline(always)]
 pub fn set_ascii(cell: &mut Cell, byte: u8, attrs: Attrs)
     requires low { 0x20 ≤ byte }
@@ -61,7 +65,7 @@ pub fn append(cell: &mut Cell, c: char)
     put_mark(cell, c);
 }
 
-/// Turns a blank into a space; leaves any other cell unchanged.
+/// Turns a blank into a space (U+0020) with the same attributes; leaves any other cell unchanged.
 fn fill_blank(cell: &mut Cell)
     ensures { cell.new ≡ cell_as_glyph cell.old }
 {

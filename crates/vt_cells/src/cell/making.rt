@@ -58,7 +58,7 @@ pub fn glyph(c: char, wide: bool, attrs: Attrs) -> Cell
     }
 }
 
-/// Creates a glyph of one printable ASCII character.
+/// Creates the narrow glyph for `byte`, which must be printable ASCII.
 #[inline(always)]
 pub fn ascii(byte: u8, attrs: Attrs) -> Cell
     requires low { 0x20 ≤ byte }

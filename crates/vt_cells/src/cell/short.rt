@@ -1,5 +1,5 @@
-//! Functions that overwrite cells. If the old text of a cell is short, the bytes after the first
-//! eight of its text array are zero already, and are not written again.
+//! Functions that overwrite cells. If the old text of a cell has at most seven bytes, the bytes of
+//! its text array after the first eight are already zero and are not written again.
 
 ghost use Rattle.std.specs.Prelude.{◌≡◌, ◌<◌, ◌++◌, All, IsTrue, drop, length};
 ghost use Rattle.std.specs.Int.{to_le_bytes, w64};
@@ -61,7 +61,7 @@ fn put_word(contents: &mut [u8; TEXT_ROOM], word: u64)
 #[inline(always)]
 pub fn are_short(cells: &[Cell]) -> bool
     ensures all { IsTrue result → All IsShort cells.now }
-    ensures some { All IsShort cells.now → IsTrue result }
+    ensures complete { All IsShort cells.now → IsTrue result }
 {
     let mut bits = 0;
     for cell in cells.iter() {

@@ -54,7 +54,8 @@ impl BufWrite for SaveCursor {
     }
 }
 
-/// The sequence that restores what [`SaveCursor`] saved (DECRC).
+/// The sequence that restores the cursor position and the attributes that [`SaveCursor`] saved
+/// (DECRC).
 #[derive(Clone, Copy, Debug)]
 pub struct RestoreCursor;
 
@@ -69,7 +70,7 @@ impl BufWrite for RestoreCursor {
 /// The sequence that hides or shows the cursor (DECTCEM).
 #[derive(Clone, Copy, Debug)]
 pub struct HideCursor {
-    /// Whether the sequence hides the cursor.
+    /// Whether the sequence hides the cursor; otherwise it shows the cursor.
     pub state: bool,
 }
 

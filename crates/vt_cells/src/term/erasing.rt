@@ -26,7 +26,8 @@ impl BufWrite for ClearScreen {
 pub struct ClearRowForward;
 
 impl ClearRowForward {
-    /// Appends the EL sequence to `buffer`, which must have room for at least 25 bytes.
+    /// Appends to `buffer` the sequence that erases from the cursor to the end of its row (EL). The
+    /// buffer must have room for at least 25 bytes.
     #[inline(always)]
     pub fn push(&self, buffer: &mut Buffer)
         requires { length buffer.old + 25 ≤ 256 }
@@ -52,8 +53,8 @@ pub struct EraseChar {
 }
 
 impl EraseChar {
-    /// Appends the ECH sequence to `buffer`, which must have room for at least 25 bytes. Appends
-    /// nothing if `count` is 0.
+    /// Appends to `buffer` the sequence that erases `count` columns, starting at the cursor (ECH),
+    /// or nothing if `count` is 0. The buffer must have room for at least 25 bytes.
     #[inline(always)]
     pub fn push(&self, buffer: &mut Buffer)
         requires { length buffer.old + 25 ≤ 256 }

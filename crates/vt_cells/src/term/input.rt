@@ -10,7 +10,7 @@ use crate::term::BufWrite;
 /// The sequence that switches the keypad between application and numeric mode (DECKPAM, DECKPNM).
 #[derive(Clone, Copy, Debug)]
 pub struct ApplicationKeypad {
-    /// Whether the sequence selects application mode.
+    /// Whether the sequence selects application mode; otherwise it selects numeric mode.
     pub state: bool,
 }
 
@@ -22,10 +22,10 @@ impl BufWrite for ApplicationKeypad {
     }
 }
 
-/// The sequence that sets or resets application cursor keys (DECCKM).
+/// The sequence that sets or resets application cursor keys mode (DECCKM).
 #[derive(Clone, Copy, Debug)]
 pub struct ApplicationCursor {
-    /// Whether the sequence sets application cursor keys.
+    /// Whether the sequence sets application cursor keys mode; otherwise it resets the mode.
     pub state: bool,
 }
 
@@ -40,7 +40,7 @@ impl BufWrite for ApplicationCursor {
 /// The sequence that sets or resets bracketed paste mode (xterm, DEC private mode 2004).
 #[derive(Clone, Copy, Debug)]
 pub struct BracketedPaste {
-    /// Whether the sequence sets bracketed paste mode.
+    /// Whether the sequence sets bracketed paste mode; otherwise it resets the mode.
     pub state: bool,
 }
 

@@ -42,14 +42,14 @@ impl Buffer {
         }
     }
 
-    /// Appends the ASCII character `lead` and the two decimal digits `tens` and `unit`. The buffer must
-    /// have room for four bytes.
+    /// Appends the ASCII character `lead` and a two-digit decimal number, given by its digits:
+    /// `tens` from 1 to 9, and `unit` from 0 to 9. The buffer must have room for four bytes.
     #[inline(always)]
     #[tactic(auto, using(crate::proofs::ChangeTexts::digits_appended))]
     pub(crate) fn push_tens(&mut self, lead: u8, tens: u8, unit: u8)
         requires room { length self.old + 4 ≤ 256 }
         requires ascii { lead < 128 }
-        requires some { 0 < tens }
+        requires nonzero { 0 < tens }
         requires digit { tens < 10 }
         requires unit { unit < 10 }
         ensures value { self.new ≡ self.old ++ lead ∷ decimal (10 * tens + unit) }
@@ -76,8 +76,10 @@ impl Buffer {
         }
     }
 
-    /// Appends the ASCII character `lead` and the decimal digits of `number`, in a call that is not
-    /// inlined. The buffer must have room for 11 bytes.
+    /// Appends the ASCII character `lead` and the decimal digits of `number`. The buffer must have
+    /// room for 11 bytes.
+    ///
+    /// This function is kept out of line, because numbers of 256 or more are rare.
     #[inline(never)]
     fn push_long(&mut self, lead: u8, number: u32)
         requires room { length self.old + 11 ≤ 256 }
@@ -112,8 +114,9 @@ impl Buffer {
         self.push_byte(last);
     }
 
-    /// Appends the CUP sequence for a 0-based position. The sequence has no parameters if the
-    /// position is the top left corner.
+    /// Appends the sequence that moves the cursor to the 0-based position `pos` (CUP). The sequence
+    /// has no parameters if the position is the top left corner. The buffer must have room for
+    /// [`SHORT_ROOM`] bytes.
     #[inline(always)]
     pub fn push_place(&mut self, pos: Pos)
         requires { length self.old + 25 ≤ 256 }
@@ -137,7 +140,8 @@ impl Buffer {
 ///
 /// # Errors
 ///
-/// Returns the sink's error.
+/// Returns the sink's error. Part of the sequence may have been written by then. The call never
+/// fails if `count` is 0.
 #[tactic(auto, unfolding(crate::specs::BufferInternals::buffered_text))]
 pub fn write_counted<S: Sink>(sink: &mut S, count: u16, last: u8) -> Result<(), S::Error>
     requires { last < 128 }

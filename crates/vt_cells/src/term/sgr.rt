@@ -20,7 +20,8 @@ pub const SGR_ROOM: usize = 64;
 /// the next parameter: `[` before the first parameter of the sequence, `;` before any other.
 /// Methods that return a character return the `lead` of the next parameter.
 impl Buffer {
-    /// Appends the SGR sequence that changes the attributes from `was` to `new`.
+    /// Appends the SGR sequence that changes the attributes from `was` to `new`. The buffer must
+    /// have room for [`SGR_ROOM`] bytes.
     ///
     /// Only attributes that differ have parameters, in this order: foreground, background,
     /// intensity, italics, underline, inverse. If none differs, the sequence has no parameters.
@@ -40,8 +41,9 @@ impl Buffer {
         self.push_byte(b'm');
     }
 
-    /// Appends the parameters of the foreground color if it differs between `was` and `new`.
-    /// Returns the `lead` character of the next parameter.
+    /// Appends the SGR parameters for the foreground color of `new` if it differs from that of
+    /// `was`. `lead` is the character before the first parameter. Returns the character to put
+    /// before the next parameter: `lead` if nothing was appended, otherwise `;`.
     #[inline(always)]
     #[tactic(auto, using(crate::proofs::ChangeTexts::numbers_appended), unfolding(crate::specs::Op::foreground_numbers))]
     fn push_foreground(&mut self, lead: u8, was: Attrs, new: Attrs) -> u8
@@ -63,8 +65,9 @@ impl Buffer {
         b';'
     }
 
-    /// Appends the parameters of the background color if it differs between `was` and `new`.
-    /// Returns the `lead` character of the next parameter.
+    /// Appends the SGR parameters for the background color of `new` if it differs from that of
+    /// `was`. `lead` is the character before the first parameter. Returns the character to put
+    /// before the next parameter: `lead` if nothing was appended, otherwise `;`.
     #[inline(always)]
     #[tactic(auto, using(crate::proofs::ChangeTexts::numbers_appended), unfolding(crate::specs::Op::background_numbers))]
     fn push_background(&mut self, lead: u8, was: Attrs, new: Attrs) -> u8
@@ -86,8 +89,9 @@ impl Buffer {
         b';'
     }
 
-    /// Appends a parameter for each of intensity, italics, underline and inverse that differs
-    /// between `was` and `new`. Returns the `lead` character of the next parameter.
+    /// Appends an SGR parameter for each of intensity, italics, underline and inverse that differs
+    /// between `was` and `new`. `lead` is the character before the first parameter. Returns the
+    /// character to put before the next parameter: `lead` if nothing was appended, otherwise `;`.
     #[inline(always)]
     fn push_style(&mut self, lead: u8, was: Attrs, new: Attrs) -> u8
         requires room { length self.old + 16 ≤ 256 }
@@ -98,8 +102,9 @@ impl Buffer {
         self.push_switches(lead, was, new)
     }
 
-    /// Appends the parameter of the intensity if it differs between `was` and `new`. Returns the
-    /// `lead` character of the next parameter.
+    /// Appends the SGR parameter for the intensity of `new` if it differs from that of `was`.
+    /// `lead` is the character before the parameter. Returns the character to put before the next
+    /// parameter: `lead` if nothing was appended, otherwise `;`.
     #[inline(always)]
     fn push_intensity(&mut self, lead: u8, was: Attrs, new: Attrs) -> u8
         requires room { length self.old + 4 ≤ 256 }
@@ -121,8 +126,8 @@ impl Buffer {
     }
 
     /// Appends an SGR parameter for each of italics, underline and inverse that differs between
-    /// `was` and `new`. `lead` precedes the first of them. Returns the character that must precede
-    /// the next parameter.
+    /// `was` and `new`. `lead` is the character before the first parameter. Returns the character
+    /// to put before the next parameter: `lead` if nothing was appended, otherwise `;`.
     #[inline(always)]
     fn push_switches(&mut self, lead: u8, was: Attrs, new: Attrs) -> u8
         requires room { length self.old + 12 ≤ 256 }
@@ -137,8 +142,9 @@ impl Buffer {
         self.push_switch(lead, was.inverse(), new.inverse(), 7, 27)
     }
 
-    /// If `was` and `new` differ, appends the parameter `on` if `new` is true, otherwise `off`.
-    /// Returns the `lead` character of the next parameter.
+    /// Appends an SGR parameter if `was` and `new` differ: `on` if `new` is true, otherwise `off`.
+    /// `lead` is the character before the parameter. Returns the character to put before the next
+    /// parameter: `lead` if nothing was appended, otherwise `;`.
     #[inline(always)]
     #[tactic(auto, using(crate::proofs::ChangeTexts::numbers_appended))]
     fn push_switch(&mut self, lead: u8, was: bool, new: bool, on: u8, off: u8) -> u8
@@ -154,7 +160,8 @@ impl Buffer {
         b';'
     }
 
-    /// Appends the parameters of a palette color: the layer (38 or 48), 5 and the index.
+    /// Appends the SGR parameters of a palette color: `layer` (38 for the foreground, 48 for the
+    /// background), 5 and `index`. `lead` is the character before the first parameter.
     #[inline(always)]
     fn push_indexed(&mut self, lead: u8, layer: u8, index: u8)
         requires room { length self.old + 12 ≤ 256 }
@@ -166,7 +173,8 @@ impl Buffer {
         self.push_number(b';', index);
     }
 
-    /// Appends the parameters of an RGB color: the layer (38 or 48), 2 and the three components.
+    /// Appends the SGR parameters of an RGB color: `layer` (38 for the foreground, 48 for the
+    /// background), 2 and the three components. `lead` is the character before the first parameter.
     #[inline(always)]
     fn push_parts(&mut self, lead: u8, layer: u8, red: u8, green: u8, blue: u8)
         requires room { length self.old + 20 ≤ 256 }

@@ -84,7 +84,8 @@ impl Flat {
         self.columns.shown = columns;
     }
 
-    /// Moves the first `rows` rows to the first `rows` slots.
+    /// Moves the first `rows` rows into the first `rows` slots of the vector of cells. The contents
+    /// of the rows after the first `rows` rows may be lost.
     fn pack(&mut self, rows: usize)
         requires flat { IsFlat self.old }
         requires inside { rows ≤ length self.old.lines.items }
@@ -152,7 +153,8 @@ fn push_lines(lines: &mut Vec<Line>, rows: u16)
 }
 
 /// Returns the index of the first row at or after index `from` whose slot is one of the first
-/// `rows` slots. Such a row exists because one of the first `rows` rows is at a later slot.
+/// `rows` slots. One of the first `rows` rows must be in a later slot, and the rows from `rows` to
+/// `from - 1`, too, so that such a row exists.
 fn free_row(lines: &[Line], from: usize, rows: usize) -> usize
     requires after { rows ≤ from }
     requires later { (k : ℕ) → rows ≤ k → k < from → rows ≤ (line_at lines.now k).place }

@@ -11,12 +11,13 @@ use crate::size::Size;
 
 impl Grid {
     /// Resizes this page and `other`, if there is one, to `cols` columns in place. Both pages must
-    /// have the same number of columns. The rules are those of [`Grid::set_size`], with `above` as
-    /// this page's scrollback and `other_above` as the other page's.
+    /// have the same number of columns, and `cols` must be neither that number nor 0. The rules are
+    /// those of [`Grid::set_size`], with `above` as this page's scrollback and `other_above` as the
+    /// other page's.
     ///
     /// Returns `false` and changes nothing if, on either page, `cols` exceeds the number of cells
     /// stored for each row, or would narrow the page to less than half of that number (rounded
-    /// down).
+    /// down). Otherwise returns `true`.
     pub fn set_cols(
         &mut self,
         other: &mut Option<Grid>,
@@ -42,6 +43,7 @@ impl Grid {
     }
 
     /// Resizes this page to `cols` columns, as [`Grid::set_cols`] does if there is no other page.
+    /// Returns `false` and changes nothing if the page cannot be resized in place.
     fn set_own_cols(&mut self, cols: u16, above: &mut Scrollback) -> bool
         requires nonempty { 0 < cols }
         requires different { cols ≢ self.old.width }
@@ -63,7 +65,8 @@ impl Grid {
         true
     }
 
-    /// Resizes this page and `other`, as [`Grid::set_cols`] does.
+    /// Resizes this page and `other` to `cols` columns, as [`Grid::set_cols`] does. Returns `false`
+    /// and changes nothing if either page cannot be resized in place.
     fn set_cols_of_both(
         &mut self,
         other: &mut Grid,

@@ -27,7 +27,8 @@ pub enum CursorMove {
     Right(u16),
 
     /// Moves the cursor left by this many columns, stopping at the first column (BS, CUB). If a
-    /// wrap is pending, the columns are counted from one past the last column.
+    /// wrap is pending, the cursor counts as being one column past the last column, so a move by
+    /// one column ends at the last column.
     Left(u16),
 
     /// Moves the cursor to the first column, and down by this many rows as [`CursorMove::Down`]
@@ -61,7 +62,7 @@ pub enum CursorMove {
 }
 
 impl Grid {
-    /// Moves the cursor.
+    /// Moves the cursor as `cursor_move` specifies; see the variants of [`CursorMove`].
     #[tactic(auto, using(crate::proofs::Regions::page_moved))]
     #[inline(always)]
     pub fn move_cursor(&mut self, cursor_move: CursorMove)
@@ -161,7 +162,8 @@ impl Grid {
         self.scroll_top <= self.pos.row && self.pos.row <= self.scroll_bottom
     }
 
-    /// Returns the topmost row that the cursor can move up to.
+    /// Returns the topmost row that the cursor can move up to: the top of the scroll region if the
+    /// cursor is inside the region, otherwise the first row of the page.
     #[tactic(auto, unfolding(crate::specs::Moves::upper_edge))]
     #[inline]
     fn upper_edge(&self) -> u16
@@ -174,7 +176,8 @@ impl Grid {
         }
     }
 
-    /// Returns the bottommost row that the cursor can move down to.
+    /// Returns the bottommost row that the cursor can move down to: the bottom of the scroll region
+    /// if the cursor is inside the region, otherwise the last row of the page.
     #[tactic(auto, unfolding(crate::specs::Moves::lower_edge))]
     #[inline]
     fn lower_edge(&self) -> u16
@@ -187,9 +190,10 @@ impl Grid {
         }
     }
 
-    /// Returns the row of the page to which CUP with the row parameter `row`, counted from 0, moves
-    /// the cursor. In origin mode, `row` is relative to the top of the scroll region, and the
-    /// result is clamped to the region; otherwise it is clamped to the page.
+    /// Returns the row to which CUP moves the cursor, given its row parameter `row`, counted from
+    /// 0. In origin mode, `row` is relative to the top of the scroll region, and the result is
+    /// clamped to the region's bottom. Otherwise the result is `row`, clamped to the last row of
+    /// the page.
     #[inline]
     fn target_row(&self, row: u16) -> u16
         ensures { result ≡ target_row row self.now }

@@ -61,7 +61,7 @@ impl Grid {
     }
 
     /// Returns the number of columns from the cursor to the end of its row, that is, how many
-    /// columns can be printed without a wrap.
+    /// columns of text fit before the cursor wraps.
     #[inline]
     pub fn room(&self) -> u16
         ensures { result ≡ self.now.width - self.now.column }
@@ -89,7 +89,8 @@ impl Grid {
         Ok(())
     }
 
-    /// Wraps to the next row if fewer than `columns` columns are left on the cursor's row.
+    /// Wraps to the next row if fewer than `columns` columns are left on the cursor's row, unless
+    /// the cursor is in column 0.
     #[tactic(auto, unfolding(crate::specs::Printing::room_made))]
     #[inline(always)]
     fn make_room<L: Leaving>(
@@ -135,8 +136,9 @@ impl Grid {
         Ok(())
     }
 
-    /// Returns whether a wrap is pending and adding `mark` makes the narrow glyph in the last
-    /// column wide, so that the glyph must move to the next row.
+    /// Returns whether `mark` is U+FE0F and would make the narrow glyph in the last column wide
+    /// while a wrap is pending, so that the glyph must move to the next row. Returns `false` on a
+    /// page of one column.
     #[tactic(auto, unfolding(crate::specs::Printing::carries))]
     fn carries(&self, mark: char) -> bool
         requires mark { columns_of mark ≡ Some 0 }
@@ -176,9 +178,9 @@ impl Grid {
         cell::is_wide_text(&cell)
     }
 
-    /// Adds a combining character to the glyph before the cursor. If the character is U+FE0F, also
-    /// sets the glyph's width to that of its new text. Does nothing if the glyph has no room for the
-    /// character.
+    /// Adds a combining character to the glyph before the cursor, or does nothing if that glyph has
+    /// no room for it. If the character is U+FE0F, also sets the glyph's width to that of its new
+    /// text.
     #[tactic(auto, unfolding(crate::specs::Printing::mark_printed))]
     fn mark_cell(&mut self, mark: char, attrs: Attrs)
         requires mark { columns_of mark ≡ Some 0 }
@@ -341,7 +343,8 @@ impl Grid {
         self.page_rows.narrow(self.pos.row, col, attrs);
     }
 
-    /// Makes the glyph before the cursor wide, and moves the cursor right by one column.
+    /// Makes the glyph at column `col` wide and moves the cursor right by one column. The glyph
+    /// must be directly before the cursor.
     fn widen(&mut self, col: u16, attrs: Attrs)
         requires selected { IsSelected self.old col }
         requires before { col + 1 ≡ self.old.column }

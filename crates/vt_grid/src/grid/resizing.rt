@@ -15,7 +15,8 @@ use vt_cells::{Error, Pos};
 use vt_rows::Leaving;
 
 impl Grid {
-    /// Resizes the page to the size of `fresh`, a new page into which the rows are moved (xterm).
+    /// Resizes the page to the size of `fresh`, as xterm does. `fresh` is a new page; the rows are
+    /// moved into it.
     ///
     /// If the new page has fewer rows, the rows below the cursor are dropped first. If these are
     /// not enough, rows scroll off the top into scrollback, and rows that scrollback does not keep
@@ -27,8 +28,8 @@ impl Grid {
     /// page.
     ///
     /// Each row is truncated or extended to the new width. The cursor and the saved cursor move
-    /// with their rows and are clamped to the new page. Afterward the scroll region is the whole page, no
-    /// wrap is pending, and no scrollback row is displayed.
+    /// with their rows and are clamped to the new page. Afterward the scroll region is the whole
+    /// page, no wrap is pending, and no scrollback row is displayed.
     ///
     /// # Errors
     ///
@@ -48,8 +49,8 @@ impl Grid {
         Ok(())
     }
 
-    /// Shrinks the page in place to `rows` rows, which must not exceed its current number of rows.
-    /// The width is unchanged. The rules are those of [`Grid::set_size`].
+    /// Shrinks the page in place to `rows` rows, which must be at least 1 and at most the current
+    /// number of rows. The width is unchanged. The rules are those of [`Grid::set_size`].
     ///
     /// # Errors
     ///
@@ -141,7 +142,7 @@ impl Grid {
         Ok(())
     }
 
-    /// Extends this page and `other`, as [`Grid::add_rows`] does.
+    /// Extends this page and `other` to `rows` rows, as [`Grid::add_rows`] does.
     ///
     /// # Errors
     ///

@@ -83,11 +83,12 @@ impl Grid {
         }
     }
 
-    /// Moves the cursor to the first column of the next row with a line feed, and updates the
-    /// wrapped flag of the row from which the cursor wraps.
+    /// Moves the cursor to the first column of the next row, as a line feed and a carriage return
+    /// do, and updates the wrapped flag of the row that the cursor leaves.
     ///
-    /// That row is wrapped afterward if its last cell is not a blank and the cursor has moved to
-    /// the row below it; otherwise it is not wrapped.
+    /// The row is marked as wrapped (its text continues on the next row) if its last cell is not a
+    /// blank and the cursor is on the row below it afterward; otherwise it is marked as not
+    /// wrapped.
     ///
     /// # Errors
     ///
@@ -118,8 +119,9 @@ impl Grid {
             && !self.page_rows.ends_blank(self.pos.row)
     }
 
-    /// Sets the wrapped flag of row `left`, from which the cursor wrapped, to `is_wrapped`, and
-    /// moves the cursor to the first column. `left` is `None` if that row has scrolled off.
+    /// Finishes a wrap from row `left`: sets the row's wrapped flag to `is_wrapped`, and moves the
+    /// cursor to the first column. If that row has scrolled off, `left` is `None`, and no flag is
+    /// changed.
     fn leave(&mut self, left: Option<u16>, is_wrapped: bool)
         requires page { IsPage (flagged_left left is_wrapped self.old) }
         requires inside { IfSome left (λ row. row < length self.old.rows) }
@@ -130,8 +132,8 @@ impl Grid {
     }
 }
 
-/// Returns the index that row `row`, from which the cursor wraps, has after the wrap. If `row` is
-/// the bottom row of the scroll region (rows `top..=bottom`), the region scrolls, and the result is
+/// Returns the index of row `row` after the cursor wraps from it to the next row. If `row` is the
+/// bottom row of the scroll region (rows `top..=bottom`), the region scrolls, and the result is
 /// `row - 1`, or `None` if the region consists of that row alone. Otherwise the result is `row`.
 fn left_row(row: u16, top: u16, bottom: u16) -> Option<u16>
     requires { top ≤ bottom }

@@ -1,4 +1,4 @@
-//! The columns of a row that are in use: all cells after them are default blanks.
+//! The used columns of a row. All cells after the used columns are default blanks.
 
 ghost use Rattle.std.specs.Prelude.{◌≡◌, ◌<◌, ◌≤◌, if◌then◌else◌, length, max};
 ghost use Rattle.vt_cells.specs.Cell.{blank, is_default_blank};
@@ -22,8 +22,8 @@ impl PageRows {
         &self.flat.cells[start..start + used]
     }
 
-    /// Returns the number of used groups of eight columns in the table entry of a row; 255 means
-    /// the whole row.
+    /// Returns how many groups of eight columns of a row are used, as recorded in the row table;
+    /// 255 means that all columns are used.
     #[inline]
     pub(super) fn groups(&self, row: u16) -> u8
         requires { row < length self.now.rows }
@@ -32,7 +32,7 @@ impl PageRows {
         self.flat.lines[usize::from(row)].used
     }
 
-    /// Returns the number of used columns of a row.
+    /// Returns the number of used columns of a row. All cells after them are default blanks.
     pub(super) fn used_len(&self, row: u16) -> usize
         requires { row < length self.now.rows }
         ensures inside { result ≤ length (page_row self.now row).cells }
@@ -41,9 +41,9 @@ impl PageRows {
         used_columns(self.groups(row), self.flat.columns.shown)
     }
 
-    /// Marks the first `groups` groups of eight columns of a row as used, or as many groups as are
-    /// needed to cover `reach` columns if that is more. The cells are unchanged. All cells after
-    /// the marked columns must be default blanks.
+    /// Marks the first `groups` groups of eight columns of a row as used (255 marks all columns),
+    /// or as many groups as are needed to cover `reach` columns if that is more. The cells are
+    /// unchanged. All cells after the marked columns must be default blanks.
     #[inline]
     pub(super) fn note_used(&mut self, row: u16, groups: u8, reach: usize)
         requires inside { row < length self.old.rows }

@@ -13,7 +13,7 @@ ghost use Rattle.vt_grid.specs.PageRows.{blank_page_rows, page_row, with_blank_r
 use super::PageRows;
 use crate::scrollback::Scrollback;
 use vt_cells::{Cell, Error};
-use vt_rows::row::flag_kept;
+use vt_rows::row::is_wrapped_after_resize;
 use vt_rows::trimming;
 
 impl PageRows {
@@ -57,7 +57,7 @@ impl PageRows {
 
     /// Moves the newest `up` scrollback rows back to the top of the page. The last `up` rows of the
     /// page must be default blanks; the rows above them move down by `up` rows. The wrapped flag of
-    /// the last row is cleared.
+    /// the last row is cleared. The scrollback offset must be 0.
     pub fn bring_back(&mut self, up: u16, above: &mut Scrollback)
         requires nonempty { 0 < length self.old.rows }
         requires inside { up ≤ length self.old.rows }
@@ -100,7 +100,8 @@ impl PageRows {
 
     /// Replaces the page with `fresh`, a page of default blanks, and fills it with the newest `up`
     /// scrollback rows and, below them, the rows of the old page after its first `down` rows. The
-    /// wrapped flag of the last row is cleared.
+    /// wrapped flag of the last row is cleared. One of `down` and `up` must be 0, and so must the
+    /// scrollback offset.
     pub fn refit(&mut self, mut fresh: PageRows, down: u16, up: u16, above: &mut Scrollback)
         requires blank { fresh ≡ blank_page_rows (length fresh.rows) fresh.width }
         requires either { 0 < up → down ≡ 0 }
@@ -119,8 +120,9 @@ impl PageRows {
         self.flat = fresh.flat;
     }
 
-    /// Copies the cells in `from` into the blank row `row`, as [`trimming::refit`] does. Sets the
-    /// row's wrapped flag to `wrapped` if the two widths are equal, otherwise to `false`.
+    /// Copies the cells in `from` into the blank row `row`, truncating or extending them to the
+    /// width of the row, as [`trimming::refit`] does. Sets the row's wrapped flag to `wrapped` if
+    /// the two widths are equal, otherwise to `false`.
     #[tactic(auto, using(crate::proofs::Flats::columns_counted))]
     pub fn fit_row(&mut self, row: usize, from: &[Cell], wrapped: bool)
         requires inside { row < length self.old.rows }
@@ -131,12 +133,16 @@ impl PageRows {
             (resized_row (length (page_row self.old row).cells) (record { cells = from.now; wrapped = wrapped }))
             self.old }
     {
-        let is_wrapped = flag_kept(wrapped, from.len() == usize::from(self.flat.columns.shown));
+        let is_wrapped = is_wrapped_after_resize(
+            wrapped,
+            from.len() == usize::from(self.flat.columns.shown),
+        );
         self.edit_row_and_flag(row, is_wrapped, |cells| trimming::refit(cells, from));
     }
 
     /// Copies the rows of `rows`, starting at row `down`, into this page, starting at row `up`.
-    /// Copies as many rows as fit. The rows of this page at and after `up` must be blank.
+    /// Copies as many rows as fit, and truncates or extends each of them to the width of this page.
+    /// The rows of this page at and after `up` must be blank.
     fn take_rows(&mut self, rows: &PageRows, down: usize, up: usize)
         requires blank { (k : ℕ) (d : RowValue) → up ≤ k → k < length self.old.rows →
             slice_index_or self.old.rows k d
@@ -158,8 +164,8 @@ impl PageRows {
     }
 }
 
-/// Fills `fresh`, a page of blank rows, with the newest `up` scrollback rows and, below them, the
-/// rows of the page `rows`, starting at row `down`.
+/// Fills `fresh`, a page of default blanks, with the newest `up` scrollback rows and, below them,
+/// the rows of the page `rows`, starting at row `down`. The scrollback offset must be 0.
 fn fill(fresh: &mut PageRows, rows: &PageRows, down: usize, up: usize, above: &mut Scrollback)
     requires blank { fresh.old ≡ blank_page_rows (length fresh.old.rows) fresh.old.width }
     requires inside { up ≤ length fresh.old.rows }

@@ -11,8 +11,8 @@ use vt_cells::Attrs;
 use vt_rows::cells;
 
 impl PageRows {
-    /// Puts the bytes of `text` at consecutive columns of a row as narrow glyphs,
-    /// as [`cells::put_text`] does.
+    /// Puts the bytes of `text` into consecutive columns of a row, starting at column `col`. Each
+    /// byte becomes a narrow glyph (see [`cells::put_text`]).
     #[inline]
     pub fn put_text(&mut self, row: u16, col: u16, text: &[u8], attrs: Attrs)
         requires inside { row < length self.old.rows }
@@ -29,8 +29,8 @@ impl PageRows {
         self.note_used(row, groups, usize::from(col) + text.len());
     }
 
-    /// Puts the characters of `text` at consecutive columns of a row as narrow
-    /// glyphs, as [`cells::put_narrow_text`] does.
+    /// Puts the characters of `text` into consecutive columns of a row, starting at column `col`.
+    /// Each character becomes a narrow glyph (see [`cells::put_narrow_text`]).
     #[inline]
     pub fn put_narrow_text(&mut self, row: u16, col: u16, text: &[char], attrs: Attrs)
         requires inside { row < length self.old.rows }
@@ -47,8 +47,8 @@ impl PageRows {
         self.note_used(row, groups, usize::from(col) + text.len());
     }
 
-    /// Puts the characters of `text` at consecutive pairs of columns of a row as
-    /// wide glyphs, as [`cells::put_wide_text`] does.
+    /// Puts the characters of `text` into consecutive pairs of columns of a row, starting at column
+    /// `col`. Each character becomes a wide glyph (see [`cells::put_wide_text`]).
     #[inline]
     pub fn put_wide_text(&mut self, row: u16, col: u16, text: &[char], attrs: Attrs)
         requires inside { row < length self.old.rows }

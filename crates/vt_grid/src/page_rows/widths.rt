@@ -14,8 +14,9 @@ use vt_rows::{cells, trimming};
 
 impl PageRows {
     /// Truncates or extends each row to `width` columns in place, and clears all wrapped flags.
-    /// Returns `false` and changes nothing if `width` exceeds the number of cells stored for each
-    /// row, or would narrow the rows to less than half of that number (rounded down).
+    /// `width` must differ from the current width. Returns `false` and changes nothing if `width`
+    /// exceeds the number of cells stored for each row, or would narrow the rows to less than half
+    /// of that number (rounded down); otherwise returns `true`.
     pub fn set_width(&mut self, width: u16) -> bool
         requires other { width ≢ self.old.width }
         requires height { length self.old.rows < 2 ^ 16 }
@@ -38,8 +39,9 @@ impl PageRows {
     }
 
     /// Truncates or extends each row of this page and of `other` to `width` columns, as
-    /// [`PageRows::set_width`] does. Both pages must have the same width. Returns `false` and
-    /// changes nothing if `set_width` would return `false` for either page.
+    /// [`PageRows::set_width`] does. Both pages must have the same width, which must differ from
+    /// `width`. Returns `false` and changes nothing if `set_width` would return `false` for either
+    /// page; otherwise returns `true`.
     pub fn set_width_of_both(&mut self, other: &mut PageRows, width: u16) -> bool
         requires equal { other.old.width ≡ self.old.width }
         requires other { width ≢ self.old.width }

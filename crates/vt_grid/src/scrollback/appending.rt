@@ -1,4 +1,5 @@
-//! Appending a single row while no scrollback row is displayed, without creating a list for it.
+//! Appending a single row to scrollback while no scrollback row is displayed, without creating a
+//! list of rows.
 
 ghost use Rattle.std.specs.Prelude.{◌≡◌, ◌<◌, ℕ, IsErr, OnErr, OnOk, length, take};
 ghost use Rattle.vt_cells.specs.Refusals.{OnlyOutOfMemory};
@@ -13,8 +14,9 @@ use vt_cells::Error;
 use vt_rows::Leaving;
 
 impl Scrollback {
-    /// Appends a copy of the first row of a page. [`Scrollback::push`] calls this function for a
-    /// single row if the offset is 0.
+    /// Appends a copy of the first row of a page, without the row's trailing default blanks. If
+    /// scrollback is at capacity, its oldest row is removed and reported to `leaving`.
+    /// [`Scrollback::push`] calls this function for a single row if the offset is 0.
     ///
     /// # Errors
     ///
@@ -38,8 +40,8 @@ impl Scrollback {
         self.add(page)
     }
 
-    /// Appends a copy of the first row of a page. Scrollback must be below capacity, and the offset
-    /// must be 0.
+    /// Appends a copy of the first row of a page, without the row's trailing default blanks.
+    /// Scrollback must be below capacity, and the offset must be 0.
     ///
     /// # Errors
     ///

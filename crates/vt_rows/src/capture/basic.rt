@@ -79,9 +79,12 @@ fn write_cells<S: Sink>(sink: &mut S, cells: &[Cell], attrs: Attrs) -> Result<At
     Ok(last)
 }
 
-/// Appends the text of a cell to `buffer`, flushing the buffer to `sink` if it lacks room. Unless
-/// [`keeps_attrs`] returns `true`, an SGR sequence precedes the text. `attrs` holds the attributes
-/// written last, and is updated. Appends nothing for a continuation cell.
+/// Appends the text of a cell to `buffer`. If the cell's attributes differ from `attrs`, the
+/// attributes written last, first appends the SGR sequence that changes them and updates `attrs`.
+/// Flushes the buffer to `sink` when it lacks room.
+///
+/// A default blank is written without a change of attributes. Nothing is appended for a
+/// continuation cell.
 #[inline]
 #[tactic(auto, using(crate::proofs::BasicTexts::right_adds, crate::proofs::BasicTexts::right_keeps))]
 fn add_cell<S: Sink>(
@@ -127,7 +130,8 @@ fn keeps_attrs(cell: &Cell, attrs: &Attrs) -> bool
     trimming::is_default(cell)
 }
 
-/// Returns the text that is written for a cell, which is a space for a blank.
+/// Returns the text that is written for a cell: the text of a glyph, a space for a blank, or an
+/// empty string for a continuation cell.
 #[inline]
 fn shown_text(cell: &Cell) -> &str
     ensures { result.now ≡ shown_text cell.now }

@@ -1,8 +1,9 @@
-//! Receivers of rows that scroll off the top.
+//! Receivers of the rows that a page drops.
 
 use super::RowContents;
 
-/// A receiver of rows that scroll off the top of a page and are not kept in scrollback.
+/// A receiver of the rows that a page drops: rows that scroll off the top without being kept, and
+/// scrollback rows that are discarded.
 pub trait Leaving {
     ghost use Rattle.std.specs.Prelude.{◌≡◌, false};
     ghost use Rattle.vt_rows.specs.Row.{RowValue};
@@ -18,12 +19,12 @@ pub trait Leaving {
         true
     }
 
-    /// Receives a row that scrolls off the top. Rows are passed oldest first.
+    /// Receives a row that the page drops. Rows are passed oldest first.
     fn leave(&mut self, row: RowContents<'_>)
         ensures { leaves self.old row.entry self.new };
 }
 
-/// A receiver that drops all rows.
+/// A receiver that ignores all rows.
 impl Leaving for () {
     ghost use Rattle.std.specs.Prelude.{◌≡◌};
 

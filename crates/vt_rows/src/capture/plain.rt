@@ -9,8 +9,8 @@ ghost use Rattle.vt_rows.specs.Pieces.{ArePiecesOf, Piece, texts_of, without_str
 use std::iter::FusedIterator;
 use std::marker::Model;
 
-/// An iterator over the chunks of a capture that are outside SGR sequences, each with its byte
-/// index.
+/// An iterator over the chunks of a capture (text with SGR sequences) that are outside its SGR
+/// sequences, each with its byte index.
 ///
 /// The iterator borrows the capture and allocates nothing. It is created by
 /// [`basic_formatted_to_plain_indexed`].
@@ -90,14 +90,14 @@ fn split_at_sgr(text: &str) -> (&str, &str)
     ensures shorter { 0 < length text.now → length result.1.now < length text.now }
 {
     match text.split_once('\x1b') {
-        Some((piece, rest)) => (piece, behind_sgr(rest)),
+        Some((piece, rest)) => (piece, after_sgr(rest)),
         None => (text, ""),
     }
 }
 
-/// Returns the part of `text` after the first `m`, or an empty string if there is none. `text`
-/// begins inside an SGR sequence, and that `m` ends the sequence.
-fn behind_sgr(text: &str) -> &str
+/// Skips the rest of the SGR sequence that `text` begins in. Returns everything after the first
+/// `m`, or an empty string if there is no `m`.
+fn after_sgr(text: &str) -> &str
     ensures pieces { (at : ℕ) →
         pieces_within at text.now ≡ pieces_from (at + (length text.now - length result.now)) result.now }
     ensures len { length result.now ≤ length text.now }
@@ -108,7 +108,8 @@ fn behind_sgr(text: &str) -> &str
     }
 }
 
-/// An iterator over the chunks of a capture that are outside SGR sequences.
+/// An iterator over the chunks of a capture (text with SGR sequences) that are outside its SGR
+/// sequences.
 ///
 /// The iterator borrows the capture and allocates nothing. It is created by
 /// [`basic_formatted_to_plain`].

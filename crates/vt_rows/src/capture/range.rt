@@ -2,7 +2,7 @@
 
 use super::BasicFormattedCaptureState;
 
-/// The rows of a screen that a capture contains.
+/// The rows of a screen that a capture (text with SGR sequences) contains.
 #[derive(Debug, Drop)]
 pub enum BasicFormattedCaptureRange<'a> {
     /// All scrollback rows, followed by the rows of the active page, regardless of what is

@@ -1,4 +1,4 @@
-//! The rows of a capture.
+//! An iterator over the rows of a capture on a terminal of a given width.
 
 ghost use Rattle.std.specs.Prelude.{◌≡◌, ◌+◌, ◌≤◌, ◌∷◌, ◌&&◌, [], ◌==◌, ◌<◌, ◌^◌, false, not, List};
 ghost use Rattle.std.specs.Iterator.{YieldsFirstRef, item_count};
@@ -12,7 +12,7 @@ use std::iter::FusedIterator;
 use std::marker::Model;
 use unicode_width::UnicodeWidthChar;
 
-/// An iterator over the rows of a capture.
+/// An iterator over the rows of a capture (text with SGR sequences) on a terminal of a given width.
 ///
 /// The iterator borrows the capture and allocates nothing. It is created by
 /// [`basic_formatted_rows`].
@@ -151,7 +151,8 @@ impl Reach {
         }
     }
 
-    /// Returns the number of columns by which appending the character `c` widens the text.
+    /// Returns the number of columns that the character `c` adds when it is appended to the row's
+    /// text: 0 if it is part of an SGR sequence, otherwise from 0 to 2.
     fn columns_added(self, c: char) -> u32
         ensures value { result ≡ columns_added self.is_within c }
         ensures most { result ≤ 2 }
@@ -174,7 +175,8 @@ fn is_within_after(within: bool, c: char) -> bool
     if within { c != 'm' } else { c == '\x1b' }
 }
 
-/// Returns the number of columns that a character outside SGR sequences takes.
+/// Returns the number of columns that a character outside SGR sequences takes, from 0 to 2. A
+/// character without a width, such as a control character, takes one column.
 fn shown_columns(c: char) -> u32
     ensures value { result ≡ shown_columns c }
     ensures most { result ≤ 2 }

@@ -6,8 +6,8 @@ ghost use Rattle.vt_rows.specs.Basic.{nothing_written};
 use std::marker::Model;
 use vt_cells::Attrs;
 
-/// The state of a capture between two rows: the attributes written last, and whether a newline is
-/// pending.
+/// The state that a capture (the text of rows, with SGR sequences) carries from one row to the
+/// next: the attributes written last, and whether a newline is pending.
 #[derive(Clone, Debug, Drop)]
 pub struct BasicFormattedCaptureState {
     pub(crate) attrs: Attrs,

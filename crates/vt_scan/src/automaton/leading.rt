@@ -41,7 +41,7 @@ impl Scanner {
     /// whether it was parsed. If so, the completed sequence is the only event produced.
     #[inline(always)]
     pub fn take_final_byte(&mut self, byte: u8) -> bool
-        ensures answers { result ≡ ends_sequence self.old.kind byte }
+        ensures value { result ≡ ends_sequence self.old.kind byte }
         ensures fed { IsTrue result
             → Feeds self.old byte self.new (record { first = Some (Event.Csi byte); second = None }) }
         ensures kept { result ≡ false → self.new ≡ self.old }
@@ -56,14 +56,14 @@ impl Scanner {
     /// If so, the completed sequence is the only event produced.
     #[inline]
     pub fn take_escape_byte(&mut self, byte: u8) -> bool
-        ensures answers { IsTrue result ↔ EndsEscape self.old.kind byte }
+        ensures value { IsTrue result ↔ EndsEscape self.old.kind byte }
         ensures fed { IsTrue result
             → Feeds self.old byte self.new (record { first = Some (Event.Escape byte); second = None }) }
         ensures kept { result ≡ false → self.new ≡ self.old }
     {
         match self.kind {
-            Kind::Escape => self.dispatches(transition_at(Kind::Escape, byte)),
-            Kind::EscapeIntermediate => self.dispatches(transition_at(
+            Kind::Escape => self.take_dispatch(transition_at(Kind::Escape, byte)),
+            Kind::EscapeIntermediate => self.take_dispatch(transition_at(
                 Kind::EscapeIntermediate,
                 byte,
             )),
@@ -74,14 +74,14 @@ impl Scanner {
     /// Parses `byte` if it is a BEL or ESC that ends an operating system command. Returns whether
     /// it was parsed. If so, the completed command is the only event produced.
     #[inline]
-    pub fn command_byte(&mut self, byte: u8) -> bool
-        ensures answers { result ≡ ends_command self.old.kind byte }
+    pub fn take_command_byte(&mut self, byte: u8) -> bool
+        ensures value { result ≡ ends_command self.old.kind byte }
         ensures fed { IsTrue result
             → Feeds self.old byte self.new (record { first = Some Event.Osc; second = None }) }
         ensures kept { result ≡ false → self.new ≡ self.old }
     {
         match self.kind {
-            Kind::OscString => self.takes_command_end(byte),
+            Kind::OscString => self.take_command_end(byte),
             _ => false,
         }
     }
@@ -134,7 +134,7 @@ impl Scanner {
         ensures longest { result < length bytes.now →
             is_introducer self.new.kind self.new.unfinished (slice_index_or bytes.now result 0) ≡ false }
     {
-        let escapes = self.takes_escapes(bytes);
+        let escapes = self.take_escapes(bytes);
         let more = self.lead_after_escapes(&bytes[escapes..]);
         escapes + more
     }
@@ -156,7 +156,7 @@ impl Scanner {
         if self.take_intermediate(bytes[0]) {
             return 1;
         }
-        if self.takes_string_start(bytes[0]) {
+        if self.take_string_start(bytes[0]) {
             return 1;
         }
         if !self.take_bracket(bytes[0]) {
@@ -197,7 +197,7 @@ impl Scanner {
         ensures longest { result < length bytes.now →
             is_introducer self.new.kind self.new.unfinished (slice_index_or bytes.now result 0) ≡ false }
     {
-        if !self.takes_marker(bytes[0]) {
+        if !self.take_private_marker(bytes[0]) {
             return 0;
         }
         let more = self.take_parameter_bytes(&bytes[1..]);
@@ -226,7 +226,7 @@ impl Scanner {
     #[inline(always)]
     fn take_if_final(&mut self, byte: u8) -> bool
         requires { (self.old.kind ≡ Kind.CsiEntry) ⊎ (self.old.kind ≡ Kind.CsiParam) }
-        ensures answers { result ≡ is_final byte }
+        ensures value { result ≡ is_final byte }
         ensures fed { IsTrue result
             → Feeds self.old byte self.new (record { first = Some (Event.Csi byte); second = None }) }
         ensures kept { result ≡ false → self.new ≡ self.old }
@@ -241,9 +241,9 @@ impl Scanner {
     /// Parses `byte` if it is BEL or ESC, which end an operating system command, and returns
     /// whether it was parsed. The scanner must be inside such a command.
     #[inline(always)]
-    fn takes_command_end(&mut self, byte: u8) -> bool
+    fn take_command_end(&mut self, byte: u8) -> bool
         requires { self.old.kind ≡ Kind.OscString }
-        ensures answers { result ≡ ((byte == 0x07) || (byte == 0x1B)) }
+        ensures value { result ≡ ((byte == 0x07) || (byte == 0x1B)) }
         ensures fed { IsTrue result
             → Feeds self.old byte self.new (record { first = Some Event.Osc; second = None }) }
         ensures kept { result ≡ false → self.new ≡ self.old }
@@ -259,11 +259,11 @@ impl Scanner {
         false
     }
 
-    /// Enters the ground state if `turn` dispatches an escape sequence, and returns whether it
-    /// does.
+    /// Enters the ground state and returns `true` if the transition `turn` take_dispatch an escape
+    /// sequence. Otherwise changes nothing and returns `false`.
     #[inline(always)]
-    fn dispatches(&mut self, turn: Transition) -> bool
-        ensures answers { IsTrue result ↔ (turn ≡ Transition.End Kind.Ground Ending.EscDispatch) }
+    fn take_dispatch(&mut self, turn: Transition) -> bool
+        ensures value { IsTrue result ↔ (turn ≡ Transition.End Kind.Ground Ending.EscDispatch) }
         ensures begins { IsTrue result → Begins self.old self.new Kind.Ground }
         ensures kept { result ≡ false → self.new ≡ self.old }
     {
@@ -296,7 +296,7 @@ impl Scanner {
     #[inline]
     fn take_bracket(&mut self, byte: u8) -> bool
         requires { self.old.kind ≡ Kind.Escape }
-        ensures answers { result ≡ (byte == 0x5B) }
+        ensures value { result ≡ (byte == 0x5B) }
         ensures begins { IsTrue result → self.new.kind ≡ Kind.CsiEntry }
         ensures fed { IsTrue result → Feeds self.old byte self.new (record { first = None; second = None }) }
         ensures kept { result ≡ false → self.new ≡ self.old }
@@ -312,7 +312,7 @@ impl Scanner {
     #[inline]
     fn take_intermediate(&mut self, byte: u8) -> bool
         requires { self.old.kind ≡ Kind.Escape }
-        ensures answers { result ≡ is_intermediate byte }
+        ensures value { result ≡ is_intermediate byte }
         ensures kind { IsTrue result → self.new.kind ≡ Kind.EscapeIntermediate }
         ensures fed { IsTrue result → Feeds self.old byte self.new (record { first = None; second = None }) }
         ensures kept { result ≡ false → self.new ≡ self.old }
@@ -327,9 +327,9 @@ impl Scanner {
 
     /// Parses `byte` if it is a private marker after `[`, and returns whether it was parsed.
     #[inline(always)]
-    fn takes_marker(&mut self, byte: u8) -> bool
+    fn take_private_marker(&mut self, byte: u8) -> bool
         requires { self.old.kind ≡ Kind.CsiEntry }
-        ensures answers { result ≡ is_marker byte }
+        ensures value { result ≡ is_marker byte }
         ensures kind { IsTrue result → self.new.kind ≡ Kind.CsiParam }
         ensures fed { IsTrue result → Feeds self.old byte self.new (record { first = None; second = None }) }
         ensures kept { result ≡ false → self.new ≡ self.old }
@@ -345,9 +345,9 @@ impl Scanner {
     /// Parses `byte` if it introduces a control string after ESC, and returns whether it was
     /// parsed.
     #[inline]
-    fn takes_string_start(&mut self, byte: u8) -> bool
+    fn take_string_start(&mut self, byte: u8) -> bool
         requires { self.old.kind ≡ Kind.Escape }
-        ensures answers { result ≡ starts_string byte }
+        ensures value { result ≡ starts_string byte }
         ensures kind { IsTrue result → (self.new.kind ≡ Kind.OscString) ⊎ (self.new.kind ≡ Kind.Skip) }
         ensures fed { IsTrue result → Feeds self.old byte self.new (record { first = None; second = None }) }
         ensures kept { result ≡ false → self.new ≡ self.old }
@@ -366,7 +366,7 @@ impl Scanner {
     /// Parses the ESCs at the start of `bytes`, which follow another ESC, and returns how many it
     /// parsed. Each ESC abandons the sequence that the previous one introduced.
     #[inline(always)]
-    fn takes_escapes(&mut self, bytes: &[u8]) -> usize
+    fn take_escapes(&mut self, bytes: &[u8]) -> usize
         requires { self.old.kind ≡ Kind.Escape }
         ensures inside { result ≤ length bytes.now }
         ensures kind { self.new.kind ≡ Kind.Escape }
@@ -386,7 +386,7 @@ impl Scanner {
     #[inline]
     fn take_escape(&mut self, byte: u8) -> bool
         requires { self.old.kind ≡ Kind.Ground }
-        ensures answers { result ≡ ((byte == 0x1B) && (length self.old.unfinished == 0)) }
+        ensures value { result ≡ ((byte == 0x1B) && (length self.old.unfinished == 0)) }
         ensures begins { IsTrue result → self.new.kind ≡ Kind.Escape }
         ensures fed { IsTrue result → Feeds self.old byte self.new (record { first = None; second = None }) }
         ensures kept { result ≡ false → self.new ≡ self.old }

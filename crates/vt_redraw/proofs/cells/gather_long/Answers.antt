@@ -4,7 +4,7 @@ use Rattle.vt_cells.specs.BufferInternals.{buffered_text}
 use Rattle.vt_cells.specs.Cell.{attrs_of, is_blank, is_glyph, is_wide, text_of}
 use Rattle.vt_cells.specs.Glyph.{glyph_columns}
 use Rattle.vt_cells.specs.Op.{Print, bytes_of_all}
-use Rattle.vt_redraw.specs.Script.{flag_behind, pen_at, placed_op}
+use Rattle.vt_redraw.specs.Script.{pen_at, placed_op, wrapped_after_glyph}
 use Rattle.vt_redraw.proofs.Alike.{alike_settles, other_glyph, some_columns}
 use Rattle.vt_redraw.proofs.CellSteps.{glyph_leads}
 use Rattle.vt_redraw.proofs.Refusals.{buffer_some, start_some}
@@ -28,7 +28,7 @@ returns-in_err-gather_glyph g c =
           (buffer_some c.args.buffer.now bytes _
           (start_some bytes _ _
           (glyph_leads row col n c.args.pen.now (pen_at row (col + n) (attrs_of x))
-          c.args.flag.now (flag_behind c.args.flag.now (is_wide x) (drop (col + n) ys)) c.args.cells.now.cells ys x []
+          c.args.flag.now (wrapped_after_glyph c.args.flag.now (is_wide x) (drop (col + n) ys)) c.args.cells.now.cells ys x []
           bytes c.cell-cell.ensures c.requires.other.inside c.requires.other.range.inside c.requires.other.other
           (ap is_blank c.cell-cell.ensures ∙ c.requires.glyph) refl refl refl refl))
           c.in_err-gather_glyph.ensures.gathers.nonempty);
@@ -53,11 +53,11 @@ returns g c =
     let order = c.gather_more.ensures.order in
     let inside = c.gather_more.ensures.inside in
     let some = some_columns (is_wide x) in
-    let flag = c.flag_behind.result in
-    let flags : flag ≡ flag_behind c.args.flag.now (is_wide x) (drop (col + n) ys) =
-    c.flag_behind.ensures
-    ∙ (ap (λ w. flag_behind c.args.flag.now w (drop pen.col ys)) c.is_wide.ensures
-    ∙ ap (λ k. flag_behind c.args.flag.now (is_wide x) (drop k ys)) columns) in
+    let flag = c.wrapped_after_glyph.result in
+    let flags : flag ≡ wrapped_after_glyph c.args.flag.now (is_wide x) (drop (col + n) ys) =
+    c.wrapped_after_glyph.ensures
+    ∙ (ap (λ w. wrapped_after_glyph c.args.flag.now w (drop pen.col ys)) c.is_wide.ensures
+    ∙ ap (λ k. wrapped_after_glyph c.args.flag.now (is_wide x) (drop k ys)) columns) in
     record {
       leads =
           alike_settles row col n _ _ c.gather_more.new.pen.col pen c.gather_more.new.pen flag

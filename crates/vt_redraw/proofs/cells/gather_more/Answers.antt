@@ -4,7 +4,7 @@ use Rattle.vt_cells.specs.BufferInternals.{buffered_text}
 use Rattle.vt_cells.specs.Cell.{text_of}
 use Rattle.vt_rows.specs.Cells.{at}
 use Rattle.vt_redraw.specs.Internals.{cells_from}
-use Rattle.vt_redraw.specs.Script.{flag_behind, pen_at}
+use Rattle.vt_redraw.specs.Script.{pen_at, wrapped_after_glyph}
 use Rattle.vt_redraw.proofs.Alike.{alike_inside, alike_leads, glyph_text, read_at}
 use Rattle.vt_redraw.proofs.CellSteps.{leads_then}
 use Rattle.vt_redraw.proofs.cells.gather_more.Goals as goal
@@ -19,7 +19,7 @@ loop-own-preserved c =
     let like = c.args.like.now in
     let pen = c.args.pen.now in
     let n = c.columns-count.result in
-    let on = c.flag_behind-on.result in
+    let on = c.wrapped_after_glyph-on.result in
     let next = l.col + n in
     let alike = c.is_alike.ensures c.if-is_alike.true in
     let text = glyph_text like c.contents-bytes.ensures.sound c.requires.glyph in
@@ -29,8 +29,8 @@ loop-own-preserved c =
     read_at own _ _ _ c.index-own-from.is from (omega (arith, from, here)) in
     let pushed : c.push.new.self ≡ l.buffer ++ text_of (at own l.col) =
     c.push.ensures ∙ ap (λ (more : List ℕ). l.buffer ++ more) (c.contents.ensures.value ∙ ap text_of (sym x)) in
-    let flags : on ≡ flag_behind l.on _ (drop next ys) =
-    c.flag_behind-on.ensures ∙ ap (λ w. flag_behind l.on w (drop next ys)) c.is_wide-wide.ensures in
+    let flags : on ≡ wrapped_after_glyph l.on _ (drop next ys) =
+    c.wrapped_after_glyph-on.ensures ∙ ap (λ w. wrapped_after_glyph l.on w (drop next ys)) c.is_wide-wide.ensures in
     let order = l.invariant.order in
     record {
       leads =

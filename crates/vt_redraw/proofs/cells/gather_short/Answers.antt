@@ -4,7 +4,7 @@ use Rattle.vt_cells.specs.BufferInternals.{buffered_text}
 use Rattle.vt_cells.specs.Cell.{attrs_of, is_wide, text_of}
 use Rattle.vt_cells.specs.Glyph.{glyph_columns}
 use Rattle.vt_cells.specs.Op.{Print, bytes_of_all}
-use Rattle.vt_redraw.specs.Script.{flag_behind, pen_at, placed_op}
+use Rattle.vt_redraw.specs.Script.{pen_at, placed_op, wrapped_after_glyph}
 use Rattle.vt_redraw.proofs.Alike.{alike_settles, narrow_keeps}
 use Rattle.vt_redraw.proofs.CellSteps.{glyph_leads}
 use Rattle.vt_redraw.proofs.Refusals.{buffer_some, start_some}
@@ -28,7 +28,7 @@ returns-in_err-gather_byte g c =
           (buffer_some c.args.buffer.now bytes _
           (start_some bytes _ _
           (glyph_leads row col n c.args.pen.now (pen_at row (col + n) (attrs_of x))
-          c.args.flag (flag_behind c.args.flag (is_wide x) (drop (col + n) ys)) c.args.cells.now.cells ys x []
+          c.args.flag (wrapped_after_glyph c.args.flag (is_wide x) (drop (col + n) ys)) c.args.cells.now.cells ys x []
           bytes c.requires.cell c.requires.other.inside c.requires.other.range.inside c.requires.other.other
           c.requires.glyph refl refl refl refl))
           c.in_err-gather_byte.ensures.gathers.nonempty);
@@ -45,15 +45,15 @@ returns g c =
     let pen = c.gather_byte.new.pen in
     let pens = c.in_ok-gather_byte.ensures.pen in
     let columns : pen.col ≡ col + 1 = ap (λ p. p.col) pens in
-    let order = c.gather_bytes.ensures.order in
-    let inside = c.gather_bytes.ensures.inside in
+    let order = c.gather_alike.ensures.order in
+    let inside = c.gather_alike.ensures.inside in
     let flag = c.args.flag in
     let narrow = c.requires.narrow in
     let count : 1 ≡ glyph_columns (is_wide x) = ap glyph_columns (sym narrow) in
     let flags = narrow_keeps flag (is_wide x) (drop (col + 1) ys) narrow in
     record {
       leads =
-          alike_settles row col 1 _ _ c.gather_bytes.new.pen.col pen c.gather_bytes.new.pen flag
+          alike_settles row col 1 _ _ c.gather_alike.new.pen.col pen c.gather_alike.new.pen flag
           flag xs ys _ _ _ _
           (glyph_leads row col 1 c.args.pen.now pen flag flag xs ys x
           (buffered_text (text c.args.sink.now) c.args.buffer.now)
@@ -61,7 +61,7 @@ returns g c =
           c.requires.other.inside c.requires.other.range.inside c.requires.other.other
           c.requires.glyph count c.in_ok-gather_byte.ensures.gathers.text
           (pens ∙ ap (λ k. pen_at row (col + k) (attrs_of x)) count) flags)
-          (c.gather_bytes.ensures.leads (text c.gather_byte.new.sink)) (ap (λ p. p.row) pens) columns order;
+          (c.gather_alike.ensures.leads (text c.gather_byte.new.sink)) (ap (λ p. p.row) pens) columns order;
       nonempty = omega (arith, columns, order);
       inside = omega (arith, columns, order, inside);
       grows = c.in_ok-gather_byte.ensures.gathers.grows;

@@ -3,7 +3,7 @@ use Rattle.vt_cells.proofs.Sinks.{on_err}
 use Rattle.vt_cells.specs.Cell.{attrs_of, is_blank}
 use Rattle.vt_cells.specs.Op.{bytes_of_all}
 use Rattle.vt_cells.specs.BufferInternals.{buffered_text}
-use Rattle.vt_redraw.specs.Script.{placed_op, erase_run, flag_past, pen_at}
+use Rattle.vt_redraw.specs.Script.{erase_run, pen_at, placed_op, wrapped_after_erasure}
 use Rattle.vt_redraw.proofs.CellSteps.{next_run, run_some}
 use Rattle.vt_redraw.proofs.Refusals.{buffer_some, start_some}
 use Rattle.vt_redraw.proofs.cells.write_next.Goals as goal
@@ -16,11 +16,11 @@ returns g c =
     record {
       leads =
           next_run c.args.pos.row c.args.pos.col c.run-count.result c.args.pen.now c.gather_run.new.pen
-          c.args.flag.now c.flag_past.result c.args.cells.now.cells c.args.over.now.cells c.attrs-attrs.result
+          c.args.flag.now c.wrapped_after_erasure.result c.args.cells.now.cells c.args.over.now.cells c.attrs-attrs.result
           (buffered_text (text c.args.sink.now) c.args.buffer.now)
           (buffered_text (text c.gather_run.new.sink) c.gather_run.new.buffer) c.requires.other.inside c.requires.other.range.inside
           c.requires.other.other blank same c.run-count.ensures.value c.in_ok-gather_run.ensures.gathers.text
-          c.in_ok-gather_run.ensures.pen c.flag_past.ensures;
+          c.in_ok-gather_run.ensures.pen c.wrapped_after_erasure.ensures;
       nonempty =
           run_some c.attrs-attrs.result c.args.cells.now.cells c.args.pos.col c.run-count.result c.requires.other.inside
           blank same c.run-count.ensures.value;
@@ -47,7 +47,7 @@ returns-in_err-gather_run g c =
           (buffer_some c.args.buffer.now bytes _
           (start_some bytes _ _
           (next_run row col n c.args.pen.now (pen_at row col attrs) c.args.flag.now
-          (flag_past c.args.flag.now (drop (col + n) ys)) c.args.cells.now.cells ys attrs [] bytes c.requires.other.inside
+          (wrapped_after_erasure c.args.flag.now (drop (col + n) ys)) c.args.cells.now.cells ys attrs [] bytes c.requires.other.inside
           c.requires.other.range.inside c.requires.other.other
           (ap is_blank (sym c.requires.cell) ∙ (sym c.is_blank.ensures ∙ c.if-not-is_blank.false))
           (c.attrs-attrs.ensures ∙ ap attrs_of c.requires.cell) c.run-count.ensures.value refl refl refl))

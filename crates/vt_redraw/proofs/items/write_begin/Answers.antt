@@ -6,7 +6,7 @@ use Rattle.vt_redraw.proofs.CellSteps.{half_stands, half_erased}
 use Rattle.std.proofs.Common.{[], ◌<◌, length, subst}
 use Rattle.vt_cells.proofs.Sinks.{on_err}
 use Rattle.vt_cells.specs.Attrs.{default_attrs, Attrs}
-use Rattle.vt_redraw.specs.Script.{flag_past}
+use Rattle.vt_redraw.specs.Script.{wrapped_after_erasure}
 use Rattle.vt_redraw.proofs.Refusals.{grown, start_some}
 use Rattle.vt_redraw.proofs.items.write_begin.Goals as goal
 
@@ -43,7 +43,7 @@ returns-clause-leads g c =
     let n = c.run-count.result in
     record {
       leads =
-          half_erased c.args.pos.row col n (n + 1) c.args.pen.now c.write_run.new.pen c.args.flag.now c.flag_past.result
+          half_erased c.args.pos.row col n (n + 1) c.args.pen.now c.write_run.new.pen c.args.flag.now c.wrapped_after_erasure.result
           xs ys (text c.args.sink.now) (text c.write_run.new.sink) (omega arith) c.requires.range.inside
           (ap is_right_half (sym c.cell.ensures)
           ∙ (sym c.is_wide_continuation.ensures ∙ c.if-not-is_wide_continuation.false))
@@ -55,7 +55,7 @@ returns-clause-leads g c =
           ++ bytes_of_all (placed_op c.args.pen.now c.args.pos.row col a (erase_run (n + 1) (drop (col + (n + 1)) ys))))
           c.new-attrs.ensures)
           (c.in_ok-write_run.ensures.pen ∙ ap (λ a. pen_at c.args.pos.row col a) c.new-attrs.ensures)
-          c.flag_past.ensures;
+          c.wrapped_after_erasure.ensures;
       grows = grown _ _ _ c.in_ok-write_run.ensures.ops.text;
     }
 
@@ -75,7 +75,7 @@ returns-in_err-write_run-clause-nonempty g c =
     on_err c.from_residual.result
     (start_some (bytes default_attrs) _ _
     (half_erased row col n (n + 1) c.args.pen.now (pen_at row col default_attrs) c.args.flag.now
-    (flag_past c.args.flag.now (drop (col + (n + 1)) ys)) xs ys [] (bytes default_attrs) (omega arith)
+    (wrapped_after_erasure c.args.flag.now (drop (col + (n + 1)) ys)) xs ys [] (bytes default_attrs) (omega arith)
     c.requires.range.inside
     (ap is_right_half (sym c.cell.ensures) ∙ (sym c.is_wide_continuation.ensures ∙ c.if-not-is_wide_continuation.false))
     (ap is_right_half (sym c.cell-2.ensures) ∙ (sym c.is_wide_continuation-2.ensures ∙ c.if-is_wide_continuation.false))

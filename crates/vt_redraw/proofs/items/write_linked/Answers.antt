@@ -10,7 +10,7 @@ use Rattle.std.proofs.Common.{refl, ◌++◌}
 use Rattle.std.proofs.lemmas.Result.{on_err_weaker}
 use Rattle.vt_cells.specs.Op.{bytes_of_all}
 use Rattle.vt_redraw.specs.Internals.{cells_from}
-use Rattle.vt_redraw.proofs.Refusals.{text_behind_some}
+use Rattle.vt_redraw.proofs.Refusals.{text_after_some}
 use Rattle.vt_redraw.proofs.items.write_linked.Goals as goal
 
 pub returns : goal.returns
@@ -32,6 +32,6 @@ returns g c =
       text = on_ok_weaker c.write_cells.result (λ more. wrote _ more.bytes) c.write_cells.ensures.writes;
       nonempty =
           on_err_weaker c.write_cells.result
-          (text_behind_some start _ mid (bytes_of_all rest.ops) _ c.in_ok-link.ensures.links.bytes (wrote _ refl))
+          (text_after_some start _ mid (bytes_of_all rest.ops) _ c.in_ok-link.ensures.links.bytes (wrote _ refl))
           c.write_cells.ensures.nonempty;
     }

@@ -14,7 +14,7 @@ use Rattle.std.proofs.lemmas.Result.{on_err_weaker}
 use Rattle.vt_cells.proofs.Sinks.{on_err}
 use Rattle.vt_redraw.specs.Internals.{mark_of, range_over}
 use Rattle.vt_redraw.specs.Script.{row_break}
-use Rattle.vt_redraw.proofs.Refusals.{range_some, text_behind_some}
+use Rattle.vt_redraw.proofs.Refusals.{range_some, text_after_some}
 use Rattle.vt_redraw.proofs.items.write_row_diff.Goals as goal
 
 pub write_range-requires : goal.write_range-requires
@@ -128,7 +128,7 @@ returns-clause-nonempty g c =
     (c.row-over.ensures.value ∙ ap (λ n. row_or n c.args.prev.now.rows r) (sym c.requires.size.width))
     (subst (λ (z : RowValue). 0 < length (bytes_of_all (item_of_difference r start stop z y).ops))
     c.row-cells.ensures.value
-    (text_behind_some (text c.args.sink.now) (bytes_of_all w.ops) mid more _ c.in_ok-write_range.ensures.writes.bytes
+    (text_after_some (text c.args.sink.now) (bytes_of_all w.ops) mid more _ c.in_ok-write_range.ensures.writes.bytes
     (whole_item r start stop x y w c.write_range.new.pen c.write_range.new.flag (text c.args.sink.now) mid (mid ++ more)
     (sym c.is_whole.ensures ∙ c.if-not-is_whole.false) e c.in_ok-write_range.ensures.writes.bytes
     c.in_ok-write_range.ensures.writes.stands c.in_ok-write_range.ensures.writes.is_wrapped refl) some)))

@@ -3,7 +3,7 @@ use Rattle.std.proofs.Common.{◌++◌}
 use Rattle.vt_cells.proofs.Sinks.{on_err}
 use Rattle.vt_cells.specs.Op.{bytes_of_all}
 use Rattle.vt_redraw.specs.Script.{row_break}
-use Rattle.vt_redraw.proofs.Refusals.{row_some, text_behind_some, wrote_all}
+use Rattle.vt_redraw.proofs.Refusals.{row_some, text_after_some, wrote_all}
 use Rattle.vt_redraw.proofs.script.write_row.Goals as goal
 
 pub returns-clause-writes : goal.returns-clause-writes
@@ -27,7 +27,7 @@ returns-in_err-on-clause-nonempty g c =
     let mid = text c.write_cells.new.sink in
     let break = row_break c.args.row c.write_cells.new.pen c.write_cells.new.flag x.wrapped x.cells in
     on_err c.from_residual-in_err-on.result
-    (text_behind_some (text c.args.sink.now) _ mid (bytes_of_all break.ops) _ c.in_ok-write_cells.ensures.writes.bytes
+    (text_after_some (text c.args.sink.now) _ mid (bytes_of_all break.ops) _ c.in_ok-write_cells.ensures.writes.bytes
     (row_writes c.args.row c.args.link.settled c.args.pen.now c.write_cells.new.pen break.pen
     c.args.link.flag c.write_cells.new.flag break.flag x c.args.over.now.cells
     (text c.args.sink.now) mid (mid ++ bytes_of_all break.ops) c.in_ok-write_cells.ensures.writes.bytes

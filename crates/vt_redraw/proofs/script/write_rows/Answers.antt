@@ -5,7 +5,7 @@ use Rattle.vt_grid.specs.Page.{row_or}
 use Rattle.vt_redraw.specs.Internals.{rows_under}
 use Rattle.vt_redraw.specs.Redraw.{link_of, row_written, rows_written}
 use Rattle.vt_redraw.proofs.CellSteps.{leads_text, leads_then}
-use Rattle.vt_redraw.proofs.Refusals.{behind_some, grown, link_made, linked_all, rest_some, some_first, start_some}
+use Rattle.vt_redraw.proofs.Refusals.{after_some, grown, link_made, linked_all, rest_some, some_first, start_some}
 use Rattle.vt_redraw.proofs.Refusals.{wrote_all}
 use Rattle.vt_redraw.proofs.RowSteps.{below_leads, rows_end, top_leads}
 use Rattle.vt_redraw.proofs.script.write_rows.Goals as goal
@@ -97,7 +97,7 @@ returns-in_err-on-2-clause-ops g c =
           on_err c.from_residual-in_err-on-2.result
           (rest_some (text c.args.sink.now) (text l.sink) (rows_under r width l.pen l.on xs ys) _ l.invariant.leads
           l.invariant.grows
-          (behind_some (text l.sink) mid (bytes_of_all row.ops) (rows_under (r + 1) width row.pen row.flag xs ys) _
+          (after_some (text l.sink) mid (bytes_of_all row.ops) (rows_under (r + 1) width row.pen row.flag xs ys) _
           (below_leads width r l.pen pen row.pen l.on row.flag link xs ys l.above x y (text l.sink) mid
           (mid ++ bytes_of_all row.ops) (omega arith) c.requires.size.height l.invariant.above c.row-cells.ensures.value
           (c.row-over.ensures.value ∙ ap (λ n. row_or n ys (r + 1)) (sym c.requires.size.width))

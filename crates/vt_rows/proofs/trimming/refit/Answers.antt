@@ -5,7 +5,7 @@ use Rattle.vt_cells.specs.Cell.{CellValue}
 use Rattle.vt_rows.specs.Cells.{at}
 use Rattle.vt_rows.specs.Internals.{end_blanked}
 use Rattle.vt_rows.proofs.Columns.{at-past, at-blanks}
-use Rattle.vt_rows.proofs.Copying.{at-copied, at-behind_copied}
+use Rattle.vt_rows.proofs.Copying.{at-copied, at-after_copied}
 use Rattle.vt_rows.proofs.ShiftSteps.{resized_is}
 use Rattle.vt_rows.proofs.trimming.refit.Goals as goal
 
@@ -22,7 +22,7 @@ returns c =
     ∙ resized_is (length cells) from (take n from ++ drop n cells) c.requires.paired size (λ k h. elim (cases_lt k n) [
       | inl lt ↦ at-copied n k from cells inside lt
       | inr ge ↦
-          at-behind_copied n k from cells inside ge
+          at-after_copied n k from cells inside ge
           ∙ (ap (λ (blank : List CellValue). at blank k) c.requires.blank
           ∙ (at-blanks (length cells) k ∙ sym (at-past from k (omega arith))))
     ]))

@@ -16,5 +16,5 @@ pub returns-clause-all : goal.returns-clause-all
 returns-clause-all c holds =
     λ k d lt. c.loop-cell.invariant.all (eqb-true _ 0 holds) k d (omega arith)
 
-pub returns-clause-some : goal.returns-clause-some
-returns-clause-some c all = rw (c.loop-cell.invariant.some all) refl
+pub returns-clause-complete : goal.returns-clause-complete
+returns-clause-complete c all = rw (c.loop-cell.invariant.some all) refl

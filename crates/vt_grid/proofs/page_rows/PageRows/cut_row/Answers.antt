@@ -15,10 +15,10 @@ use Rattle.vt_grid.proofs.page_rows.PageRows.cut_row.Goals as goal
 
 pub cut-requires-clause-blank : goal.cut-requires-clause-blank
 cut-requires-clause-blank c =
-    let lent = ap (λ (items : List CellValue). slice_range items c.part-start.result.0 c.part-start.result.1)
+    let row_contents = ap (λ (items : List CellValue). slice_range items c.part-start.result.0 c.part-start.result.1)
     c.deref_mut.ensures.value
     ∙ (c.part-start.ensures.row ∙ (λ z. (page_row (c.self.view_is z) (c.from-index.ensures z)).cells)) in
-    λ k h. ap (λ (xs : List CellValue). at xs k) lent ∙ c.used_len-used.ensures.blank k h
+    λ k h. ap (λ (xs : List CellValue). at xs k) row_contents ∙ c.used_len-used.ensures.blank k h
 
 pub invariant_of-self : goal.invariant_of-self
 invariant_of-self c =
@@ -51,10 +51,10 @@ note_used-requires-clause-blank c =
     let flat = c.self.inside.flat in
     let old = (page_row own c.args.row).cells in
     let row : RowValue = record { cells = cells_cut c.args.width old; wrapped = false } in
-    let lent = ap (λ (items : List CellValue). slice_range items c.part-start.result.0 c.part-start.result.1)
+    let row_contents = ap (λ (items : List CellValue). slice_range items c.part-start.result.0 c.part-start.result.1)
     c.deref_mut.ensures.value
     ∙ (c.part-start.ensures.row ∙ (λ z. (page_row (c.self.view_is z) (c.from-index.ensures z)).cells)) in
-    let new : c.cut.new.cells ≡ cells_cut c.args.width old = c.cut.ensures ∙ (λ z. cells_cut (c.from.ensures z) (lent z)) in
+    let new : c.cut.new.cells ≡ cells_cut c.args.width old = c.cut.ensures ∙ (λ z. cells_cut (c.from.ensures z) (row_contents z)) in
     let same : page_rows_of c.set_entry.new.self ≡ with_page_row c.args.row row own =
     row_changed c.from-index.result 255 c.part-start.result.0 c.part-start.result.1 flat
     c.set_entry.new.self c.deref_mut.result.now c.cut.new.cells false c.self.invariant c.part-start.ensures.line
@@ -76,10 +76,10 @@ returns c =
     let flat = c.self.inside.flat in
     let old = (page_row own c.args.row).cells in
     let row : RowValue = record { cells = cells_cut c.args.width old; wrapped = false } in
-    let lent = ap (λ (items : List CellValue). slice_range items c.part-start.result.0 c.part-start.result.1)
+    let row_contents = ap (λ (items : List CellValue). slice_range items c.part-start.result.0 c.part-start.result.1)
     c.deref_mut.ensures.value
     ∙ (c.part-start.ensures.row ∙ (λ z. (page_row (c.self.view_is z) (c.from-index.ensures z)).cells)) in
-    let new : c.cut.new.cells ≡ cells_cut c.args.width old = c.cut.ensures ∙ (λ z. cells_cut (c.from.ensures z) (lent z)) in
+    let new : c.cut.new.cells ≡ cells_cut c.args.width old = c.cut.ensures ∙ (λ z. cells_cut (c.from.ensures z) (row_contents z)) in
     let same : page_rows_of c.set_entry.new.self ≡ with_page_row c.args.row row own =
     row_changed c.from-index.result 255 c.part-start.result.0 c.part-start.result.1 flat
     c.set_entry.new.self c.deref_mut.result.now c.cut.new.cells false c.self.invariant c.part-start.ensures.line

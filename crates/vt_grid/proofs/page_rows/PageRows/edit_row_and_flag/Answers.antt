@@ -25,8 +25,8 @@ returns g c =
     let cells = ap (λ (items : List CellValue). slice_range items c.part-start.result.0 c.part-start.result.1)
     c.deref_mut.ensures.value
     ∙ c.part-start.ensures.row in
-    let lent = cells ∙ (λ z. (page_row (c.self.view_is z) r).cells) in (
+    let row_contents = cells ∙ (λ z. (page_row (c.self.view_is z) r).cells) in (
       new,
-      record { shown = _; shows = lent; left = _; met = c.edit.ensures; leaves = refl },
+      record { shown = _; shows = row_contents; left = _; met = c.edit.ensures; leaves = refl },
       edited ∙ (λ z. with_page_row r (record { cells = new; wrapped = c.args.is_wrapped }) (c.self.view_is z)),
     )

@@ -6,7 +6,7 @@ use Rattle.vt_rows.specs.CaptureRows.{ends_row, overflows}
 use Rattle.vt_rows.specs.Internals.{rows_of}
 use Rattle.vt_rows.specs.Stretches.{columns_added, is_within_after}
 use Rattle.vt_rows.proofs.CaptureRows.{row_ended, row_full, row_goes_on, row_last, front_part}
-use Rattle.vt_rows.proofs.CaptureRows.{back_part, line_end, behind_line_end, boundary_behind}
+use Rattle.vt_rows.proofs.CaptureRows.{after_line_end, back_part, boundary_after, line_end}
 use Rattle.vt_rows.proofs.CaptureRows.{ends_within-more, columns_in-more, bound_kept, length_more}
 use Rattle.vt_rows.proofs.capture.rows.split_row.Goals as goal
 
@@ -16,7 +16,7 @@ range_from-requires c positive =
     let steps = c.in-Some.ensures.steps in
     let place = steps.0 ∙ inv.2 in
     let ends : ends_row inv.0 c.in-Some.c ≡ true = rw inv.4 at (sym c.is_row_end.ensures ∙ c.if-is_row_end.true) in
-    boundary_behind c.args.text.now inv.0 _ _ c.in-Some.c c.in-Some.at
+    boundary_after c.args.text.now inv.0 _ _ c.in-Some.c c.in-Some.at
     inv.1.parts inv.1.utf8 steps.1 place (line_end inv.0 c.in-Some.c ends)
 
 pub returns-then-is_row_end : goal.returns-then-is_row_end
@@ -27,7 +27,7 @@ returns-then-is_row_end c =
     let ends : ends_row inv.0 c.in-Some.c ≡ true = rw inv.4 at (sym c.is_row_end.ensures ∙ c.if-is_row_end.true) in
     let front = c.range.ensures.value ∙ front_part c.args.text.now _ _ c.in-Some.at inv.1.parts place in
     let back = c.range_from.ensures.value
-    ∙ behind_line_end c.args.text.now inv.0 _ _ c.in-Some.c c.in-Some.at
+    ∙ after_line_end c.args.text.now inv.0 _ _ c.in-Some.c c.in-Some.at
     inv.1.parts steps.1 place (line_end inv.0 c.in-Some.c ends) in
     row_ended c.args.width c.args.text.now inv.0 _ _ c.in-Some.c inv.1 steps.1 ends
     ∙ ap₂ (λ first rest. first ∷ rows_of c.args.width rest) (sym front) (sym back)

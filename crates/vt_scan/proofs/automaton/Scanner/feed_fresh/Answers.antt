@@ -8,7 +8,7 @@ use Rattle.vt_scan.proofs.automaton.Scanner.feed_fresh.Goals as goal
 pub returns-then-begin-clause-follows : goal.returns-then-begin-clause-follows
 returns-then-begin-clause-follows c =
     fresh_begun _ c.args.byte c.none-then-begin.result (ap (λ (h : ScannerValue). h.kind) c.self.view_is ∙ c.requires.kind)
-    c.if-begin.ensures.keeps (omega arith) (sym c.if-begin.ensures.answers) c.none-then-begin.ensures
+    c.if-begin.ensures.keeps (omega arith) (sym c.if-begin.ensures.value) c.none-then-begin.ensures
 
 pub returns-in-27-clause-follows : goal.returns-in-27-clause-follows
 returns-in-27-clause-follows c =
@@ -27,7 +27,7 @@ returns-in-32-to-127-clause-follows c =
 pub returns-else-begin-clause-follows : goal.returns-else-begin-clause-follows
 returns-else-begin-clause-follows c =
     fresh_broken _ c.args.byte c.one-in_default.result (ap (λ (h : ScannerValue). h.kind) c.self.view_is ∙ c.requires.kind)
-    c.if-begin.ensures.keeps (omega arith) (sym c.if-begin.ensures.answers) c.one-in_default.ensures
+    c.if-begin.ensures.keeps (omega arith) (sym c.if-begin.ensures.value) c.one-in_default.ensures
 
 pub invariant_of-self : goal.invariant_of-self
 invariant_of-self c = stands_plain _ (ap (λ (h : ScannerValue). h.kind) c.self.view_is ∙ c.requires.kind)

@@ -18,7 +18,7 @@ returns-clause-fed c =
     (all_left bytes 1) c.lead_from_entry-more.ensures.fed in
     let first : Feeds c.args.self.now (get_or bytes 0 0) c.take_bracket.new.self no_event =
     subst (λ (held : ScannerValue). Feeds held (get_or bytes 0 0) c.take_bracket.new.self no_event)
-    (c.takes_string_start.ensures.kept c.if-takes_string_start.false
+    (c.take_string_start.ensures.kept c.if-take_string_start.false
     ∙ c.take_intermediate.ensures.kept c.if-take_intermediate.false)
     (c.take_bracket.ensures.fed c.if-not-take_bracket.false) in
     subst (λ (text : List ℕ). FeedsAll c.args.self.now text c.lead_from_entry-more.new.self [])

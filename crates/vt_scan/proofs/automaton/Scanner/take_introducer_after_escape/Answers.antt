@@ -9,13 +9,13 @@ use Rattle.vt_scan.proofs.automaton.Scanner.take_introducer_after_escape.Goals a
 pub returns-clause-fed : goal.returns-clause-fed
 returns-clause-fed c =
     let bytes = c.args.bytes.now in
-    let escapes = c.takes_escapes-escapes.result in
+    let escapes = c.take_escapes-escapes.result in
     let more = c.lead_after_escapes-more.result in
-    let middle = c.takes_escapes-escapes.new.self in
+    let middle = c.take_escapes-escapes.new.self in
     let new = c.lead_after_escapes-more.new.self in
     let rest : FeedsAll middle (take more (drop escapes bytes)) new [] =
     subst (λ (left : List ℕ). FeedsAll middle (take more left) new [])
     (all_left bytes escapes) c.lead_after_escapes-more.ensures.fed in
     subst (λ (text : List ℕ). FeedsAll c.args.self.now text new []) (sym (take-add escapes more bytes))
     (feeds_then c.args.self.now middle new (take escapes bytes) (take more (drop escapes bytes))
-    c.takes_escapes-escapes.ensures.fed rest)
+    c.take_escapes-escapes.ensures.fed rest)

@@ -8,7 +8,7 @@ use Rattle.vt_redraw.specs.Internals.{cells_from}
 use Rattle.vt_redraw.specs.Script.{pen_at}
 use Rattle.vt_redraw.proofs.Alike.{alike_inside, alike_leads, narrow_keeps, read_at}
 use Rattle.vt_redraw.proofs.CellSteps.{leads_then}
-use Rattle.vt_redraw.proofs.cells.gather_bytes.Goals as goal
+use Rattle.vt_redraw.proofs.cells.gather_alike.Goals as goal
 
 pub loop-own-preserved : goal.loop-own-preserved
 loop-own-preserved c =

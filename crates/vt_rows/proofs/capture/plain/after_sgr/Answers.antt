@@ -3,7 +3,7 @@ use Rattle.std.proofs.lemmas.List.{length-append}
 use Rattle.std.proofs.lemmas.Str.Pattern.{split_parts}
 use Rattle.vt_rows.specs.Internals.{pieces_from, pieces_within}
 use Rattle.vt_rows.proofs.Pieces.{within_over, within_to_end}
-use Rattle.vt_rows.proofs.capture.plain.behind_sgr.Goals as goal
+use Rattle.vt_rows.proofs.capture.plain.after_sgr.Goals as goal
 
 pub returns-in-Some-clause-pieces : goal.returns-in-Some-clause-pieces
 returns-in-Some-clause-pieces c at =

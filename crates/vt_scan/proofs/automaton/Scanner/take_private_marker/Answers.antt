@@ -5,7 +5,7 @@ use Rattle.vt_scan.specs.Scanner.{ScannerValue, StandsFor}
 use Rattle.vt_scan.proofs.Feeding.{no_event}
 use Rattle.vt_scan.proofs.Leading.{marker_feeds}
 use Rattle.vt_scan.proofs.Standing.{stands_fed}
-use Rattle.vt_scan.proofs.automaton.Scanner.takes_marker.Goals as goal
+use Rattle.vt_scan.proofs.automaton.Scanner.take_private_marker.Goals as goal
 
 pub invariant_of-self : goal.invariant_of-self
 invariant_of-self c =

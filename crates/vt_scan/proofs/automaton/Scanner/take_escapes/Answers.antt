@@ -2,7 +2,7 @@
 use Rattle.std.proofs.Common.{◌<◌, arith, length, take}
 use Rattle.std.proofs.lemmas.List.{length-take}
 use Rattle.vt_scan.proofs.Leading.{escapes_feed}
-use Rattle.vt_scan.proofs.automaton.Scanner.takes_escapes.Goals as goal
+use Rattle.vt_scan.proofs.automaton.Scanner.take_escapes.Goals as goal
 
 pub returns-clause-fed : goal.returns-clause-fed
 returns-clause-fed c =

@@ -1,6 +1,6 @@
 -- BEL or ESC within an operating system command.
 use Rattle.vt_scan.proofs.Leading.{bell_feeds, escape_ends}
-use Rattle.vt_scan.proofs.automaton.Scanner.takes_command_end.Goals as goal
+use Rattle.vt_scan.proofs.automaton.Scanner.take_command_end.Goals as goal
 
 pub returns-then-byte-eq7-clause-fed : goal.returns-then-byte-eq7-clause-fed
 returns-then-byte-eq7-clause-fed c = λ is.

@@ -1,7 +1,7 @@
 -- `]`, or a byte that introduces a string that is ignored, after ESC.
 use Rattle.std.proofs.Common.{◌∙◌, sym}
 use Rattle.vt_scan.proofs.Leading.{command_begins, skip_begins}
-use Rattle.vt_scan.proofs.automaton.Scanner.takes_string_start.Goals as goal
+use Rattle.vt_scan.proofs.automaton.Scanner.take_string_start.Goals as goal
 
 pub returns-then-byte-eq93-clause-fed : goal.returns-then-byte-eq93-clause-fed
 returns-then-byte-eq93-clause-fed c = λ is.
