@@ -1,7 +1,7 @@
-"""A terminal of the library, for tests in this folder: bytes in, cells, state and notes out.
+"""A terminal of the library, for tests in this directory: it processes bytes, and returns cells, state and notes.
 
-Uses the shared object below the folder that bindings/build installed into. A note is what the
-library keeps of a callback: its name and what it was called with.
+Uses the shared object in the directory into which bindings/build installed the library. A note is the library's record
+of a callback: its name and its arguments.
 """
 
 import ctypes
@@ -19,7 +19,7 @@ NO_BYTE = 256
 
 
 class Handle(ctypes.Structure):
-    """The word of the caller's that holds a parser."""
+    """The caller's machine word that holds a parser."""
 
     _fields_ = [("at", ctypes.c_void_p)]
 
@@ -30,7 +30,7 @@ class Color(ctypes.Structure):
     _fields_ = [(name, ctypes.c_uint8) for name in ("kind", "red", "green", "blue")]
 
     def value(self):
-        """None for the default color, the number of a palette's, or red, green and blue."""
+        """None for the default color, the index of a palette color, or red, green and blue."""
         if self.kind == 0:
             return None
         return self.red if self.kind == 1 else (self.red, self.green, self.blue)
@@ -54,12 +54,12 @@ class Cell(ctypes.Structure):
 
     @property
     def looks(self):
-        """Foreground, background and flags."""
+        """The foreground, background and flags of the cell."""
         return self.fgcolor.value(), self.bgcolor.value(), self.flags & 31
 
 
 class State(ctypes.Structure):
-    """What a screen is beside its cells."""
+    """The properties of a screen other than its cells."""
 
     _fields_ = (
         [(name, ctypes.c_uint16) for name in ("rows", "cols", "cursor_row", "cursor_col")]
@@ -79,7 +79,7 @@ class State(ctypes.Structure):
 
 
 def load(prefix):
-    """Loads the library that bindings/build installed below `prefix`."""
+    """Loads the library that bindings/build installed under `prefix`."""
     library = ctypes.CDLL(os.path.join(prefix, "lib", "libvt100.so"))
     handle, size = ctypes.POINTER(Handle), ctypes.c_size_t
     u8, u16 = ctypes.c_uint8, ctypes.c_uint16
@@ -101,7 +101,7 @@ def load(prefix):
 
 
 class Terminal:
-    """A parser of the library that keeps a note of each callback but `on_scroll`."""
+    """A parser of the library that records each callback except `on_scroll`."""
 
     def __init__(self, library, rows, cols, scrollback=0):
         self.library = library
@@ -122,7 +122,7 @@ class Terminal:
             raise RuntimeError(f"vt100_{name}: status {status}")
 
     def process(self, data):
-        """Parses bytes and keeps the notes of their callbacks."""
+        """Parses bytes and records their callbacks."""
         self.call("process", data, len(data))
         length, is_whole = ctypes.c_size_t(), ctypes.c_uint8()
         self.call("events", ctypes.byref(length), ctypes.byref(is_whole))
@@ -133,7 +133,7 @@ class Terminal:
 
     @property
     def unhandled(self):
-        """The notes of sequences and characters that the terminal does not know."""
+        """Returns the notes of sequences and characters that the terminal does not support."""
         return [note for note in self.notes if note[0].startswith("unhandled")]
 
     @property
@@ -150,7 +150,7 @@ class Terminal:
         return state.cursor_row, state.cursor_col
 
     def cell(self, row, col):
-        """The cell in a row and column."""
+        """Returns the cell at a row and column."""
         cell = Cell()
         self.call("get_cell", row, col, ctypes.byref(cell))
         return cell
@@ -173,7 +173,7 @@ class Terminal:
 
 
 def notes_of(log):
-    """The notes of a parser's records."""
+    """Returns the notes for a parser's records."""
     notes = []
     while log:
         kind, first, second, length = HEAD.unpack_from(log)
@@ -184,7 +184,7 @@ def notes_of(log):
 
 
 def describe(name, first, second, text):
-    """What a callback was called with, in one line: of a sequence as it was written."""
+    """Returns the arguments of a callback in one line; those of a sequence as they were written."""
     marks = "".join(chr(byte) for byte in (first, second) if byte < NO_BYTE)
     if name == "unhandled_csi":
         final, groups = text[:4], groups_of(text[4:])
@@ -202,7 +202,7 @@ def describe(name, first, second, text):
 
 
 def parts_of(text):
-    """The parts of a record's text, each after its length in 8 bytes."""
+    """Returns the parts of a record's text, each of which is preceded by its length in 8 bytes."""
     parts = []
     while text:
         length = int.from_bytes(text[:8], "little")
@@ -212,7 +212,7 @@ def parts_of(text):
 
 
 def groups_of(text):
-    """The numbers of a sequence as they are written: groups of 2-byte numbers after their count."""
+    """Returns the numbers of a sequence as they are written, from groups of 2-byte numbers preceded by their count."""
     groups = []
     while text:
         count = int.from_bytes(text[:8], "little")

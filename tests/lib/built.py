@@ -1,4 +1,4 @@
-"""Takes libraries that `rt ci` has just proved to a copy of the repository: see tests/take-built."""
+"""Copies libraries that `rt ci` has just proved to a copy of the repository: see tests/take-built."""
 import os
 import shutil
 import subprocess
@@ -6,11 +6,11 @@ import sys
 
 
 class NoWay(Exception):
-    """The kit has another form than the one that is known here."""
+    """The kit has an unexpected form."""
 
 
 def newest(folder):
-    """When the newest file of a crate was written, those in out/ left aside."""
+    """Returns the time at which the newest file of a crate outside of out/ was written."""
     times = []
     for at, folders, names in os.walk(folder):
         folders[:] = [it for it in folders if it != "out"]
@@ -19,7 +19,7 @@ def newest(folder):
 
 
 def libraries(root, name):
-    """The libraries of the repository below a crate, lowest first, each with its folder and its stamp."""
+    """Returns the libraries on which a crate depends, lowest first, each with its directory and its stamp."""
     kit = os.path.dirname(os.path.realpath(shutil.which("rt") or "rt"))
     sys.path.insert(0, kit)
     try:
@@ -33,7 +33,7 @@ def libraries(root, name):
 
 
 def copy_files(root, to):
-    """Copies the repository's files, without its history and what was built."""
+    """Copies the repository's files, except for its history and build output."""
     os.makedirs(to, exist_ok=True)
     words = ["tar", "-c", "--exclude=./.git", "--exclude=./crates/*/out", "."]
     with subprocess.Popen(words, cwd=root, stdout=subprocess.PIPE) as packed:
@@ -43,7 +43,7 @@ def copy_files(root, to):
 
 
 def take(name, folder, stamp, to):
-    """Copies a library with its stamp, and returns why it could not, or nothing."""
+    """Copies a library with its stamp. Returns the reason if that fails, otherwise None."""
     made = f"{folder}/out/rlib/{name}.rlib"
     if not os.path.isdir(made):
         return f"{name} is not built"
@@ -57,7 +57,9 @@ def take(name, folder, stamp, to):
 
 
 def take_built(root, name, to):
-    """Copies the files and the libraries below a crate, up to the first that cannot be taken, and returns a line."""
+    """Copies the files and the libraries on which a crate depends, up to the first that cannot be copied, and returns a
+    report of one line.
+    """
     copy_files(root, to)
     below = libraries(root, name)
     for count, (library, folder, stamp) in enumerate(below):

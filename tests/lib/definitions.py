@@ -9,7 +9,7 @@ PREFIXES = ("abbrev", "unfoldable", "pub", "data", "record")
 
 
 def defined_name(line):
-    """The name that a line at the left edge defines, or nothing; and whether that is a `data` type."""
+    """Returns the name that a line at the left edge defines, if any, and whether it is a `data` type."""
     if not re.match(r"(abbrev|unfoldable|pub) ", line) or re.match(r"pub (mod|use) ", line):
         return "", False
     words = re.split(r"[ :]+", line)
@@ -18,7 +18,7 @@ def defined_name(line):
 
 
 class Imports:
-    """What a file imports: names, each with its module and its name there, and modules by another name."""
+    """The imports of a file: names, each with its module and its name there, and renamed modules."""
 
     def __init__(self):
         self.names, self.modules = {}, {}
@@ -36,7 +36,7 @@ class Imports:
 
 
 class Definitions:
-    """The definitions of one file: the text of each by its name, and the definition of each constructor."""
+    """The definitions in a file: the text of each by its name, and the definition of each constructor."""
 
     def __init__(self, text):
         self.imports, self.lines, self.holder = Imports(), {}, {}
@@ -60,7 +60,7 @@ class Definitions:
 
 
 def entries(lines):
-    """Each line with the lines below it that are further in, as one line each, without `pub` and its like."""
+    """Yields each line joined with the more deeply indented lines below it, without `pub` and similar words."""
     found = []
     for at, line in enumerate(lines):
         if not line.strip():
@@ -74,7 +74,7 @@ def entries(lines):
 
 
 class Walk:
-    """Follows names to the definitions that they rest on. Another walk may hand on the files that it has read."""
+    """Follows names to the definitions that they rest on. The files that another walk has read can be reused."""
 
     def __init__(self, root, other=None):
         self.root, self.sources = root, other.sources if other else Sources(root)
@@ -87,7 +87,7 @@ class Walk:
         return self.files[file]
 
     def file_of(self, module):
-        """The file of a module and the type that it is for, or None for a module of the kit."""
+        """Returns the file of a module and the type that it belongs to, or None for a module of the kit."""
         parts = module.split(".")
         if len(parts) < 4 or parts[0] != "Rattle" or parts[1] not in self.sources.crates or parts[2] != "specs":
             return None
@@ -127,7 +127,7 @@ class Walk:
             self.need(target[0], original, target[1])
 
     def walk(self, text, imports, file=None):
-        """Follows all names of a text, which stands in a file with these imports."""
+        """Follows all names in a text from a file with these imports."""
         for found in NAME.finditer(text):
             if text[found.start() - 1 : found.start()] == ".":
                 continue
@@ -142,7 +142,7 @@ class Walk:
                 self.need(file, head)
 
     def walk_on(self, limit):
-        """Follows the names of what is needed, through at most so many definitions."""
+        """Follows the names in needed definitions, through at most the given number of definitions."""
         while self.pending:
             file, name = self.pending.pop(0)
             self.depth = self.needed[file, name] + 1
@@ -152,7 +152,7 @@ class Walk:
         self.depth = 0
 
     def walk_clauses(self, function, labels, limit=1000):
-        """Follows the names of what a function requires, and of these of its clauses."""
+        """Follows the names in the `requires` of a function, and in the given ones of its clauses."""
         imports = Imports()
         lines = read(f"{self.root}/crates/{function.file}").split("\n")
         for line in lines[: function.line]:
@@ -164,7 +164,7 @@ class Walk:
         self.walk_on(limit)
 
     def quotable(self, functions):
-        """All that may be quoted: clauses of the functions, and lines of the needed definitions."""
+        """Returns everything that may be quoted: clauses of the functions, and lines of the needed definitions."""
         found = {text for it in functions for _, _, text in it.clauses}
         for file, name in self.needed:
             if file.endswith(".antt"):

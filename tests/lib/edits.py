@@ -1,4 +1,4 @@
-"""Wrong edits of crates, and what the prover says of them: see tests/wrong-edits."""
+"""Reads wrong edits of crates, and what the prover reports for them: see tests/wrong-edits."""
 import glob
 import os
 import re
@@ -16,7 +16,7 @@ def write(path, text):
 
 
 def function_at(lines, at):
-    """The numbers, from 1 on, of the first and the last line of the function that has a line, or None."""
+    """Returns the 1-based numbers of the first and last line of the function that contains a line, or None."""
     for first in range(at, -1, -1):
         head = FUNCTION.match(lines[first])
         if head:
@@ -29,7 +29,7 @@ def function_at(lines, at):
 
 
 class Edit:
-    """One wrong edit: its pairs of texts, and the first and last lines of the functions that it changes."""
+    """A wrong edit: its pairs of texts, and the first and last lines of the functions that it changes."""
 
     def __init__(self, path):
         self.path = path
@@ -48,7 +48,7 @@ class Edit:
         return read(f"{os.path.dirname(self.path)}/../{self.file}")
 
     def applied(self, text):
-        """The text with the edit, or None if one of its texts does not stand there once."""
+        """Returns the text with the edit applied, or None if one of its texts does not occur there exactly once."""
         for old, new in self.pairs:
             if text.count(old) != 1:
                 return None
@@ -56,22 +56,23 @@ class Edit:
         return text
 
     def ranges(self):
-        """The lines of each function, its attributes included; none if a text is outside of functions."""
+        """Returns the lines of each function, including its attributes, or no lines if a text is outside of functions.
+        """
         source = self.source()
         starts = [source.find(old) for old, _ in self.pairs]
         found = [function_at(source.split("\n"), source[:it].count("\n")) for it in starts if it >= 0]
         return found if all(found) else []
 
     def heads(self):
-        """The line of each `fn` in the changed functions, with its match."""
+        """Returns the line of each `fn` in the changed functions, with its match."""
         lines = self.source().split("\n")
         for first, last in self.functions:
             at = next(it for it in range(first - 1, last) if FUNCTION.match(lines[it]))
             yield at, FUNCTION.match(lines[at])
 
     def paths(self):
-        """What --only takes for each function that is changed: the end of its name as a check prints it, or the
-        module if it is a method of a trait."""
+        """Returns the argument of --only for each changed function: the end of its name as a check prints it, or
+        its module if it is a method of a trait."""
         lines = self.source().split("\n")
         module = re.sub(r"^src/|\.rt$", "", self.file).replace("/", "::")
         for at, head in self.heads():
@@ -91,8 +92,8 @@ class Edit:
         return self.file == other.file and any(other.has(self.file, first) for first, _ in self.functions)
 
     def changes(self, function):
-        """Whether a function of a check is one that the edit changes: by the places that were named, or by its name
-        and the first module of its path (a method is named in the module of its type)."""
+        """Returns whether the edit changes a function of a check, judging by the places that were named, or by its
+        name and the first module of its path (a method is named in the module of its type)."""
         if function.places:
             return any(self.has(*it) for it in function.places)
         module = re.sub(r"^src/|\.rt$", "", self.file).split("/")[0]
@@ -102,7 +103,7 @@ class Edit:
 
 
 def groups_of(edits):
-    """Edits in groups: no two of a group in one function, or such that one hinders the other."""
+    """Returns the edits in groups. No two edits of a group change the same function or interfere with each other."""
     groups = []
     for edit in edits:
         for group in groups:
@@ -119,14 +120,14 @@ def groups_of(edits):
 
 
 def renamed(text, old, new):
-    """The text of a proof file with another name for a goal or a step."""
+    """Returns the text of a proof file with a different name for a goal or a step."""
     return re.sub(rf"(?<![\w-]){re.escape(old)}(?![\w-])", new, text)
 
 
 def run_check(folder, group, paths, jobs, renames=()):
-    """Runs `rt check` of a crate with some edits, for the functions at these paths, or for all if there is none.
+    """Runs `rt check` of a crate with some edits, for the functions at these paths, or for all if there are none.
 
-    A rename is the path of a function's proof files below proofs/, a name that stands there, and another.
+    A rename consists of the path of a function's proof files in proofs/, a name in these files, and the new name.
     """
     whole = {}
 

@@ -1,4 +1,4 @@
-"""Finds imports for contracts, definitions and proofs that nothing uses."""
+"""Finds unused imports for contracts, definitions and proofs."""
 import re
 
 from sources import BLOCK, CLAUSE, read
@@ -9,7 +9,9 @@ GHOST = re.compile(r"\bghost (?!use )|prove!")
 
 
 def names_in(line):
-    """The names that an import brings, or none for a line that is no import or one that others may use."""
+    """Returns the names that an import introduces; none if the line is not an import, or is one that other files may
+    use.
+    """
     found = IMPORT.match(line)
     if not found:
         return []
@@ -19,7 +21,7 @@ def names_in(line):
 
 
 def is_used(name, text):
-    """Whether a name stands in a text. An operator such as `◌+◌` does if each of its parts does."""
+    """Returns whether a name occurs in a text. An operator such as `◌+◌` occurs if each of its parts does."""
     if "◌" in name:
         return all(it in text for it in name.split("◌") if it)
     if not re.search(r"\w", name):
@@ -28,12 +30,14 @@ def is_used(name, text):
 
 
 def depth(line):
-    """How many braces, brackets and parentheses a line opens, less those that it closes."""
+    """Returns how many braces, brackets and parentheses a line opens, minus those that it closes."""
     return sum(line.count(it) for it in "{[(") - sum(line.count(it) for it in ")]}")
 
 
 def ghost_lines(lines):
-    """The lines of a source that a ghost import may serve, the others empty: clauses, ghost items, and ghost code."""
+    """Returns the lines of a source that can use a ghost import (clauses, ghost items and ghost code); others are
+    empty.
+    """
     kept, is_open, left = [], False, 0
     for line in lines:
         line = re.sub(r"(^|\s)//.*$", "", line)
@@ -45,7 +49,7 @@ def ghost_lines(lines):
 
 
 def scope_of(lines, at):
-    """The numbers of the lines that an import in this line serves: its block, or the whole file."""
+    """Returns the range of lines in which an import in this line is visible: its block, or the whole file."""
     if not lines[at].startswith(" "):
         return 0, len(lines)
     first = next(it for it in range(at, -1, -1) if BLOCK.match(lines[it]))
@@ -53,7 +57,7 @@ def scope_of(lines, at):
 
 
 def unused(path):
-    """The unused imports of a file: the line's number and the name of each."""
+    """Returns the unused imports of a file: the line number and the name of each."""
     lines = read(path).split("\n")
     is_source = path.endswith(".rt")
     imports = [(at, names_in(it)) for at, it in enumerate(lines) if "ghost use" in it or not is_source]

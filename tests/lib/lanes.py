@@ -1,8 +1,8 @@
-"""Divides the crates that have wrong edits among the lanes of tests/all, and checks that each was tried.
+"""Divides the crates that have wrong edits among the lanes of tests/all, and checks that each crate was tried.
 
 lanes.py ROOT: prints a line `JOBS NAME..` for each lane, and a line `library NAME` for each static library.
-lanes.py ROOT FILE..: prints each crate of which no file says how many of its wrong edits were tried. The status is 1 if
-there is one.
+lanes.py ROOT FILE..: prints each crate for which no file states how many of its wrong edits were tried. The exit status
+is 1 if there is such a crate.
 """
 import glob
 import re
@@ -20,12 +20,14 @@ def crates_with_edits(root):
 
 
 def dealt(names, count):
-    """The names, dealt out in turn, without empty hands."""
+    """Distributes the names round-robin, without empty groups."""
     return [it for it in (names[at::count] for at in range(count)) if it]
 
 
 def lanes(root):
-    """The lanes, each with its processors and its crates in the order of their proofs, and the static libraries."""
+    """Returns the lanes, each with its number of processors and its crates in the order of their proofs, and the static
+    libraries.
+    """
     heads = re.findall(r"^(\w+)( staticlib)?:", read(f"{root}/crates.txt"), re.M)
     wanted = crates_with_edits(root)
     unknown = set(wanted) - {name for name, _ in heads}
@@ -40,7 +42,7 @@ def lanes(root):
 
 
 def untried(root, texts):
-    """The crates with wrong edits of which no text has the counts of an edit that was tried."""
+    """Returns the crates with wrong edits for which no text has the counts of a tried edit."""
     tried = {it for text in texts for it in re.findall(r"^(\w+): [1-9]\d* of \d+ wrong edits in ", text, re.M)}
     return [it for it in crates_with_edits(root) if it not in tried]
 

@@ -1,7 +1,7 @@
 """Reads Rattle sources: the functions of a crate, with their signatures and clauses.
 
-This is no parser of the language. It relies on the layout of `rt fmt`: items and their closing braces start at
-the left edge or four columns in, and each clause starts on its own line.
+This is not a parser of the language. It relies on the layout of `rt fmt`: items and their closing braces begin at
+the left edge or four columns in, and each clause begins on its own line.
 """
 import glob
 import os
@@ -20,12 +20,12 @@ def read(path):
 
 
 def one_line(text):
-    """The text with each run of blanks and line ends as one space."""
+    """Returns the text with each run of blanks and line ends replaced by one space."""
     return " ".join(text.split())
 
 
 def without_generics(text):
-    """The text without what stands in angle brackets."""
+    """Returns the text without the parts in angle brackets."""
     text = text.replace("->", "\0")
     while re.search(r"<[^<>]*>", text):
         text = re.sub(r"<[^<>]*>", "", text)
@@ -63,7 +63,7 @@ class Function:
         return [label for kind, label, _ in self.clauses if kind == "ensures" and label]
 
     def module(self):
-        """Its crate and modules, as `vt100::laws`."""
+        """The crate and modules of the function, such as `vt100::laws`."""
         crate, _, inside = self.file.partition("/src/")
         path = re.sub(r"\.rt$", "", inside).replace("/", "::")
         return crate if path in ("lib", "main") else f"{crate}::{path}"
@@ -73,7 +73,7 @@ class Function:
 
 
 def head_lines(lines, first, indent):
-    """The lines of a function from its `fn` to the last one before its body."""
+    """Returns the lines of a function from its `fn` to the last one before its body."""
     for at in range(first, len(lines)):
         line = without_comment(lines[at]).rstrip()
         if line in (indent + "{", indent + "{}"):
@@ -96,7 +96,7 @@ def add_clauses(function, lines):
 
 
 def functions_in(file, text):
-    """The functions of a source file, whose name starts with that of its crate."""
+    """Returns the functions of a source file, whose name begins with the name of its crate."""
     lines, block, found = text.split("\n"), None, []
     for at, line in enumerate(lines):
         if BLOCK.match(line):
@@ -112,7 +112,7 @@ def functions_in(file, text):
 
 
 class Sources:
-    """All source files below crates/, read when they are first asked for."""
+    """All source files in crates/, each of which is read when it is first needed."""
 
     def __init__(self, root):
         self.root = root
@@ -130,7 +130,7 @@ class Sources:
         return [it for file in self.files for it in self.functions(file)]
 
     def ghosts(self):
-        """The crate and the name of each ghost field, and of each ghost function of a trait."""
+        """Returns the crate and the name of each ghost field, and of each ghost function of a trait."""
         texts = ((it.partition("/")[0], read(f"{self.root}/crates/{it}")) for it in self.files)
         ghost = re.compile(r"^    (?:pub )?ghost (\w+)(?:: | = )", re.M)
         return {(crate, name) for crate, text in texts for name in ghost.findall(text)}

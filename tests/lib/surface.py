@@ -10,7 +10,7 @@ SECTION_END = re.compile(r"^#+ ", re.M)
 
 
 def split_at_commas(text):
-    """The parts of a text between its commas, but for those within parentheses and brackets."""
+    """Returns the parts of a text between its commas, except for commas in parentheses and brackets."""
     parts, depth, part = [], 0, ""
     for at, it in enumerate(text):
         depth += (it in "([{<") - (it in ")]}" or (it == ">" and text[at - 1] != "-"))
@@ -32,23 +32,23 @@ class File:
         self.functions = functions_in(module, self.text)
 
     def head(self, at):
-        """The text from a line on up to its body or semicolon, as one line."""
+        """Returns the text from a line to its body or semicolon, as one line."""
         end = next(it for it in range(at, len(self.lines)) if self.lines[it].endswith(("{", "}", ";", "where")))
         return re.sub(r"\s*(\{.*|;)$", "", one_line(" ".join(self.lines[at : end + 1])))
 
     def body(self, at):
-        """The lines between the braces of an item at the left edge."""
+        """Returns the lines between the braces of an item at the left edge."""
         if self.lines[at].endswith((";", "{}")):
             return []
         start = next(it for it in range(at, len(self.lines)) if self.lines[it].endswith("{"))
         return self.lines[start + 1 : self.lines.index("}", start)]
 
     def defines(self, name):
-        """Whether the file defines a type of this name."""
+        """Returns whether the file defines a type with this name."""
         return re.search(rf"^(pub(\(.*\))? )?(struct|enum|union) {re.escape(name)}(?!\w)", self.text, re.M) is not None
 
     def derived(self, at):
-        """The traits that the attributes above an item derive."""
+        """Returns the traits that the attributes above an item derive."""
         found = []
         while at > 0 and re.match(r"#\[|///|$", self.text.split("\n")[at - 1]):
             at -= 1
@@ -58,7 +58,7 @@ class File:
 
 
 class Surface:
-    """All public items of a crate, a line for each, and the functions among them by owner and name."""
+    """All public items of a crate, one line each, and its public functions by owner and name."""
 
     def __init__(self, root):
         self.lines, self.functions, self.items_of = set(), [], {}
@@ -74,7 +74,7 @@ class Surface:
             self.read_impls(name)
 
     def read_module(self, file, prefix):
-        """Adds what a public module has and what it re-exports."""
+        """Adds the items that a public module contains or re-exports."""
         source = self.files[file]
         for at, line in enumerate(source.lines):
             item = ITEM.match(line)
@@ -92,7 +92,7 @@ class Surface:
                 self.add_function(it, prefix)
 
     def read_use(self, path, prefix):
-        """Adds the items that a `pub use` hands out."""
+        """Adds the items that a `pub use` re-exports."""
         path, _, group = path.partition("{")
         names = split_at_commas(group.rstrip("}")) if group else [path.rpartition("::")[2]]
         parts = path.split("::")[:-1]
@@ -110,7 +110,9 @@ class Surface:
                     self.add_function(at, prefix)
 
     def folder_of(self, crate, modules, name):
-        """What the paths of the files begin with that may define a name that a crate, or a module of it, hands out."""
+        """Returns the prefix of the paths of the files that can define a name exported by a crate or one of its
+        modules.
+        """
         if not modules:
             text = one_line(" ".join(self.files[f"{crate}/src/lib.rt"].lines))
             module = re.search(rf"pub use ([\w:]+)::(?:\{{[^}}]*\b{name}\b[^}}]*\}}|{name});", text)
@@ -118,7 +120,9 @@ class Surface:
         return "/".join([crate, "src", *modules])
 
     def defined(self, folder, name):
-        """The public items of a name: the file, the line and its match, or for a function that itself and nothing."""
+        """Returns the public items with a name: the file, the line and its match, or for a function the function and
+        None.
+        """
         for file, source in self.files.items():
             if not file.startswith(folder):
                 continue
@@ -190,22 +194,22 @@ class Surface:
                     self.lines.add(f"const {name}::{found[1]}")
 
     def is_public_type(self, name):
-        """Whether a type is one of the surface, or of the language."""
+        """Returns whether a type belongs to the public items or to the language."""
         return name in self.names or not any(it.defines(name) for it in self.files.values())
 
     def failing_types(self):
-        """The iterators whose items are results."""
+        """Returns the iterators whose items are results."""
         found = (re.match(r"type (\w+)::Item = Result<.*, Error>", it) for it in self.lines)
         return {it[1] for it in found if it}
 
 
 def without_bounds(head):
-    """The head of an implementation, without the parameters behind `impl`."""
+    """Returns the head of an implementation, without the parameters after `impl`."""
     return re.sub(r"^(unsafe )?impl<(?:[^<>]|<[^<>]*>)*> ", "impl ", head)
 
 
 def parameters(function):
-    """The names and types of a function's parameters, but for `self`."""
+    """Returns the names and types of a function's parameters, except `self`."""
     inside = re.search(r"fn \w+(?:<(?:[^<>]|<[^<>]*>)*>)?\((.*?)\)(?: -> .*)?$", function.signature)[1]
     pairs = [it.partition(":") for it in split_at_commas(inside)]
     pairs = [(name.strip().lstrip("_"), of.strip()) for name, _, of in pairs]
@@ -213,7 +217,7 @@ def parameters(function):
 
 
 def fails(function, failing):
-    """Whether a function returns a result with `Error`, or an iterator over such."""
+    """Returns whether a function returns a result with `Error`, or an iterator over such results."""
     result = function.signature.partition(" where ")[0].rpartition(" -> ")[2]
     return re.match(r"Result<.*, Error>$", result) is not None or without_generics(result) in failing
 
@@ -237,7 +241,7 @@ class Interface:
         return self.faults
 
     def check_line(self, title, line):
-        """Compares the arguments of each call that a line shows, and the mark of a row of a table."""
+        """Compares the arguments of each call that a line shows, and the **M** in a row of a table."""
         bullet = re.match(r"- `(\w+)`", line)
         owners = {bullet[1]} if bullet else set(re.findall(r"\w+", title))
         is_row = line.startswith("| ") and owners & set(self.surface.names)
@@ -267,6 +271,6 @@ class Interface:
 
 
 def is_shown_as(parameter, shown):
-    """Whether a document shows a parameter: by its name, or as a tuple."""
+    """Returns whether a document shows a parameter by its name or as a tuple."""
     name, of = parameter
     return of.startswith("(") if shown.startswith("(") else re.sub(r"^&(mut )?", "", shown) == name

@@ -1,4 +1,4 @@
-"""Ways to fool the checks: each is tried in a copy of the repository, and the check in question must report it."""
+"""Tries ways to fool the checks, each in a copy of the repository, where the check in question must report it."""
 import os
 import re
 import shutil
@@ -29,7 +29,7 @@ class Holes(unittest.TestCase):
         shutil.rmtree(cls.room)
 
     def said(self, *words):
-        """The status and the output of a command in the copy."""
+        """Returns the status and the output of a command in the copy."""
         ran = subprocess.run(
             words, cwd=self.room, stdin=subprocess.DEVNULL, stdout=subprocess.PIPE,
             stderr=subprocess.STDOUT, universal_newlines=True, check=False,
@@ -37,7 +37,9 @@ class Holes(unittest.TestCase):
         return ran.returncode, ran.stdout
 
     def assert_reported(self, file, old, new, command, says):
-        """Replaces the first match of a pattern in a file, and looks for these words in what the command reports."""
+        """Replaces the first match of a pattern in a file, and asserts that the report of the command contains these
+        words.
+        """
         path = f"{self.room}/{file}"
         whole = read(path)
         edited = re.sub(old, new, whole, count=1, flags=re.M)
@@ -115,7 +117,7 @@ class Holes(unittest.TestCase):
 
 class AlwaysRefused(unittest.TestCase):
     def judged(self, change):
-        """The status of a judgement of a program that prints other sections than it should, and ends, with a change."""
+        """Returns the status of the check of a program's output, after a change to that output."""
         heads = re.findall(r"^-- .*$", read(f"{ROOT}/crates/test_refusals/stdout"), re.M)
         text = change("".join(f"{it}\nrefused\n" for it in heads) + "case=none run=ended status=0 \n")
         with tempfile.NamedTemporaryFile("w", encoding="utf-8") as file:
@@ -139,7 +141,7 @@ exit "$STATUS"
 
 
 class All(unittest.TestCase):
-    """tests/all with tests that do nothing, and an `rt ci` that says what it is told to."""
+    """tests/all with tests that do nothing, and an `rt ci` that prints prescribed output."""
 
     def setUp(self):
         self.room = tempfile.mkdtemp(prefix="all-")
@@ -163,7 +165,7 @@ class All(unittest.TestCase):
         os.chmod(f"{self.room}/{name}", 0o755)
 
     def ran(self, last="7 passed, 0 failed", status="0"):
-        """The status and the last line of tests/all."""
+        """Returns the status and the last line of tests/all."""
         path = f"{self.room}/bin:{os.environ['PATH']}"
         ran = subprocess.run(
             [f"{self.room}/tests/all"], env={**os.environ, "PATH": path, "LAST": last, "STATUS": status},

@@ -1,4 +1,4 @@
-"""Edits of a small crate that the prover judges, and what tests/wrong-edits says of each."""
+"""Tests what tests/wrong-edits reports for edits of a small crate, which the prover judges."""
 import os
 import shutil
 import subprocess
@@ -76,7 +76,7 @@ class Proved(unittest.TestCase):
         shutil.rmtree(self.room)
 
     def said(self, *names):
-        """What tests/wrong-edits says of these edits."""
+        """Returns what tests/wrong-edits reports for these edits."""
         for name in names:
             words = zip(("old", "new") * 2, EDITS[name])
             path = f"{self.room}/crates/tiny/must-fail-in-groups/{name}.edit"

@@ -1,4 +1,4 @@
-"""Tests of how sources, imports, lanes and verdicts are read."""
+"""Tests how sources, imports, lanes and verdicts are read."""
 import os
 import tempfile
 import unittest

@@ -1,4 +1,4 @@
-"""The check of docs/TRUST.md: see tests/trust."""
+"""Checks docs/TRUST.md: see tests/trust."""
 import collections
 import re
 
@@ -14,7 +14,7 @@ def quoted(text):
 
 
 class Page:
-    """docs/TRUST.md, section by section, as far as the sections before it matter."""
+    """docs/TRUST.md, read section by section, with what the previous sections have named."""
 
     def __init__(self, root):
         self.walk = Walk(root)
@@ -25,7 +25,7 @@ class Page:
         self.faults.append(f"{self.section}: {text}")
 
     def read_item(self, file, kind):
-        """Notes what an item says of a file."""
+        """Records the definitions that an item names for a file."""
         self.items += 1
         names = quoted(kind)
         if kind.startswith("all"):
@@ -37,7 +37,7 @@ class Page:
             self.told.update({(file, name): True for name in names})
 
     def read_clauses(self, name, file, rest):
-        """Follows the clauses of a function. Each of its clauses is named, if only as one that is not needed."""
+        """Follows the clauses of a function. Each of its clauses must be named, even if it is not needed."""
         parts = rest.split("; ")
         wanted = quoted(parts[0])
         passed = [it for part in parts if part.startswith("not needed: ") for it in quoted(part)]
@@ -58,7 +58,7 @@ class Page:
         self.walk.walk_clauses(found[0], wanted)
 
     def judge(self):
-        """Compares what is needed with what the page names up to here."""
+        """Compares the needed definitions with those that the page has named so far."""
         for file, name in self.walk.needed:
             if (file, name) not in self.told:
                 self.fail(f"missing: {file} {name}")
@@ -83,7 +83,7 @@ class Page:
                     self.fail(f"no such clause or line of a definition: {entry}")
 
     def judge_names(self, lines):
-        """Looks up the names of clauses: those alone between parentheses, and those `of` a function."""
+        """Looks up the names of clauses that stand alone in parentheses or are followed by `of` and a function."""
         fields = {it.split(" ")[0] for it in self.walk.quotable([]) if " : " in it}
         labels = {label for it in self.functions for label in it.labels()}
         for line in lines:
@@ -118,7 +118,7 @@ class Page:
 
 
 def split_code(lines):
-    """The blocks of code without a language, and the lines outside of all blocks."""
+    """Returns the blocks of code without a language, and the lines outside of all blocks."""
     blocks, text, block = [], [], None
     for line in lines:
         if line.startswith("```"):
@@ -135,7 +135,7 @@ def split_code(lines):
 
 
 def check(root, text=None):
-    """Reads the page, or another text in its place."""
+    """Reads the page, or a given text instead."""
     page = Page(root)
     text = text or read(f"{root}/docs/TRUST.md")
     sections = re.split(r"^## ", text, flags=re.M)

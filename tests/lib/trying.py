@@ -8,7 +8,7 @@ ROUNDS = 3
 
 
 class Trial:
-    """The edits of one crate in a folder, how each fared, and the functions that were refused beside them."""
+    """The edits of one crate in a directory, the result of each, and the other functions that were rejected."""
 
     def __init__(self, folder, jobs, check=run_check):
         self.folder, self.jobs, self.check = folder, jobs, check
@@ -20,7 +20,8 @@ class Trial:
         return Verdict(ran.returncode, ran.stdout, bool(renames))
 
     def verdict(self, group, renames):
-        """What a check of these edits says, of all functions if none has the path that was asked for."""
+        """Returns the verdict of a check of these edits; the check covers all functions if none has the requested path.
+        """
         verdict = self.run(group, sorted({path for it in group for path in it.paths()}), renames)
         if not verdict.has_no_path or verdict.no_program():
             return verdict
@@ -28,8 +29,8 @@ class Trial:
         return self.run(group, [], renames)
 
     def try_group(self, group, renames=(), rounds=ROUNDS):
-        """Tries edits together. Those that say nothing beside the others are tried alone, and those that only change
-        names in proof files once more, with the new names there."""
+        """Tries edits together. Those that show nothing next to the others are tried alone, and those that only
+        change names in proof files are tried again with the new names."""
         verdict = self.verdict(group, renames)
         if not verdict.has_verdict:
             self.without_verdict(group, verdict)
@@ -48,7 +49,7 @@ class Trial:
             self.try_group(again, (*renames, *new), rounds - 1)
 
     def without_verdict(self, group, verdict):
-        """Tries edits one by one if a check of them together ended without a verdict."""
+        """Tries edits one by one after a check of all of them ended without a verdict."""
         places = verdict.no_program()
         bad = [it for it in group if any(it.has(*at) for at in places)]
         rest = [it for it in group if it not in bad]
@@ -63,7 +64,7 @@ class Trial:
             self.found[rest[0].path] = NO_PROGRAM if places else f"no verdict:\n{said}"
 
     def wrong(self):
-        """What is wrong, by the path of the edit or the name of the function."""
+        """Returns the faults, by the path of the edit or the name of the function."""
         found = {path: why for path, why in self.found.items() if why != verdicts.REFUSED}
         found.update((name, "REFUSED with no edit of its own") for name in self.strays)
         return found

@@ -1,10 +1,11 @@
-"""Reads what `rt check` says of each function, and tells why it is refused.
+"""Reads what `rt check` reports for each function, and determines why a function is rejected.
 
-A function is refused for its meaning if a goal stays open, or if an answer in its proof files does not prove its goal.
-It is not if only names in its proof files no longer fit: a field that the edit renamed, or a goal that has another
-name. The goal of such an answer comes out open under its new name, so one open goal is passed over for each, but none
-that values make false. If the names were changed to try it again, answers count no longer, but only goals that stay
-open. Nor is it refused for its meaning if a loop of the edit has no measure or invariant: its goals were not tried.
+A function is rejected for its meaning if a goal stays open, or if an answer in its proof files does not prove its goal.
+It is not if only names in its proof files no longer match: a field that the edit renamed, or a goal that now has
+another name. The goal of such an answer is reported as open under its new name, so one open goal is ignored for each
+such answer, except goals that values show to be false. If the names were changed for a second attempt, answers no
+longer count, but only goals that stay open. Nor is a function rejected for its meaning if a loop of the edit has no
+measure or invariant, because the goals were then not tried.
 """
 import re
 
@@ -27,19 +28,20 @@ NOT_TOLD = "COULD NOT TELL"
 
 
 def function_of(folder):
-    """The function whose proof files are in a folder. A recursive function's folder begins with `+`."""
+    """Returns the function whose proof files are in a directory. The directory of a recursive function begins with `+`.
+    """
     return re.sub(r"(^|::)\+", r"\1", folder.replace("/", "::"))
 
 
 def is_renamed(old, new):
-    """Whether two names of steps or goals differ in a condition alone: `if-a-lt7` and `if-a-lt8`, for example, or
+    """Returns whether two names of steps or goals differ only in a condition, such as `if-a-lt7` and `if-a-lt8`, or
     `returns-then-a-lt7-clause-value` and `returns-then-a-lt8-clause-value`."""
     condition = re.compile(r"(^if|-then|-else|-in)-(?:(?!-clause-).)*")
     return condition.search(old) is not None and condition.sub(r"\1", old) == condition.sub(r"\1", new)
 
 
 class Function:
-    """What a check said of one function."""
+    """What a check reported for one function."""
 
     def __init__(self, name, words, notes, errors, has_renames):
         self.name, self.words, self.errors = name, words, errors
@@ -54,7 +56,7 @@ class Function:
         self.is_at_limit = bool(goals) and all("gave up" in it[4] for it in goals)
 
     def why(self):
-        """Why it is refused, or that it is not."""
+        """Returns why the function is rejected, or that it is not."""
         if self.words.startswith("proved"):
             return PROVED
         if self.words.startswith("could not tell"):
@@ -69,7 +71,7 @@ class Function:
 
 
 class Verdict:
-    """What a check said, which may have been made with other names in proof files."""
+    """What a check reported; it may have been made with other names in proof files."""
 
     def __init__(self, status, said, has_renames=False):
         self.said = said.split("\n")
@@ -89,7 +91,7 @@ class Verdict:
                 start = at + 1
 
     def proposals(self):
-        """The goal that the check names for each that is gone, if it is the same one wherever that is said."""
+        """Returns the goal that the check proposes for each missing goal, if all proposals agree."""
         found = {}
         for it in map(ASKS_FOR.match, self.said):
             if it:
@@ -97,8 +99,8 @@ class Verdict:
         return {old: min(new) for old, new in found.items() if len(new) == 1}
 
     def renames(self, function):
-        """New names for those in a function's proof files that no longer fit, as the check proposes them, if a
-        condition is all that changed: the path of the files, the name and the new one."""
+        """Returns new names for those in a function's proof files that no longer match, as proposed by the check, if
+        only a condition changed: the path of the files, the old name and the new one."""
         goals, path = self.proposals(), "/".join(function.name.split("::")[1:])
         for error in function.errors:
             goal, field = RENAMED_GOAL.search(error), RENAMED_FIELD.search(error)
@@ -107,13 +109,15 @@ class Verdict:
                 yield path, old, new
 
     def no_program(self):
-        """The places at which the edited text is no program."""
+        """Returns the places at which the edited text does not compile."""
         places = [SOURCE_ERROR.match(it) for it in self.said]
         return [(it[1], int(it[2])) for it in places if it]
 
 
 def judge(verdict, edits):
-    """Why each edit is refused or not, by its path, and the functions that are refused with no edit of their own."""
+    """Returns, by the path of each edit, why it is rejected or not, and the functions that are rejected without being
+    edited.
+    """
     found, strays = {}, []
     for edit in edits:
         reasons = [it.why() for it in verdict.functions if edit.changes(it)]

@@ -1,8 +1,8 @@
-"""Finds words in comments and documents that this project writes another way.
+"""Finds retired words in comments and documents.
 
-    words.py FOLDER    prints a line for each, and how many places were looked at
+    words.py FOLDER    prints a line for each retired word, and the number of files read
 
-The right-hand column of RETIRED is what to write instead.
+The right-hand column of RETIRED says what to write instead.
 """
 import glob
 import re
@@ -33,7 +33,7 @@ PLACES = ("README.md", "docs/*.md", "crates/*/*.md", "bindings/*.md", "bindings/
 
 
 def texts_of(path, text):
-    """The lines of a file that a reader reads, with their numbers: comments of sources, documents without code."""
+    """Yields the lines of prose in a file, with their numbers: the comments of sources, and documents without code."""
     ending = path[path.rindex("."):]
     is_code = False
     for number, line in enumerate(text.split("\n"), 1):
@@ -52,7 +52,7 @@ def is_allowed(path, word):
 
 
 def retired_in(path, text):
-    """Of each retired word in a file the number of its line, the word, and what to write instead."""
+    """Yields, for each retired word in a file, its line number, the word, and what to write instead."""
     for number, line in texts_of(path, text):
         prose = re.sub(r"`[^`]*`", "``", line)
         for pattern, instead in RETIRED:
