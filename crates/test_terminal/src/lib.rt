@@ -1,11 +1,39 @@
-//! Tests of the terminal through its public interface, by worked examples: the effect of bytes on a
-//! screen, and the output of a screen. Each example is also run with its bytes split at every
-//! position.
+//! Tests of the terminal through its public interface, by worked examples of the effect of bytes on
+//! a screen, and of callbacks that implement each method or change the screen. Most examples are
+//! also run with their bytes split at every position.
 #![tactic(auto)]
 
 #[cfg(test)]
-mod aids;
+mod calls_tests;
 #[cfg(test)]
-mod screen;
+mod changing;
 #[cfg(test)]
-mod texts;
+mod changing_tests;
+#[cfg(test)]
+mod copies_tests;
+#[cfg(test)]
+mod counter;
+#[cfg(test)]
+mod counter_tests;
+#[cfg(test)]
+mod lending_tests;
+#[cfg(test)]
+mod limits_tests;
+#[cfg(test)]
+mod modes_tests;
+#[cfg(test)]
+mod notes_tests;
+#[cfg(test)]
+mod pages_tests;
+#[cfg(test)]
+mod parser_tests;
+#[cfg(test)]
+mod printing_tests;
+#[cfg(test)]
+mod rendition_tests;
+#[cfg(test)]
+mod scrolling_tests;
+#[cfg(test)]
+mod sizes_tests;
+#[cfg(test)]
+mod wanting_tests;

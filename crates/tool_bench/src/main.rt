@@ -51,7 +51,12 @@ fn main(rt: HostRuntime) -> Result<()> {
 
 fn run<R: AllocGlobal + Env + Files + Print>(rt: &R) -> Result<()> {
     let words: Vec<String> = env::args(rt)?.skip(1).collect(rt.alloc())?;
-    let [what, rows, cols, capacity, times, file] = words.as_slice() else {
+    measure(rt, words.as_slice())
+}
+
+/// Makes the measurement that the command-line arguments specify, and prints its result.
+fn measure<R: AllocGlobal + Files + Print>(rt: &R, words: &[String]) -> Result<()> {
+    let [what, rows, cols, capacity, times, file] = words else {
         bail!("usage: tool_bench WHAT ROWS COLS CAPACITY TIMES FILE");
     };
     if matches!(what.as_str(), "lengths" | "texts") {

@@ -1,8 +1,8 @@
 //! Tests of modes, and of RIS, which resets all of them.
 
-use crate::aids::seen::{Example, expect_at_each_cut, expect_each, read_keeping, shown};
-use crate::aids::steps::Step::{Resize, Text, View};
 use std::test::Fail;
+use test_aids::seen::{Example, expect_at_each_cut, expect_each, read_keeping, shown};
+use test_aids::steps::Step::{Resize, Text, View};
 
 /// Test cases: input on a screen of two rows and four columns, and the modes
 /// after the input.

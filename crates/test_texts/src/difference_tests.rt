@@ -1,11 +1,11 @@
 //! Tests of diffs: their escape sequences, and the display of a terminal that parses them.
 
-use crate::aids::cuts::expect_read_back_at_each_byte;
-use crate::aids::readback::Change;
-use crate::aids::steps::Step::{self, Text, View};
-use crate::aids::steps::{Pieces, longest, taken};
 use std::alloc::Global;
 use std::test::Fail;
+use test_aids::cuts::expect_read_back_at_each_byte;
+use test_aids::readback::Change;
+use test_aids::steps::Step::{self, Text, View};
+use test_aids::steps::{Pieces, longest, taken};
 use vt100::Screen;
 
 /// An example: a size, a scrollback capacity, the steps of two new parsers, and the escape

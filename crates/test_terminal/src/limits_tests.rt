@@ -1,8 +1,8 @@
 //! Tests of very long inputs and very large scrollback capacities.
 
-use crate::aids::seen::{expect_at_each_cut, read, read_keeping};
-use crate::aids::steps::Step::{self, Resize, ResizeParser, Text, View};
 use std::test::Fail;
+use test_aids::seen::{expect_at_each_cut, read, read_keeping};
+use test_aids::steps::Step::{self, Resize, ResizeParser, Text, View};
 use vt_notes::Note;
 
 /// The largest scrollback capacities, each too large for all its rows to fit in memory.

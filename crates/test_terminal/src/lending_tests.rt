@@ -1,8 +1,8 @@
 //! Tests of access to the screen and the callbacks of a parser in the middle of a sequence.
 
-use crate::aids::seen::{expect, read};
-use crate::aids::steps::size_of;
 use std::test::Fail;
+use test_aids::seen::{expect, read};
+use test_aids::steps::size_of;
 use vt_notes::Notes;
 
 /// Checks that the screen can be resized and the callbacks replaced in the middle of a title, which

@@ -1,10 +1,10 @@
 //! Tests of the two pages: entering and leaving the alternate page, and what each page keeps.
 
 use super::copies_tests::counts;
-use crate::aids::seen::{Example, expect_each, read_keeping};
-use crate::aids::steps::Step::{GiveUp, Resize, Text, View};
-use crate::aids::steps::{Pieces, Step};
 use std::test::Fail;
+use test_aids::seen::{Example, expect_each, read_keeping};
+use test_aids::steps::Step::{GiveUp, Resize, Text, View};
+use test_aids::steps::{Pieces, Step};
 
 #[rattlefmt::skip]
 const PAGES: [Example; 41] = [

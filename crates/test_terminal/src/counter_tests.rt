@@ -2,9 +2,9 @@
 
 use super::counter::Counter;
 use super::counter::Function::{self, *};
-use crate::aids::steps::size_of;
 use std::alloc::Global;
 use std::test::Fail;
+use test_aids::steps::size_of;
 use vt100::Parser;
 
 /// For each method of `Callbacks`, a sequence that invokes the method.

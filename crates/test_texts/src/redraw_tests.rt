@@ -1,13 +1,13 @@
 //! Tests of redraws: their escape sequences, and the display of a terminal that parses them.
 
-use crate::aids::cuts::expect_read_back_at_each_byte;
-use crate::aids::readback::ASKED;
-use crate::aids::readback::Asked::{self, Attributes, Cursor, Redraw, Reset};
-use crate::aids::seen::{expect, read};
-use crate::aids::steps::Step::{self, Text, View};
-use crate::aids::steps::{Pieces, feed, longest, taken};
 use std::alloc::Global;
 use std::test::Fail;
+use test_aids::cuts::expect_read_back_at_each_byte;
+use test_aids::readback::ASKED;
+use test_aids::readback::Asked::{self, Attributes, Cursor, Redraw, Reset};
+use test_aids::seen::{expect, read};
+use test_aids::steps::Step::{self, Text, View};
+use test_aids::steps::{Pieces, feed, longest, taken};
 use vt_notes::Notes;
 use vt100::{Parser, Screen};
 

@@ -1,13 +1,13 @@
 //! Tests of captures: of the displayed rows, of all rows, of rows as they scroll off, and into
 //! sinks that fail.
 
-use crate::aids::cuts::expect_read_back_at_each_byte;
-use crate::aids::seen::{expect_text, read_keeping};
-use crate::aids::steps::Step::{self, Bytes, Resize, Text, View};
-use crate::aids::steps::{Pieces, feed, size_of, taken};
 use std::alloc::Global;
 use std::process::Abort;
 use std::test::Fail;
+use test_aids::cuts::expect_read_back_at_each_byte;
+use test_aids::seen::{expect_text, read_keeping};
+use test_aids::steps::Step::{self, Bytes, Resize, Text, View};
+use test_aids::steps::{Pieces, feed, size_of, taken};
 use vt_notes::Recorder;
 use vt100::capture::{
     BasicFormattedCaptureRange, BasicFormattedCaptureState, basic_formatted_rows,

@@ -1,13 +1,13 @@
 //! Tests of redraws and diffs of single rows, and of the display of a terminal that parses them.
 
 use super::plain_tests::expect_texts;
-use crate::aids::cuts::expect_read_back_at_each_byte;
-use crate::aids::picture::have_same_cells;
-use crate::aids::seen::read_keeping;
-use crate::aids::steps::Step::Text;
-use crate::aids::steps::{Pieces, taken};
 use std::alloc::Global;
 use std::test::Fail;
+use test_aids::cuts::expect_read_back_at_each_byte;
+use test_aids::picture::have_same_cells;
+use test_aids::seen::read_keeping;
+use test_aids::steps::Step::Text;
+use test_aids::steps::{Pieces, taken};
 use vt_notes::Notes;
 use vt100::{Error, Parser, Screen};
 

@@ -2,9 +2,9 @@
 //! off.
 
 use super::counter::Counter;
-use crate::aids::steps::size_of;
 use std::alloc::Global;
 use std::test::Fail;
+use test_aids::steps::size_of;
 use vt100::capture::RowContents;
 use vt100::{Call, Callbacks, Parser, Screen};
 

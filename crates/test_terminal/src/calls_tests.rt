@@ -1,8 +1,8 @@
 //! Tests of the effect of each sequence, and of the callbacks that it invokes.
 
-use crate::aids::seen::expect_at_each_cut;
-use crate::aids::steps::Step::Bytes;
 use std::test::Fail;
+use test_aids::seen::expect_at_each_cut;
+use test_aids::steps::Step::Bytes;
 
 #[rattlefmt::skip]
 const REPORTED: [(&[u8], &str); 66] = [

@@ -3,12 +3,12 @@
 
 use super::redraw_tests::{expect_at_each_cut, expect_read_back};
 use super::{difference_tests, redraw_tests};
-use crate::aids::readback::Asked::{Modes, State};
-use crate::aids::readback::Change;
-use crate::aids::seen::read_keeping;
-use crate::aids::steps::Step::{Text, View};
 use std::alloc::Global;
 use std::test::Fail;
+use test_aids::readback::Asked::{Modes, State};
+use test_aids::readback::Change;
+use test_aids::seen::read_keeping;
+use test_aids::steps::Step::{Text, View};
 
 #[rattlefmt::skip]
 const STATES: [redraw_tests::Example; 8] = [

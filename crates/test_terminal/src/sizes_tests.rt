@@ -1,8 +1,8 @@
 //! Tests of resizing: what is cut, what scrolls off, and what comes back.
 
-use crate::aids::seen::{Example, expect_each};
-use crate::aids::steps::Step::{Resize, ResizeParser, Text, View};
 use std::test::Fail;
+use test_aids::seen::{Example, expect_each};
+use test_aids::steps::Step::{Resize, ResizeParser, Text, View};
 
 #[rattlefmt::skip]
 const RESIZED: [Example; 44] = [

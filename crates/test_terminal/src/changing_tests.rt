@@ -2,10 +2,10 @@
 //! input.
 
 use super::changing::{Exchanger, Resizer, Viewer, run_exchanging, run_looking_back, run_resizing};
-use crate::aids::seen::{expect_text, shown};
-use crate::aids::steps::size_of;
 use std::alloc::Global;
 use std::test::Fail;
+use test_aids::seen::{expect_text, shown};
+use test_aids::steps::size_of;
 use vt100::{Parser, Screen};
 
 /// Fails if the size or the display of a screen is not the expected one.

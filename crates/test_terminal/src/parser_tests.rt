@@ -1,9 +1,9 @@
 //! Tests of the parser itself: its default size, the cells of its screen, and its use as a writer.
 
-use crate::aids::seen::read;
-use crate::aids::steps::size_of;
 use std::io::Write;
 use std::test::Fail;
+use test_aids::seen::read;
+use test_aids::steps::size_of;
 use vt100::{Color, Parser};
 
 #[test]

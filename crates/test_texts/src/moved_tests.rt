@@ -2,9 +2,9 @@
 //! that parses them.
 
 use super::difference_tests::{Example, expect_at_each_cut};
-use crate::aids::readback::Change;
-use crate::aids::steps::Step::Text;
 use std::test::Fail;
+use test_aids::readback::Change;
+use test_aids::steps::Step::Text;
 
 /// Input that fills four rows.
 const FOUR: &str = "aaaaaaaaa\r\nbbbbbbbbb\r\nccccccccc\r\nddddddddd";

@@ -1,11 +1,11 @@
 //! Tests of the plain text of the screen, of ranges and of rows.
 
-use crate::aids::cuts::expect_read_back_at_each_byte;
-use crate::aids::seen::{expect_text, read_keeping};
-use crate::aids::steps::Step::{self, Resize, ResizeParser, Text, View};
-use crate::aids::steps::{Pieces, longest, taken};
 use std::alloc::Global;
 use std::test::Fail;
+use test_aids::cuts::expect_read_back_at_each_byte;
+use test_aids::seen::{expect_text, read_keeping};
+use test_aids::steps::Step::{self, Resize, ResizeParser, Text, View};
+use test_aids::steps::{Pieces, longest, taken};
 use vt100::{Error, Screen};
 
 /// Test cases: a size, a scrollback capacity, the steps, and the plain text after the steps.

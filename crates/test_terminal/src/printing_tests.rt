@@ -1,8 +1,8 @@
 //! Tests of printing: wraps, wide characters, combining characters, and changes of width by U+FE0F.
 
-use crate::aids::seen::expect_at_each_cut;
-use crate::aids::steps::Step::Text;
 use std::test::Fail;
+use test_aids::seen::expect_at_each_cut;
+use test_aids::steps::Step::Text;
 
 #[rattlefmt::skip]
 const PRINTED: [((u16, u16), &str, &str); 73] = [

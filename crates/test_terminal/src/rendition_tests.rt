@@ -1,8 +1,8 @@
 //! Tests of SGR: the attributes after each sequence, and the callbacks that it invokes.
 
-use crate::aids::seen::expect_at_each_cut;
-use crate::aids::steps::Step::Text;
 use std::test::Fail;
+use test_aids::seen::expect_at_each_cut;
+use test_aids::steps::Step::Text;
 
 /// SGR sequences, each with the attributes after it and the callbacks that it invokes.
 #[rattlefmt::skip]

@@ -1,9 +1,9 @@
 //! Tests of scrolling, scrollback and its display, and the rows that scroll off.
 
-use crate::aids::seen::{Example, expect, expect_at_each_cut, expect_each, read_keeping};
-use crate::aids::steps::Step::{GiveUp, Resize, Text, View};
-use crate::aids::steps::{Pieces, taken};
 use std::test::Fail;
+use test_aids::seen::{Example, expect, expect_at_each_cut, expect_each, read_keeping};
+use test_aids::steps::Step::{GiveUp, Resize, Text, View};
+use test_aids::steps::{Pieces, taken};
 use vt_notes::Note;
 
 #[rattlefmt::skip]

@@ -1,7 +1,7 @@
 //! Tests of the notes of callbacks, which contain all arguments.
 
-use crate::aids::seen::read;
 use std::test::Fail;
+use test_aids::seen::read;
 use vt_notes::Note;
 
 #[test]

@@ -1,9 +1,9 @@
 //! Diffs in which runs of a character are written with REP (ECMA-48, 8.3.103).
 
 use super::difference_tests::{Example, expect_at_each_cut};
-use crate::aids::readback::Change;
-use crate::aids::steps::Step::Text;
 use std::test::Fail;
+use test_aids::readback::Change;
+use test_aids::steps::Step::Text;
 use vt100::{DiffOptions, Repeat};
 
 /// REP for any character, and no movements of rows or columns.
