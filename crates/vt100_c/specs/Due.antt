@@ -9,6 +9,18 @@ use Rattle.vt100_c.specs.Status.{ok, out_of_memory, bad_argument, wrong_kind, ot
 use Rattle.vt100_c.specs.declared.object.Object.{Object}
 use Rattle.vt100_c.specs.declared.object.Source.{Source}
 
+-- ---- a value that may be missing
+
+-- The value exists, and the given predicate is true of it.
+abbrev pub IsSomeAnd : {A : Type 0} → Option A → (A → Type 0) → Type 0
+IsSomeAnd None Holds = ⊥
+IsSomeAnd (Some value) Holds = Holds value
+
+-- The status of a call that requires a value of a certain kind: `ok` if there is one, otherwise `wrong_kind`.
+abbrev pub due_to : {A : Type 0} → Option A → ℕ
+due_to None = wrong_kind
+due_to (Some value) = ok
+
 -- ---- what a handle holds
 
 abbrev pub source_at : Option Object → Option Source
@@ -42,8 +54,8 @@ row_status row screen = if nat_lt row (length screen.page.rows) then ok else bad
 
 -- The status of a call that stores the cells of a displayed row, one for each column of the screen: `ok` if there is
 -- such a row and `room` is at least the number of columns, otherwise `bad_argument`.
-abbrev pub has_row_and_room : (row room : ℕ) → ScreenValue → ℕ
-has_row_and_room row room screen = if nat_le screen.page.width room then row_status row screen else bad_argument
+abbrev pub row_cells_status : (row room : ℕ) → ScreenValue → ℕ
+row_cells_status row room screen = if nat_le screen.page.width room then row_status row screen else bad_argument
 
 -- The status of a call with the position of a displayed cell: `ok` if there is such a cell, otherwise `bad_argument`. A
 -- scrollback row may have more columns than the screen.
@@ -58,14 +70,9 @@ abbrev pub start_status : (start_row start_col end_row : ℕ) → ScreenValue �
 start_status start_row start_col end_row screen =
     if nat_lt start_row end_row && nat_lt screen.page.width start_col then bad_argument else ok
 
--- The screen exists, and the given predicate is true of it.
-abbrev pub OnScreen : Option ScreenValue → (ScreenValue → Type 0) → Type 0
-OnScreen None Holds = ⊥
-OnScreen (Some screen) Holds = Holds screen
-
 abbrev pub HoldsScreen : Option Object → (ScreenValue → Type 0) → Type 0
 HoldsScreen None Holds = ⊥
-HoldsScreen (Some object) Holds = OnScreen (screen_in object.source) Holds
+HoldsScreen (Some object) Holds = IsSomeAnd (screen_in object.source) Holds
 
 -- ---- two screens
 
@@ -93,8 +100,8 @@ abbrev pub same_size : Page → Page → Bool
 same_size page other = (length page.rows == length other.rows) && (page.width == other.width)
 
 -- The status of a call on two screens: `ok` if they have the same size, otherwise `other_size`.
-abbrev pub of_one_size : ScreenValue → ScreenValue → ℕ
-of_one_size screen prev = if same_size screen.page prev.page then ok else other_size
+abbrev pub sizes_status : ScreenValue → ScreenValue → ℕ
+sizes_status screen prev = if same_size screen.page prev.page then ok else other_size
 
 -- Both screens exist, and the given predicate is true of them.
 abbrev pub OnBoth : Option ScreenValue → Option ScreenValue → (ScreenValue → ScreenValue → Type 0) → Type 0

@@ -1,7 +1,8 @@
 -- The log of the parser that a handle holds; other kinds of values have no log.
 use Rattle.std.specs.Prelude.{◌≡◌, ℕ, List, [], Option, Some, None}
+use Rattle.vt100_c.specs.Due.{due_to}
 use Rattle.vt100_c.specs.Records.{Logged, bit_of, log_after_clear, nothing_logged}
-use Rattle.vt100_c.specs.Status.{ok, no_object, wrong_kind}
+use Rattle.vt100_c.specs.Status.{no_object}
 use Rattle.vt100_c.specs.declared.object.Object.{Object}
 use Rattle.vt100_c.specs.declared.object.Source.{Source}
 use Rattle.vt100_c.specs.declared.object.Source.TheVariants.{Parser, Screen, Mirror, Capture}
@@ -15,11 +16,6 @@ log_in (Capture written) = None
 abbrev pub log_at : Option Object → Option Logged
 log_at None = None
 log_at (Some object) = log_in object.source
-
--- The status of a call on the log of a value: `ok` if the value has a log, otherwise `wrong_kind`.
-abbrev pub due_to : Option Logged → ℕ
-due_to None = wrong_kind
-due_to (Some log) = ok
 
 abbrev pub due_to_log : Option Object → ℕ
 due_to_log None = no_object

@@ -4,7 +4,8 @@ use Rattle.vt_scan.specs.Automaton.{State}
 use Rattle.vt_scan.specs.Scanner.{StandsFor, unfinished_command}
 use Rattle.vt100.specs.Parser.{ParserValue}
 use Rattle.vt100_c.specs.Records.{Logged}
-use Rattle.vt100_c.specs.Status.{ok, no_object, wrong_kind}
+use Rattle.vt100_c.specs.Due.{IsSomeAnd, due_to}
+use Rattle.vt100_c.specs.Status.{no_object}
 use Rattle.vt100_c.specs.declared.object.Object.{Object}
 use Rattle.vt100_c.specs.declared.object.Source.{Source}
 use Rattle.vt100_c.specs.declared.object.Source.TheVariants.{Parser, Screen, Mirror, Capture}
@@ -16,26 +17,16 @@ parser_in (Screen screen) = None
 parser_in (Mirror mirror) = None
 parser_in (Capture written) = None
 
--- The status of a call that requires a parser: `ok` if there is a parser, otherwise `wrong_kind`.
-abbrev pub due_to : Option (ParserValue Logged) → ℕ
-due_to None = wrong_kind
-due_to (Some parser) = ok
-
 -- The status of a call that requires a parser in the given handle: `no_object` if the handle is empty, `wrong_kind` if
 -- it holds no parser, and otherwise `ok`.
 abbrev pub due_to_parser : Option Object → ℕ
 due_to_parser None = no_object
 due_to_parser (Some object) = due_to (parser_in object.source)
 
--- The parser exists, and the given predicate is true of it.
-abbrev pub OnParser : Option (ParserValue Logged) → (ParserValue Logged → Type 0) → Type 0
-OnParser None Holds = ⊥
-OnParser (Some parser) Holds = Holds parser
-
 -- The handle holds a parser, and the given predicate is true of this parser.
 abbrev pub HoldsParser : Option Object → (ParserValue Logged → Type 0) → Type 0
 HoldsParser None Holds = ⊥
-HoldsParser (Some object) Holds = OnParser (parser_in object.source) Holds
+HoldsParser (Some object) Holds = IsSomeAnd (parser_in object.source) Holds
 
 -- In every state that the scanner can be in, `len` is the number of bytes collected for an unfinished operating system
 -- command, or 0 if there is none.

@@ -26,18 +26,18 @@ pub record IsJoined (all left : List (List ℕ)) (count : ℕ) (joined ends : Li
 
 -- The status of a call that stores the end position of each row: `ok` if `room` is at least the number of rows of the
 -- screen, otherwise `bad_argument`.
-abbrev pub has_places : (room : ℕ) → ScreenValue → ℕ
-has_places room screen = if nat_le (length screen.page.rows) room then ok else bad_argument
+abbrev pub places_status : (room : ℕ) → ScreenValue → ℕ
+places_status room screen = if nat_le (length screen.page.rows) room then ok else bad_argument
 
 -- The status of a call that stores the end position of each row in a range of columns: `ok` if `start` is a column of
 -- the screen and `room` is at least the number of rows, otherwise `bad_argument`.
-abbrev pub has_range : (start room : ℕ) → ScreenValue → ℕ
-has_range start room screen = if nat_lt start screen.page.width then has_places room screen else bad_argument
+abbrev pub range_status : (start room : ℕ) → ScreenValue → ℕ
+range_status start room screen = if nat_lt start screen.page.width then places_status room screen else bad_argument
 
 -- The status of a call with a range of columns of two screens: `other_size` if the screens differ in size, and
--- otherwise the status that `has_range` determines.
-abbrev pub have_range : (start room : ℕ) → ScreenValue → ScreenValue → ℕ
-have_range start room screen prev = if same_size screen.page prev.page then has_range start room screen else other_size
+-- otherwise the status that `range_status` determines.
+abbrev pub ranges_status : (start room : ℕ) → ScreenValue → ScreenValue → ℕ
+ranges_status start room screen prev = if same_size screen.page prev.page then range_status start room screen else other_size
 
 -- The plain text of each displayed row, in the `width` columns starting at `start`.
 abbrev pub plain_rows : (start width : ℕ) → ScreenValue → List (List ℕ)

@@ -61,17 +61,17 @@ SetsSize rows cols old status new =
 
 -- A call has the effect `Does` on a saved screen, or on the screen of a parser that is otherwise unchanged. For any
 -- other kind of value, the status is `wrong_kind` and the value is unchanged.
-abbrev pub OnScreen : (ScreenValue → ℕ → ScreenValue → Type 0) → Source → ℕ → Source → Type 0
-OnScreen Does (Parser old) status (Parser new) =
+abbrev pub ChangesScreen : (ScreenValue → ℕ → ScreenValue → Type 0) → Source → ℕ → Source → Type 0
+ChangesScreen Does (Parser old) status (Parser new) =
     Does old.screen status new.screen × (new ≡ record old { screen = new.screen })
-OnScreen Does (Screen old) status (Screen new) = Does old status new
-OnScreen Does (Mirror old) status new = Refuses wrong_kind (Mirror old) status new
-OnScreen Does (Capture old) status new = Refuses wrong_kind (Capture old) status new
-OnScreen Does old status new = ⊥
+ChangesScreen Does (Screen old) status (Screen new) = Does old status new
+ChangesScreen Does (Mirror old) status new = Refuses wrong_kind (Mirror old) status new
+ChangesScreen Does (Capture old) status new = Refuses wrong_kind (Capture old) status new
+ChangesScreen Does old status new = ⊥
 
 abbrev pub SetsScreenSize : (rows cols : ℕ) → Source → ℕ → Source → Type 0
 SetsScreenSize rows cols old status new =
-    Either (is_size rows cols) (OnScreen (ResizesScreen rows cols) old status new) (Refuses bad_argument old status new)
+    Either (is_size rows cols) (ChangesScreen (ResizesScreen rows cols) old status new) (Refuses bad_argument old status new)
 
 -- The screen is unchanged because an allocation failed. Such a failure is possible only if the main page is active and
 -- a scrollback row that would be displayed must be extended to the width of the screen.

@@ -17,7 +17,7 @@ use Rattle.vt_screen.specs.Screen.{ScreenValue, visible_rows}
 use Rattle.vt_screen.specs.ShortMoves.{IsShortMoving}
 use Rattle.vt_screen.specs.Shown.{attributes_text, display}
 use Rattle.vt_screen.specs.States.{state_change, state_text}
-use Rattle.vt100_c.specs.Due.{HoldBoth, HoldsScreen, any_screen, any_screens, of_one_size, source_at, start_status, text_at}
+use Rattle.vt100_c.specs.Due.{HoldBoth, HoldsScreen, any_screen, any_screens, sizes_status, source_at, start_status, text_at}
 use Rattle.vt100_c.specs.Status.{ok, out_of_memory}
 use Rattle.vt100_c.specs.declared.output.Difference.{Difference}
 use Rattle.vt100_c.specs.declared.output.Difference.TheVariants as between
@@ -85,7 +85,7 @@ IsDifference between.InputMode screen prev text = text ≡ input_change prev.mod
 -- the diff covers only the input modes; otherwise `ok`.
 abbrev pub due_for_both : Difference → ScreenValue → ScreenValue → ℕ
 due_for_both between.InputMode screen prev = any_screens screen prev
-due_for_both _ screen prev = of_one_size screen prev
+due_for_both _ screen prev = sizes_status screen prev
 
 -- ---- texts whose allocation may fail
 

@@ -9,10 +9,11 @@ use Rattle.vt_scan.specs.Scanner.{StandsFor}
 use Rattle.vt_screen.specs.Screen.{fresh_screen}
 use Rattle.vt100.specs.Parser.{parser_value}
 use Rattle.vt100_c.specs.Calls.{Refuses}
+use Rattle.vt100_c.specs.Due.{IsSomeAnd, due_to}
 use Rattle.vt100_c.specs.Mirrors.{Joins, LeavesIt, UpdateNumbers, Updates}
 use Rattle.vt100_c.specs.Shown.{bit}
 use Rattle.vt100_c.specs.Sources.{mirror_in}
-use Rattle.vt100_c.specs.Status.{ok, no_object, wrong_kind}
+use Rattle.vt100_c.specs.Status.{no_object, wrong_kind}
 use Rattle.vt100_c.specs.declared.object.Object.{Object}
 use Rattle.vt100_c.specs.declared.object.Source.{Source}
 use Rattle.vt100_c.specs.declared.object.Source.TheVariants.{Parser, Screen, Mirror, Capture}
@@ -70,23 +71,13 @@ UpdatesObject kind viewer before after old status new =
 
 -- ---- whether a viewer is up to date
 
--- The status of a call that requires a mirror: `ok` if there is a mirror, otherwise `wrong_kind`.
-abbrev pub due_to : Option MirrorValue → ℕ
-due_to None = wrong_kind
-due_to (Some mirror) = ok
-
 abbrev pub due_to_mirror : Option Object → ℕ
 due_to_mirror None = no_object
 due_to_mirror (Some object) = due_to (mirror_in object.source)
 
--- The mirror exists, and the given predicate is true of it.
-abbrev pub OnMirror : Option MirrorValue → (MirrorValue → Type 0) → Type 0
-OnMirror None Holds = ⊥
-OnMirror (Some mirror) Holds = Holds mirror
-
 abbrev pub HoldsMirror : Option Object → (MirrorValue → Type 0) → Type 0
 HoldsMirror None Holds = ⊥
-HoldsMirror (Some object) Holds = OnMirror (mirror_in object.source) Holds
+HoldsMirror (Some object) Holds = IsSomeAnd (mirror_in object.source) Holds
 
 -- `out` is 1 if the viewer is up to date, and 0 otherwise. If `out` is 1, the screen recorded for the viewer is the
 -- mirror's screen.

@@ -161,15 +161,15 @@ fn rows_text(
     ensures nonempty { OnErr result (HaveText screen.now state.old) }
 {
     let mut text = String::new(alloc);
-    let mut behind = state.clone().unwrap();
-    let range = BasicFormattedCaptureRange::Full(&mut behind);
+    let mut after = state.clone().unwrap();
+    let range = BasicFormattedCaptureRange::Full(&mut after);
     if screen
         .write_contents_formatted_basic(&mut text, range)
         .is_err()
     {
         return Err(OUT_OF_MEMORY);
     }
-    *state = behind;
+    *state = after;
     Ok(text)
 }
 

@@ -1,7 +1,7 @@
 //! Output that turns the display of one screen into that of another.
 
 ghost use Rattle.std.specs.Prelude.{◌≡◌, Some, string_bytes};
-ghost use Rattle.vt100_c.specs.Due.{IsAnswer, OnBoth, any_screens, due_at_both, due_beside, due_on_both, of_one_size};
+ghost use Rattle.vt100_c.specs.Due.{IsAnswer, OnBoth, any_screens, due_at_both, due_beside, due_on_both, sizes_status};
 ghost use Rattle.vt100_c.specs.KeptText.{KeepsBoth, KeepsText};
 ghost use Rattle.vt100_c.specs.Sources.{screen_in};
 ghost use Rattle.vt100_c.specs.Status.{ok, out_of_memory};
@@ -32,7 +32,7 @@ pub extern "C" fn vt100_contents_diff(
     prev: &mut Handle,
     len: &mut usize,
 ) -> u8
-    ensures answer { IsAnswer (due_at_both of_one_size handle.old.held prev.old.held) result }
+    ensures answer { IsAnswer (due_at_both sizes_status handle.old.held prev.old.held) result }
     ensures text { MakesDifference between.Contents handle.old.held prev.old.held result handle.new.held }
     ensures keeps { KeepsBoth handle.old.held prev.old.held result handle.new.held prev.new.held len.old len.new }
 {
@@ -56,7 +56,7 @@ pub extern "C" fn vt100_contents_diff_scrolling(
     prev: &mut Handle,
     len: &mut usize,
 ) -> u8
-    ensures answer { IsAnswer (due_at_both of_one_size handle.old.held prev.old.held) result }
+    ensures answer { IsAnswer (due_at_both sizes_status handle.old.held prev.old.held) result }
     ensures text { MakesDifference between.Scrolling handle.old.held prev.old.held result handle.new.held }
     ensures keeps { KeepsBoth handle.old.held prev.old.held result handle.new.held prev.new.held len.old len.new }
 {
@@ -83,7 +83,7 @@ pub extern "C" fn vt100_contents_diff_with(
     options: u8,
     len: &mut usize,
 ) -> u8
-    ensures answer { IsAnswer (due_at_both of_one_size handle.old.held prev.old.held) result }
+    ensures answer { IsAnswer (due_at_both sizes_status handle.old.held prev.old.held) result }
     ensures text { MakesDifference (between.With (options_of options)) handle.old.held prev.old.held result handle.new.held }
     ensures keeps { KeepsBoth handle.old.held prev.old.held result handle.new.held prev.new.held len.old len.new }
 {
@@ -109,7 +109,7 @@ pub extern "C" fn vt100_state_diff(
     prev: &mut Handle,
     len: &mut usize,
 ) -> u8
-    ensures answer { IsAnswer (due_at_both of_one_size handle.old.held prev.old.held) result }
+    ensures answer { IsAnswer (due_at_both sizes_status handle.old.held prev.old.held) result }
     ensures text { MakesDifference between.State handle.old.held prev.old.held result handle.new.held }
     ensures keeps { KeepsBoth handle.old.held prev.old.held result handle.new.held prev.new.held len.old len.new }
 {

@@ -2,7 +2,7 @@
 
 ghost use Rattle.std.specs.Prelude.{◌≡◌, ◌<◌, drop, length};
 ghost use Rattle.vt_screen.specs.Screen.{visible_row};
-ghost use Rattle.vt100_c.specs.Due.{HoldsScreen, OnScreen, cell_status, due_at, due_on, has_row_and_room, row_status};
+ghost use Rattle.vt100_c.specs.Due.{HoldsScreen, IsSomeAnd, cell_status, due_at, due_on, row_cells_status, row_status};
 ghost use Rattle.vt100_c.specs.Shown.{IsRowForC, bit, cell_for_c, shown_cell};
 ghost use Rattle.vt100_c.specs.Sources.{screen_in};
 ghost use Rattle.vt100_c.specs.Status.{ok};
@@ -63,7 +63,7 @@ pub extern "C" fn vt100_get_cells(
     out: &mut [VtCell],
 ) -> u8
     ensures same { handle.new.held ≡ handle.old.held }
-    ensures status { result ≡ due_at (has_row_and_room row (length out.old)) handle.old.held }
+    ensures status { result ≡ due_at (row_cells_status row (length out.old)) handle.old.held }
     ensures cells { result ≡ ok → HoldsScreen handle.old.held (λ screen. IsRowForC row screen out.new) }
     ensures rest { result ≡ ok → HoldsScreen handle.old.held
         (λ screen. drop screen.page.width out.new ≡ drop screen.page.width out.old) }
@@ -112,7 +112,7 @@ pub extern "C" fn vt100_row_wrapped(
 /// if the source has no screen, and `BAD_ARGUMENT` if there is no such cell.
 fn write_cell(source: &Source, row: u16, col: u16, out: &mut VtCell) -> u8
     ensures status { result ≡ due_on (cell_status row col) (screen_in source.now) }
-    ensures cell { result ≡ ok → OnScreen (screen_in source.now)
+    ensures cell { result ≡ ok → IsSomeAnd (screen_in source.now)
         (λ screen. out.new ≡ cell_for_c (shown_cell row col screen)) }
     ensures refused { ¬ (result ≡ ok) → out.new ≡ out.old }
 {
@@ -142,9 +142,9 @@ fn write_shown(screen: &Screen, row: u16, col: u16, out: &mut VtCell) -> u8
 /// `WRONG_KIND` if the source has no screen, and `BAD_ARGUMENT` if there is no
 /// such row or `out` is too short.
 fn write_cells(source: &Source, row: u16, out: &mut [VtCell]) -> u8
-    ensures status { result ≡ due_on (has_row_and_room row (length out.old)) (screen_in source.now) }
-    ensures cells { result ≡ ok → OnScreen (screen_in source.now) (λ screen. IsRowForC row screen out.new) }
-    ensures rest { result ≡ ok → OnScreen (screen_in source.now)
+    ensures status { result ≡ due_on (row_cells_status row (length out.old)) (screen_in source.now) }
+    ensures cells { result ≡ ok → IsSomeAnd (screen_in source.now) (λ screen. IsRowForC row screen out.new) }
+    ensures rest { result ≡ ok → IsSomeAnd (screen_in source.now)
         (λ screen. drop screen.page.width out.new ≡ drop screen.page.width out.old) }
     ensures refused { ¬ (result ≡ ok) → out.new ≡ out.old }
 {
@@ -157,7 +157,7 @@ fn write_cells(source: &Source, row: u16, out: &mut [VtCell]) -> u8
 /// Stores the cells of a displayed row of a screen in `out`. Returns
 /// `BAD_ARGUMENT` if there is no such row or `out` is too short.
 fn write_row(screen: &Screen, row: u16, out: &mut [VtCell]) -> u8
-    ensures status { result ≡ has_row_and_room row (length out.old) screen.now }
+    ensures status { result ≡ row_cells_status row (length out.old) screen.now }
     ensures cells { result ≡ ok → IsRowForC row screen.now out.new }
     ensures rest { result ≡ ok → drop screen.now.page.width out.new ≡ drop screen.now.page.width out.old }
     ensures refused { ¬ (result ≡ ok) → out.new ≡ out.old }
@@ -200,7 +200,7 @@ fn shown_cell(screen: &Screen, row: u16, col: u16) -> VtCell
 /// `WRONG_KIND` if the source has no screen, and `BAD_ARGUMENT` if there is no such row.
 fn write_wrapped(source: &Source, row: u16, out: &mut u8) -> u8
     ensures status { result ≡ due_on (row_status row) (screen_in source.now) }
-    ensures wrapped { result ≡ ok → OnScreen (screen_in source.now)
+    ensures wrapped { result ≡ ok → IsSomeAnd (screen_in source.now)
         (λ screen. out.new ≡ bit 1 (visible_row screen row).wrapped) }
     ensures refused { ¬ (result ≡ ok) → out.new ≡ out.old }
 {

@@ -2,7 +2,8 @@
 
 ghost use Rattle.std.specs.Prelude.{◌≡◌, IfSome, None, Some, drop, length, min, take};
 ghost use Rattle.vt100_c.specs.Calls.{OnSource};
-ghost use Rattle.vt100_c.specs.Log.{Empties, Limits, due_to, due_to_log, log_at, log_in, records_of, whole_of};
+ghost use Rattle.vt100_c.specs.Due.{due_to};
+ghost use Rattle.vt100_c.specs.Log.{Empties, Limits, due_to_log, log_at, log_in, records_of, whole_of};
 ghost use Rattle.vt100_c.specs.Records.{log_after_clear, nothing_logged};
 ghost use Rattle.vt100_c.specs.Status.{ok};
 

@@ -2,7 +2,7 @@
 
 ghost use Rattle.std.specs.Prelude.{◌≡◌, IfErr, IfOk, IfSome, None, Some, is_some, unwrap_or};
 ghost use Rattle.vt100_c.specs.Calls.{Fills, is_size};
-ghost use Rattle.vt100_c.specs.Due.{OnScreen};
+ghost use Rattle.vt100_c.specs.Due.{IsSomeAnd};
 ghost use Rattle.vt100_c.specs.Life.{IsNewParser, IsShownCopy, Makes, Saves, SavesShown, Swaps};
 ghost use Rattle.vt100_c.specs.Life.{refusal_of, refusal_on, saved_from, swap_status, with_other};
 ghost use Rattle.vt100_c.specs.Sources.{kind_held, screen_in};
@@ -222,7 +222,7 @@ fn copy_of(source: &Source) -> Result<Source, u8>
 /// Returns `WRONG_KIND` if the source has no screen, or `OUT_OF_MEMORY` if an
 /// allocation fails.
 fn shown_copy_of(source: &Source) -> Result<Source, u8>
-    ensures ok { IfOk result (λ copy. OnScreen (screen_in source.now) (λ screen. IsShownCopy screen copy)) }
+    ensures ok { IfOk result (λ copy. IsSomeAnd (screen_in source.now) (λ screen. IsShownCopy screen copy)) }
     ensures err { IfErr result (λ status. status ≡ refusal_on (screen_in source.now)) }
 {
     match screen_of(source) {

@@ -2,12 +2,13 @@
 
 ghost use Rattle.std.specs.Prelude.{◌≡◌, IfSome, None, Some};
 ghost use Rattle.vt100_c.specs.Calls.{OnObject, OnSource};
+ghost use Rattle.vt100_c.specs.Due.{IsSomeAnd, due_to};
 ghost use Rattle.vt100_c.specs.Life.{Makes};
 ghost use Rattle.vt100_c.specs.Mirrors.{numbers};
 ghost use Rattle.vt100_c.specs.Sources.{mirror_in};
 ghost use Rattle.vt100_c.specs.Status.{ok};
-ghost use Rattle.vt100_c.specs.Viewing.{HoldsMirror, IsNewMirror, JoinsSource, LeavesSource, OnMirror};
-ghost use Rattle.vt100_c.specs.Viewing.{TellsCurrent, UpdatesObject, due_to, due_to_mirror};
+ghost use Rattle.vt100_c.specs.Viewing.{HoldsMirror, IsNewMirror, JoinsSource, LeavesSource};
+ghost use Rattle.vt100_c.specs.Viewing.{TellsCurrent, UpdatesObject, due_to_mirror};
 ghost use Rattle.vt100_c.specs.Texts.{options_of};
 ghost use Rattle.vt_mirror.specs.Calls.{Drawn, Scrolling, kind_with};
 
@@ -325,7 +326,7 @@ fn mirror_of(source: &Source) -> Option<&Mirror>
 /// Returns `WRONG_KIND` if the source is not a mirror.
 fn write_current(source: &Source, viewer: u64, out: &mut u8) -> u8
     ensures status { result ≡ due_to (mirror_in source.now) }
-    ensures current { result ≡ ok → OnMirror (mirror_in source.now) (TellsCurrent viewer out.new) }
+    ensures current { result ≡ ok → IsSomeAnd (mirror_in source.now) (TellsCurrent viewer out.new) }
     ensures refused { ¬ (result ≡ ok) → out.new ≡ out.old }
 {
     match mirror_of(source) {

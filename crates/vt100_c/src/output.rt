@@ -5,8 +5,8 @@ ghost use Rattle.std.specs.Prelude.{nat_lt, string_bytes, true};
 ghost use Rattle.vt_cells.specs.Refusals.{OnlyOutOfMemory};
 ghost use Rattle.vt_grid.specs.Page.{SameSize};
 ghost use Rattle.vt_screen.specs.Contents.{between_of};
-ghost use Rattle.vt100_c.specs.Due.{IsAnswer, OnBoth, OnScreen, any_screens, due_on, due_on_both, start_status};
-ghost use Rattle.vt100_c.specs.Due.{of_one_size, same_size, status_in};
+ghost use Rattle.vt100_c.specs.Due.{IsAnswer, IsSomeAnd, OnBoth, any_screens, due_on, due_on_both, start_status};
+ghost use Rattle.vt100_c.specs.Due.{same_size, sizes_status, status_in};
 ghost use Rattle.vt100_c.specs.Sources.{screen_in};
 ghost use Rattle.vt100_c.specs.Status.{ok, out_of_memory};
 ghost use Rattle.vt100_c.specs.Texts.{HasDifference, HasText, IsDifference, due_for, due_for_both, options_of, repeat_of, text_of};
@@ -77,9 +77,9 @@ pub enum Difference {
 /// fails.
 pub(crate) fn text_in(source: &Source, text: Text) -> Result<String, u8>
     ensures text { IfOk result
-        (λ made. OnScreen (screen_in source.now) (λ screen. string_bytes made ≡ text_of text screen)) }
+        (λ made. IsSomeAnd (screen_in source.now) (λ screen. string_bytes made ≡ text_of text screen)) }
     ensures answer { IsAnswer (due_on (due_for text) (screen_in source.now)) (status_in result) }
-    ensures nonempty { status_in result ≡ out_of_memory → OnScreen (screen_in source.now) (HasText text) }
+    ensures nonempty { status_in result ≡ out_of_memory → IsSomeAnd (screen_in source.now) (HasText text) }
     ensures refused { IfErr result (λ status. ¬ (status ≡ ok)) }
 {
     match screen_of(source) {
@@ -207,7 +207,7 @@ fn difference_of(screen: &Screen, prev: &Screen, difference: Difference) -> Resu
 #[tactic(auto, using(crate::proofs::Refused::where_some))]
 fn contents_diff(screen: &Screen, prev: &Screen) -> Result<String, u8>
     ensures text { IfOk result (λ made. IsDifference between.Contents screen.now prev.now (string_bytes made)) }
-    ensures answer { IsAnswer (of_one_size screen.now prev.now) (status_in result) }
+    ensures answer { IsAnswer (sizes_status screen.now prev.now) (status_in result) }
     ensures nonempty { status_in result ≡ out_of_memory → HasDifference between.Contents screen.now prev.now }
     ensures refused { IfErr result (λ status. ¬ (status ≡ ok)) }
 {
@@ -227,7 +227,7 @@ fn contents_diff(screen: &Screen, prev: &Screen) -> Result<String, u8>
 #[tactic(auto, using(crate::proofs::Refused::where_some))]
 fn contents_diff_scrolling(screen: &Screen, prev: &Screen) -> Result<String, u8>
     ensures text { IfOk result (λ made. IsDifference between.Scrolling screen.now prev.now (string_bytes made)) }
-    ensures answer { IsAnswer (of_one_size screen.now prev.now) (status_in result) }
+    ensures answer { IsAnswer (sizes_status screen.now prev.now) (status_in result) }
     ensures nonempty { status_in result ≡ out_of_memory → HasDifference between.Scrolling screen.now prev.now }
     ensures refused { IfErr result (λ status. ¬ (status ≡ ok)) }
 {
@@ -247,7 +247,7 @@ fn contents_diff_scrolling(screen: &Screen, prev: &Screen) -> Result<String, u8>
 #[tactic(auto, using(crate::proofs::Refused::where_some))]
 fn contents_diff_with(screen: &Screen, prev: &Screen, options: DiffOptions) -> Result<String, u8>
     ensures text { IfOk result (λ made. IsDifference (between.With options) screen.now prev.now (string_bytes made)) }
-    ensures answer { IsAnswer (of_one_size screen.now prev.now) (status_in result) }
+    ensures answer { IsAnswer (sizes_status screen.now prev.now) (status_in result) }
     ensures nonempty { status_in result ≡ out_of_memory → HasDifference (between.With options) screen.now prev.now }
     ensures refused { IfErr result (λ status. ¬ (status ≡ ok)) }
 {
@@ -267,7 +267,7 @@ fn contents_diff_with(screen: &Screen, prev: &Screen, options: DiffOptions) -> R
 #[tactic(auto, using(crate::proofs::Refused::where_some))]
 fn state_diff(screen: &Screen, prev: &Screen) -> Result<String, u8>
     ensures text { IfOk result (λ made. IsDifference between.State screen.now prev.now (string_bytes made)) }
-    ensures answer { IsAnswer (of_one_size screen.now prev.now) (status_in result) }
+    ensures answer { IsAnswer (sizes_status screen.now prev.now) (status_in result) }
     ensures nonempty { status_in result ≡ out_of_memory → HasDifference between.State screen.now prev.now }
     ensures refused { IfErr result (λ status. ¬ (status ≡ ok)) }
 {

@@ -2,7 +2,8 @@
 //! command.
 
 ghost use Rattle.std.specs.Prelude.{◌≡◌, IfSome, None, Some};
-ghost use Rattle.vt100_c.specs.Pending.{ArePending, HoldsParser, OnParser, due_to, due_to_parser, parser_in};
+ghost use Rattle.vt100_c.specs.Due.{IsSomeAnd, due_to};
+ghost use Rattle.vt100_c.specs.Pending.{ArePending, HoldsParser, due_to_parser, parser_in};
 ghost use Rattle.vt100_c.specs.Status.{ok};
 
 use crate::event_log::Events;
@@ -53,7 +54,7 @@ fn parser_of(source: &Source) -> Option<&Parser<Events>>
 /// parser.
 fn write_pending(source: &Source, len: &mut usize) -> u8
     ensures status { result ≡ due_to (parser_in source.now) }
-    ensures pending { result ≡ ok → OnParser (parser_in source.now) (ArePending len.new) }
+    ensures pending { result ≡ ok → IsSomeAnd (parser_in source.now) (ArePending len.new) }
     ensures refused { ¬ (result ≡ ok) → len.new ≡ len.old }
 {
     match parser_of(source) {

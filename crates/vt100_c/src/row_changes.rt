@@ -3,7 +3,7 @@
 ghost use Rattle.std.specs.Prelude.{◌≡◌, IfOk, length, string_bytes};
 ghost use Rattle.vt100_c.specs.Due.{AnswersOrStays, IsAnswer, OnBoth, due_at_both, due_beside, due_on_both};
 ghost use Rattle.vt100_c.specs.KeptText.{KeepsBoth};
-ghost use Rattle.vt100_c.specs.Rows.{ChangesRows, HoldBeside, GivesRows, have_range};
+ghost use Rattle.vt100_c.specs.Rows.{ChangesRows, HoldBeside, GivesRows, ranges_status};
 ghost use Rattle.vt100_c.specs.Sources.{screen_in};
 ghost use Rattle.vt_screen.specs.RowsShown.{changed_rows};
 
@@ -40,7 +40,7 @@ pub extern "C" fn vt100_rows_diff(
     ends: &mut [usize],
     len: &mut usize,
 ) -> u8
-    ensures answer { IsAnswer (due_at_both (have_range start (length ends.old)) handle.old.held prev.old.held) result }
+    ensures answer { IsAnswer (due_at_both (ranges_status start (length ends.old)) handle.old.held prev.old.held) result }
     ensures rows { ChangesRows start width handle.old.held prev.old.held result handle.new.held ends.old ends.new }
     ensures keeps { KeepsBoth handle.old.held prev.old.held result handle.new.held prev.new.held len.old len.new }
 {
@@ -71,7 +71,7 @@ fn beside(
     ensures prev { prev.new.held ≡ prev.old.held }
     ensures rows { IfOk result (λ made. HoldBeside (screen_in source.now) prev.old.held (λ screen before.
         GivesRows screen (changed_rows range.0 range.1 screen before) (string_bytes made) ends.old ends.new)) }
-    ensures answer { AnswersOrStays (due_beside (have_range range.0 (length ends.old))
+    ensures answer { AnswersOrStays (due_beside (ranges_status range.0 (length ends.old))
         (screen_in source.now) prev.old.held) result (ends.new ≡ ends.old) }
 {
     if !prev.is_full() {
@@ -96,7 +96,7 @@ fn changed_in(
 ) -> Result<String, u8>
     ensures rows { IfOk result (λ made. OnBoth (screen_in source.now) (screen_in prev.now) (λ screen before.
         GivesRows screen (changed_rows range.0 range.1 screen before) (string_bytes made) ends.old ends.new)) }
-    ensures answer { AnswersOrStays (due_on_both (have_range range.0 (length ends.old))
+    ensures answer { AnswersOrStays (due_on_both (ranges_status range.0 (length ends.old))
         (screen_in source.now) (screen_in prev.now)) result (ends.new ≡ ends.old) }
 {
     let Some(screen) = screen_of(source) else {
@@ -122,7 +122,7 @@ fn changed_of(
 ) -> Result<String, u8>
     ensures rows { IfOk result (λ made. GivesRows screen.now
         (changed_rows range.0 range.1 screen.now prev.now) (string_bytes made) ends.old ends.new) }
-    ensures answer { AnswersOrStays (have_range range.0 (length ends.old) screen.now prev.now) result (ends.new ≡ ends.old) }
+    ensures answer { AnswersOrStays (ranges_status range.0 (length ends.old) screen.now prev.now) result (ends.new ≡ ends.old) }
 {
     if !is_sized_as(screen, prev) {
         return Err(OTHER_SIZE);

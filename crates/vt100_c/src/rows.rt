@@ -2,9 +2,9 @@
 
 ghost use Rattle.std.specs.Prelude.{◌≡◌, ◌<◌, ◌≤◌, IfErr, IfOk, length, string_bytes};
 ghost use Rattle.std.specs.Prelude.{drop, if◌then◌else◌, take, true};
-ghost use Rattle.vt100_c.specs.Due.{AnswersOrStays, IsAnswer, OnScreen, due_at, due_on};
+ghost use Rattle.vt100_c.specs.Due.{AnswersOrStays, IsAnswer, IsSomeAnd, due_at, due_on};
 ghost use Rattle.vt100_c.specs.KeptText.{KeepsText};
-ghost use Rattle.vt100_c.specs.Rows.{MakesRows, GivesRows, has_places, has_range, plain_rows};
+ghost use Rattle.vt100_c.specs.Rows.{MakesRows, GivesRows, places_status, range_status, plain_rows};
 ghost use Rattle.vt100_c.specs.Sources.{screen_in};
 ghost use Rattle.vt100_c.specs.Status.{bad_argument, ok, out_of_memory};
 ghost use Rattle.vt_screen.specs.RowsShown.{formatted_rows};
@@ -38,7 +38,7 @@ pub extern "C" fn vt100_rows(
     ends: &mut [usize],
     len: &mut usize,
 ) -> u8
-    ensures answer { IsAnswer (due_at (has_places (length ends.old)) handle.old.held) result }
+    ensures answer { IsAnswer (due_at (places_status (length ends.old)) handle.old.held) result }
     ensures rows { MakesRows (plain_rows start width) handle.old.held result handle.new.held ends.old ends.new }
     ensures keeps { KeepsText handle.old.held result handle.new.held len.old len.new }
 {
@@ -73,7 +73,7 @@ pub extern "C" fn vt100_rows_formatted(
     ends: &mut [usize],
     len: &mut usize,
 ) -> u8
-    ensures answer { IsAnswer (due_at (has_range start (length ends.old)) handle.old.held) result }
+    ensures answer { IsAnswer (due_at (range_status start (length ends.old)) handle.old.held) result }
     ensures rows { MakesRows (formatted_rows start width) handle.old.held result handle.new.held ends.old ends.new }
     ensures keeps { KeepsText handle.old.held result handle.new.held len.old len.new }
 {
@@ -98,10 +98,10 @@ fn plain_in(
     width: u16,
     ends: &mut [usize],
 ) -> Result<String, u8>
-    ensures rows { IfOk result (λ made. OnScreen (screen_in source.now) (λ screen.
+    ensures rows { IfOk result (λ made. IsSomeAnd (screen_in source.now) (λ screen.
         GivesRows screen (plain_rows start width screen) (string_bytes made) ends.old ends.new)) }
     ensures answer { AnswersOrStays
-        (due_on (has_places (length ends.old)) (screen_in source.now)) result (ends.new ≡ ends.old) }
+        (due_on (places_status (length ends.old)) (screen_in source.now)) result (ends.new ≡ ends.old) }
 {
     match screen_of(source) {
         Some(screen) => plain_of(alloc, screen, start, width, ends),
@@ -121,7 +121,7 @@ fn plain_of(
 ) -> Result<String, u8>
     ensures rows { IfOk result (λ made.
         GivesRows screen.now (plain_rows start width screen.now) (string_bytes made) ends.old ends.new) }
-    ensures answer { AnswersOrStays (has_places (length ends.old) screen.now) result (ends.new ≡ ends.old) }
+    ensures answer { AnswersOrStays (places_status (length ends.old) screen.now) result (ends.new ≡ ends.old) }
 {
     if !has_places(screen, ends) {
         return Err(BAD_ARGUMENT);
@@ -143,10 +143,10 @@ fn formatted_in(
     width: u16,
     ends: &mut [usize],
 ) -> Result<String, u8>
-    ensures rows { IfOk result (λ made. OnScreen (screen_in source.now) (λ screen.
+    ensures rows { IfOk result (λ made. IsSomeAnd (screen_in source.now) (λ screen.
         GivesRows screen (formatted_rows start width screen) (string_bytes made) ends.old ends.new)) }
     ensures answer { AnswersOrStays
-        (due_on (has_range start (length ends.old)) (screen_in source.now)) result (ends.new ≡ ends.old) }
+        (due_on (range_status start (length ends.old)) (screen_in source.now)) result (ends.new ≡ ends.old) }
 {
     match screen_of(source) {
         Some(screen) => formatted_of(alloc, screen, start, width, ends),
@@ -167,7 +167,7 @@ fn formatted_of(
 ) -> Result<String, u8>
     ensures rows { IfOk result (λ made.
         GivesRows screen.now (formatted_rows start width screen.now) (string_bytes made) ends.old ends.new) }
-    ensures answer { AnswersOrStays (has_range start (length ends.old) screen.now) result (ends.new ≡ ends.old) }
+    ensures answer { AnswersOrStays (range_status start (length ends.old) screen.now) result (ends.new ≡ ends.old) }
 {
     if !has_range(screen, start, ends) {
         return Err(BAD_ARGUMENT);
@@ -181,7 +181,7 @@ fn formatted_of(
 /// Returns whether `ends` has an element for each row of a screen.
 fn has_places(screen: &Screen, ends: &[usize]) -> bool
     ensures yes { result ≡ true → length screen.now.page.rows ≤ length ends.now }
-    ensures value { has_places (length ends.now) screen.now ≡ (if result then ok else bad_argument) }
+    ensures value { places_status (length ends.now) screen.now ≡ (if result then ok else bad_argument) }
 {
     let (rows, _) = screen.size();
     usize::from(rows.get()) <= ends.len()
@@ -192,7 +192,7 @@ fn has_places(screen: &Screen, ends: &[usize]) -> bool
 pub(crate) fn has_range(screen: &Screen, start: u16, ends: &[usize]) -> bool
     ensures yes { result ≡ true → length screen.now.page.rows ≤ length ends.now }
     ensures start { result ≡ true → start < screen.now.page.width }
-    ensures value { has_range start (length ends.now) screen.now ≡ (if result then ok else bad_argument) }
+    ensures value { range_status start (length ends.now) screen.now ≡ (if result then ok else bad_argument) }
 {
     let (_, cols) = screen.size();
     start < cols.get() && has_places(screen, ends)

@@ -1,7 +1,7 @@
 //! Resizing screens, scrolling their displays back, and erasing their scrollback.
 
 ghost use Rattle.vt100_c.specs.Calls.{OnSource};
-ghost use Rattle.vt100_c.specs.Sizes.{Clears, OnScreen, ResizesMirror, ResizesParser, ResizesScreen};
+ghost use Rattle.vt100_c.specs.Sizes.{ChangesScreen, Clears, ResizesMirror, ResizesParser, ResizesScreen};
 ghost use Rattle.vt100_c.specs.Sizes.{ResizesSource, ScrollsBack, SetsScreenSize, SetsSize};
 
 use crate::event_log::Events;
@@ -71,7 +71,7 @@ pub extern "C" fn vt100_screen_set_size(
 /// saved screen, or `OUT_OF_MEMORY` if an allocation fails. On error, nothing is changed.
 #[unsafe(no_mangle)]
 pub extern "C" fn vt100_set_scrollback(alloc: Global, handle: &mut Handle, rows: usize) -> u8
-    ensures { OnSource (OnScreen (ScrollsBack rows)) handle.old.held result handle.new.held }
+    ensures { OnSource (ChangesScreen (ScrollsBack rows)) handle.old.held result handle.new.held }
 {
     if !handle.is_full() {
         return NO_OBJECT;
@@ -91,7 +91,7 @@ pub extern "C" fn vt100_set_scrollback(alloc: Global, handle: &mut Handle, rows:
 /// neither a parser nor a saved screen.
 #[unsafe(no_mangle)]
 pub extern "C" fn vt100_clear_scrollback(alloc: Global, handle: &mut Handle) -> u8
-    ensures { OnSource (OnScreen Clears) handle.old.held result handle.new.held }
+    ensures { OnSource (ChangesScreen Clears) handle.old.held result handle.new.held }
 {
     if !handle.is_full() {
         return NO_OBJECT;
@@ -168,7 +168,7 @@ fn set_screen_size(source: &mut Source, rows: u16, cols: u16) -> u8
 /// Resizes the screen of a source without recording events. Returns `WRONG_KIND` if the source is
 /// neither a parser nor a saved screen, or `OUT_OF_MEMORY` if an allocation fails.
 fn resize_own(source: &mut Source, rows: NonZeroU16, cols: NonZeroU16) -> u8
-    ensures { OnScreen (ResizesScreen rows.value cols.value) source.old result source.new }
+    ensures { ChangesScreen (ResizesScreen rows.value cols.value) source.old result source.new }
 {
     match source {
         Source::Parser(parser) => resize_screen(parser.screen_mut(), rows, cols),
@@ -182,7 +182,7 @@ fn resize_own(source: &mut Source, rows: NonZeroU16, cols: NonZeroU16) -> u8
 /// scrollback. Returns `WRONG_KIND` if the source is neither a parser nor a saved screen, or
 /// `OUT_OF_MEMORY` if an allocation fails.
 fn set_scrollback(source: &mut Source, rows: usize) -> u8
-    ensures { OnScreen (ScrollsBack rows) source.old result source.new }
+    ensures { ChangesScreen (ScrollsBack rows) source.old result source.new }
 {
     match source {
         Source::Parser(parser) => scroll_back(parser.screen_mut(), rows),
@@ -206,7 +206,7 @@ fn scroll_back(screen: &mut Screen, rows: usize) -> u8
 /// Erases the scrollback of a source. Returns `WRONG_KIND` if the source is
 /// neither a parser nor a saved screen.
 fn clear_scrollback(source: &mut Source) -> u8
-    ensures { OnScreen Clears source.old result source.new }
+    ensures { ChangesScreen Clears source.old result source.new }
 {
     match source {
         Source::Parser(parser) => clear(parser.screen_mut()),

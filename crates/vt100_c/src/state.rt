@@ -3,7 +3,7 @@
 ghost use Rattle.std.specs.Prelude.{◌≡◌};
 ghost use Rattle.vt_redraw.specs.Steady.{IsSteady};
 ghost use Rattle.vt_screen.specs.Shown.{display};
-ghost use Rattle.vt100_c.specs.Due.{HoldsScreen, OnScreen, any_screen, due_at, due_on};
+ghost use Rattle.vt100_c.specs.Due.{HoldsScreen, IsSomeAnd, any_screen, due_at, due_on};
 ghost use Rattle.vt100_c.specs.Shown.{IsBitFor, state_for_c};
 ghost use Rattle.vt100_c.specs.Sources.{screen_in};
 ghost use Rattle.vt100_c.specs.Status.{ok};
@@ -67,7 +67,7 @@ pub extern "C" fn vt100_is_steady(alloc: Global, handle: &mut Handle, out: &mut 
 /// source has no screen.
 fn write_state(source: &Source, out: &mut VtState) -> u8
     ensures status { result ≡ due_on any_screen (screen_in source.now) }
-    ensures state { result ≡ ok → OnScreen (screen_in source.now) (λ screen. out.new ≡ state_for_c screen) }
+    ensures state { result ≡ ok → IsSomeAnd (screen_in source.now) (λ screen. out.new ≡ state_for_c screen) }
     ensures refused { ¬ (result ≡ ok) → out.new ≡ out.old }
 {
     match screen_of(source) {
@@ -83,7 +83,7 @@ fn write_state(source: &Source, out: &mut VtState) -> u8
 /// `WRONG_KIND` if the source has no screen.
 fn write_steady(source: &Source, out: &mut u8) -> u8
     ensures status { result ≡ due_on any_screen (screen_in source.now) }
-    ensures steady { result ≡ ok → OnScreen (screen_in source.now) (λ screen. IsBitFor (IsSteady (display screen)) out.new) }
+    ensures steady { result ≡ ok → IsSomeAnd (screen_in source.now) (λ screen. IsBitFor (IsSteady (display screen)) out.new) }
     ensures refused { ¬ (result ≡ ok) → out.new ≡ out.old }
 {
     match screen_of(source) {
