@@ -79,7 +79,7 @@ fn run_scenes<R: AllocGlobal + Print>(rt: &R) -> io::Result<()> {
     mirrors::run(rt)?;
     users::run_recorder(rt)?;
     users::run_mirror(rt)?;
-    run_pair(rt, "differences behind rows that move", &MOVED)?;
+    run_pair(rt, "diffs after rows move", &MOVED)?;
     mirrors::run_scrolling(rt)?;
     mirrors::run_sharing(rt)?;
     run_pair(rt, "a difference with REP", &REPEATED)?;

@@ -222,7 +222,7 @@ pub const MORE_SCENES: [Scene; 4] = [
         steps: &[Step::Process(b"a\r\nb\r\ncd"), Step::Process(b"z")],
     },
     Scene {
-        name: "a title behind a text",
+        name: "a title after text",
         size: (2, 4),
         scrollback: 0,
         steps: &[Step::Process(b"x\x1b]2;t\x07"), Step::Process(b"z")],

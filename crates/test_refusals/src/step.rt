@@ -195,7 +195,7 @@ impl Change {
                 Answer::Rows(Items {
                     first: rows.next(),
                     second: rows.next(),
-                    behind: rows.next(),
+                    third: rows.next(),
                 })
             }
         }
@@ -209,7 +209,7 @@ fn formatted_rows(screen: &Screen) -> Answer {
     Answer::Rows(Items {
         first: rows.next(),
         second: rows.next(),
-        behind: rows.next(),
+        third: rows.next(),
     })
 }
 
@@ -218,14 +218,14 @@ fn formatted_rows(screen: &Screen) -> Answer {
 pub struct Items {
     first: Option<Result<String, Error>>,
     second: Option<Result<String, Error>>,
-    behind: Option<Result<String, Error>>,
+    third: Option<Result<String, Error>>,
 }
 
 impl Items {
     fn has_refusal(&self) -> bool {
         matches!(self.first, Some(Err(_)))
             || matches!(self.second, Some(Err(_)))
-            || matches!(self.behind, Some(Err(_)))
+            || matches!(self.third, Some(Err(_)))
     }
 }
 
@@ -235,7 +235,7 @@ impl fmt::Display for Items {
         write!(f, ", ")?;
         write_item(f, &self.second)?;
         write!(f, ", ")?;
-        write_item(f, &self.behind)
+        write_item(f, &self.third)
     }
 }
 

@@ -113,8 +113,8 @@ kind_repeating scroll repeat = Repeating scroll repeat
 abbrev pub kind_with : DiffOptions → Kind
 kind_with options = kind_repeating options.scroll options.repeat
 
--- The text is a diff that moves no rows or columns. If the screen `self` is steady, the diff touches only positions
--- near rows that differ, as `IsLocal` defines.
+-- The text is a diff that moves no rows or columns. If the screen `self` is steady, the diff touches only the positions
+-- that `IsLocal` allows, which are near differences between the two screens.
 pub record IsDrawn (self prev : ScreenValue) (text : List ℕ) : Type 0 where
   pub diff : IsDiff self prev text
   pub is : text ≡ bytes_of_all (difference (display self) (display prev))

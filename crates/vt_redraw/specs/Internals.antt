@@ -201,24 +201,24 @@ pub record AppendsOrStops {A E : Type 0} (result : Result A E) (start end : List
   pub nonempty : RefusedOnlyIfSome result (bytes_of_all ops)
 
 -- `result` is the result of a call that appends the output of `ops` to a sink through a buffer. The sink and the buffer
--- hold `start` and `before` before the call, and `end` and `behind` after it. If the call succeeds, `end` followed by
--- `behind` is `start` followed by `before` and this output, and `end` is not shorter than `start`. The call fails only
+-- hold `start` and `before` before the call, and `end` and `after` after it. If the call succeeds, `end` followed by
+-- `after` is `start` followed by `before` and this output, and `end` is not shorter than `start`. The call fails only
 -- if `before` or this output is not empty.
-pub record GathersOrStops {A E : Type 0} (result : Result A E) (start before end behind : List ℕ)
+pub record GathersOrStops {A E : Type 0} (result : Result A E) (start before end after : List ℕ)
     (ops : List Op) : Type 0 where
-  pub text : OnOk result (buffered_text end behind ≡ buffered_text start before ++ bytes_of_all ops)
+  pub text : OnOk result (buffered_text end after ≡ buffered_text start before ++ bytes_of_all ops)
   pub grows : OnOk result (length start ≤ length end)
   pub nonempty : RefusedOnlyIfSome result (before ++ bytes_of_all ops)
 
 -- `result` is the result of a call that writes, through a buffer, the output for the next cells of the row `x` over the
 -- displayed row `y`, starting at `pos`. The sink and the buffer hold `start` and `before` before the call, and `end`
--- and `behind` after it. If the call succeeds, it returns the number of columns that it has drawn, which is at least
--- one and at most the number of columns left in `y`. In this case, `end`, then `behind`, then the output for the rest
+-- and `after` after it. If the call succeeds, it returns the number of columns that it has drawn, which is at least
+-- one and at most the number of columns left in `y`. In this case, `end`, then `after`, then the output for the rest
 -- of the row (from `pen` and `flag`, the state after the call) equal `start`, then `before`, then the output `whole`;
 -- and `end` is not shorter than `start`. The call fails only if `before` or the output `whole` is not empty.
-pub record SettlesOrStops {E : Type 0} (result : Result ℕ E) (start before end behind : List ℕ)
+pub record SettlesOrStops {E : Type 0} (result : Result ℕ E) (start before end after : List ℕ)
     (pen : Pen) (flag : Bool) (pos : Pos) (x y : RowValue) (whole : Scripted) : Type 0 where
-  pub leads : IfOk result (λ n. Leads (buffered_text end behind)
+  pub leads : IfOk result (λ n. Leads (buffered_text end after)
       (cells_from pos.row (pos.col + n) pen flag x.cells y.cells) (buffered_text start before) whole)
   pub nonempty : IfOk result (λ n. 0 < n)
   pub inside : IfOk result (λ n. pos.col + n ≤ length y.cells)

@@ -32,8 +32,8 @@ is_blank_of attrs right_half = false
 abbrev pub blank_run : Attrs → List CellValue → ℕ
 blank_run attrs cells = prefix_len (is_blank_of attrs) cells
 
--- The operation that erases a run of blanks of the given length. If no cells follow the run, the operation erases to
--- the end of the row.
+-- The operation that draws `n` blanks by erasing cells. If no cells follow the blanks in the row, the whole rest of the
+-- row is erased.
 abbrev pub erase_run : ℕ → List CellValue → Op
 erase_run n [] = EraseRest
 erase_run n (x ∷ xs) = EraseChars n

@@ -64,7 +64,7 @@ struct Shift {
 struct Stretch {
     gain: i32,
     first: u16,
-    behind: u16,
+    end: u16,
 }
 
 /// A move of rows or columns that a diff performs first, before it draws the remaining changes.
@@ -314,12 +314,12 @@ fn best_stretch(
     let mut best = Stretch {
         gain: 0,
         first: 0,
-        behind: 0,
+        end: 0,
     };
     let mut run = Stretch {
         gain: i32::MIN,
         first: 0,
-        behind: 0,
+        end: 0,
     };
     for row in 0..height {
         if let Some(from) = shift.source(row, height) {
@@ -371,20 +371,20 @@ impl Stretch {
     /// [`Shift::opening`]).
     fn and_row(&self, row: u16, opening: i32, gain: i32) -> Stretch
         requires { row < 65535 }
-        ensures { result.behind ≡ row + 1 }
+        ensures { result.end ≡ row + 1 }
     {
-        let behind = row + 1;
+        let end = row + 1;
         if self.gain < opening {
             return Stretch {
                 gain: opening.saturating_add(gain),
                 first: row,
-                behind,
+                end,
             };
         }
         Stretch {
             gain: self.gain.saturating_add(gain),
             first: self.first,
-            behind,
+            end,
         }
     }
 
@@ -401,11 +401,11 @@ impl Stretch {
         attrs: Attrs,
     ) -> i32
         requires from { from < 256 }
-        requires behind { self.now.behind ≤ 256 }
+        requires end { self.now.end ≤ 256 }
     {
-        let bottom = if shift.up { from + 1 } else { self.behind };
+        let bottom = if shift.up { from + 1 } else { self.end };
         let below = if shift.up {
-            between(savings, self.behind, from + 1)
+            between(savings, self.end, from + 1)
         } else {
             0
         };
@@ -420,14 +420,14 @@ impl Stretch {
         if up {
             Band {
                 top: self.first,
-                bottom: self.behind.saturating_add(count),
+                bottom: self.end.saturating_add(count),
                 count,
                 up,
             }
         } else {
             Band {
                 top: self.first.saturating_sub(count),
-                bottom: self.behind,
+                bottom: self.end,
                 count,
                 up,
             }

@@ -64,7 +64,7 @@ fn best_range(
     let mut best = least;
     let mut range = None;
     for row in 0..height {
-        let behind = row + 1;
+        let end = row + 1;
         saved = saved.saturating_add(here[usize::from(row)]);
         // A row that costs nothing now cannot begin a range, so what it costs anew is not needed.
         if saved > 0 {
@@ -72,12 +72,12 @@ fn best_range(
         }
         if saved <= 0 {
             saved = 0;
-            first = behind;
+            first = end;
         }
-        let gain = saved.saturating_sub(sequences(behind < view.rows(), attrs));
+        let gain = saved.saturating_sub(sequences(end < view.rows(), attrs));
         if gain > best {
             best = gain;
-            range = Some((first, behind));
+            range = Some((first, end));
         }
     }
     range

@@ -12,7 +12,7 @@ use Rattle.vt_screen.specs.Diffs.{KeepsScreensPlain, MayRepeat, RepeatsOnlyInRow
 use Rattle.vt_screen.specs.Repeating.{HasRuns, IsReaderWithRoom, IsShortened, ReadsAlike, Repeats, Run}
 use Rattle.vt_screen.specs.Repeating.{full_text, repeat_text, short_text}
 use Rattle.vt_screen.specs.Screen.{IsScreen, ScreenValue}
-use Rattle.vt_screen.specs.Shown.{IsPlain, IsReaderOf, IsSameIfEmpty, IsReadBy, Makes, ReadsTo, RedrawsFrom, display, display_change}
+use Rattle.vt_screen.specs.Shown.{IsPlain, IsReaderOf, IsSameIfEmpty, IsReadBy, Makes, ReadsTo, RedrawsFrom, display}
 use Rattle.vt_screen.specs.Steps.{Step as Action}
 use Rattle.vt_screen.specs.declared.repeat.Repeat.{Repeat}
 use Rattle.vt_screen.specs.declared.repeat.Repeat.TheVariants.{Never, Ascii, Any}
@@ -116,13 +116,6 @@ pub diff_rows : (repeat : Repeat) (scroll : Bool) (was new : ScreenValue) (plain
 diff_rows repeat scroll was new plain text is may reader reads =
     (of_may_repeat repeat was plain text may).rows (made_none scroll plain is.controls) reader
     (reader_with_room was new reader reads)
-
-pub diff_shorter : (repeat : Repeat) (scroll : Bool) (was new : ScreenValue) (plain text : List ℕ) →
-    IsPlainDiff scroll was new plain → MayRepeat repeat was plain text → length text ≤ length (display_change was new)
-diff_shorter repeat scroll was new plain text is may =
-    let a = (of_may_repeat repeat was plain text may).shorter in
-    let b = is.shorter in
-    omega (arith, a, b)
 
 nothing : (xs : List ℕ) → length xs ≤ 0 → xs ≡ []
 nothing [] h = refl

@@ -25,7 +25,7 @@ use Rattle.vt_redraw.proofs.WholeItems.{range_all}
 use Rattle.vt_scan.specs.Automaton.{start}
 use Rattle.vt_screen.specs.Reading.{Terminal, terminal}
 use Rattle.vt_screen.specs.RowsShown.{changed_text, formatted_text, HasLinked, HasRange}
-use Rattle.vt_screen.specs.RowsShown.{IsBlankReader, IsOff, IsRowReader, IsWrapReader}
+use Rattle.vt_screen.specs.RowsShown.{IsBlankReader, IsRowReader, IsUnwrapped, IsWrapReader}
 use Rattle.vt_screen.specs.Screen.{ScreenValue, canvas_of, with_canvas}
 use Rattle.vt_screen.specs.Shown.{IsPlain, IsReader, KeepsRest, Makes, ReadsTo, Turns}
 use Rattle.vt_screen.proofs.Readback.{Reads, reads_all}
@@ -155,9 +155,9 @@ shows_row picture r c start_ stop stood shows row pen text reads e = record {
 off_row : (picture : Picture) (r c : ℕ) (stood row : RowValue) (pen : Pen) (text : List ℕ) →
     ((reader : ScreenValue) → IsRowReader picture r c stood reader →
     Reads text reader (row_drawn r row pen (canvas_of reader))) →
-    row.wrapped ≡ false → Makes (IsRowReader picture r c stood) text (IsOff r)
+    row.wrapped ≡ false → Makes (IsRowReader picture r c stood) text (IsUnwrapped r)
 off_row picture r c stood row pen text reads off reader after at h =
-    makes text reader after (row_drawn r row pen (canvas_of reader)) (IsOff r reader) (reads reader at) h
+    makes text reader after (row_drawn r row pen (canvas_of reader)) (IsUnwrapped r reader) (reads reader at) h
     (λ last. ap (λ (z : RowValue). z.wrapped)
     (row_put reader.page r row (blank_row default_attrs reader.page.width) (row_there picture r c stood reader at))
     ∙ off)
@@ -193,7 +193,7 @@ formatted_read picture r start_ stop reader is colors steady low le inside cx at
 -- The effects of a row's redraw on the terminals that read it.
 pub record ShowsBlankRow (picture : Picture) (start_ stop r : ℕ) (text : List ℕ) : Type 0 where
   pub row : Turns (IsBlankReader picture r start_) text (HasRange start_ stop r (row_of_picture picture r))
-  pub off : Makes (IsBlankReader picture r start_) text (IsOff r)
+  pub off : Makes (IsBlankReader picture r start_) text (IsUnwrapped r)
 
 pub formatted_shows : (picture : Picture) (r start_ stop : ℕ) → IsPicture picture → IsColoredPicture picture →
     IsSteady picture → r < length picture.rows → start_ ≤ stop → stop ≤ picture.width →
@@ -327,7 +327,7 @@ linked_shows picture r is colors steady low on =
 pub changed_off : (picture prev : Picture) (r : ℕ) → IsPicture picture →
     IsColoredPicture picture → IsSteady picture → IsPicture prev → SamePictureSize picture prev →
     r < length picture.rows → (row_of_picture picture r).wrapped ≡ false →
-    Makes (IsRowReader picture r 0 (row_of_picture prev r)) (changed_text 0 picture.width picture prev r) (IsOff r)
+    Makes (IsRowReader picture r 0 (row_of_picture prev r)) (changed_text 0 picture.width picture prev r) (IsUnwrapped r)
 changed_off picture prev r is colors steady other size low off =
     let x = row_of_picture picture r in
     let y = row_of_picture prev r in

@@ -7,7 +7,7 @@ use Rattle.vt_grid.specs.Page.{SameSize}
 use Rattle.vt_redraw.specs.Items.{CutsNone}
 use Rattle.vt_redraw.specs.Steady.{IsSteady}
 use Rattle.vt_redraw.proofs.ItemEmpty.{difference_item_empty}
-use Rattle.vt_screen.specs.RowsShown.{DrawsRow, EachLinked, EachOff, EachUncut, HasLinked, IsBlankReader, IsOff}
+use Rattle.vt_screen.specs.RowsShown.{DrawsRow, EachLinked, EachUncut, EachUnwrapped, HasLinked, IsBlankReader, IsUnwrapped}
 use Rattle.vt_screen.specs.RowsShown.{IsRowReader, IsWholeRow, IsWrapReader, changed_rows, changed_text}
 use Rattle.vt_screen.specs.RowsShown.{formatted_rows, formatted_text, range_end, shown_row, text_at, texts_from}
 use Rattle.vt_screen.specs.Screen.{ScreenValue, IsColored, IsScreen}
@@ -38,12 +38,12 @@ formatted_turns s start width texts told is colored some steady r low cuts =
 
 pub formatted_off : (s : ScreenValue) (start width : ℕ) (texts : List (List ℕ)) →
     texts ≡ formatted_rows start width s → IsScreen s → IsColored s → start < s.page.width → IsSteady (display s) →
-    EachUncut start width s (λ r. Makes (IsBlankReader (display s) r start) (text_at texts r) (IsOff r))
+    EachUncut start width s (λ r. Makes (IsBlankReader (display s) r start) (text_at texts r) (IsUnwrapped r))
 formatted_off s start width texts told is colored some steady r low cuts =
     let stop = range_end start width s.page.width in
     let shows = formatted_shows (display s) r start stop (shown_is s is)
     (shown_colored s is colored) steady low (omega arith) (omega arith) cuts in
-    subst (λ (t : List ℕ). Makes (IsBlankReader (display s) r start) t (IsOff r))
+    subst (λ (t : List ℕ). Makes (IsBlankReader (display s) r start) t (IsUnwrapped r))
     (sym (told_at texts (formatted_text start stop (display s)) s r told low)) shows.off
 
 -- A range over all columns ends at the last column.
@@ -94,11 +94,11 @@ whole_changed s prev start width texts told whole =
 pub changed_leaves : (s prev : ScreenValue) (start width : ℕ) (texts : List (List ℕ)) →
     texts ≡ changed_rows start width s prev → IsScreen s → IsColored s → IsScreen prev →
     SameSize s.page prev.page → IsWholeRow start width s.page.width → IsSteady (display s) →
-    EachOff s (λ r. Makes (IsRowReader (display s) r 0 (shown_row prev r)) (text_at texts r) (IsOff r))
+    EachUnwrapped s (λ r. Makes (IsRowReader (display s) r 0 (shown_row prev r)) (text_at texts r) (IsUnwrapped r))
 changed_leaves s prev start width texts told is colored other size whole steady r low off =
     let height = shown_height s in
     let inside : r < length (display s).rows = omega arith in
-    subst (λ (t : List ℕ). Makes (IsRowReader (display s) r 0 (shown_row prev r)) t (IsOff r))
+    subst (λ (t : List ℕ). Makes (IsRowReader (display s) r 0 (shown_row prev r)) t (IsUnwrapped r))
     (sym (told_at texts (changed_text 0 s.page.width (display s) (display prev))
     s r (whole_changed s prev start width texts told whole) inside))
     (changed_off (display s) (display prev) r (shown_is s is) (shown_colored s is colored)

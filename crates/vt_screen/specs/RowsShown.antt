@@ -91,8 +91,8 @@ pub record HasRange (start stop r : ℕ) (shows : RowValue) (reader after : Scre
   pub height : length after.page.rows ≡ length reader.page.rows
 
 -- The terminal's row at the given index is not wrapped after the terminal has read the output.
-abbrev pub IsOff : ℕ → (reader after : ScreenValue) → Type 0
-IsOff r reader after = (row_at after.page r).wrapped ≡ false
+abbrev pub IsUnwrapped : ℕ → (reader after : ScreenValue) → Type 0
+IsUnwrapped r reader after = (row_at after.page r).wrapped ≡ false
 
 -- Row `r + 1` has the cells of the row `shows` and is not wrapped, and row `r` is wrapped. No other row has changed.
 pub record HasLinked (r : ℕ) (shows : RowValue) (reader after : ScreenValue) : Type 0 where
@@ -126,5 +126,5 @@ abbrev pub EachLinked : ScreenValue → (ℕ → Type 0) → Type 0
 EachLinked screen P = (r : ℕ) → r + 1 < length (display screen).rows → (shown_row screen r).wrapped ≡ true → P r
 
 -- The given predicate holds for each row of a screen's picture that isn't wrapped.
-abbrev pub EachOff : ScreenValue → (ℕ → Type 0) → Type 0
-EachOff screen P = (r : ℕ) → r < length screen.page.rows → (shown_row screen r).wrapped ≡ false → P r
+abbrev pub EachUnwrapped : ScreenValue → (ℕ → Type 0) → Type 0
+EachUnwrapped screen P = (r : ℕ) → r < length screen.page.rows → (shown_row screen r).wrapped ≡ false → P r

@@ -26,9 +26,9 @@ use Rattle.vt_screen.specs.Steps.{LeaveAlternate, LeaveRestoring, Reset}
 abbrev pub TouchesAll : (ℕ → ℕ → Type 0) → Page → Type 0
 TouchesAll May page = (r c : ℕ) → r < length page.rows → c < page.width → May r c
 
--- The given predicate holds for every position in the rows `first..behind`.
-abbrev pub TouchesRows : (ℕ → ℕ → Type 0) → (first behind : ℕ) → Page → Type 0
-TouchesRows May first behind page = (r c : ℕ) → first ≤ r → r < behind → c < page.width → May r c
+-- The given predicate holds for every position in the rows `first..end`.
+abbrev pub TouchesRows : (ℕ → ℕ → Type 0) → (first end : ℕ) → Page → Type 0
+TouchesRows May first end page = (r c : ℕ) → first ≤ r → r < end → c < page.width → May r c
 
 -- The given predicate holds for every position that a line feed touches: every position of the page if the line feed
 -- scrolls, and none otherwise.
@@ -115,7 +115,7 @@ abbrev pub TouchesOnly : (ScreenValue → Type 0) → List ℕ → (ℕ → ℕ 
 TouchesOnly Reader text May = (reader : ScreenValue) → Reader reader → ReadTouches May (terminal start reader) text
 
 -- If the picture of the screen `new` is steady, a plain terminal that displays the screen `was` and reads the text
--- touches only positions near a difference between the two screens, as `IsLocal` defines.
+-- touches only the positions that `IsLocal` allows, which are near differences between the two screens.
 abbrev pub TouchesNear : (was new : ScreenValue) → List ℕ → Type 0
 TouchesNear was new text =
     IsSteady (display new) → TouchesOnly (IsReaderOf (display new) (display was)) text (IsLocal (display new) (display was))

@@ -84,9 +84,9 @@ pub fn with_repeats(
     }
 }
 
-/// Writes `text`, in which runs of characters that `repeat` allows are written with REP if that is
-/// shorter, and returns `true`. If there is no such run, writes nothing and returns `false`. The
-/// terminal has `cols` columns, and at least `room` of them are left in the cursor's row.
+/// Writes `text` with REP in place of each run of characters that `repeat` allows and that REP
+/// makes shorter, and returns `true`. If there is no such run, writes nothing and returns `false`.
+/// The terminal has `cols` columns, and at least `room` of them are left in the cursor's row.
 fn write_repeating<S: Sink>(
     sink: &mut S,
     text: &str,

@@ -8,8 +8,8 @@ ghost use Rattle.vt_redraw.specs.Items.{CutsNone};
 ghost use Rattle.vt_redraw.specs.Steady.{IsSteady};
 ghost use Rattle.vt_screen.specs.Internals.{IsColumns};
 ghost use Rattle.vt_screen.specs.MadeOf.{IsMadeOf, drawing_controls, drawing_finals};
-ghost use Rattle.vt_screen.specs.RowsShown.{DrawsRow, EachLinked, EachOff, EachUncut, HasLinked, IsBlankReader};
-ghost use Rattle.vt_screen.specs.RowsShown.{IsOff, IsRowReader, IsWholeRow, IsWrapReader, changed_rows, changed_text};
+ghost use Rattle.vt_screen.specs.RowsShown.{DrawsRow, EachLinked, EachUncut, EachUnwrapped, HasLinked, IsBlankReader};
+ghost use Rattle.vt_screen.specs.RowsShown.{IsRowReader, IsUnwrapped, IsWholeRow, IsWrapReader, changed_rows, changed_text};
 ghost use Rattle.vt_screen.specs.RowsShown.{formatted_rows, formatted_text, range_end, shown_row, text_at};
 ghost use Rattle.vt_screen.specs.Screen.{IsColored, IsScreen};
 ghost use Rattle.vt_screen.specs.Shown.{Makes, Turns, display};
@@ -37,7 +37,7 @@ impl Screen {
     /// character of the row in two. After reading the output, the terminal has the row's cells in
     /// the range, and none of its other cells has changed (clause `draws`). Its cursor and
     /// attributes may have changed. The terminal's row is not wrapped after the output has been
-    /// read (clause `off`). The output of a whole row that follows a wrapped row may also be read
+    /// read (clause `unwrapped`). The output of a whole row that follows a wrapped row may also be read
     /// while a wrap is pending in the row above, which then becomes wrapped (clause `linked`).
     ///
     /// # Examples
@@ -55,8 +55,8 @@ impl Screen {
         ensures count { length result ≡ length self.now.page.rows }
         ensures draws { IsSteady (display self.now) → EachUncut start width self.now
             (λ r. DrawsRow start width self.now r (blank_row default_attrs self.now.page.width) (text_at result r)) }
-        ensures off { IsSteady (display self.now) → EachUncut start width self.now
-            (λ r. Makes (IsBlankReader (display self.now) r start) (text_at result r) (IsOff r)) }
+        ensures unwrapped { IsSteady (display self.now) → EachUncut start width self.now
+            (λ r. Makes (IsBlankReader (display self.now) r start) (text_at result r) (IsUnwrapped r)) }
         ensures linked { IsWholeRow start width self.now.page.width → IsSteady (display self.now) →
             EachLinked self.now (λ r. Turns (IsWrapReader (display self.now) r) (text_at result (r + 1))
             (HasLinked r (shown_row self.now (r + 1)))) }
@@ -81,7 +81,7 @@ impl Screen {
     /// terminal that displays the row of `prev` (clause `draws`). The range must not cut a wide
     /// character of either row in two. The output of a whole row is empty if and only if both
     /// screens display the same row (clause `empty`). A row that is not wrapped on this screen is
-    /// not wrapped on the terminal after the output of the whole row has been read (clause `off`).
+    /// not wrapped on the terminal after the output of the whole row has been read (clause `unwrapped`).
     ///
     /// If a row is wrapped on this screen but not on `prev`, the output of the whole row ends with
     /// a pending wrap. The terminal's row then becomes wrapped only if a character is printed
@@ -108,8 +108,8 @@ impl Screen {
         ensures draws { IsSteady (display self.now) → EachUncut start width self.now
             (λ r. CutsNone start (range_end start width self.now.page.width) (shown_row prev.now r).cells →
             DrawsRow start width self.now r (shown_row prev.now r) (text_at result r)) }
-        ensures off { IsWholeRow start width self.now.page.width → IsSteady (display self.now) → EachOff self.now
-            (λ r. Makes (IsRowReader (display self.now) r 0 (shown_row prev.now r)) (text_at result r) (IsOff r)) }
+        ensures unwrapped { IsWholeRow start width self.now.page.width → IsSteady (display self.now) → EachUnwrapped self.now
+            (λ r. Makes (IsRowReader (display self.now) r 0 (shown_row prev.now r)) (text_at result r) (IsUnwrapped r)) }
         ensures empty { IsWholeRow start width self.now.page.width → (r : ℕ) → r < length self.now.page.rows →
             (text_at result r ≡ []) ↔ (shown_row self.now r ≡ shown_row prev.now r) }
     {

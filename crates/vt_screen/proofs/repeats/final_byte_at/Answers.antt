@@ -1,4 +1,4 @@
-use Rattle.std.proofs.Common.{◌-◌, arith}
+use Rattle.std.proofs.Common.{arith}
 use Rattle.vt_screen.proofs.RepeatTokens.{parameter_more}
 use Rattle.vt_screen.proofs.repeats.final_byte_at.Goals as goal
 

@@ -1,4 +1,3 @@
-use Rattle.std.proofs.Common.{◌-◌}
 use Rattle.vt_screen.proofs.RepeatTokens.{skips_final}
 use Rattle.vt_screen.proofs.repeats.skip_sequence.Goals as goal
 

@@ -25,8 +25,8 @@ returns-clause-draws c =
     changed_turns s c.args.prev.now c.args.start c.args.width c.new.result
     told c.sound.ensures.whole c.sound.ensures.colored c.requires.start
 
-pub returns-clause-off : goal.returns-clause-off
-returns-clause-off c =
+pub returns-clause-unwrapped : goal.returns-clause-unwrapped
+returns-clause-unwrapped c =
     let s = c.args.self.now in
     let told = c.new.ensures
     ∙ ap

@@ -24,8 +24,8 @@ returns-clause-draws c =
     formatted_turns s c.args.start c.args.width c.new.result
     told c.sound.ensures.whole c.sound.ensures.colored c.requires
 
-pub returns-clause-off : goal.returns-clause-off
-returns-clause-off c =
+pub returns-clause-unwrapped : goal.returns-clause-unwrapped
+returns-clause-unwrapped c =
     let s = c.args.self.now in
     let told = c.new.ensures
     ∙ ap (λ (stop : ℕ). texts_from (formatted_text c.args.start stop (display s)) 0 (length s.page.rows))
