@@ -457,7 +457,7 @@ vt100_status vt100_contents_diff(vt100_handle *handle, vt100_handle *prev, size_
 
 /*
  * Generates a diff that may begin by moving rows or columns, and is never longer than that of
- * vt100_contents_diff. It may contain LF, HT and BS: the tty must not translate output, and the tab
+ * vt100_contents_diff, or than the redraw. It may contain LF, HT and BS: the tty must not translate output, and the tab
  * stops must be at every eighth column.
  * Statuses: as for vt100_contents_diff.
  */
@@ -669,8 +669,8 @@ vt100_status vt100_update(vt100_handle *mirror, uint64_t viewer, uint16_t *rows,
 
 /*
  * Works like vt100_update, but a diff may begin by moving rows or columns, and is never longer than
- * that of vt100_update. If the screen of the viewer's last update was not steady, the update is a
- * redraw, which corrects the viewer's display.
+ * that of vt100_update, or than the redraw. If the screen of the viewer's last update was not steady,
+ * the update is a redraw, which corrects the viewer's display.
  */
 vt100_status vt100_update_scrolling(vt100_handle *mirror, uint64_t viewer, uint16_t *rows,
                                     uint16_t *cols, size_t *len);

@@ -68,7 +68,7 @@ class Mirror(Object):
 
     def update_scrolling(self, viewer: SupportsIndex) -> Update:
         """Returns the next update of a viewer. A diff may begin by moving rows or columns, and is
-        never longer than that of `update`.
+        never longer than that of `update`, or than the redraw.
 
         If the screen of the viewer's last update was not steady (see `Screen.is_steady`), the
         update is a redraw, which corrects the viewer's display.

@@ -301,7 +301,7 @@ class Screen(HasState):
 
     def contents_diff_scrolling(self, prev: Screen) -> str:
         """Returns a diff that may begin by moving rows or columns, and is never longer than that of
-        `contents_diff`."""
+        `contents_diff`, or than the redraw."""
         return self._diff(library.vt100_contents_diff_scrolling, prev)
 
     def contents_diff_with(

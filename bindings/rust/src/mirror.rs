@@ -105,7 +105,7 @@ impl Mirror {
 
     /// Returns the next update of a viewer, or `None` if there is no viewer with this number. A
     /// diff may begin by moving rows or columns, and is never longer than that of
-    /// [`update`](Self::update). A viewer may use all kinds of updates in turn.
+    /// [`update`](Self::update), or than the redraw. A viewer may use all kinds of updates in turn.
     ///
     /// If the screen of the viewer's last update was not steady (see
     /// [`Screen::is_steady`](crate::Screen::is_steady)), the update is a redraw, which corrects the

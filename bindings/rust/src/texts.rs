@@ -124,9 +124,9 @@ impl Screen {
     }
 
     /// Returns a diff that may begin by moving rows or columns, and is never longer than that of
-    /// [`contents_diff`](Self::contents_diff). If the sizes differ, returns the redraw instead. The
-    /// output may contain LF, HT and BS: the tty must not translate output, and the tab stops must
-    /// be at every eighth column. Not in the crate `vt100`.
+    /// [`contents_diff`](Self::contents_diff), or than the redraw. If the sizes differ, returns the
+    /// redraw instead. The output may contain LF, HT and BS: the tty must not translate output, and
+    /// the tab stops must be at every eighth column. Not in the crate `vt100`.
     #[must_use]
     pub fn contents_diff_scrolling(&self, prev: &Self) -> String {
         self.difference(prev, Difference::SCROLLING)

@@ -84,6 +84,18 @@ const ERASED: [Example; 2] = [
 ];
 
 #[rattlefmt::skip]
+const REDRAWN: [Example; 1] = [
+    // Below the 256 rows that are searched for moves, the old text of ten rows is too long to be
+    // erased row by row, so the redraw is shorter.
+    (
+        (266, 4), 0,
+        &[Text("\x1b[257;1Haa\r\naa\r\naa\r\naa\r\naa\r\naa\r\naa\r\naa\r\naa\r\naa\x1b[H")],
+        &[Text("\x1b[257;1Hb\r\nb\r\nb\r\nb\r\nb\r\nb\r\nb\r\nb\r\nb\r\nb")],
+        "\x1b[?25h\x1b[m\x1b[H\x1b[J\x1b[257;1Hb\r\nb\r\nb\r\nb\r\nb\r\nb\r\nb\r\nb\r\nb\r\nb",
+    ),
+];
+
+#[rattlefmt::skip]
 const SHIFTED: [Example; 4] = [
     // Columns are deleted.
     (
@@ -249,6 +261,14 @@ fn rows_move_first(rt: HostRuntime) -> Result<(), Fail> {
 #[test]
 fn rows_are_erased_first(rt: HostRuntime) -> Result<(), Fail> {
     for example in &ERASED {
+        expect_at_each_cut(rt.alloc(), Change::Scrolling, example)?;
+    }
+    Ok(())
+}
+
+#[test]
+fn shorter_redraws_are_chosen(rt: HostRuntime) -> Result<(), Fail> {
+    for example in &REDRAWN {
         expect_at_each_cut(rt.alloc(), Change::Scrolling, example)?;
     }
     Ok(())

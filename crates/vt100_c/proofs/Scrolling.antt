@@ -1,5 +1,5 @@
 -- The properties of output that may move rows first, stated for the text that was written.
-use Rattle.std.specs.Prelude.{◌≡◌, ◌≤◌, ℕ, List, length, IfOk, Result, Ok, Err, String, string_bytes}
+use Rattle.std.specs.Prelude.{◌≡◌, ◌≤◌, ℕ, List, length, IfOk, IsTrue, Result, Ok, Err, String, string_bytes}
 use Rattle.std.specs.Global.{Global}
 use Rattle.std.proofs.Common.{subst}
 use Rattle.vt_cells.specs.Op.{bytes_of_all}
@@ -9,8 +9,8 @@ use Rattle.vt_screen.specs.Again.{KeepsPlain}
 use Rattle.vt_screen.specs.Diffs.{IsDiffWith, KeepsScreensPlain, RepeatsOnlyInRows}
 use Rattle.vt_screen.specs.MadeOf.{IsMadeOf, shortened_controls, shortened_finals}
 use Rattle.vt_screen.specs.Screen.{ScreenValue}
-use Rattle.vt_screen.specs.ShortMoves.{IsShortMoving}
-use Rattle.vt_screen.specs.Shown.{display}
+use Rattle.vt_screen.specs.ShortMoves.{IsMovingOrRedraw}
+use Rattle.vt_screen.specs.Shown.{display, shown_text}
 use Rattle.vt_screen.specs.TextResults.{IfText}
 use Rattle.vt_screen.specs.declared.diff_options.DiffOptions.{DiffOptions}
 use Rattle.vt100_c.specs.Texts.{IsDiffWithOptions, IsScrollingDiff}
@@ -20,20 +20,22 @@ carried : (P : List ℕ → Type 0) (answer : Result (String Global) Error) (tex
 carried P answer text h is = subst (λ (a : Result (String Global) Error). IfText a P) is h
 
 pub scrolls : (screen prev : ScreenValue) (answer : Result (String Global) Error) (made : Result (String Global) ℕ)
-    → IfText answer (IsShortMoving (display screen) (display prev))
+    → IfText answer (IsMovingOrRedraw (display screen) (display prev))
     → IfText answer (IsMadeOf shortened_finals shortened_controls)
     → IfText answer KeepsPlain
     → IfText answer (λ text. length text ≤ length (bytes_of_all (difference (display screen) (display prev))))
+    → IfText answer (λ text. length text ≤ length (shown_text screen))
     → IfOk made (λ text. answer ≡ Ok text)
     → IfOk made (λ text. IsScrollingDiff screen prev (string_bytes text))
-scrolls screen prev answer (Ok text) draws controls again shorter is = record {
-  draws = carried (IsShortMoving (display screen) (display prev)) answer text draws is;
+scrolls screen prev answer (Ok text) draws controls again shorter redraw is = record {
+  draws = carried (IsMovingOrRedraw (display screen) (display prev)) answer text draws is;
   controls = carried (IsMadeOf shortened_finals shortened_controls) answer text controls is;
   again = carried KeepsPlain answer text again is;
   shorter = carried (λ t. length t ≤ length (bytes_of_all (difference (display screen) (display prev)))) answer text
       shorter is;
+  redraw = carried (λ t. length t ≤ length (shown_text screen)) answer text redraw is;
 }
-scrolls screen prev answer (Err status) draws controls again shorter is = is
+scrolls screen prev answer (Err status) draws controls again shorter redraw is = is
 
 pub with_options : (options : DiffOptions) (screen prev : ScreenValue) (answer : Result (String Global) Error)
     (made : Result (String Global) ℕ)
@@ -41,13 +43,15 @@ pub with_options : (options : DiffOptions) (screen prev : ScreenValue) (answer :
     → IfText answer (RepeatsOnlyInRows prev screen)
     → IfText answer KeepsScreensPlain
     → IfText answer (λ text. length text ≤ length (bytes_of_all (difference (display screen) (display prev))))
+    → (IsTrue options.scroll → IfText answer (λ text. length text ≤ length (shown_text screen)))
     → IfOk made (λ text. answer ≡ Ok text)
     → IfOk made (λ text. IsDiffWithOptions options screen prev (string_bytes text))
-with_options options screen prev answer (Ok text) draws rows again shorter is = record {
+with_options options screen prev answer (Ok text) draws rows again shorter redraw is = record {
   draws = carried (IsDiffWith options prev screen) answer text draws is;
   rows = carried (RepeatsOnlyInRows prev screen) answer text rows is;
   again = carried KeepsScreensPlain answer text again is;
   shorter = carried (λ t. length t ≤ length (bytes_of_all (difference (display screen) (display prev)))) answer text
       shorter is;
+  redraw = λ moves. carried (λ t. length t ≤ length (shown_text screen)) answer text (redraw moves) is;
 }
-with_options options screen prev answer (Err status) draws rows again shorter is = is
+with_options options screen prev answer (Err status) draws rows again shorter redraw is = is

@@ -1,5 +1,5 @@
 -- The text or output that each call generates.
-use Rattle.std.specs.Prelude.{◌≡◌, ◌<◌, ◌≤◌, ◌/◌, ◌%◌, ◌==◌, ℕ, List, Option, length, if◌then◌else◌}
+use Rattle.std.specs.Prelude.{◌≡◌, ◌<◌, ◌≤◌, ◌/◌, ◌%◌, ◌==◌, ℕ, IsTrue, List, Option, length, if◌then◌else◌}
 use Rattle.vt_cells.specs.Op.{bytes_of_all}
 use Rattle.vt_redraw.specs.Redraw.{cursor_state, difference, redraw}
 use Rattle.vt_rows.specs.Basic.{nothing_written}
@@ -14,8 +14,8 @@ use Rattle.vt_screen.specs.declared.repeat.Repeat.TheVariants.{Never, Ascii, Any
 use Rattle.vt_screen.specs.InputTexts.{input_change, input_text}
 use Rattle.vt_screen.specs.MadeOf.{IsMadeOf, shortened_controls, shortened_finals}
 use Rattle.vt_screen.specs.Screen.{ScreenValue, visible_rows}
-use Rattle.vt_screen.specs.ShortMoves.{IsShortMoving}
-use Rattle.vt_screen.specs.Shown.{attributes_text, display}
+use Rattle.vt_screen.specs.ShortMoves.{IsMovingOrRedraw}
+use Rattle.vt_screen.specs.Shown.{attributes_text, display, shown_text}
 use Rattle.vt_screen.specs.States.{state_change, state_text}
 use Rattle.vt100_c.specs.Due.{HoldBoth, HoldsScreen, any_screen, any_screens, sizes_status, source_at, start_status, text_at}
 use Rattle.vt100_c.specs.Status.{ok, out_of_memory}
@@ -47,14 +47,15 @@ due_for _ screen = any_screen screen
 
 -- ---- two screens
 
--- The text is a diff from the display of `prev` to the display of `screen`, and it may move rows or columns. It is
--- never longer than the diff that moves no rows or columns, contains only drawing sequences, and leaves every plain
--- terminal plain.
+-- The text is a diff from the display of `prev` to the display of `screen`, and it may move rows or columns, or be the
+-- redraw of `screen`. It is never longer than the diff that moves no rows or columns, or than the redraw, contains only
+-- drawing sequences, and leaves every plain terminal plain.
 pub record IsScrollingDiff (screen prev : ScreenValue) (text : List ℕ) : Type 0 where
-  pub draws : IsShortMoving (display screen) (display prev) text
+  pub draws : IsMovingOrRedraw (display screen) (display prev) text
   pub controls : IsMadeOf shortened_finals shortened_controls text
   pub again : KeepsPlain text
   pub shorter : length text ≤ length (bytes_of_all (difference (display screen) (display prev)))
+  pub redraw : length text ≤ length (shown_text screen)
 
 -- The characters that may be repeated with REP, given the bits of a number: all if bit 1 is set, otherwise printable
 -- ASCII characters if bit 2 is set, otherwise none.
@@ -66,13 +67,14 @@ abbrev pub options_of : ℕ → DiffOptions
 options_of bits = record { scroll = bits % 2 == 1; repeat = repeat_of bits }
 
 -- The text is a diff from the display of `prev` to the display of `screen` with the given options. It is never longer
--- than the diff that moves no rows or columns, repeats characters only within rows, and leaves every plain terminal
--- plain.
+-- than the diff that moves no rows or columns or, if it may move them, than the redraw. It repeats characters only within
+-- rows, and leaves every plain terminal plain.
 pub record IsDiffWithOptions (options : DiffOptions) (screen prev : ScreenValue) (text : List ℕ) : Type 0 where
   pub draws : IsDiffWith options prev screen text
   pub rows : RepeatsOnlyInRows prev screen text
   pub again : KeepsScreensPlain text
   pub shorter : length text ≤ length (bytes_of_all (difference (display screen) (display prev)))
+  pub redraw : IsTrue options.scroll → length text ≤ length (shown_text screen)
 
 abbrev pub IsDifference : Difference → ScreenValue → ScreenValue → List ℕ → Type 0
 IsDifference between.Contents screen prev text = text ≡ bytes_of_all (difference (display screen) (display prev))

@@ -7,7 +7,7 @@ use Rattle.vt_redraw.specs.Picture.{Picture}
 use Rattle.vt_redraw.specs.Redraw.{difference}
 use Rattle.vt_redraw.specs.Steady.{IsSteady}
 use Rattle.vt_screen.specs.Screen.{ScreenValue}
-use Rattle.vt_screen.specs.ShortMoves.{IsShortMoving}
+use Rattle.vt_screen.specs.ShortMoves.{IsMovingOrRedraw}
 use Rattle.vt_screen.specs.Shown.{IsReaderOf, KeepsRest, Redraws, display}
 use Rattle.vt_screen.specs.Touched.{TouchesOnly}
 use Rattle.vt_mirror.specs.Alike.{ShowsAlike}
@@ -49,8 +49,9 @@ pub scrolls_alike : (self noted copy : ScreenValue) (text : List ℕ) → ShowsA
 scrolls_alike self noted copy text a d = record {
   diff = diff_alike self noted copy text a d.diff;
   from_steady = subst IsSteady a.shown d.from_steady;
-  is = subst (λ (p : Picture). IsShortMoving (display self) p text) a.shown d.is;
+  is = subst (λ (p : Picture). IsMovingOrRedraw (display self) p text) a.shown d.is;
   controls = d.controls;
   shorter =
       subst (λ (p : Picture). length text ≤ length (bytes_of_all (difference (display self) p))) a.shown d.shorter;
+  redraw = d.redraw;
 }

@@ -47,14 +47,15 @@ unchanged_scrolling self is colored steady =
     record {
       diff = drawn.diff;
       from_steady = steady;
-      is = record {
+      is = inl (record {
         plain = [];
         moving = inl (inl drawn.is);
         same = λ reader is_reader. refl;
         shorter = omega arith;
-      };
+      });
       controls = made_nothing shortened_finals shortened_controls;
       shorter = omega arith;
+      redraw = omega arith;
     }
 
 -- ---- the kept values

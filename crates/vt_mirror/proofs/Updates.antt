@@ -10,8 +10,8 @@ use Rattle.vt_screen.specs.Again.{KeepsPlain}
 use Rattle.vt_screen.specs.Diffs.{MayRepeat}
 use Rattle.vt_screen.specs.MadeOf.{IsMadeOf, drawing_controls, drawing_finals, shortened_controls, shortened_finals}
 use Rattle.vt_screen.specs.Screen.{ScreenValue}
-use Rattle.vt_screen.specs.ShortMoves.{IsShortMoving}
-use Rattle.vt_screen.specs.Shown.{IsReaderOf, RedrawsFrom, display, display_change}
+use Rattle.vt_screen.specs.ShortMoves.{IsMovingOrRedraw}
+use Rattle.vt_screen.specs.Shown.{IsReaderOf, RedrawsFrom, display, display_change, shown_text}
 use Rattle.vt_screen.specs.Touched.{TouchesOnly}
 use Rattle.vt_mirror.specs.Alike.{ShowsAlike}
 use Rattle.vt_mirror.specs.Calls.{IsDrawn, IsFullAfter, IsFullUpdate, IsOfKind, IsUpdate, Kind, Scrolling, Scrolls}
@@ -64,11 +64,12 @@ drawn_from self seen noted copy text e alike size is redraws empty none touches 
 
 pub scrolled_from : (self seen noted copy : ScreenValue) (text : List ℕ)
     → seen ≡ self → ShowsAlike noted copy → SameSize self.page noted.page → IsSteady (display copy)
-    → IsShortMoving (display seen) (display copy) text → length text ≤ length (display_change copy seen)
+    → IsMovingOrRedraw (display seen) (display copy) text → length text ≤ length (display_change copy seen)
+    → length text ≤ length (shown_text seen)
     → RedrawsFrom copy seen text → (IsSteady (display seen) → text ≡ [] → display seen ≡ display copy)
     → (display seen ≡ display copy → text ≡ []) → IsMadeOf shortened_finals shortened_controls text → KeepsPlain text
     → Scrolls self noted text
-scrolled_from self seen noted copy text e alike size steady is shorter redraws empty none controls again =
+scrolled_from self seen noted copy text e alike size steady is shorter redraw redraws empty none controls again =
     scrolls_alike self noted copy text alike (subst (λ (s : ScreenValue). Scrolls s copy text) e (record {
       diff = record {
         size = copy_size self seen noted copy e alike size;
@@ -81,6 +82,7 @@ scrolled_from self seen noted copy text e alike size steady is shorter redraws e
       is = is;
       controls = controls;
       shorter = shorter;
+      redraw = redraw;
     }))
 
 pub diff_update : (kind : Kind) (inside mirror : MirrorValue) (viewer : ℕ) (noted : ScreenValue) (text : String Global)

@@ -13,8 +13,8 @@ use Rattle.vt_screen.specs.Diffs.{MayRepeat}
 use Rattle.vt_screen.specs.MadeOf.{IsMadeOf, drawing_controls, drawing_finals, shortened_controls, shortened_finals}
 use Rattle.vt_screen.specs.Pages.{has_size, screen_after_resize}
 use Rattle.vt_screen.specs.Screen.{IsColored, IsScreen, ScreenValue}
-use Rattle.vt_screen.specs.ShortMoves.{IsShortMoving}
-use Rattle.vt_screen.specs.Shown.{IsReader, IsReaderOf, IsSameIfEmpty, KeepsRest, Redraws, display}
+use Rattle.vt_screen.specs.ShortMoves.{IsMovingOrRedraw}
+use Rattle.vt_screen.specs.Shown.{IsReader, IsReaderOf, IsSameIfEmpty, KeepsRest, Redraws, display, shown_text}
 use Rattle.vt_screen.specs.Touched.{TouchesNear}
 use Rattle.vt_screen.specs.declared.diff_options.DiffOptions.{DiffOptions}
 use Rattle.vt_screen.specs.declared.repeat.Repeat.{Repeat}
@@ -121,14 +121,15 @@ pub record IsDrawn (self prev : ScreenValue) (text : List ℕ) : Type 0 where
   pub controls : IsMadeOf drawing_finals drawing_controls text
   pub touches : TouchesNear prev self text
 
--- The text is a diff that may move rows or columns, with shortened cursor movements. The diff starts from a steady
--- screen and is never longer than the diff that moves no rows or columns.
+-- The text is a diff that may move rows or columns, with shortened cursor movements, or the redraw. The diff starts from
+-- a steady screen and is never longer than the diff that moves no rows or columns, or than the redraw.
 pub record Scrolls (self prev : ScreenValue) (text : List ℕ) : Type 0 where
   pub diff : IsDiff self prev text
   pub from_steady : IsSteady (display prev)
-  pub is : IsShortMoving (display self) (display prev) text
+  pub is : IsMovingOrRedraw (display self) (display prev) text
   pub controls : IsMadeOf shortened_finals shortened_controls text
   pub shorter : length text ≤ length (bytes_of_all (difference (display self) (display prev)))
+  pub redraw : length text ≤ length (shown_text self)
 
 -- The text is a diff without REP, which may move rows or columns if `scroll` is true.
 abbrev pub IsWithoutRepeats : (scroll : Bool) → (self prev : ScreenValue) → (text : List ℕ) → Type 0

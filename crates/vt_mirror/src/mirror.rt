@@ -208,7 +208,8 @@ impl Mirror {
     /// begin by moving rows or columns.
     ///
     /// As with `Screen::contents_diff_scrolling`, the diff is never longer than the one that
-    /// `update` would return, may be much shorter after text has scrolled, and may touch any row.
+    /// `update` would return or than the redraw, may be much shorter after text has scrolled, and
+    /// may touch any row.
     /// If the screen at the viewer's last update was not steady, the update is a full update. A
     /// viewer that gets all its updates from this function therefore displays each steady screen,
     /// whatever came before (`laws::heals`). Each update may come from `update`, `update_scrolling`

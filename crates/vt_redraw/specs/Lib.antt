@@ -3,6 +3,7 @@ pub mod Picture
 pub mod Steady
 pub mod Script
 pub mod Redraw
+pub mod Limited
 pub mod Refusals
 pub mod Touching
 pub mod Locality

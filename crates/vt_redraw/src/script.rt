@@ -25,7 +25,7 @@ use vt_cells::{Pos, Sink};
 /// wrapped, also writes the row break, that is, the output that clears the wrapped flag. Returns
 /// whether the terminal's row is wrapped afterward.
 #[tactic(auto, using(crate::proofs::CellSteps::range_of))]
-fn write_row<S: Sink>(
+pub(crate) fn write_row<S: Sink>(
     sink: &mut S,
     pen: &mut Pen,
     row: u16,
@@ -52,7 +52,7 @@ fn write_row<S: Sink>(
 
 /// Writes the sequences that turn the terminal's first row, `over`, into the picture's first row,
 /// `cells`. Returns whether the terminal's row is wrapped afterward.
-fn write_top<S: Sink>(
+pub(crate) fn write_top<S: Sink>(
     sink: &mut S,
     pen: &mut Pen,
     cells: &PictureRow<'_>,

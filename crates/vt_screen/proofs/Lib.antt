@@ -79,3 +79,4 @@ pub mod CharactersRead
 pub mod ElementsRead
 pub mod Numbers
 pub mod ShortMovesRead
+pub mod OrRedraw

@@ -1,6 +1,7 @@
 -- A diff in which runs are written with REP promises what the diff without REP promises.
 use Rattle.std.proofs.Common.{◌≡◌, ℕ, ◌-◌, ◌≤◌, Bool, List, [], ◌∷◌, ◌++◌, length, refl, sym, ap, subst}
 use Rattle.std.proofs.Common.{◌∙◌, arith, length-append}
+use Rattle.std.specs.Prelude.{IsTrue}
 use Rattle.std.specs.Char.{encode_utf8}
 use Rattle.std.specs.List.{AllByRecursion, flat_map}
 use Rattle.vt_redraw.specs.Picture.{Picture}
@@ -12,7 +13,7 @@ use Rattle.vt_screen.specs.Diffs.{KeepsScreensPlain, MayRepeat, RepeatsOnlyInRow
 use Rattle.vt_screen.specs.Repeating.{HasRuns, IsReaderWithRoom, IsShortened, ReadsAlike, Repeats, Run}
 use Rattle.vt_screen.specs.Repeating.{full_text, repeat_text, short_text}
 use Rattle.vt_screen.specs.Screen.{IsScreen, ScreenValue}
-use Rattle.vt_screen.specs.Shown.{IsPlain, IsReaderOf, IsSameIfEmpty, IsReadBy, Makes, ReadsTo, RedrawsFrom, display}
+use Rattle.vt_screen.specs.Shown.{IsPlain, IsReaderOf, IsSameIfEmpty, IsReadBy, Makes, ReadsTo, RedrawsFrom, display, shown_text}
 use Rattle.vt_screen.specs.Steps.{Step as Action}
 use Rattle.vt_screen.specs.declared.repeat.Repeat.{Repeat}
 use Rattle.vt_screen.specs.declared.repeat.Repeat.TheVariants.{Never, Ascii, Any}
@@ -127,6 +128,14 @@ diff_none repeat scroll was new plain text is may same =
     let none = ap length (is.none same) in
     let less = (of_may_repeat repeat was plain text may).shorter in
     nothing text (omega (arith, none, less))
+
+pub diff_redraw : (repeat : Repeat) (scroll : Bool) (was new : ScreenValue) (plain text : List ℕ) →
+    IsPlainDiff scroll was new plain → MayRepeat repeat was plain text → IsTrue scroll →
+    length text ≤ length (shown_text new)
+diff_redraw repeat scroll was new plain text is may scrolls =
+    let long = is.redraw scrolls in
+    let less = (of_may_repeat repeat was plain text may).shorter in
+    omega (arith, long, less)
 
 -- Empty output stands for no runs.
 runs_nothing : (runs : List Run) (rest plain text : List ℕ) → plain ≡ flat_map full_text runs ++ rest →

@@ -1,10 +1,10 @@
 -- Properties of a diff without REP; only for contracts of private functions and for proofs.
-use Rattle.std.specs.Prelude.{◌≡◌, ◌≤◌, Bool, List, [], ℕ, length}
+use Rattle.std.specs.Prelude.{◌≡◌, ◌≤◌, Bool, List, [], ℕ, IsTrue, length}
 use Rattle.vt_screen.specs.Again.{KeepsPlain}
 use Rattle.vt_screen.specs.Diffs.{IsDiff, diff_controls, diff_finals}
 use Rattle.vt_screen.specs.MadeOf.{IsMadeOf}
 use Rattle.vt_screen.specs.Screen.{ScreenValue}
-use Rattle.vt_screen.specs.Shown.{IsSameIfEmpty, RedrawsFrom, display, display_change}
+use Rattle.vt_screen.specs.Shown.{IsSameIfEmpty, RedrawsFrom, display, display_change, shown_text}
 
 -- The output is a diff without REP, and has all the properties that the clauses of both `contents_diff` and
 -- `contents_diff_scrolling` state.
@@ -13,6 +13,7 @@ pub record IsPlainDiff (scroll : Bool) (was new : ScreenValue) (text : List ℕ)
   pub controls : IsMadeOf (diff_finals scroll) (diff_controls scroll) text
   pub again : KeepsPlain text
   pub shorter : length text ≤ length (display_change was new)
+  pub redraw : IsTrue scroll → length text ≤ length (shown_text new)
   pub redraws : RedrawsFrom was new text
   pub empty : IsSameIfEmpty was new text
   pub none : display new ≡ display was → text ≡ []

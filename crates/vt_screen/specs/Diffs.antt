@@ -4,16 +4,16 @@ use Rattle.vt_screen.specs.Again.{LeavesPlain}
 use Rattle.vt_screen.specs.MadeOf.{IsMadeOf, drawing_controls, drawing_finals, shortened_controls, shortened_finals}
 use Rattle.vt_screen.specs.Repeating.{Repeats, RepeatsInRows}
 use Rattle.vt_screen.specs.Screen.{IsScreen, ScreenValue}
-use Rattle.vt_screen.specs.ShortMoves.{IsShortMoving}
+use Rattle.vt_screen.specs.ShortMoves.{IsMovingOrRedraw}
 use Rattle.vt_screen.specs.Shown.{IsPlain, IsReaderOf, display, display_change}
 use Rattle.vt_screen.specs.declared.diff_options.DiffOptions.{DiffOptions}
 use Rattle.vt_screen.specs.declared.repeat.Repeat.{Repeat}
 use Rattle.vt_screen.specs.declared.repeat.Repeat.TheVariants.{Never}
 
--- The output is a diff from the screen `was` to the screen `new`. If `scroll` is true, it may move rows or columns;
--- otherwise, it is the diff that moves neither.
+-- The output is a diff from the screen `was` to the screen `new`. If `scroll` is true, it may move rows or columns, or
+-- be the redraw of `new`; otherwise, it is the diff that moves neither.
 abbrev pub IsDiff : (scroll : Bool) → (was new : ScreenValue) → List ℕ → Type 0
-IsDiff true was new text = IsShortMoving (display new) (display was) text
+IsDiff true was new text = IsMovingOrRedraw (display new) (display was) text
 IsDiff false was new text = text ≡ display_change was new
 
 -- The final bytes of the control sequences with numeric parameters that may occur in a diff without REP, given whether

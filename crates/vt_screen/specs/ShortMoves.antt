@@ -1,11 +1,12 @@
 -- Output whose cursor movements are replaced by shorter ones.
-use Rattle.std.specs.Prelude.{◌≡◌, ◌≢◌, nat_lt, ℕ, zero, suc, ◌+◌, ◌-◌, ◌*◌, ◌/◌, ◌<◌, ◌≤◌, Bool, true, false, min, if◌then◌else◌}
+use Rattle.std.specs.Prelude.{◌≡◌, ◌≢◌, ◌⊎◌, nat_lt, ℕ, zero, suc, ◌+◌, ◌-◌, ◌*◌, ◌/◌, ◌<◌, ◌≤◌, Bool, true, false, min, if◌then◌else◌}
 use Rattle.std.specs.Prelude.{List, [], ◌∷◌, ◌++◌, length, replicate, decimal, encode_utf8, Option, Some, None}
 use Rattle.std.specs.List.{AllByRecursion}
 use Rattle.vt_redraw.specs.Fits.{IsDrawn}
 use Rattle.vt_redraw.specs.Picture.{Picture}
+use Rattle.vt_redraw.specs.Redraw.{redraw}
 use Rattle.vt_redraw.specs.Shifted.{IsMoving}
-use Rattle.vt_cells.specs.Op.{MoveTo, MoveRight, NextRow, EraseRest, EraseChars, Hide, bytes_of, counted, csi, semicolon_list}
+use Rattle.vt_cells.specs.Op.{MoveTo, MoveRight, NextRow, EraseRest, EraseChars, Hide, bytes_of, bytes_of_all, counted, csi, semicolon_list}
 use Rattle.vt_cells.specs.declared.pos.Pos.{Pos}
 use Rattle.vt_scan.specs.Automaton.{start}
 use Rattle.vt_screen.specs.Again.{KeepsPlain}
@@ -96,6 +97,16 @@ pub record IsShortMoving (self prev : Picture) (text : List ℕ) : Type 0 where
   pub same : (reader : ScreenValue) → IsReaderOf self prev reader →
       terminal_after (terminal start reader) text ≡ terminal_after (terminal start reader) plain
   pub shorter : length text ≤ length plain
+
+-- The output is a scrolling diff, as `IsShortMoving` describes, or the redraw of the picture `self`.
+abbrev pub IsMovingOrRedraw : (self prev : Picture) → List ℕ → Type 0
+IsMovingOrRedraw self prev text = IsShortMoving self prev text ⊎ (text ≡ bytes_of_all (redraw self))
+
+-- `new` is the shorter of the output `old` and the redraw of the picture, and is `old` if they are equally long.
+abbrev pub IsShorterWithRedraw : Picture → (old new : List ℕ) → Type 0
+IsShorterWithRedraw picture old new =
+    ((new ≡ old) × (length old ≤ length (bytes_of_all (redraw picture))))
+    ⊎ ((new ≡ bytes_of_all (redraw picture)) × (length new < length old))
 
 -- ---- the elements of the output
 

@@ -1,12 +1,12 @@
 //! Diffs with options.
 
-ghost use Rattle.std.specs.Prelude.{◌≡◌, ◌≤◌, [], IsOk, length, string_bytes};
+ghost use Rattle.std.specs.Prelude.{◌≡◌, ◌≤◌, [], IsOk, IsTrue, length, string_bytes};
 ghost use Rattle.vt_cells.specs.Refusals.{OnlyOutOfMemory};
 ghost use Rattle.vt_grid.specs.Page.{SameSize};
 ghost use Rattle.vt_redraw.specs.Refusals.{RefusedOnlyIfSome};
 ghost use Rattle.vt_screen.specs.DiffInternals.{IsPlainDiff};
 ghost use Rattle.vt_screen.specs.Diffs.{IsDiffWith, KeepsScreensPlain, MayRepeat, RepeatsOnlyInRows};
-ghost use Rattle.vt_screen.specs.Shown.{IsSameIfEmpty, RedrawsFrom, display, display_change};
+ghost use Rattle.vt_screen.specs.Shown.{IsSameIfEmpty, RedrawsFrom, display, display_change, shown_text};
 ghost use Rattle.vt_screen.specs.TextResults.{IfText};
 
 use crate::diff_options::DiffOptions;
@@ -27,11 +27,11 @@ impl Screen {
     /// characters, so allow only what the receiving terminal performs. With `Repeat::Never`, the
     /// output is that of `contents_diff` or, with `scroll`, of `contents_diff_scrolling`.
     ///
-    /// The output is never longer than that of `contents_diff` (clause `shorter`). Every terminal
-    /// in ground state takes the same steps for the output with REP as for the output with the runs
-    /// written out (clause `text`). On a plain terminal that displays `prev`, the characters of
-    /// each REP fit in the row (clause `rows`); terminals differ in how they treat characters that
-    /// do not fit.
+    /// The output is never longer than that of `contents_diff` (clause `shorter`) or, with `scroll`,
+    /// than the full redraw (clause `redraw`). Every terminal in ground state takes the same steps
+    /// for the output with REP as for the output with the runs written out (clause `text`). On a
+    /// plain terminal that displays `prev`, the characters of each REP fit in the row (clause
+    /// `rows`); terminals differ in how they treat characters that do not fit.
     ///
     /// If this screen is steady, a plain terminal that displays `prev` displays this screen after
     /// reading the output (clause `redraws`). The output is empty if both screens have the same
@@ -58,6 +58,7 @@ impl Screen {
         ensures rows { IfText result (RepeatsOnlyInRows prev.now self.now) }
         ensures again { IfText result KeepsScreensPlain }
         ensures shorter { IfText result (λ text. length text ≤ length (display_change prev.now self.now)) }
+        ensures redraw { IsTrue options.scroll → IfText result (λ text. length text ≤ length (shown_text self.now)) }
         ensures redraws { IfText result (RedrawsFrom prev.now self.now) }
         ensures empty { IfText result (IsSameIfEmpty prev.now self.now) }
         ensures none { IfText result (λ text. display self.now ≡ display prev.now → text ≡ []) }

@@ -1,5 +1,5 @@
 //! Diffs that may move rows or columns before they draw the remaining changes. They are never
-//! longer than the ordinary diff.
+//! longer than the ordinary diff or the full redraw.
 //!
 //! The module `redraw` defines what a screen displays, when a terminal is plain, and when a screen
 //! is steady.
@@ -17,8 +17,8 @@ ghost use Rattle.vt_screen.specs.Again.{KeepsPlain};
 ghost use Rattle.vt_screen.specs.MadeOf.{IsMadeOf, shortened_controls, shortened_finals};
 ghost use Rattle.vt_screen.specs.Screen.{IsColored, IsScreen};
 ghost use Rattle.vt_screen.specs.Gaps.{IsShortVersion};
-ghost use Rattle.vt_screen.specs.ShortMoves.{IsShortMoving, known_cursor};
-ghost use Rattle.vt_screen.specs.Shown.{IsSameIfEmpty, RedrawsFrom, ShowsOwnPage, display, display_change};
+ghost use Rattle.vt_screen.specs.ShortMoves.{IsMovingOrRedraw, IsShortMoving, IsShorterWithRedraw, known_cursor};
+ghost use Rattle.vt_screen.specs.Shown.{IsSameIfEmpty, RedrawsFrom, ShowsOwnPage, display, display_change, shown_text};
 ghost use Rattle.vt_screen.specs.TextResults.{IfText};
 
 use crate::screen::Screen;
@@ -27,14 +27,21 @@ use vt_cells::{Attrs, Error, Pos, Sink};
 use vt_grid::Grid;
 use vt_redraw::pen::write_change;
 use vt_redraw::{
-    Band, Move, RowShift, View, likely_move, write_contents_diff, write_moves, write_row_shifts,
+    Band, Move, RowShift, View, likely_move, write_contents_diff, write_contents_formatted_within,
+    write_moves, write_row_shifts,
 };
+
+/// The number of bytes with which each redraw begins: those that hide or show the cursor, reset the
+/// attributes, and clear the screen.
+const LEAST_REDRAW: usize = 15;
 
 impl Screen {
     /// Returns the escape sequences that turn the display of `prev` into the display of this
     /// screen. If rows or columns have moved, the output may move them before it draws the
-    /// remaining changes. The output is never longer than that of [`Screen::contents_diff`]. Both
-    /// screens must have the same size.
+    /// remaining changes. If the full redraw is shorter, the output is that of
+    /// [`Screen::contents_formatted`]. So the output is never longer than that of either
+    /// [`Screen::contents_diff`] (clause `shorter`) or [`Screen::contents_formatted`] (clause
+    /// `redraw`). Both screens must have the same size.
     ///
     /// If rows have scrolled, even in only a part of the screen, the output may move them with DL
     /// and IL. If text has moved within its row, the output may move it with DCH and ICH. Either
@@ -57,9 +64,8 @@ impl Screen {
     ///
     /// # Errors
     ///
-    /// Returns `Error::OutOfMemory` if the output, or the ordinary diff that it is compared with,
-    /// cannot be allocated. There is no error if both screens have the same display (clause
-    /// `never`).
+    /// Returns `Error::OutOfMemory` if the output, or output that it is compared with, cannot be
+    /// allocated. There is no error if both screens have the same display (clause `never`).
     ///
     /// # Examples
     ///
@@ -68,6 +74,60 @@ impl Screen {
     /// assert_eq!(screen.contents_diff_scrolling(&prev)?, "\x1b[H\x1b[M\n\n");
     /// ```
     pub fn contents_diff_scrolling(&self, prev: &Screen) -> Result<String, Error>
+        requires { SameSize self.now.page prev.now.page }
+        ensures text { IfText result (IsMovingOrRedraw (display self.now) (display prev.now)) }
+        ensures controls { IfText result (IsMadeOf shortened_finals shortened_controls) }
+        ensures again { IfText result KeepsPlain }
+        ensures shorter { IfText result (λ text. length text ≤ length (display_change prev.now self.now)) }
+        ensures redraw { IfText result (λ text. length text ≤ length (shown_text self.now)) }
+        ensures redraws { IfText result (RedrawsFrom prev.now self.now) }
+        ensures empty { IfText result (IsSameIfEmpty prev.now self.now) }
+        ensures none { IfText result (λ text. display self.now ≡ display prev.now → text ≡ []) }
+        ensures memory { OnlyOutOfMemory result }
+        ensures nonempty { RefusedOnlyIfSome result (display_change prev.now self.now) }
+        ensures never { display self.now ≡ display prev.now → IsOk result }
+    {
+        let moving = self.moving_diff(prev)?;
+        // Only for the proof: a named result lets the prover find the clauses of the call.
+        let shortest = self.or_redraw(moving)?;
+        Ok(shortest)
+    }
+
+    /// Returns `text`, or the redraw of this screen if that is shorter.
+    ///
+    /// # Errors
+    ///
+    /// Returns `Error::OutOfMemory` if the redraw, up to the length of `text`, cannot be allocated.
+    #[tactic(auto, using(crate::proofs::OrRedraw::redraw_least))]
+    fn or_redraw(&self, text: String) -> Result<String, Error>
+        ensures whole { IsScreen self.now }
+        ensures colored { IsColored self.now }
+        ensures text { IfText result (IsShorterWithRedraw (display self.now) (string_bytes text)) }
+        ensures memory { OnlyOutOfMemory result }
+        ensures nonempty { RefusedOnlyIfSome result (string_bytes text) }
+    {
+        let view = self.view();
+        let len = text.len();
+        if len <= LEAST_REDRAW {
+            return Ok(text);
+        }
+        let mut redraw = String::new(self.alloc);
+        match write_contents_formatted_within(&mut redraw, &view, len) {
+            Err(_) => Err(Error::OutOfMemory),
+            Ok(is_whole) if is_whole && redraw.len() < len => Ok(redraw),
+            Ok(_) => Ok(text),
+        }
+    }
+
+    /// Returns the escape sequences that turn the display of `prev` into the display of this
+    /// screen, as [`Screen::contents_diff_scrolling`] describes, but without comparing them with
+    /// the redraw.
+    ///
+    /// # Errors
+    ///
+    /// Returns `Error::OutOfMemory` if the output, or output that it is compared with, cannot be
+    /// allocated.
+    fn moving_diff(&self, prev: &Screen) -> Result<String, Error>
         requires { SameSize self.now.page prev.now.page }
         ensures text { IfText result (IsShortMoving (display self.now) (display prev.now)) }
         ensures controls { IfText result (IsMadeOf shortened_finals shortened_controls) }
@@ -78,7 +138,6 @@ impl Screen {
         ensures none { IfText result (λ text. display self.now ≡ display prev.now → text ≡ []) }
         ensures memory { OnlyOutOfMemory result }
         ensures nonempty { RefusedOnlyIfSome result (display_change prev.now self.now) }
-        ensures never { display self.now ≡ display prev.now → IsOk result }
     {
         let text = self.contents_diff(prev)?;
         let moving = self.shortened(prev, text)?;

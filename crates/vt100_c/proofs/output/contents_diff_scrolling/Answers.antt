@@ -5,4 +5,5 @@ pub returns-clause-text : goal.returns-clause-text
 returns-clause-text c =
     scrolls _ _ c.contents_diff_scrolling.result c.or_status.result
     c.contents_diff_scrolling.ensures.text c.contents_diff_scrolling.ensures.controls
-    c.contents_diff_scrolling.ensures.again c.contents_diff_scrolling.ensures.shorter c.or_status.ensures.text
+    c.contents_diff_scrolling.ensures.again c.contents_diff_scrolling.ensures.shorter
+    c.contents_diff_scrolling.ensures.redraw c.or_status.ensures.text

@@ -46,7 +46,7 @@ returns-clause-ok c =
     (scrolled_from c.self.inside.parser.screen c.screen-screen.result.now c.in-Some.noted.now c.screen-prev.result.now
     (string_bytes c.in_ok-text.text) c.screen-screen.ensures.value c.screen-prev.ensures
     (c.self.invariant.sized c.args.viewer c.in-Some.noted.now c.in-Some.ensures.some)
-    (subst IsSteady (sym c.screen-prev.ensures.shown) (c.is_steady.ensures.0 c.if-not-is_steady.false)) e.text e.shorter e.redraws e.empty e.none e.controls e.again)
+    (subst IsSteady (sym c.screen-prev.ensures.shown) (c.is_steady.ensures.0 c.if-not-is_steady.false)) e.text e.shorter e.redraw e.redraws e.empty e.none e.controls e.again)
 
 pub invariant_of-self : goal.invariant_of-self
 invariant_of-self c =
@@ -56,7 +56,7 @@ invariant_of-self c =
     scrolled_from screen c.screen-screen.result.now c.in-Some.noted.now c.screen-prev.result.now
     (string_bytes c.in_ok-text.text) c.screen-screen.ensures.value c.screen-prev.ensures
     (c.self.invariant.sized c.args.viewer c.in-Some.noted.now c.in-Some.ensures.some)
-    (subst IsSteady (sym c.screen-prev.ensures.shown) (c.is_steady.ensures.0 c.if-not-is_steady.false)) e.text e.shorter e.redraws e.empty e.none e.controls e.again in
+    (subst IsSteady (sym c.screen-prev.ensures.shown) (c.is_steady.ensures.0 c.if-not-is_steady.false)) e.text e.shorter e.redraw e.redraws e.empty e.none e.controls e.again in
     sharing_scrolled c.self.inside.parser c.self.inside.viewers c.keep_scrolling.new.self c.args.viewer c.as_str.result.now
     c.keep_scrolling.ensures.rest c.keep_scrolling.ensures.scrolling
     (of_noted (λ (s : ScreenValue). Scrolls screen s c.as_str.result.now)

@@ -1,0 +1,106 @@
+//! A redraw that is abandoned once it has reached a limit.
+
+ghost use Rattle.std.specs.Prelude.{◌≡◌, IfOk, IsTrue, string_bytes};
+ghost use Rattle.vt_cells.specs.Op.{bytes_of_all};
+ghost use Rattle.vt_redraw.specs.Limited.{AppendsWithin};
+ghost use Rattle.vt_redraw.specs.Picture.{SamePictureSize};
+ghost use Rattle.vt_redraw.specs.Redraw.{redraw, rows_written, script};
+
+use crate::cursor_rule::write_cursor;
+use crate::links::write_link;
+use crate::pen::{Pen, write_change};
+use crate::script::{write_row, write_top};
+use crate::view::View;
+use vt_cells::Error;
+use vt_cells::term::{BufWrite, ClearAttrs, ClearScreen, HideCursor};
+
+/// Writes the rows of `view` as [`crate::script::write_script`] does, but stops before a row if the
+/// string has then reached `limit` bytes. Returns whether all rows were written.
+fn write_rows_within(
+    text: &mut String,
+    pen: &mut Pen,
+    view: &View<'_>,
+    prev: &View<'_>,
+    limit: usize,
+) -> Result<bool, Error>
+    requires size { SamePictureSize view.now prev.now }
+    ensures ops { IfOk result (λ is_whole. AppendsWithin is_whole limit (string_bytes text.old) (string_bytes text.new)
+        (bytes_of_all (rows_written pen.old view.now.rows prev.now.rows).ops)) }
+    ensures pen { IfOk result (λ is_whole. IsTrue is_whole →
+        pen.new ≡ (rows_written pen.old view.now.rows prev.now.rows).pen) }
+{
+    let last = view.rows() - 1;
+    let mut above = view.row(0);
+    let mut on = write_top(text, pen, &above, &prev.row(0))?;
+    let mut row = 0;
+    while row < last {
+        if text.len() >= limit {
+            return Ok(false);
+        }
+        let below = row + 1;
+        let cells = view.row(below);
+        let over = prev.row(below);
+        let link = write_link(text, pen, row, &above, on, &cells, &over)?;
+        on = write_row(text, pen, below, link, &cells, &over)?;
+        above = cells;
+        row = below;
+    }
+    Ok(true)
+}
+
+/// Writes the output of [`crate::script::write_script`] to a string, but stops if the string has
+/// reached `limit` bytes before all rows are written. Returns whether all of the output was
+/// written.
+#[tactic(auto, unfolding(crate::specs::Redraw::script))]
+fn write_script_within(
+    text: &mut String,
+    view: &View<'_>,
+    prev: &View<'_>,
+    limit: usize,
+) -> Result<bool, Error>
+    requires size { SamePictureSize view.now prev.now }
+    ensures { IfOk result (λ is_whole. AppendsWithin is_whole limit (string_bytes text.old) (string_bytes text.new)
+        (bytes_of_all (script view.now prev.now))) }
+{
+    let mut pen = prev.pen();
+    let is_whole = write_rows_within(text, &mut pen, view, prev, limit)?;
+    if !is_whole {
+        return Ok(false);
+    }
+    write_cursor(text, pen, view)?;
+    write_change(text, pen.attrs, view.pen().attrs)?;
+    Ok(true)
+}
+
+/// Writes the full redraw of a picture to a string, as [`crate::write_contents_formatted`] does,
+/// but stops if the string has reached `limit` bytes before all rows are written. Returns whether
+/// the whole redraw was written.
+///
+/// If it was not, the string with the whole redraw would have at least `limit` bytes.
+///
+/// # Errors
+///
+/// Returns `Error::OutOfMemory` if the string cannot grow. Part of the redraw may have been written
+/// by then.
+#[tactic(auto, unfolding(crate::specs::Redraw::redraw))]
+pub fn write_contents_formatted_within(
+    text: &mut String,
+    view: &View<'_>,
+    limit: usize,
+) -> Result<bool, Error>
+    ensures { IfOk result (λ is_whole. AppendsWithin is_whole limit (string_bytes text.old) (string_bytes text.new)
+        (bytes_of_all (redraw view.now))) }
+{
+    HideCursor {
+        state: view.hidden(),
+    }
+    .write_buf(text)?;
+    ClearAttrs.write_buf(text)?;
+    ClearScreen.write_buf(text)?;
+    if text.len() >= limit {
+        return Ok(false);
+    }
+    let blank = view.blanked();
+    let is_whole = write_script_within(text, view, &blank, limit)?;
+    Ok(is_whole)
+}
