@@ -1,7 +1,6 @@
 """Copies libraries that `rt ci` has just proved to a copy of the repository: see tests/take-built."""
 import os
 import shutil
-import subprocess
 import sys
 
 
@@ -33,13 +32,13 @@ def libraries(root, name):
 
 
 def copy_files(root, to):
-    """Copies the repository's files, except for its history and build output."""
-    os.makedirs(to, exist_ok=True)
-    words = ["tar", "-c", "--exclude=./.git", "--exclude=./crates/*/out", "."]
-    with subprocess.Popen(words, cwd=root, stdout=subprocess.PIPE) as packed:
-        subprocess.run(["tar", "-x", "-C", to], stdin=packed.stdout, check=True)
-    if packed.returncode:
-        raise subprocess.CalledProcessError(packed.returncode, words)
+    """Copies the repository's files, except for its history and build output, which `rt ci` may write meanwhile."""
+
+    def left_out(folder, names):
+        is_crate = os.path.dirname(folder) == f"{root}/crates"
+        return [it for it in names if it == ".git" and folder == root or it == "out" and is_crate]
+
+    shutil.copytree(root, to, symlinks=True, ignore=left_out, dirs_exist_ok=True)
 
 
 def take(name, folder, stamp, to):
