@@ -2,6 +2,7 @@
 
 ghost use Rattle.std.specs.Prelude.{◌≡◌, IfOk, IsTrue, string_bytes};
 ghost use Rattle.vt_cells.specs.Op.{bytes_of_all};
+ghost use Rattle.vt_cells.specs.Refusals.{OnlyOutOfMemory};
 ghost use Rattle.vt_redraw.specs.Limited.{AppendsWithin};
 ghost use Rattle.vt_redraw.specs.Picture.{SamePictureSize};
 ghost use Rattle.vt_redraw.specs.Redraw.{redraw, rows_written, script};
@@ -72,22 +73,11 @@ fn write_script_within(
     Ok(true)
 }
 
-/// Writes the full redraw of a picture to a string, as [`crate::write_contents_formatted`] does,
-/// but stops if the string has reached `limit` bytes before all rows are written. Returns whether
-/// the whole redraw was written.
-///
-/// If it was not, the string with the whole redraw would have at least `limit` bytes.
-///
-/// # Errors
-///
-/// Returns `Error::OutOfMemory` if the string cannot grow. Part of the redraw may have been written
-/// by then.
+/// Writes the output of [`crate::write_contents_formatted`] to a string, but stops if the string
+/// has reached `limit` bytes before all rows are written. Returns whether all of the output was
+/// written.
 #[tactic(auto, unfolding(crate::specs::Redraw::redraw))]
-pub fn write_contents_formatted_within(
-    text: &mut String,
-    view: &View<'_>,
-    limit: usize,
-) -> Result<bool, Error>
+fn write_redraw_within(text: &mut String, view: &View<'_>, limit: usize) -> Result<bool, Error>
     ensures { IfOk result (λ is_whole. AppendsWithin is_whole limit (string_bytes text.old) (string_bytes text.new)
         (bytes_of_all (redraw view.now))) }
 {
@@ -103,4 +93,29 @@ pub fn write_contents_formatted_within(
     let blank = view.blanked();
     let is_whole = write_script_within(text, view, &blank, limit)?;
     Ok(is_whole)
+}
+
+/// Writes the full redraw of a picture to a string, as [`crate::write_contents_formatted`] does,
+/// but stops if the string has reached `limit` bytes before all rows are written. Returns whether
+/// the whole redraw was written.
+///
+/// If it was not, the string with the whole redraw would have at least `limit` bytes.
+///
+/// # Errors
+///
+/// Returns `Error::OutOfMemory` if the string cannot grow. Part of the redraw may have been written
+/// by then.
+pub fn write_contents_formatted_within(
+    text: &mut String,
+    view: &View<'_>,
+    limit: usize,
+) -> Result<bool, Error>
+    ensures text { IfOk result (λ is_whole. AppendsWithin is_whole limit (string_bytes text.old) (string_bytes text.new)
+        (bytes_of_all (redraw view.now))) }
+    ensures memory { OnlyOutOfMemory result }
+{
+    match write_redraw_within(text, view, limit) {
+        Ok(is_whole) => Ok(is_whole),
+        Err(_) => Err(Error::OutOfMemory),
+    }
 }

@@ -112,10 +112,11 @@ impl Screen {
             return Ok(text);
         }
         let mut redraw = String::new(self.alloc);
-        match write_contents_formatted_within(&mut redraw, &view, len) {
-            Err(_) => Err(Error::OutOfMemory),
-            Ok(is_whole) if is_whole && redraw.len() < len => Ok(redraw),
-            Ok(_) => Ok(text),
+        let is_whole = write_contents_formatted_within(&mut redraw, &view, len)?;
+        if is_whole && redraw.len() < len {
+            Ok(redraw)
+        } else {
+            Ok(text)
         }
     }
 
