@@ -46,7 +46,7 @@ const SHARE_DIVISOR: i32 = 64;
 
 /// The maximum number of rows that are examined in the search for a row whose columns seem to have
 /// moved.
-const MOST_TRIED: u32 = 12;
+const MOST_TRIED: u32 = 4;
 
 /// A key for each examined row. Rows are compared only if their keys are equal.
 type Keys = [u32; 256];
@@ -141,9 +141,10 @@ fn first_row_shift(
     ensures { IfSome result (IsRowShift (length prev.now.rows) prev.now.width) }
 {
     let least = i32::try_from(len).ok()? / SHARE_DIVISOR;
+    let least_cost = least.max(LEAST_COST);
     let mut tried = 0;
     for row in 0..height {
-        if here[usize::from(row)] > LEAST_COST && tried < MOST_TRIED {
+        if here[usize::from(row)] > least_cost && tried < MOST_TRIED {
             tried += 1;
             if let Some(shift) = likely_row_shift(view, prev, row, least) {
                 return Some(shift);

@@ -24,8 +24,8 @@ const CHANGE: i32 = 6;
 /// The approximate number of bytes in the escape sequences of a shift.
 const SEQUENCES: i32 = 10;
 
-/// The best shift so far, and the approximate number of bytes that it takes to
-/// draw the row after that shift.
+/// The best shift so far, and the approximate number of bytes that it takes to draw the row after
+/// that shift. If there is none yet, the number that a shift must be below.
 #[derive(Drop)]
 struct Best {
     shift: Option<RowShift>,
@@ -90,34 +90,32 @@ fn best_shift(
         count: 0,
         insert: false,
     };
+    let counts = likely_counts(cells.own_cells(), over.own_cells(), usize::from(col));
+    if counts.deleted == 0 && counts.inserted == 0 {
+        return None;
+    }
+    let unshifted = drawing(cells, over, none, i32::MAX);
     let mut best = Best {
         shift: None,
-        bytes: i32::MAX,
+        bytes: unshifted.saturating_sub(SEQUENCES).saturating_sub(least),
     };
-    let counts = likely_counts(cells.own_cells(), over.own_cells(), usize::from(col));
     let mut shift = none;
     shift.count = counts.deleted;
     best.consider(cells, over, shift);
     shift.count = counts.inserted;
     shift.insert = true;
     best.consider(cells, over, shift);
-    let shift = best.shift?;
-    let after = best.bytes.saturating_add(SEQUENCES).saturating_add(least);
-    if after < drawing(cells, over, none) {
-        Some(shift)
-    } else {
-        None
-    }
+    best.shift
 }
 
 impl Best {
-    /// Makes `shift` the best shift if drawing the row after it takes fewer bytes than drawing the
-    /// row after the best shift so far. Ignores a shift by zero columns.
+    /// Makes `shift` the best shift if drawing the row after it takes fewer bytes than the best
+    /// shift so far. Ignores a shift by zero columns.
     fn consider(&mut self, cells: &PictureRow<'_>, over: &PictureRow<'_>, shift: RowShift) {
         if shift.count == 0 {
             return;
         }
-        let bytes = drawing(cells, over, shift);
+        let bytes = drawing(cells, over, shift, self.bytes);
         if bytes < self.bytes {
             self.shift = Some(shift);
             self.bytes = bytes;
@@ -127,8 +125,8 @@ impl Best {
 
 /// Returns the approximate number of bytes that it takes to draw the row `cells` over the row
 /// `over` after `shift` has been applied to `over`. Counts only columns at or after the column of
-/// `shift`.
-fn drawing(cells: &PictureRow<'_>, over: &PictureRow<'_>, shift: RowShift) -> i32 {
+/// `shift`, and stops counting at the first column at which the number is at least `limit`.
+fn drawing(cells: &PictureRow<'_>, over: &PictureRow<'_>, shift: RowShift, limit: i32) -> i32 {
     let cols = cells.cols().min(over.cols());
     let blank = cell::default_blank();
     let mut estimate = Estimate {
@@ -138,6 +136,9 @@ fn drawing(cells: &PictureRow<'_>, over: &PictureRow<'_>, shift: RowShift) -> i3
         attrs: Attrs::new(),
     };
     for col in shift.col..cols {
+        if estimate.bytes >= limit {
+            break;
+        }
         let cell = cells.cell(col);
         let same = match shift.source(col, cols) {
             Some(from) => *cell == *over.cell(from),
