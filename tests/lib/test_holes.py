@@ -183,7 +183,7 @@ class All(unittest.TestCase):
 
     def test_a_failed_first_test(self):
         self.script("tests/trust", "exit 1")
-        self.assertEqual(self.ran(), (1, "6 passed, 1 failed"))
+        self.assertEqual(self.ran(), (1, "5 passed, 1 failed"))
 
     def test_a_failed_gate(self):
         status, last = self.ran("6 passed, 1 failed", "1")
