@@ -37,7 +37,7 @@ const MOST_TEXT: usize = 4096;
 /// row (see [`key`]).
 const KEYED: u16 = 16;
 
-/// The cost of a row, in bytes, above which the row is examined for columns that have moved.
+/// The cost of a row, in bytes, up to which the row is never examined for columns that have moved.
 const LEAST_COST: i32 = 12;
 
 /// The divisor that determines the minimum saving of the first column shift of a diff: the shift
@@ -125,9 +125,9 @@ fn likely_band(view: &View<'_>, prev: &View<'_>, height: u16, here: &Numbers) ->
 }
 
 /// Returns the shift of the first row whose columns seem to have moved between `prev` and `view`,
-/// or `None` if there is no such row. Examines only the first [`MOST_TRIED`] rows that cost more
-/// than [`LEAST_COST`] bytes. Skips a shift unless the number of bytes that it is expected to save
-/// exceeds `len`, the length of the diff in bytes, divided by [`SHARE_DIVISOR`].
+/// or `None` if there is no such row. Skips a shift unless the number of bytes that it is expected
+/// to save exceeds `len`, the length of the diff in bytes, divided by [`SHARE_DIVISOR`]. Examines
+/// only the first [`MOST_TRIED`] rows whose cost exceeds that number and [`LEAST_COST`].
 fn first_row_shift(
     view: &View<'_>,
     prev: &View<'_>,
