@@ -193,9 +193,9 @@ fn lends_numbers(rt: HostRuntime) -> Result<(), Fail> {
     Ok(())
 }
 
-/// Checks that a run of bytes that is read in one call ends at the end of the sequence or text.
+/// Checks that the introducer of a sequence is read in one call, up to its final byte.
 #[test]
-fn reads_runs(rt: HostRuntime) -> Result<(), Fail> {
+fn reads_introducers(rt: HostRuntime) {
     let mut scanner = Scanner::new(rt.alloc());
     assert_eq!(rt; scanner.take_introducer(b"\x1B[1;22mA"), 6);
     assert!(rt; !scanner.take_final_byte(b' '));
@@ -205,6 +205,12 @@ fn reads_runs(rt: HostRuntime) -> Result<(), Fail> {
     assert!(rt; !scanner.take_escape_byte(b'(') && scanner.take_escape_byte(b'B'));
     assert_eq!(rt; scanner.intermediates(), &b"("[..]);
     assert!(rt; scanner.is_control(b'\r') && !scanner.is_control(0x1B));
+}
+
+/// Checks that the text of a string is read in one call, up to the byte that ends it.
+#[test]
+fn reads_strings(rt: HostRuntime) -> Result<(), Fail> {
+    let mut scanner = Scanner::new(rt.alloc());
     let mut text = String::new(rt.alloc());
     feed_all(&mut text, &mut scanner, b"\x1BP")?;
     assert_eq!(rt; scanner.skipped_len(b"a\x9C\r;\x1B\\"), 4);
@@ -217,9 +223,9 @@ fn reads_runs(rt: HostRuntime) -> Result<(), Fail> {
     Ok(())
 }
 
-/// Checks that a command ends at BEL and at ESC, and that ESC abandons the ESC before it.
+/// Checks that a command ends at BEL, and that ESC abandons the ESC before it.
 #[test]
-fn ends_commands(rt: HostRuntime) -> Result<(), Fail> {
+fn ends_commands_at_bel(rt: HostRuntime) -> Result<(), Fail> {
     let mut scanner = Scanner::new(rt.alloc());
     assert_eq!(rt; scanner.take_introducer(b"\x1B\x1B\x1B]2;x"), 4);
     assert_eq!(rt; scanner.take_command_text(b"2;x\x07")?, 3);
@@ -227,11 +233,17 @@ fn ends_commands(rt: HostRuntime) -> Result<(), Fail> {
     let parts = scanner.parts();
     assert_eq!(rt; parts.as_slice().len(), 2);
     assert_eq!(rt; parts.as_slice()[1], &b"x"[..]);
+    Ok(())
+}
+
+/// Checks that a command ends at ESC, and that the next sequence has its own intermediate bytes.
+#[test]
+fn ends_commands_at_esc(rt: HostRuntime) {
+    let mut scanner = Scanner::new(rt.alloc());
     assert_eq!(rt; scanner.take_introducer(b"\x1B]"), 2);
     assert!(rt; scanner.take_command_byte(0x1B) && scanner.take_escape_byte(b'\\'));
     assert_eq!(rt; scanner.take_introducer(b"\x1B[?25h"), 5);
     assert_eq!(rt; scanner.intermediates(), &b"?"[..]);
-    Ok(())
 }
 
 /// Checks that the end of a long string is found, and that EM (0x19) does not end such a string.
@@ -245,6 +257,14 @@ fn finds_ends_of_long_strings(rt: HostRuntime) -> Result<(), Fail> {
     );
     assert_eq!(rt; scanner.skipped_len(b"0123456789abcdef0\x18"), 17);
     assert!(rt; scanner.feed(0x18)?.second.is_none());
+    assert_eq!(rt; scanner.take_introducer(b"\x1B]"), 2);
+    Ok(())
+}
+
+/// Checks that the text of a long command is divided at each semicolon.
+#[test]
+fn divides_long_commands(rt: HostRuntime) -> Result<(), Fail> {
+    let mut scanner = Scanner::new(rt.alloc());
     assert_eq!(rt; scanner.take_introducer(b"\x1B]"), 2);
     let text = b"0123456789;bcdef0123456789abcde;0123\x07";
     assert_eq!(rt; scanner.take_command_text(text)?, 36);
