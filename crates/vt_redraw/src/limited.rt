@@ -1,9 +1,10 @@
-//! A redraw that is abandoned once it has reached a limit.
+//! A redraw that is abandoned once it has reached a limit, or not begun if the text of the picture
+//! alone reaches it.
 
-ghost use Rattle.std.specs.Prelude.{◌≡◌, IfOk, IsTrue, string_bytes};
+ghost use Rattle.std.specs.Prelude.{◌≡◌, ◌≤◌, ◌↔◌, IfOk, IsTrue, length, string_bytes};
 ghost use Rattle.vt_cells.specs.Op.{bytes_of_all};
 ghost use Rattle.vt_cells.specs.Refusals.{OnlyOutOfMemory};
-ghost use Rattle.vt_redraw.specs.Limited.{AppendsWithin};
+ghost use Rattle.vt_redraw.specs.Limited.{AppendsWithin, cells_text_len, text_len};
 ghost use Rattle.vt_redraw.specs.Picture.{SamePictureSize};
 ghost use Rattle.vt_redraw.specs.Redraw.{redraw, rows_written, script};
 
@@ -12,8 +13,35 @@ use crate::links::write_link;
 use crate::pen::{Pen, write_change};
 use crate::script::{write_row, write_top};
 use crate::view::View;
-use vt_cells::Error;
 use vt_cells::term::{BufWrite, ClearAttrs, ClearScreen, HideCursor};
+use vt_cells::{Cell, Error};
+
+/// Returns the number of bytes of the glyphs of `cells`.
+fn cells_text_len(cells: &[Cell]) -> usize
+    ensures { result ≡ cells_text_len cells.now }
+{
+    let mut len = 0;
+    for cell in cells {
+        len += cell.contents().len();
+    }
+    len
+}
+
+/// Returns whether the glyphs of the picture have at least `len` bytes. If they do, so does the
+/// full redraw of the picture.
+fn has_text_len(view: &View<'_>, len: usize) -> bool
+    ensures value { IsTrue result ↔ (len ≤ text_len view.now.rows) }
+    ensures redraw { IsTrue result → len ≤ length (bytes_of_all (redraw view.now)) }
+{
+    let mut found = 0_usize;
+    for row in 0..view.rows() {
+        found = found.saturating_add(cells_text_len(view.row(row).own_cells()));
+        if found >= len {
+            return true;
+        }
+    }
+    false
+}
 
 /// Writes the rows of `view` as [`crate::script::write_script`] does, but stops before a row if the
 /// string has then reached `limit` bytes. Returns whether all rows were written.
@@ -96,8 +124,9 @@ fn write_redraw_within(text: &mut String, view: &View<'_>, limit: usize) -> Resu
 }
 
 /// Writes the full redraw of a picture to a string, as [`crate::write_contents_formatted`] does,
-/// but stops if the string has reached `limit` bytes before all rows are written. Returns whether
-/// the whole redraw was written.
+/// but stops if the string has reached `limit` bytes before all rows are written. Writes nothing if
+/// the glyphs of the picture alone have at least `limit` bytes. Returns whether the whole redraw was
+/// written.
 ///
 /// If it was not, the string with the whole redraw would have at least `limit` bytes.
 ///
@@ -114,6 +143,10 @@ pub fn write_contents_formatted_within(
         (bytes_of_all (redraw view.now))) }
     ensures memory { OnlyOutOfMemory result }
 {
+    // Adding up the lengths of the texts takes far less time than writing them.
+    if has_text_len(view, limit) {
+        return Ok(false);
+    }
     match write_redraw_within(text, view, limit) {
         Ok(is_whole) => Ok(is_whole),
         Err(_) => Err(Error::OutOfMemory),
