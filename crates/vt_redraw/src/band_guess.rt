@@ -11,6 +11,7 @@ ghost use Rattle.vt_redraw.specs.Picture.{SamePictureSize};
 ghost use Rattle.vt_redraw.specs.Shifted.{IsMove, IsRowShift};
 
 use crate::band::Band;
+use crate::drawn_rows::DrawnRows;
 use crate::erasure::likely_erasure;
 use crate::picture_row::PictureRow;
 use crate::row_costs::{Numbers, between, cost, costs, savings, sequences};
@@ -82,8 +83,9 @@ pub enum Move {
 /// rows or columns seem to have moved, returns a move that erases rows. Returns `None` if no move
 /// is expected to shorten the output enough, or if `text`, the diff written without a move, is
 /// shorter than 20 bytes. Only the first 256 rows are examined, and if `text` is longer than 4096
-/// bytes, only moves of rows are considered.
-pub fn likely_move(view: &View<'_>, prev: &View<'_>, text: &str) -> Option<Move>
+/// bytes, only moves of rows are considered. `drawn` holds the rows for which `text` contains
+/// output.
+pub fn likely_move(view: &View<'_>, prev: &View<'_>, text: &str, drawn: &DrawnRows) -> Option<Move>
     requires { SamePictureSize view.now prev.now }
     ensures inside { IfSome result (IsMove (length prev.now.rows) prev.now.width) }
     ensures text { IsSome result → 0 < length text.now }
@@ -92,7 +94,7 @@ pub fn likely_move(view: &View<'_>, prev: &View<'_>, text: &str) -> Option<Move>
         return None;
     }
     let height = view.rows().min(MOST_ROWS);
-    let here = costs(view, prev, height);
+    let here = costs(view, prev, height, drawn);
     if let Some(band) = likely_band(view, prev, height, &here) {
         return Some(Move::Rows(band));
     }

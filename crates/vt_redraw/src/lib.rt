@@ -7,6 +7,7 @@ pub mod band_guess;
 pub mod band_moves;
 mod cells;
 mod cursor_rule;
+pub mod drawn_rows;
 mod erasure;
 mod items;
 pub mod laws;
@@ -28,11 +29,14 @@ pub mod view;
 pub use band::Band;
 pub use band_guess::{Move, likely_move};
 pub use band_moves::write_moves;
+pub use drawn_rows::{DrawnRows, RowWatch};
 pub use items::{write_row_diff, write_row_formatted};
 pub use limited::write_contents_formatted_within;
 pub use pen::Pen;
 pub use picture_row::PictureRow;
-pub use redraw::{write_contents_diff, write_contents_formatted, write_cursor_state};
+pub use redraw::{
+    write_contents_diff, write_contents_diff_watched, write_contents_formatted, write_cursor_state,
+};
 pub use row_shift::RowShift;
 pub use row_shifts::write_row_shifts;
 pub use steadiness::is_steady;

@@ -7,6 +7,7 @@ ghost use Rattle.vt_redraw.specs.Refusals.{RefusedOnlyIfSome};
 ghost use Rattle.vt_redraw.specs.Redraw.{cursor_state, difference, cursor_visibility_ops, redraw};
 
 use crate::cursor_rule::write_cursor_alone;
+use crate::drawn_rows::RowWatch;
 use crate::script::write_script;
 use crate::view::View;
 use vt_cells::Sink;
@@ -29,7 +30,7 @@ pub fn write_contents_formatted<S: Sink>(sink: &mut S, view: &View<'_>) -> Resul
     ClearAttrs.write_buf(sink)?;
     ClearScreen.write_buf(sink)?;
     let blank = view.blanked();
-    write_script(sink, view, &blank)
+    write_script(sink, view, &blank, &mut ())
 }
 
 /// Writes the output that turns the display of `prev` into the display of
@@ -38,7 +39,6 @@ pub fn write_contents_formatted<S: Sink>(sink: &mut S, view: &View<'_>) -> Resul
 /// # Errors
 ///
 /// Returns the sink's error. Part of the output may have been written by then.
-#[tactic(auto, unfolding(crate::specs::Redraw::difference))]
 pub fn write_contents_diff<S: Sink>(
     sink: &mut S,
     view: &View<'_>,
@@ -48,8 +48,27 @@ pub fn write_contents_diff<S: Sink>(
     ensures text { OnOk result (S.text sink.new ≡ S.text sink.old ++ bytes_of_all (difference view.now prev.now)) }
     ensures nonempty { RefusedOnlyIfSome result (bytes_of_all (difference view.now prev.now)) }
 {
+    write_contents_diff_watched(sink, view, prev, &mut ())
+}
+
+/// Writes the output of [`write_contents_diff`], and notifies `watch` after each row.
+///
+/// # Errors
+///
+/// Returns the sink's error. Part of the output may have been written by then.
+#[tactic(auto, unfolding(crate::specs::Redraw::difference))]
+pub fn write_contents_diff_watched<S: Sink, W: RowWatch<S>>(
+    sink: &mut S,
+    view: &View<'_>,
+    prev: &View<'_>,
+    watch: &mut W,
+) -> Result<(), S::Error>
+    requires { SamePictureSize view.now prev.now }
+    ensures text { OnOk result (S.text sink.new ≡ S.text sink.old ++ bytes_of_all (difference view.now prev.now)) }
+    ensures nonempty { RefusedOnlyIfSome result (bytes_of_all (difference view.now prev.now)) }
+{
     write_hiding(sink, view, prev)?;
-    write_script(sink, view, prev)
+    write_script(sink, view, prev, watch)
 }
 
 /// Writes the sequence that hides or shows the cursor if the cursor is hidden

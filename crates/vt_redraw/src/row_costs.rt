@@ -6,6 +6,7 @@
 ghost use Rattle.std.specs.Prelude.{◌≤◌, length};
 ghost use Rattle.vt_redraw.specs.Picture.{SamePictureSize};
 
+use crate::drawn_rows::DrawnRows;
 use crate::picture_row::PictureRow;
 use crate::view::View;
 use vt_cells::{Attrs, Cell, cell};
@@ -18,15 +19,18 @@ const RUN: i32 = 3;
 pub(crate) type Numbers = [i32; 256];
 
 /// Returns, for each row of `view`, the approximate number of bytes that it takes to draw it over
-/// the corresponding row of `prev`.
-pub(crate) fn costs(view: &View<'_>, prev: &View<'_>, height: u16) -> Numbers
+/// the corresponding row of `prev`. `drawn` holds the rows for which the diff from `prev` to `view`
+/// contains output. The other rows are equal, so they cost nothing and are not compared again.
+pub(crate) fn costs(view: &View<'_>, prev: &View<'_>, height: u16, drawn: &DrawnRows) -> Numbers
     requires size { SamePictureSize view.now prev.now }
     requires inside { height ≤ length view.now.rows }
     requires few { height ≤ 256 }
 {
     let mut costs = [0; 256];
     for row in 0..height {
-        costs[usize::from(row)] = cost(&view.row(row), &prev.row(row));
+        if drawn.contains(row) {
+            costs[usize::from(row)] = cost(&view.row(row), &prev.row(row));
+        }
     }
     costs
 }

@@ -14,6 +14,7 @@ ghost use Rattle.vt_redraw.specs.Redraw.{row_written, rows_written, script};
 
 use crate::cells::write_cells;
 use crate::cursor_rule::write_cursor;
+use crate::drawn_rows::RowWatch;
 use crate::links::{Link, write_break, write_link};
 use crate::pen::{Pen, write_change};
 use crate::picture_row::PictureRow;
@@ -75,12 +76,13 @@ pub(crate) fn write_top<S: Sink>(
 }
 
 /// Writes the sequences that turn the rows of `prev`, which the terminal displays, into the rows of
-/// `view`, from top to bottom.
-fn write_rows<S: Sink>(
+/// `view`, from top to bottom. Notifies `watch` after each row.
+fn write_rows<S: Sink, W: RowWatch<S>>(
     sink: &mut S,
     pen: &mut Pen,
     view: &View<'_>,
     prev: &View<'_>,
+    watch: &mut W,
 ) -> Result<(), S::Error>
     requires size { SamePictureSize view.now prev.now }
     ensures ops { AppendsOrStops result (S.text sink.old) (S.text sink.new)
@@ -90,6 +92,7 @@ fn write_rows<S: Sink>(
     let last = view.rows() - 1;
     let mut above = view.row(0);
     let mut on = write_top(sink, pen, &above, &prev.row(0))?;
+    watch.finish_row(0, sink);
     let mut row = 0;
     while row < last {
         let below = row + 1;
@@ -97,6 +100,7 @@ fn write_rows<S: Sink>(
         let over = prev.row(below);
         let link = write_link(sink, pen, row, &above, on, &cells, &over)?;
         on = write_row(sink, pen, below, link, &cells, &over)?;
+        watch.finish_row(below, sink);
         above = cells;
         row = below;
     }
@@ -104,18 +108,24 @@ fn write_rows<S: Sink>(
 }
 
 /// Writes the sequences that turn the display of `prev` into that of `view`: first the rows, then
-/// the cursor position and the attributes. Does not hide or show the cursor.
+/// the cursor position and the attributes. Does not hide or show the cursor. Notifies `watch` after
+/// each row.
 ///
 /// # Errors
 ///
 /// Returns the sink's error. Part of the output may have been written by then.
 #[tactic(auto, unfolding(crate::specs::Redraw::script))]
-pub fn write_script<S: Sink>(sink: &mut S, view: &View<'_>, prev: &View<'_>) -> Result<(), S::Error>
+pub fn write_script<S: Sink, W: RowWatch<S>>(
+    sink: &mut S,
+    view: &View<'_>,
+    prev: &View<'_>,
+    watch: &mut W,
+) -> Result<(), S::Error>
     requires size { SamePictureSize view.now prev.now }
     ensures { AppendsOrStops result (S.text sink.old) (S.text sink.new) (script view.now prev.now) }
 {
     let mut pen = prev.pen();
-    write_rows(sink, &mut pen, view, prev)?;
+    write_rows(sink, &mut pen, view, prev, watch)?;
     write_cursor(sink, pen, view)?;
     write_change(sink, pen.attrs, view.pen().attrs)
 }

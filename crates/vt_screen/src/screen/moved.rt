@@ -27,8 +27,8 @@ use vt_cells::{Attrs, Error, Pos, Sink};
 use vt_grid::Grid;
 use vt_redraw::pen::write_change;
 use vt_redraw::{
-    Band, Move, RowShift, View, likely_move, write_contents_diff, write_contents_formatted_within,
-    write_moves, write_row_shifts,
+    Band, DrawnRows, Move, RowShift, View, likely_move, write_contents_diff,
+    write_contents_diff_watched, write_contents_formatted_within, write_moves, write_row_shifts,
 };
 
 /// The number of bytes with which each redraw begins: those that hide or show the cursor, reset the
@@ -140,11 +140,31 @@ impl Screen {
         ensures memory { OnlyOutOfMemory result }
         ensures nonempty { RefusedOnlyIfSome result (display_change prev.now self.now) }
     {
-        let text = self.contents_diff(prev)?;
-        let moving = self.shortened(prev, text)?;
+        let mut drawn = DrawnRows::new();
+        let text = self.watched_diff(prev, &mut drawn)?;
+        let moving = self.shortened(prev, text, &drawn)?;
         // Only for the proof: a named result lets the prover find the clauses of the call.
         let short = prev.with_short_moves(moving)?;
         Ok(short)
+    }
+
+    /// Returns the output of [`Screen::contents_diff`], and records in `drawn`, which must be empty,
+    /// the rows for which it contains output.
+    ///
+    /// # Errors
+    ///
+    /// Returns `Error::OutOfMemory` if the output cannot be allocated.
+    fn watched_diff(&self, prev: &Screen, drawn: &mut DrawnRows) -> Result<String, Error>
+        requires { SameSize self.now.page prev.now.page }
+        ensures text { IfText result (λ text. text ≡ display_change prev.now self.now) }
+        ensures memory { OnlyOutOfMemory result }
+        ensures nonempty { RefusedOnlyIfSome result (display_change prev.now self.now) }
+    {
+        let mut text = String::new(self.alloc);
+        match write_contents_diff_watched(&mut text, &self.view(), &prev.view(), drawn) {
+            Ok(()) => Ok(text),
+            Err(_) => Err(Error::OutOfMemory),
+        }
     }
 
     /// Returns `text`, which is output for a terminal that displays this screen, or shorter output
@@ -183,11 +203,12 @@ impl Screen {
     }
 
     /// Returns the ordinary diff `text`, or shorter output that begins by moving rows or columns.
+    /// `drawn` holds the rows for which `text` contains output.
     ///
     /// # Errors
     ///
     /// Returns `Error::OutOfMemory` if the alternative output cannot be allocated.
-    fn shortened(&self, prev: &Screen, text: String) -> Result<String, Error>
+    fn shortened(&self, prev: &Screen, text: String, drawn: &DrawnRows) -> Result<String, Error>
         requires size { SameSize self.now.page prev.now.page }
         requires text { string_bytes text ≡ display_change prev.now self.now }
         ensures whole { IsScreen self.now }
@@ -199,7 +220,7 @@ impl Screen {
         ensures memory { OnlyOutOfMemory result }
         ensures nonempty { RefusedOnlyIfSome result (display_change prev.now self.now) }
     {
-        match likely_move(&self.view(), &prev.view(), text.as_str()) {
+        match likely_move(&self.view(), &prev.view(), text.as_str(), drawn) {
             None => Ok(text),
             Some(Move::Rows(band)) => self.shorter_of(prev, band, text),
             Some(Move::Columns(first)) => self.shorter_with_shifts(prev, first, text),

@@ -1,4 +1,5 @@
 use Rattle.std.proofs.Common.{string_bytes, arith}
+use Rattle.vt_screen.proofs.MovedRead.{shorter_none}
 use Rattle.vt_screen.proofs.ShortMovesRead.{version_keeps, version_made, version_moving, version_redraws, version_shorter}
 use Rattle.vt_screen.proofs.ShortMovesRead.{version_tells}
 use Rattle.vt_screen.proofs.Viewing.{same_shown}
@@ -16,6 +17,11 @@ returns-clause-shorter c =
     c.in_ok-short.ensures.text in
     let long = c.in_ok-moving.ensures.shorter in
     omega (arith, short, long)
+
+pub returns-clause-none : goal.returns-clause-none
+returns-clause-none c same =
+    shorter_none (display c.args.self.now) (display c.args.prev.now) (string_bytes c.in_ok-short.short)
+    (returns-clause-shorter c) same
 
 pub returns-clause-redraws : goal.returns-clause-redraws
 returns-clause-redraws c =
