@@ -109,13 +109,17 @@ pub fn likely_move(view: &View<'_>, prev: &View<'_>, text: &str, drawn: &DrawnRo
 }
 
 /// Returns the band of rows that has most likely moved between `prev` and
-/// `view`, or `None` if no rows seem to have moved.
+/// `view`, or `None` if no rows seem to have moved. Returns `None` without a search if fewer than
+/// two rows have changed.
 fn likely_band(view: &View<'_>, prev: &View<'_>, height: u16, here: &Numbers) -> Option<Band>
     requires size { SamePictureSize view.now prev.now }
     requires inside { height ≤ length view.now.rows }
     requires few { height ≤ 256 }
     ensures { IfSome result (λ band. IsBand (length prev.now.rows) band) }
 {
+    if !have_two_changed(height, here) {
+        return None;
+    }
     let shift = likely_shift(view, prev, height, here)?;
     let stretch = best_stretch(view, prev, height, here, shift)?;
     let band = stretch.band(shift);
@@ -124,6 +128,22 @@ fn likely_band(view: &View<'_>, prev: &View<'_>, height: u16, here: &Numbers) ->
     } else {
         None
     }
+}
+
+/// Returns whether at least two of the examined rows have changed.
+fn have_two_changed(height: u16, here: &Numbers) -> bool
+    requires { height ≤ 256 }
+{
+    let mut one = false;
+    for row in 0..height {
+        if here[usize::from(row)] > 0 {
+            if one {
+                return true;
+            }
+            one = true;
+        }
+    }
+    false
 }
 
 /// Returns the shift of the first row whose columns seem to have moved between `prev` and `view`,

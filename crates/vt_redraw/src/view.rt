@@ -162,6 +162,7 @@ impl<'a> View<'a> {
     }
 
     /// Returns the row of the picture at index `row`, counted from 0.
+    #[inline(always)]
     pub fn row(&self, row: u16) -> PictureRow<'_>
         requires { row < length self.now.rows }
         ensures value { result ≡ row_or self.now.width self.now.rows row }
@@ -198,6 +199,7 @@ impl<'a> View<'a> {
 /// Returns the displayed row at index `row`, cut or extended to `cols` columns, or a blank row if
 /// there is no such row. The result is not wrapped if `is_last` is true or `row` is the last row of
 /// the page.
+#[inline(always)]
 fn row_seen<'a>(
     above: &'a Scrollback,
     rows: &'a PageRows,

@@ -258,7 +258,7 @@ fn add_element(
 
 /// Returns what is known about the terminal after it has read an element that is copied unchanged.
 /// `head` is the text of the element.
-#[inline]
+#[inline(always)]
 fn known_after(known: Known, element: Element, size: Size, head: &str) -> Known
     requires { IsElement element head.now }
     ensures { (cells : ℕ → ℕ → CellValue) → ReplacesTracked size.rows size.cols cells known result head.now head.now }
@@ -326,6 +326,7 @@ fn next_row(from: Pos, size: Size) -> Option<Pos>
 /// Returns the position of the cursor after `element`, which is copied unchanged to the output.
 /// `head` is the text of the element, and `at` is the position of the cursor before it. Returns
 /// `None` if the new position is unknown.
+#[inline(always)]
 fn position_after(element: Element, size: Size, at: Option<Pos>, head: &str) -> Option<Pos>
     requires { IsElement element head.now }
     ensures replaces { Replaces size.rows size.cols at result head.now head.now }
@@ -357,6 +358,7 @@ fn is_first_column(at: Option<Pos>) -> bool {
 
 /// Returns the position after the character `c` is printed at `from`. Returns `None` if that
 /// position is past the last column, or if `c` takes no columns.
+#[inline(always)]
 fn after_other(from: Pos, c: char, size: Size) -> Option<Pos>
     ensures { IfSome result (λ to. (n : ℕ) × (columns_of c ≡ Some n) × (0 < n) × IsAfter size.cols from n to) }
 {
@@ -369,6 +371,7 @@ fn after_other(from: Pos, c: char, size: Size) -> Option<Pos>
 
 /// Returns the position `count` columns to the right of `from`, or `None` if it is past the last
 /// column, where a wrap is pending.
+#[inline(always)]
 fn after_characters(from: Pos, count: usize, size: Size) -> Option<Pos>
     ensures { IfSome result (IsAfter size.cols from count) }
 {

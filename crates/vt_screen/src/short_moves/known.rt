@@ -27,7 +27,7 @@ impl Known {
     /// narrow glyphs at or after it in reading order are still displayed. Returns `None` if no such
     /// position is known. `element` is copied to the output unchanged. `to` is the position of the
     /// cursor after `element`, or `None` if it is unknown or a wrap is pending.
-    #[inline]
+    #[inline(always)]
     pub fn kept_after(self, element: Element, to: Option<Pos>) -> Option<Pos>
         ensures { IfSome result (IsKeptAfter self element to) }
     {
@@ -63,7 +63,7 @@ impl Known {
 
     /// Returns the later of `kept` and `changed` in reading order, which is the new value of `kept`
     /// if the cells before `changed` may have changed. Returns `None` if `kept` is `None`.
-    #[inline]
+    #[inline(always)]
     pub fn kept_from(self, changed: Pos) -> Option<Pos>
         ensures { IfSome result (IsKeptFrom self changed) }
     {
@@ -73,7 +73,7 @@ impl Known {
 
     /// Returns whether the attributes are known to be the defaults after the terminal has read
     /// `element`, which is copied to the output unchanged.
-    #[inline]
+    #[inline(always)]
     pub fn is_default_after(self, element: Element) -> bool
         ensures { IsTrue result → IsDefaultAfter self.is_default element }
     {
@@ -86,7 +86,7 @@ impl Known {
 }
 
 /// Returns the later of two positions in reading order.
-#[inline]
+#[inline(always)]
 fn later(a: Pos, b: Pos) -> Pos
     ensures { IsLater a b result }
 {
