@@ -13,8 +13,8 @@ impl<S> RowWatch<S> for () {
     fn finish_row(&mut self, _row: u16, _sink: &S) {}
 }
 
-/// The rows, among the first 256 rows of a picture, for which a diff contains output. A diff from
-/// a row to an equal row contains no output.
+/// The rows, among the first 256 rows of a picture, for which a diff contains output. The rest of
+/// the first 256 rows are equal in both pictures.
 #[derive(Drop)]
 pub struct DrawnRows {
     rows: [bool; 256],
