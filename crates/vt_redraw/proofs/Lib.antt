@@ -47,7 +47,7 @@ pub mod Moving
 pub mod Shifting
 pub mod Alike
 pub mod BandPages
-pub mod TextLengths
+pub mod LeastLengths
 pub mod Viewing
 pub mod RowSteps
 pub mod ItemSteps

@@ -1,10 +1,11 @@
-//! A redraw that is abandoned once it has reached a limit, or not begun if the text of the picture
-//! alone reaches it.
+//! A redraw that is abandoned once it has reached a limit, or not begun if a lower bound on its
+//! length reaches it.
 
-ghost use Rattle.std.specs.Prelude.{◌≡◌, ◌≤◌, ◌↔◌, IfOk, IsTrue, length, string_bytes};
+ghost use Rattle.std.specs.Prelude.{◌≡◌, ◌≤◌, ◌↔◌, None, IfOk, IsTrue, length, string_bytes};
 ghost use Rattle.vt_cells.specs.Op.{bytes_of_all};
 ghost use Rattle.vt_cells.specs.Refusals.{OnlyOutOfMemory};
-ghost use Rattle.vt_redraw.specs.Limited.{AppendsWithin, cells_text_len, text_len};
+ghost use Rattle.vt_redraw.specs.Limited.{AppendsWithin, cells_text_len, change_least, drawn_least};
+ghost use Rattle.vt_redraw.specs.Limited.{is_undrawn, text_len};
 ghost use Rattle.vt_redraw.specs.Picture.{SamePictureSize};
 ghost use Rattle.vt_redraw.specs.Redraw.{redraw, rows_written, script};
 
@@ -14,7 +15,7 @@ use crate::pen::{Pen, write_change};
 use crate::script::{write_row, write_top};
 use crate::view::View;
 use vt_cells::term::{BufWrite, ClearAttrs, ClearScreen, HideCursor};
-use vt_cells::{Cell, Error};
+use vt_cells::{Attrs, Cell, Error, cell};
 
 /// Returns the number of bytes of the glyphs of `cells`.
 fn cells_text_len(cells: &[Cell]) -> usize
@@ -37,6 +38,59 @@ fn has_text_len(view: &View<'_>, len: usize) -> bool
     for row in 0..view.rows() {
         found = found.saturating_add(cells_text_len(view.row(row).own_cells()));
         if found >= len {
+            return true;
+        }
+    }
+    false
+}
+
+/// Returns a lower bound on the number of bytes that it takes to change a terminal's attributes from
+/// `was`, if known, to `new`. An SGR sequence has at least three bytes.
+#[inline]
+fn change_least(was: Option<Attrs>, new: Attrs) -> usize
+    ensures { result ≡ change_least was new }
+{
+    match was {
+        Some(was) => { if was == new { 0 } else { 3 } }
+        None => 0,
+    }
+}
+
+/// Returns whether nothing is written to draw the cell over a default blank: it is a default blank
+/// itself, or a continuation cell, which is drawn with the wide glyph before it.
+#[inline]
+fn is_undrawn(cell: &Cell) -> bool
+    ensures { result ≡ is_undrawn cell.now }
+{
+    !cell.has_contents() && cell::attrs(cell) == Attrs::new()
+}
+
+/// Returns a lower bound on the number of bytes that it takes to draw `cells` over default blanks:
+/// the bytes of the glyphs, plus three for each change of attributes from one drawn cell to the next.
+fn drawn_least(cells: &[Cell]) -> usize
+    ensures { result ≡ drawn_least None cells.now }
+{
+    let mut was = None;
+    let mut len = 0;
+    for cell in cells {
+        if !is_undrawn(cell) {
+            let attrs = cell::attrs(cell);
+            len += change_least(was, attrs) + cell.contents().len();
+            was = Some(attrs);
+        }
+    }
+    len
+}
+
+/// Returns whether the glyphs of the picture and the changes of attributes within its rows take at
+/// least `len` bytes. If they do, so does the full redraw of the picture.
+fn has_drawn_least(view: &View<'_>, len: usize) -> bool
+    ensures { IsTrue result → len ≤ length (bytes_of_all (redraw view.now)) }
+{
+    let mut least = 0_usize;
+    for row in 0..view.rows() {
+        least = least.saturating_add(drawn_least(view.row(row).own_cells()));
+        if least >= len {
             return true;
         }
     }
@@ -125,8 +179,8 @@ fn write_redraw_within(text: &mut String, view: &View<'_>, limit: usize) -> Resu
 
 /// Writes the full redraw of a picture to a string, as [`crate::write_contents_formatted`] does,
 /// but stops if the string has reached `limit` bytes before all rows are written. Writes nothing if
-/// the glyphs of the picture alone have at least `limit` bytes. Returns whether the whole redraw was
-/// written.
+/// the glyphs of the picture and the changes of attributes within its rows are known to take at
+/// least `limit` bytes. Returns whether the whole redraw was written.
 ///
 /// If it was not, the string with the whole redraw would have at least `limit` bytes.
 ///
@@ -143,8 +197,9 @@ pub fn write_contents_formatted_within(
         (bytes_of_all (redraw view.now))) }
     ensures memory { OnlyOutOfMemory result }
 {
-    // Adding up the lengths of the texts takes far less time than writing them.
-    if has_text_len(view, limit) {
+    // Adding up lengths takes far less time than writing. The lengths of the texts are the fastest
+    // to add up, but most bytes of a colored picture's redraw are changes of attributes.
+    if has_text_len(view, limit) || has_drawn_least(view, limit) {
         return Ok(false);
     }
     match write_redraw_within(text, view, limit) {

@@ -1,7 +1,7 @@
 use Rattle.std.proofs.Common.{ap, arith, length}
 use Rattle.vt_cells.specs.Cell.{CellValue, text_of}
 use Rattle.vt_cells.proofs.Cells.{text_short}
-use Rattle.vt_redraw.proofs.TextLengths.{cells_more}
+use Rattle.vt_redraw.proofs.LeastLengths.{cells_more}
 use Rattle.vt_redraw.proofs.limited.cells_text_len.Goals as goal
 
 pub loop-cell-preserved : goal.loop-cell-preserved

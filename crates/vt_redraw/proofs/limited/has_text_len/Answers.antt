@@ -3,7 +3,7 @@ use Rattle.std.proofs.lemmas.List.Elements.{All-more}
 use Rattle.vt_cells.specs.Attrs.{default_attrs}
 use Rattle.vt_rows.specs.Row.{IsRow, blank_row}
 use Rattle.vt_redraw.specs.Limited.{text_len}
-use Rattle.vt_redraw.proofs.TextLengths.{rows_more, rows_taken, text_least}
+use Rattle.vt_redraw.proofs.LeastLengths.{rows_more, rows_taken, text_least}
 use Rattle.vt_redraw.proofs.limited.has_text_len.Goals.{After-saturating_add-found}
 use Rattle.vt_redraw.proofs.limited.has_text_len.Goals as goal
 

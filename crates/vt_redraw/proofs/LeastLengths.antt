@@ -1,0 +1,415 @@
+-- Lower bounds on the length of a redraw.
+use Rattle.std.proofs.Common.{◌≡◌, ℕ, zero, suc, ◌+◌, ◌-◌, ◌<◌, ◌≤◌, Bool, true, false, List, [], ◌∷◌, ◌++◌, length, refl}
+use Rattle.std.proofs.Common.{ap, sym, ◌∙◌, arith, take, drop, length-append}
+use Rattle.std.specs.Prelude.{All, Option, Some, None, replicate, slice_index_or, ◌||◌, ◌&&◌, not, if◌then◌else◌}
+use Rattle.std.specs.List.{AllByRecursion}
+use Rattle.std.proofs.Math.Numerals.{one-add}
+use Rattle.std.proofs.lemmas.Bool.{cond-false, cond-true, cond_both}
+use Rattle.std.proofs.lemmas.List.{at_drop_more, take-append-drop, take_more}
+use Rattle.std.proofs.lemmas.List.Elements.{recursion_from_All}
+use Rattle.vt_cells.specs.Attrs.{Attrs, default_attrs, same_attrs}
+use Rattle.vt_cells.specs.Cell.{CellValue, blank, glyph, right_half, attrs_of, is_blank, same_cell, text_of}
+use Rattle.vt_cells.specs.Glyph.{glyph_columns}
+use Rattle.vt_cells.specs.Op.{ClearAttrs, EraseBelow, Hide, MoveTo, Op, Print, bytes_of, bytes_of_all, change_numbers}
+use Rattle.vt_cells.specs.Op.{change_text, csi, semicolon_list}
+use Rattle.vt_cells.proofs.Same.{same_attrs-itself}
+use Rattle.vt_cells.proofs.Texts.{bytes_of_all-append}
+use Rattle.vt_rows.specs.Cells.{blanks}
+use Rattle.vt_rows.specs.Row.{RowValue, IsRow, blank_row}
+use Rattle.vt_grid.specs.Page.{row_or}
+use Rattle.vt_redraw.specs.declared.pen.Pen.{Pen}
+use Rattle.vt_redraw.specs.Limited.{cells_text_len, change_least, drawn_least, is_undrawn, rows_drawn_least, text_len}
+use Rattle.vt_redraw.specs.Picture.{Picture}
+use Rattle.vt_redraw.specs.Redraw.{blank_like, cursor_written, link_of, pen_of, redraw, row_written, rows_below}
+use Rattle.vt_redraw.specs.Redraw.{rows_written, script}
+use Rattle.vt_redraw.specs.Script.{Linked, Scripted, after_last_glyph, attr_ops, blank_run, cells_written, erase_run}
+use Rattle.vt_redraw.specs.Script.{first_written, is_at, is_blank_of, move_ops, no_link, ops_then, ops_then_link, pen_at}
+use Rattle.vt_redraw.specs.Script.{placed_op, row_break, row_link, starts_other, wrapped_after_erasure, wrapped_after_glyph}
+use Rattle.vt_redraw.proofs.Halves.{Loose, Paired, loose_step, paired_loose, paired_of}
+use Rattle.vt_redraw.proofs.Runs.{blank_of_is}
+use Rattle.vt_redraw.proofs.Writing.{changing_bytes}
+
+-- The number of bytes of the output of some operations.
+abbrev bytes_len : List Op → ℕ
+bytes_len ops = length (bytes_of_all ops)
+
+bytes_both : (ops more : List Op) → bytes_len (ops ++ more) ≡ bytes_len ops + bytes_len more
+bytes_both ops more = ap length (bytes_of_all-append ops more) ∙ length-append (bytes_of_all ops) (bytes_of_all more)
+
+-- ---- one operation
+
+csi_len : (parameters : List ℕ) (final : ℕ) → 3 ≤ length (csi parameters final)
+csi_len parameters final = let both = length-append parameters (final ∷ []) in omega (arith, both)
+
+changed_least : (same : Bool) (text : List ℕ) → 3 ≤ length text →
+    (if same then 0 else 3) ≤ length (if same then [] else text)
+changed_least true text h = omega arith
+changed_least false text h = h
+
+-- A change of attributes is at least as long as its lower bound.
+attrs_least : (was new : Attrs) → change_least (Some was) new ≤ bytes_len (attr_ops was new)
+unfolding change_text
+attrs_least was new =
+    let to_default = csi [] 0x6D in
+    let to_other = csi (semicolon_list (change_numbers was new)) 0x6D in
+    let changed = cond_both (same_attrs new default_attrs) to_default to_other (λ (text : List ℕ). 3 ≤ length text)
+    (λ _. csi_len [] 0x6D) (λ _. csi_len (semicolon_list (change_numbers was new)) 0x6D) in
+    let least = changed_least (same_attrs was new) (if same_attrs new default_attrs then to_default else to_other) changed in
+    let same = ap length (changing_bytes was new) in
+    omega (arith, least, same)
+
+-- An operation is at least as long as the change of attributes before it and its own bytes.
+changed_op_least : (was new : Attrs) (op : Op) (ops : List Op) →
+    change_least (Some was) new + length (bytes_of op) ≤ bytes_len (attr_ops was new ++ op ∷ ops)
+changed_op_least was new op ops =
+    let change = attrs_least was new in
+    let both = bytes_both (attr_ops was new) (op ∷ ops) in
+    let more = length-append (bytes_of op) (bytes_of_all ops) in
+    omega (arith, change, both, more)
+
+placed_least : (pen : Pen) (row col : ℕ) (attrs : Attrs) (op : Op) →
+    change_least (Some pen.attrs) attrs + length (bytes_of op) ≤ bytes_len (placed_op pen row col attrs op)
+placed_least pen row col attrs op =
+    let both = bytes_both (move_ops pen row col) (attr_ops pen.attrs attrs ++ op ∷ []) in
+    let least = changed_op_least pen.attrs attrs op [] in
+    omega (arith, both, least)
+
+-- ---- cells
+
+-- No change of attributes is counted before the first drawn cell if the attributes before it are unknown.
+none_least : (was : Option Attrs) (xs : List CellValue) → drawn_least None xs ≤ drawn_least was xs
+none_least was [] = omega arith
+none_least was (x ∷ xs) =
+    by_kind (is_undrawn x) (none_least was xs) where
+      by_kind : (undrawn : Bool) → drawn_least None xs ≤ drawn_least was xs →
+          (if undrawn then drawn_least None xs else (0 + (length (text_of x) + drawn_least (Some (attrs_of x)) xs)))
+          ≤ (if undrawn then drawn_least was xs
+          else (change_least was (attrs_of x) + (length (text_of x) + drawn_least (Some (attrs_of x)) xs)))
+      by_kind true h = h
+      by_kind false h = omega arith
+
+same_least : (a : Attrs) → change_least (Some a) a ≡ 0
+same_least a = rw (same_attrs-itself a) refl
+
+-- The blanks of a run change no attributes after the first.
+run_least : (a : Attrs) (xs : List CellValue) →
+    drawn_least (Some a) (drop (blank_run a xs) xs) ≡ drawn_least (Some a) xs
+run_least a [] = refl
+run_least a (x ∷ xs) =
+    cond_both (is_blank_of a x) (1 + blank_run a xs) 0
+    (λ (n : ℕ). drawn_least (Some a) (drop n (x ∷ xs)) ≡ drawn_least (Some a) (x ∷ xs))
+    (λ (t : is_blank_of a x ≡ true).
+    let e = blank_of_is a x t in
+    let h = run_least a xs in
+    let same = same_least a in
+    let first = cond_both (same_attrs a default_attrs) (drawn_least (Some a) xs)
+    (change_least (Some a) a + (0 + drawn_least (Some a) xs)) (λ (n : ℕ). n ≡ drawn_least (Some a) xs)
+    (λ _. refl) (λ _. omega (arith, same)) in
+    rw (one-add, e) (omega (arith, h, first)))
+    (λ _. refl)
+
+-- The cell after a wide glyph is drawn with the glyph.
+half_least : (text : List ℕ) (wide : Bool) (a : Attrs) (xs : List CellValue) → Paired (glyph text wide a ∷ xs) →
+    drawn_least (Some a) (drop (glyph_columns wide - 1) xs) ≡ drawn_least (Some a) xs
+half_least text false a xs h = refl
+half_least text true a [] h = absurd h
+half_least text true a (right_half ∷ xs) h = refl
+half_least text true a (blank b ∷ xs) h = absurd h
+half_least text true a (glyph other wide b ∷ xs) h = absurd h
+
+-- The output for cells over default blanks is at least as long as the lower bound for the cells that are not yet
+-- written.
+cells_least : (r c : ℕ) (pen : Pen) (flag : Bool) (k : ℕ) (xs : List CellValue) (n : ℕ) → Loose xs → length xs ≤ n →
+    drawn_least (Some pen.attrs) (drop k xs)
+    ≤ bytes_len (cells_written r c pen flag k xs (blanks default_attrs n)).ops
+unfolding cells_written same_cell
+cells_least r c pen flag zero [] n h le = omega arith
+cells_least r c pen flag (suc k) [] n h le = omega arith
+cells_least r c pen flag k (x ∷ xs) zero h le = absurd (omega (arith, le))
+cells_least r c pen flag (suc k) (x ∷ xs) (suc n) h le =
+    cells_least r (c + 1) pen flag k xs n (loose_step x xs h) (omega (arith, le))
+cells_least r c pen flag zero (right_half ∷ xs) (suc n) h le =
+    cells_least r (c + 1) pen flag 0 xs n (loose_step right_half xs h) (omega (arith, le))
+cells_least r c pen flag zero (blank a ∷ xs) (suc n) h le =
+    let m = blank_run a xs in
+    let ys = drop m (blanks default_attrs n) in
+    let was = Some pen.attrs in
+    let rest = cells_written r (c + 1) (pen_at r c a) (wrapped_after_erasure flag ys) m xs (blanks default_attrs n) in
+    let op = erase_run (suc m) ys in
+    let erased = placed_op pen r c a op in
+    cond_both (same_attrs a default_attrs) (cells_written r (c + 1) pen flag 0 xs (blanks default_attrs n))
+    (ops_then erased rest) (λ (w : Scripted). drawn_least was (blank a ∷ xs) ≤ bytes_len w.ops)
+    (λ (t : same_attrs a default_attrs ≡ true).
+    let least = cells_least r (c + 1) pen flag 0 xs n (loose_step (blank a) xs h) (omega (arith, le)) in
+    let none = cond-true (same_attrs a default_attrs) (drawn_least was xs)
+    (change_least was a + (0 + drawn_least (Some a) xs)) t in
+    omega (arith, least, none))
+    (λ (f : same_attrs a default_attrs ≡ false).
+    let least = cells_least r (c + 1) (pen_at r c a) (wrapped_after_erasure flag ys) m xs n (loose_step (blank a) xs h)
+    (omega (arith, le)) in
+    let run = run_least a xs in
+    let placed = placed_least pen r c a op in
+    let both = bytes_both erased rest.ops in
+    let some = cond-false (same_attrs a default_attrs) (drawn_least was xs)
+    (change_least was a + (0 + drawn_least (Some a) xs)) f in
+    omega (arith, least, run, placed, both, some))
+cells_least r c pen flag zero (glyph text wide a ∷ xs) (suc n) h le =
+    let k = glyph_columns wide - 1 in
+    let next = pen_at r (c + glyph_columns wide) a in
+    let on = wrapped_after_glyph flag wide (drop 1 (blanks default_attrs n)) in
+    let rest = cells_written r (c + 1) next on k xs (blanks default_attrs n) in
+    let least = cells_least r (c + 1) next on k xs n (loose_step (glyph text wide a) xs h) (omega (arith, le)) in
+    let half = half_least text wide a xs h in
+    let placed = placed_least pen r c a (Print text) in
+    let both = bytes_both (placed_op pen r c a (Print text)) rest.ops in
+    let whole : drawn_least (Some pen.attrs) (glyph text wide a ∷ xs)
+    ≤ bytes_len (placed_op pen r c a (Print text) ++ rest.ops) =
+    omega (arith, least, half, placed, both) in
+    whole
+
+-- ---- rows
+
+-- The output for a row over default blanks is at least as long as the lower bound for the cells that are not yet
+-- written.
+row_least : (r k : ℕ) (pen : Pen) (flag : Bool) (width : ℕ) (x : RowValue) → IsRow width x →
+    drawn_least (Some pen.attrs) (drop k x.cells)
+    ≤ bytes_len (row_written r k pen flag x (blanks default_attrs width)).ops
+unfolding row_written
+row_least r k pen flag width x is =
+    let size = is.columns in
+    let cells = cells_written r 0 pen flag k x.cells (blanks default_attrs width) in
+    let least = cells_least r 0 pen flag k x.cells width (paired_loose x.cells (paired_of x.cells is.paired))
+    (omega (arith, size)) in
+    let both = bytes_both cells.ops (row_break r cells.pen cells.flag x.wrapped x.cells).ops in
+    omega (arith, least, both)
+
+-- The output of a link, followed by the cells that it does not draw, is at least as long as the lower bound for the
+-- cells.
+abbrev Links : List CellValue → Linked → Type 0
+Links xs link =
+    drawn_least None xs ≤ bytes_len link.ops + drawn_least (Some link.pen.attrs) (drop link.settled xs)
+
+unlinked_least : (pen : Pen) (flag : Bool) (xs : List CellValue) → Links xs (no_link pen flag)
+unlinked_least pen flag xs = let least = none_least (Some pen.attrs) xs in omega (arith, least)
+
+first_least : (r : ℕ) (pen : Pen) (flag : Bool) (xs ys : List CellValue) → Paired xs →
+    Links xs (first_written r pen flag xs ys)
+first_least r pen flag [] ys h = omega arith
+first_least r pen flag (x ∷ xs) [] h = unlinked_least pen flag (x ∷ xs)
+first_least r pen flag (right_half ∷ xs) (y ∷ ys) h = absurd h
+first_least r pen flag (blank a ∷ xs) (y ∷ ys) h =
+    let none = none_least (Some a) xs in
+    cond_both (same_attrs a default_attrs) (drawn_least None xs) (0 + (0 + drawn_least (Some a) xs))
+    (λ (n : ℕ). n ≤ bytes_len (first_written r pen flag (blank a ∷ xs) (y ∷ ys)).ops + drawn_least (Some a) xs)
+    (λ _. omega (arith, none)) (λ _. omega arith)
+first_least r pen flag (glyph text false a ∷ xs) (y ∷ ys) h =
+    let least = changed_op_least pen.attrs a (Print text) [] in
+    omega (arith, least)
+first_least r pen flag (glyph text true a ∷ right_half ∷ xs) (y ∷ ys) h =
+    let least = changed_op_least pen.attrs a (Print text) [] in
+    omega (arith, least)
+first_least r pen flag (glyph text true a ∷ []) (y ∷ ys) h = absurd h
+first_least r pen flag (glyph text true a ∷ blank b ∷ xs) (y ∷ ys) h = absurd h
+first_least r pen flag (glyph text true a ∷ glyph other wide b ∷ xs) (y ∷ ys) h = absurd h
+
+link_least : (r : ℕ) (pen : Pen) (above x y : RowValue) (on : Bool) → Paired x.cells →
+    Links x.cells (link_of r pen above on x y)
+unfolding row_link
+link_least r pen above x y on h =
+    let last = after_last_glyph r pen above.cells in
+    let first = first_written (r + 1) last.pen y.wrapped x.cells y.cells in
+    let none = unlinked_least pen y.wrapped x.cells in
+    cond_both above.wrapped (row_link r pen above.cells on y.wrapped x.cells y.cells) (no_link pen y.wrapped) (Links x.cells)
+    (λ _. cond_both (not on || (is_at pen r (length above.cells) && starts_other x.cells y.cells))
+    (ops_then_link last.ops first) (no_link pen y.wrapped) (Links x.cells)
+    (λ _.
+    let least = first_least (r + 1) last.pen y.wrapped x.cells y.cells h in
+    let both = bytes_both last.ops first.ops in
+    omega (arith, least, both))
+    (λ _. none))
+    (λ _. none)
+
+-- The output for rows over blank rows is at least as long as the lower bound for the first `k` rows.
+below_least : (width r : ℕ) (pen : Pen) (above : RowValue) (on : Bool) (k : ℕ) (xs : List RowValue) (n : ℕ) →
+    AllByRecursion (IsRow width) (take k xs) → length xs ≤ n →
+    rows_drawn_least (take k xs)
+    ≤ bytes_len (rows_below r pen above on xs (replicate n (blank_row default_attrs width))).ops
+unfolding rows_below
+below_least width r pen above on zero xs n all le = omega arith
+below_least width r pen above on (suc k) [] n all le = omega arith
+below_least width r pen above on (suc k) (x ∷ xs) zero all le = absurd (omega (arith, le))
+below_least width r pen above on (suc k) (x ∷ xs) (suc n) all le =
+    let y = blank_row default_attrs width in
+    let link = link_of r pen above on x y in
+    let row = row_written (r + 1) link.settled link.pen link.flag x y.cells in
+    let rest = rows_below (r + 1) row.pen x row.flag xs (replicate n y) in
+    let links = link_least r pen above x y on (paired_of x.cells all.0.paired) in
+    let least = row_least (r + 1) link.settled link.pen link.flag width x all.0 in
+    let more = below_least width (r + 1) row.pen x row.flag k xs n all.1 (omega (arith, le)) in
+    let both = bytes_both link.ops row.ops in
+    let whole = bytes_both (link.ops ++ row.ops) rest.ops in
+    omega (arith, links, least, more, both, whole)
+
+rows_least : (width : ℕ) (pen : Pen) (k : ℕ) (xs : List RowValue) (n : ℕ) →
+    AllByRecursion (IsRow width) (take k xs) → length xs ≤ n →
+    rows_drawn_least (take k xs) ≤ bytes_len (rows_written pen xs (replicate n (blank_row default_attrs width))).ops
+unfolding rows_written
+rows_least width pen zero xs n all le = omega arith
+rows_least width pen (suc k) [] n all le = omega arith
+rows_least width pen (suc k) (x ∷ xs) zero all le = absurd (omega (arith, le))
+rows_least width pen (suc k) (x ∷ xs) (suc n) all le =
+    let y = blank_row default_attrs width in
+    let row = row_written 0 0 pen y.wrapped x y.cells in
+    let rest = rows_below 0 row.pen x row.flag xs (replicate n y) in
+    let least = row_least 0 0 pen y.wrapped width x all.0 in
+    let none = none_least (Some pen.attrs) x.cells in
+    let more = below_least width 0 row.pen x row.flag k xs n all.1 (omega (arith, le)) in
+    let whole = bytes_both row.ops rest.ops in
+    omega (arith, least, none, more, whole)
+
+-- ---- the redraw
+
+-- If the first `k` rows of a picture are valid, its redraw is at least as long as the lower bound for them.
+pub redraw_least : (picture : Picture) (k : ℕ) → All (IsRow picture.width) (take k picture.rows) →
+    rows_drawn_least (take k picture.rows) ≤ length (bytes_of_all (redraw picture))
+unfolding redraw script
+redraw_least picture k all =
+    let blank = blank_like picture in
+    let start : List Op = Hide picture.hidden ∷ ClearAttrs ∷ MoveTo 0 0 ∷ EraseBelow ∷ [] in
+    let written = rows_written (pen_of blank) picture.rows blank.rows in
+    let end = cursor_written written.pen picture.width picture.rows picture.row picture.column
+    ++ attr_ops written.pen.attrs picture.attrs in
+    let least = rows_least picture.width (pen_of blank) k picture.rows (length picture.rows)
+    (recursion_from_All (IsRow picture.width) (take k picture.rows) all) (omega arith) in
+    let rows = bytes_both written.ops end in
+    let whole = bytes_both start (script picture blank) in
+    omega (arith, least, rows, whole)
+
+cells_text_least : (was : Option Attrs) (xs : List CellValue) → cells_text_len xs ≤ drawn_least was xs
+cells_text_least was [] = omega arith
+cells_text_least was (right_half ∷ xs) = let rest = cells_text_least was xs in omega (arith, rest)
+cells_text_least was (glyph text wide a ∷ xs) = let rest = cells_text_least (Some a) xs in omega (arith, rest)
+cells_text_least was (blank a ∷ xs) =
+    let same = cells_text_least was xs in
+    let rest = cells_text_least (Some a) xs in
+    cond_both (same_attrs a default_attrs) (drawn_least was xs) (change_least was a + (0 + drawn_least (Some a) xs))
+    (λ (n : ℕ). cells_text_len (blank a ∷ xs) ≤ n) (λ _. omega (arith, same)) (λ _. omega (arith, rest))
+
+rows_text_least : (xs : List RowValue) → text_len xs ≤ rows_drawn_least xs
+rows_text_least [] = omega arith
+rows_text_least (x ∷ xs) =
+    let cells = cells_text_least None x.cells in
+    let rest = rows_text_least xs in
+    omega (arith, cells, rest)
+
+-- If the first `k` rows of a picture are valid, its redraw is at least as long as their text.
+pub text_least : (picture : Picture) (k : ℕ) → All (IsRow picture.width) (take k picture.rows) →
+    text_len (take k picture.rows) ≤ length (bytes_of_all (redraw picture))
+text_least picture k all =
+    let least = redraw_least picture k all in
+    let text = rows_text_least (take k picture.rows) in
+    omega (arith, least, text)
+
+-- ---- the text of the first cells and rows
+
+cells_both : (xs ys : List CellValue) → cells_text_len (xs ++ ys) ≡ cells_text_len xs + cells_text_len ys
+cells_both [] ys = omega arith
+cells_both (x ∷ xs) ys = let both = cells_both xs ys in omega (arith, both)
+
+-- Blanks have no text.
+blanks_len : (xs : List CellValue) → AllByRecursion (λ x. is_blank x ≡ true) xs → cells_text_len xs ≡ 0
+blanks_len [] all = refl
+blanks_len (blank a ∷ xs) all = let rest = blanks_len xs all.1 in omega (arith, rest)
+blanks_len (glyph text wide a ∷ xs) all = let no = all.0 in absurd (cc)
+blanks_len (right_half ∷ xs) all = let no = all.0 in absurd (cc)
+
+-- The first `n` cells have all the text if only blanks follow them.
+stored_len : (n : ℕ) (xs : List CellValue) → All (λ x. is_blank x ≡ true) (drop n xs) →
+    cells_text_len (take n xs) ≡ cells_text_len xs
+stored_len n xs all =
+    let both = cells_both (take n xs) (drop n xs) in
+    let whole = ap cells_text_len (take-append-drop n xs) in
+    let none = blanks_len (drop n xs) (recursion_from_All (λ (x : CellValue). is_blank x ≡ true) (drop n xs) all) in
+    omega (arith, both, whole, none)
+
+pub cells_more : (xs : List CellValue) (i : ℕ) (d : CellValue) → i < length xs →
+    cells_text_len (take (i + 1) xs) ≡ cells_text_len (take i xs) + length (text_of (slice_index_or xs i d))
+cells_more xs i d h =
+    let both = cells_both (take i xs) (slice_index_or xs i d ∷ []) in
+    let more = ap cells_text_len (take_more xs i d h) in
+    omega (arith, both, more)
+
+rows_both : (xs ys : List RowValue) → text_len (xs ++ ys) ≡ text_len xs + text_len ys
+rows_both [] ys = omega arith
+rows_both (x ∷ xs) ys = let both = rows_both xs ys in omega (arith, both)
+
+pub rows_taken : (n : ℕ) (xs : List RowValue) → text_len (take n xs) ≤ text_len xs
+rows_taken n xs =
+    let both = rows_both (take n xs) (drop n xs) in
+    let whole = ap text_len (take-append-drop n xs) in
+    omega (arith, both, whole)
+
+-- The stored cells `own` of row `r` have all the text of the row.
+pub rows_more : (width : ℕ) (rows : List RowValue) (r : ℕ) (row : RowValue) (own : List CellValue) → r < length rows →
+    row ≡ row_or width rows r → own ≡ take (length own) row.cells →
+    All (λ x. is_blank x ≡ true) (drop (length own) row.cells) →
+    text_len (take (r + 1) rows) ≡ text_len (take r rows) + cells_text_len own
+rows_more width rows r row own h is first all =
+    let both = rows_both (take r rows) (row_or width rows r ∷ []) in
+    let more = ap text_len (take_more rows r (blank_row default_attrs width) h) in
+    let stored = ap cells_text_len first in
+    let whole = stored_len (length own) row.cells all in
+    let same = ap (λ (x : RowValue). cells_text_len x.cells) is in
+    omega (arith, both, more, stored, whole, same)
+
+-- ---- the lower bound for the first cells and rows
+
+pub change_small : (was : Option Attrs) (new : Attrs) → change_least was new ≤ 3
+change_small None new = omega arith
+change_small (Some was) new =
+    cond_both (same_attrs was new) 0 3 (λ (n : ℕ). n ≤ 3) (λ _. omega arith) (λ _. omega arith)
+
+pub undrawn_more : (was : Option Attrs) (xs : List CellValue) (i : ℕ) (x : CellValue) → i < length xs →
+    x ≡ slice_index_or xs i x → is_undrawn x ≡ true →
+    drawn_least was (drop i xs) ≡ drawn_least was (drop (i + 1) xs)
+undrawn_more was xs i x h is t =
+    at_drop_more (drawn_least was) xs i x h ∙ cond-true _ _ _ (sym (ap is_undrawn is) ∙ t)
+
+pub drawn_more : (was : Option Attrs) (xs : List CellValue) (i : ℕ) (x : CellValue) → i < length xs →
+    x ≡ slice_index_or xs i x → is_undrawn x ≡ false →
+    drawn_least was (drop i xs)
+    ≡ change_least was (attrs_of x) + (length (text_of x) + drawn_least (Some (attrs_of x)) (drop (i + 1) xs))
+drawn_more was xs i x h is f =
+    at_drop_more (drawn_least was) xs i x h ∙ (cond-false _ _ _ (sym (ap is_undrawn is) ∙ f)
+    ∙ ap (λ (x : CellValue). change_least was (attrs_of x)
+    + (length (text_of x) + drawn_least (Some (attrs_of x)) (drop (i + 1) xs))) (sym is))
+
+taken_least : (was : Option Attrs) (n : ℕ) (xs : List CellValue) → drawn_least was (take n xs) ≤ drawn_least was xs
+taken_least was zero xs = omega arith
+taken_least was (suc n) [] = omega arith
+taken_least was (suc n) (x ∷ xs) =
+    by_kind (is_undrawn x) (taken_least was n xs) (taken_least (Some (attrs_of x)) n xs) where
+      by_kind : (undrawn : Bool) → drawn_least was (take n xs) ≤ drawn_least was xs →
+          drawn_least (Some (attrs_of x)) (take n xs) ≤ drawn_least (Some (attrs_of x)) xs →
+          (if undrawn then drawn_least was (take n xs)
+          else (change_least was (attrs_of x) + (length (text_of x) + drawn_least (Some (attrs_of x)) (take n xs))))
+          ≤ (if undrawn then drawn_least was xs
+          else (change_least was (attrs_of x) + (length (text_of x) + drawn_least (Some (attrs_of x)) xs)))
+      by_kind true same rest = same
+      by_kind false same rest = omega (arith, rest)
+
+rows_least_both : (xs ys : List RowValue) → rows_drawn_least (xs ++ ys) ≡ rows_drawn_least xs + rows_drawn_least ys
+rows_least_both [] ys = omega arith
+rows_least_both (x ∷ xs) ys = let both = rows_least_both xs ys in omega (arith, both)
+
+-- The lower bound for the stored cells `own` of row `r` is one for the row.
+pub rows_drawn_more : (width : ℕ) (rows : List RowValue) (r : ℕ) (row : RowValue) (own : List CellValue) →
+    r < length rows → row ≡ row_or width rows r → own ≡ take (length own) row.cells →
+    rows_drawn_least (take r rows) + drawn_least None own ≤ rows_drawn_least (take (r + 1) rows)
+rows_drawn_more width rows r row own h is first =
+    let both = rows_least_both (take r rows) (row_or width rows r ∷ []) in
+    let more = ap rows_drawn_least (take_more rows r (blank_row default_attrs width) h) in
+    let stored = ap (drawn_least None) first in
+    let part = taken_least None (length own) row.cells in
+    let same = ap (λ (x : RowValue). drawn_least None x.cells) is in
+    omega (arith, both, more, stored, part, same)
