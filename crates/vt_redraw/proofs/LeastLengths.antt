@@ -1,24 +1,26 @@
 -- Lower bounds on the length of a redraw.
 use Rattle.std.proofs.Common.{◌≡◌, ℕ, zero, suc, ◌+◌, ◌-◌, ◌<◌, ◌≤◌, Bool, true, false, List, [], ◌∷◌, ◌++◌, length, refl}
-use Rattle.std.proofs.Common.{ap, sym, ◌∙◌, arith, take, drop, length-append}
+use Rattle.std.proofs.Common.{ap, sym, subst, ◌∙◌, arith, take, drop, length-append}
 use Rattle.std.specs.Prelude.{All, Option, Some, None, replicate, slice_index_or, ◌||◌, ◌&&◌, not, if◌then◌else◌}
 use Rattle.std.specs.List.{AllByRecursion}
 use Rattle.std.proofs.Math.Numerals.{one-add}
 use Rattle.std.proofs.lemmas.Bool.{cond-false, cond-true, cond_both}
-use Rattle.std.proofs.lemmas.List.{at_drop_more, take-append-drop, take_more}
+use Rattle.std.proofs.lemmas.List.{at_drop_more, take_more}
 use Rattle.std.proofs.lemmas.List.Elements.{recursion_from_All}
 use Rattle.vt_cells.specs.Attrs.{Attrs, default_attrs, same_attrs}
-use Rattle.vt_cells.specs.Cell.{CellValue, blank, glyph, right_half, attrs_of, is_blank, same_cell, text_of}
+use Rattle.vt_cells.specs.Cell.{CellValue, IsCell, default_blank, blank, glyph, right_half, attrs_of, same_cell, text_of}
+use Rattle.vt_cells.specs.CellInternals.{HeadValue, head_of_cell}
 use Rattle.vt_cells.specs.Glyph.{glyph_columns}
 use Rattle.vt_cells.specs.Op.{ClearAttrs, EraseBelow, Hide, MoveTo, Op, Print, bytes_of, bytes_of_all, change_numbers}
 use Rattle.vt_cells.specs.Op.{change_text, csi, semicolon_list}
+use Rattle.vt_cells.proofs.Glyphs.{IsGlyphText-length}
 use Rattle.vt_cells.proofs.Same.{same_attrs-itself}
 use Rattle.vt_cells.proofs.Texts.{bytes_of_all-append}
-use Rattle.vt_rows.specs.Cells.{blanks}
+use Rattle.vt_rows.specs.Cells.{at, blanks}
 use Rattle.vt_rows.specs.Row.{RowValue, IsRow, blank_row}
 use Rattle.vt_grid.specs.Page.{row_or}
 use Rattle.vt_redraw.specs.declared.pen.Pen.{Pen}
-use Rattle.vt_redraw.specs.Limited.{cells_text_len, change_least, drawn_least, is_undrawn, rows_drawn_least, text_len}
+use Rattle.vt_redraw.specs.Limited.{IsEach, change_least, drawn_least, is_undrawn, rows_drawn_least}
 use Rattle.vt_redraw.specs.Picture.{Picture}
 use Rattle.vt_redraw.specs.Redraw.{blank_like, cursor_written, link_of, pen_of, redraw, row_written, rows_below}
 use Rattle.vt_redraw.specs.Redraw.{rows_written, script}
@@ -285,104 +287,71 @@ redraw_least picture k all =
     let whole = bytes_both start (script picture blank) in
     omega (arith, least, rows, whole)
 
-cells_text_least : (was : Option Attrs) (xs : List CellValue) → cells_text_len xs ≤ drawn_least was xs
-cells_text_least was [] = omega arith
-cells_text_least was (right_half ∷ xs) = let rest = cells_text_least was xs in omega (arith, rest)
-cells_text_least was (glyph text wide a ∷ xs) = let rest = cells_text_least (Some a) xs in omega (arith, rest)
-cells_text_least was (blank a ∷ xs) =
-    let same = cells_text_least was xs in
-    let rest = cells_text_least (Some a) xs in
-    cond_both (same_attrs a default_attrs) (drawn_least was xs) (change_least was a + (0 + drawn_least (Some a) xs))
-    (λ (n : ℕ). cells_text_len (blank a ∷ xs) ≤ n) (λ _. omega (arith, same)) (λ _. omega (arith, rest))
+-- ---- cells with equal heads
 
-rows_text_least : (xs : List RowValue) → text_len xs ≤ rows_drawn_least xs
-rows_text_least [] = omega arith
-rows_text_least (x ∷ xs) =
-    let cells = cells_text_least None x.cells in
-    let rest = rows_text_least xs in
-    omega (arith, cells, rest)
+same_undrawn : (x y : CellValue) → IsCell x → IsCell y → head_of_cell y ≡ head_of_cell x → is_undrawn y ≡ is_undrawn x
+same_undrawn (blank a) (blank b) sx sy same =
+    ap (λ (attrs : Attrs). same_attrs attrs default_attrs) (ap (λ (h : HeadValue). h.attrs) same)
+same_undrawn right_half right_half sx sy same = refl
+same_undrawn (glyph s v a) (glyph t w b) sx sy same = refl
+same_undrawn (blank a) right_half sx sy same = let no = ap (λ (h : HeadValue). h.shape.right_half) same in absurd (cc)
+same_undrawn right_half (blank b) sx sy same = let no = ap (λ (h : HeadValue). h.shape.right_half) same in absurd (cc)
+same_undrawn (glyph s v a) right_half sx sy same = let no = ap (λ (h : HeadValue). h.shape.right_half) same in absurd (cc)
+same_undrawn right_half (glyph t w b) sx sy same = let no = ap (λ (h : HeadValue). h.shape.right_half) same in absurd (cc)
+same_undrawn (blank a) (glyph t w b) sx sy same =
+    let some = IsGlyphText-length t w sy in
+    let len = ap (λ (h : HeadValue). h.shape.len) same in
+    absurd (omega (arith, some, len))
+same_undrawn (glyph s v a) (blank b) sx sy same =
+    let some = IsGlyphText-length s v sx in
+    let len = ap (λ (h : HeadValue). h.shape.len) same in
+    absurd (omega (arith, some, len))
 
--- If the first `k` rows of a picture are valid, its redraw is at least as long as their text.
-pub text_least : (picture : Picture) (k : ℕ) → All (IsRow picture.width) (take k picture.rows) →
-    text_len (take k picture.rows) ≤ length (bytes_of_all (redraw picture))
-text_least picture k all =
-    let least = redraw_least picture k all in
-    let text = rows_text_least (take k picture.rows) in
-    omega (arith, least, text)
+pub each_undrawn : (was : Option Attrs) (x : CellValue) → IsCell x → is_undrawn x ≡ true → IsEach was 0 x
+each_undrawn was x sound t y ys valid same =
+    let first : drawn_least was (y ∷ ys) ≡ drawn_least was ys = cond-true _ _ _ (same_undrawn x y sound valid same ∙ t) in
+    omega (arith, first)
 
--- ---- the text of the first cells and rows
-
-cells_both : (xs ys : List CellValue) → cells_text_len (xs ++ ys) ≡ cells_text_len xs + cells_text_len ys
-cells_both [] ys = omega arith
-cells_both (x ∷ xs) ys = let both = cells_both xs ys in omega (arith, both)
-
--- Blanks have no text.
-blanks_len : (xs : List CellValue) → AllByRecursion (λ x. is_blank x ≡ true) xs → cells_text_len xs ≡ 0
-blanks_len [] all = refl
-blanks_len (blank a ∷ xs) all = let rest = blanks_len xs all.1 in omega (arith, rest)
-blanks_len (glyph text wide a ∷ xs) all = let no = all.0 in absurd (cc)
-blanks_len (right_half ∷ xs) all = let no = all.0 in absurd (cc)
-
--- The first `n` cells have all the text if only blanks follow them.
-stored_len : (n : ℕ) (xs : List CellValue) → All (λ x. is_blank x ≡ true) (drop n xs) →
-    cells_text_len (take n xs) ≡ cells_text_len xs
-stored_len n xs all =
-    let both = cells_both (take n xs) (drop n xs) in
-    let whole = ap cells_text_len (take-append-drop n xs) in
-    let none = blanks_len (drop n xs) (recursion_from_All (λ (x : CellValue). is_blank x ≡ true) (drop n xs) all) in
-    omega (arith, both, whole, none)
-
-pub cells_more : (xs : List CellValue) (i : ℕ) (d : CellValue) → i < length xs →
-    cells_text_len (take (i + 1) xs) ≡ cells_text_len (take i xs) + length (text_of (slice_index_or xs i d))
-cells_more xs i d h =
-    let both = cells_both (take i xs) (slice_index_or xs i d ∷ []) in
-    let more = ap cells_text_len (take_more xs i d h) in
-    omega (arith, both, more)
-
-rows_both : (xs ys : List RowValue) → text_len (xs ++ ys) ≡ text_len xs + text_len ys
-rows_both [] ys = omega arith
-rows_both (x ∷ xs) ys = let both = rows_both xs ys in omega (arith, both)
-
-pub rows_taken : (n : ℕ) (xs : List RowValue) → text_len (take n xs) ≤ text_len xs
-rows_taken n xs =
-    let both = rows_both (take n xs) (drop n xs) in
-    let whole = ap text_len (take-append-drop n xs) in
-    omega (arith, both, whole)
-
--- The stored cells `own` of row `r` have all the text of the row.
-pub rows_more : (width : ℕ) (rows : List RowValue) (r : ℕ) (row : RowValue) (own : List CellValue) → r < length rows →
-    row ≡ row_or width rows r → own ≡ take (length own) row.cells →
-    All (λ x. is_blank x ≡ true) (drop (length own) row.cells) →
-    text_len (take (r + 1) rows) ≡ text_len (take r rows) + cells_text_len own
-rows_more width rows r row own h is first all =
-    let both = rows_both (take r rows) (row_or width rows r ∷ []) in
-    let more = ap text_len (take_more rows r (blank_row default_attrs width) h) in
-    let stored = ap cells_text_len first in
-    let whole = stored_len (length own) row.cells all in
-    let same = ap (λ (x : RowValue). cells_text_len x.cells) is in
-    omega (arith, both, more, stored, whole, same)
-
--- ---- the lower bound for the first cells and rows
+pub each_drawn : (x : CellValue) → IsCell x → is_undrawn x ≡ false → IsEach (Some (attrs_of x)) (length (text_of x)) x
+each_drawn x sound f y ys valid same =
+    let attrs = ap (λ (h : HeadValue). h.attrs) same in
+    let len = ap (λ (h : HeadValue). h.shape.len) same in
+    let first : drawn_least (Some (attrs_of x)) (y ∷ ys)
+    ≡ change_least (Some (attrs_of x)) (attrs_of y) + (length (text_of y) + drawn_least (Some (attrs_of y)) ys) =
+    cond-false _ _ _ (same_undrawn x y sound valid same ∙ f) in
+    let none : change_least (Some (attrs_of x)) (attrs_of y) ≡ 0 =
+    ap (change_least (Some (attrs_of x))) attrs ∙ cond-true _ _ _ (same_attrs-itself (attrs_of x)) in
+    let rest = ap (λ (a : Attrs). drawn_least (Some a) ys) attrs in
+    omega (arith, first, none, len, rest)
 
 pub change_small : (was : Option Attrs) (new : Attrs) → change_least was new ≤ 3
 change_small None new = omega arith
 change_small (Some was) new =
     cond_both (same_attrs was new) 0 3 (λ (n : ℕ). n ≤ 3) (λ _. omega arith) (λ _. omega arith)
 
-pub undrawn_more : (was : Option Attrs) (xs : List CellValue) (i : ℕ) (x : CellValue) → i < length xs →
-    x ≡ slice_index_or xs i x → is_undrawn x ≡ true →
-    drawn_least was (drop i xs) ≡ drawn_least was (drop (i + 1) xs)
-undrawn_more was xs i x h is t =
-    at_drop_more (drawn_least was) xs i x h ∙ cond-true _ _ _ (sym (ap is_undrawn is) ∙ t)
+-- ---- the lower bound for the first cells and rows
 
-pub drawn_more : (was : Option Attrs) (xs : List CellValue) (i : ℕ) (x : CellValue) → i < length xs →
-    x ≡ slice_index_or xs i x → is_undrawn x ≡ false →
-    drawn_least was (drop i xs)
-    ≡ change_least was (attrs_of x) + (length (text_of x) + drawn_least (Some (attrs_of x)) (drop (i + 1) xs))
-drawn_more was xs i x h is f =
-    at_drop_more (drawn_least was) xs i x h ∙ (cond-false _ _ _ (sym (ap is_undrawn is) ∙ f)
-    ∙ ap (λ (x : CellValue). change_least was (attrs_of x)
-    + (length (text_of x) + drawn_least (Some (attrs_of x)) (drop (i + 1) xs))) (sym is))
+pub drawn_next : (was new : Option Attrs) (change each : ℕ) (xs : List CellValue) (i : ℕ) (x : CellValue) → i < length xs →
+    x ≡ slice_index_or xs i x → ((ys : List CellValue) → drawn_least was (x ∷ ys) ≡ change + (each + drawn_least new ys)) →
+    drawn_least was (drop i xs) ≡ change + (each + drawn_least new (drop (i + 1) xs))
+drawn_next was new change each xs i x h is sum =
+    at_drop_more (drawn_least was) xs i x h
+    ∙ (ap (λ (y : CellValue). drawn_least was (y ∷ drop (i + 1) xs)) (sym is) ∙ sum (drop (i + 1) xs))
+
+pub drawn_again : (was : Option Attrs) (each : ℕ) (xs : List CellValue) (i : ℕ) → i < length xs → IsCell (at xs i) →
+    head_of_cell (at xs i) ≡ head_of_cell (at xs (i - 1)) → IsEach was each (at xs (i - 1)) →
+    drawn_least was (drop i xs) ≡ each + drawn_least was (drop (i + 1) xs)
+drawn_again was each xs i h sound same is =
+    at_drop_more (drawn_least was) xs i default_blank h ∙ is (at xs i) (drop (i + 1) xs) sound same
+
+pub each_again : (was : Option Attrs) (each : ℕ) (xs : List CellValue) (i : ℕ) →
+    head_of_cell (at xs i) ≡ head_of_cell (at xs (i - 1)) → IsEach was each (at xs (i - 1)) → IsEach was each (at xs i)
+each_again was each xs i same is y ys valid e = is y ys valid (e ∙ same)
+
+pub each_next : (was : Option Attrs) (each : ℕ) (xs : List CellValue) (i : ℕ) → IsEach was each (at xs i) →
+    IsEach was each (at xs (i + 1 - 1))
+each_next was each xs i is =
+    let same : i ≡ i + 1 - 1 = omega arith in subst (λ (n : ℕ). IsEach was each (at xs n)) same is
 
 taken_least : (was : Option Attrs) (n : ℕ) (xs : List CellValue) → drawn_least was (take n xs) ≤ drawn_least was xs
 taken_least was zero xs = omega arith

@@ -2,7 +2,8 @@
 use Rattle.std.specs.Prelude.{◌≡◌, ◌≤◌, ◌+◌, ◌++◌, ℕ, Bool, true, false, List, [], ◌∷◌, length, Option, Some, None}
 use Rattle.std.specs.Prelude.{if◌then◌else◌}
 use Rattle.vt_cells.specs.Attrs.{Attrs, default_attrs, same_attrs}
-use Rattle.vt_cells.specs.Cell.{CellValue, blank, glyph, right_half, attrs_of, text_of}
+use Rattle.vt_cells.specs.Cell.{CellValue, IsCell, blank, glyph, right_half, attrs_of, text_of}
+use Rattle.vt_cells.specs.CellInternals.{head_of_cell}
 use Rattle.vt_rows.specs.Row.{RowValue}
 
 -- What a writer with a limit did to a string that was `before` and is now `after`. If `is_whole` is true, it appended
@@ -10,16 +11,6 @@ use Rattle.vt_rows.specs.Row.{RowValue}
 abbrev pub AppendsWithin : (is_whole : Bool) → (limit : ℕ) → (before after output : List ℕ) → Type 0
 AppendsWithin true limit before after output = after ≡ before ++ output
 AppendsWithin false limit before after output = limit ≤ length (before ++ output)
-
--- The number of bytes of the glyphs of the cells.
-abbrev pub cells_text_len : List CellValue → ℕ
-cells_text_len [] = 0
-cells_text_len (x ∷ xs) = length (text_of x) + cells_text_len xs
-
--- The number of bytes of the glyphs of the rows.
-abbrev pub text_len : List RowValue → ℕ
-text_len [] = 0
-text_len (x ∷ xs) = cells_text_len x.cells + text_len xs
 
 -- A lower bound on the number of bytes that it takes to change a terminal's attributes from `was`, if known, to `new`:
 -- an SGR sequence has at least three bytes.
@@ -42,6 +33,13 @@ drawn_least was [] = 0
 drawn_least was (x ∷ xs) =
     if is_undrawn x then drawn_least was xs
     else change_least was (attrs_of x) + (length (text_of x) + drawn_least (Some (attrs_of x)) xs)
+
+-- After the cell `x`, a cell that differs from it in at most the bytes of its text adds `each` to the lower bound,
+-- and leaves the attributes `was`.
+abbrev pub IsEach : (was : Option Attrs) → (each : ℕ) → (x : CellValue) → Type 0
+IsEach was each x =
+    (y : CellValue) (ys : List CellValue) → IsCell y → head_of_cell y ≡ head_of_cell x →
+    drawn_least was (y ∷ ys) ≡ each + drawn_least was ys
 
 -- A lower bound on the number of bytes that it takes to draw the rows over default blanks. The attributes at the
 -- start of each row count as unknown.

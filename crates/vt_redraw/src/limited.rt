@@ -1,11 +1,14 @@
 //! A redraw that is abandoned once it has reached a limit, or not begun if a lower bound on its
 //! length reaches it.
 
-ghost use Rattle.std.specs.Prelude.{◌≡◌, ◌≤◌, ◌↔◌, None, IfOk, IsTrue, length, string_bytes};
+ghost use Rattle.std.specs.Prelude.{◌≡◌, ◌<◌, ◌≤◌, ◌+◌, ◌-◌, ◌∷◌, List, None, IfOk, IsTrue, length, string_bytes};
+ghost use Rattle.vt_cells.specs.Cell.{CellValue, IsCell};
+ghost use Rattle.vt_cells.specs.CellInternals.{head_of_cell};
 ghost use Rattle.vt_cells.specs.Op.{bytes_of_all};
 ghost use Rattle.vt_cells.specs.Refusals.{OnlyOutOfMemory};
-ghost use Rattle.vt_redraw.specs.Limited.{AppendsWithin, cells_text_len, change_least, drawn_least};
-ghost use Rattle.vt_redraw.specs.Limited.{is_undrawn, text_len};
+ghost use Rattle.vt_rows.specs.Cells.{at};
+ghost use Rattle.vt_redraw.specs.Limited.{AppendsWithin, IsEach, change_least, drawn_least};
+ghost use Rattle.vt_redraw.specs.Limited.{is_undrawn};
 ghost use Rattle.vt_redraw.specs.Picture.{SamePictureSize};
 ghost use Rattle.vt_redraw.specs.Redraw.{redraw, rows_written, script};
 
@@ -16,33 +19,6 @@ use crate::script::{write_row, write_top};
 use crate::view::View;
 use vt_cells::term::{BufWrite, ClearAttrs, ClearScreen, HideCursor};
 use vt_cells::{Attrs, Cell, Error, cell};
-
-/// Returns the number of bytes of the glyphs of `cells`.
-fn cells_text_len(cells: &[Cell]) -> usize
-    ensures { result ≡ cells_text_len cells.now }
-{
-    let mut len = 0;
-    for cell in cells {
-        len += cell.contents().len();
-    }
-    len
-}
-
-/// Returns whether the glyphs of the picture have at least `len` bytes. If they do, so does the
-/// full redraw of the picture.
-fn has_text_len(view: &View<'_>, len: usize) -> bool
-    ensures value { IsTrue result ↔ (len ≤ text_len view.now.rows) }
-    ensures redraw { IsTrue result → len ≤ length (bytes_of_all (redraw view.now)) }
-{
-    let mut found = 0_usize;
-    for row in 0..view.rows() {
-        found = found.saturating_add(cells_text_len(view.row(row).own_cells()));
-        if found >= len {
-            return true;
-        }
-    }
-    false
-}
 
 /// Returns a lower bound on the number of bytes that it takes to change a terminal's attributes from
 /// `was`, if known, to `new`. An SGR sequence has at least three bytes.
@@ -65,19 +41,70 @@ fn is_undrawn(cell: &Cell) -> bool
     !cell.has_contents() && cell::attrs(cell) == Attrs::new()
 }
 
+/// What it takes, at least, to draw a cell over a default blank.
+#[derive(Clone, Copy)]
+struct Drawing {
+    /// The number of bytes of the change of attributes before the cell.
+    change: usize,
+
+    /// The number of bytes that the cell adds without a change of attributes.
+    each: usize,
+
+    /// The attributes of the terminal afterward, if known.
+    was: Option<Attrs>,
+}
+
+/// Returns what it takes, at least, to draw `cell` over a default blank on a terminal with the
+/// attributes `was`, if known.
+fn draw_over_blank(was: Option<Attrs>, cell: &Cell) -> Drawing
+    ensures sum { (xs : List CellValue) →
+        drawn_least was (cell.now ∷ xs) ≡ result.change + (result.each + drawn_least result.was xs) }
+    ensures each { IsEach result.was result.each cell.now }
+    ensures small { result.change + result.each ≤ 32 }
+{
+    let each = cell.contents().len();
+    if is_undrawn(cell) {
+        return Drawing {
+            change: 0,
+            each: 0,
+            was,
+        };
+    }
+    let attrs = cell::attrs(cell);
+    Drawing {
+        change: change_least(was, attrs),
+        each,
+        was: Some(attrs),
+    }
+}
+
+/// Returns whether cell `col` differs from the cell before it in at most the bytes of its text.
+#[inline]
+fn is_like_previous(cells: &[Cell], col: usize) -> bool
+    requires { col < length cells.now }
+    ensures some { IsTrue result → 0 < col }
+    ensures sound { IsTrue result → IsCell (at cells.now col) }
+    ensures head { IsTrue result → head_of_cell (at cells.now col) ≡ head_of_cell (at cells.now (col - 1)) }
+{
+    col > 0 && cell::has_head_of(&cells[col], &cells[col - 1])
+}
+
 /// Returns a lower bound on the number of bytes that it takes to draw `cells` over default blanks:
 /// the bytes of the glyphs, plus three for each change of attributes from one drawn cell to the next.
 fn drawn_least(cells: &[Cell]) -> usize
     ensures { result ≡ drawn_least None cells.now }
 {
     let mut was = None;
+    let mut each = 0;
     let mut len = 0;
-    for cell in cells {
-        if !is_undrawn(cell) {
-            let attrs = cell::attrs(cell);
-            len += change_least(was, attrs) + cell.contents().len();
-            was = Some(attrs);
+    for col in 0..cells.len() {
+        if !is_like_previous(cells, col) {
+            let drawn = draw_over_blank(was, &cells[col]);
+            len += drawn.change;
+            each = drawn.each;
+            was = drawn.was;
         }
+        len += each;
     }
     len
 }
@@ -197,9 +224,8 @@ pub fn write_contents_formatted_within(
         (bytes_of_all (redraw view.now))) }
     ensures memory { OnlyOutOfMemory result }
 {
-    // Adding up lengths takes far less time than writing. The lengths of the texts are the fastest
-    // to add up, but most bytes of a colored picture's redraw are changes of attributes.
-    if has_text_len(view, limit) || has_drawn_least(view, limit) {
+    // Adding up lengths takes far less time than writing.
+    if has_drawn_least(view, limit) {
         return Ok(false);
     }
     match write_redraw_within(text, view, limit) {

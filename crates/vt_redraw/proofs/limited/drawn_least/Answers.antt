@@ -1,38 +1,49 @@
-use Rattle.std.proofs.Common.{◌≡◌, ◌∙◌, ◌+◌, ap, arith, drop, length, sym, true, false}
-use Rattle.std.specs.Prelude.{Option, Some}
+use Rattle.std.proofs.Common.{◌+◌, ℕ, ap, arith, drop, refl, subst, sym}
+use Rattle.std.specs.Prelude.{Option}
+use Rattle.std.proofs.lemmas.List.{get_or_read_under}
 use Rattle.vt_cells.specs.Attrs.{Attrs}
-use Rattle.vt_cells.specs.Cell.{attrs_of}
-use Rattle.vt_cells.proofs.Cells.{text_short}
-use Rattle.vt_redraw.specs.Limited.{change_least, drawn_least, is_undrawn}
-use Rattle.vt_redraw.proofs.LeastLengths.{change_small, drawn_more, undrawn_more}
-use Rattle.vt_redraw.proofs.limited.drawn_least.Goals.{then-not-is_undrawn, else-not-is_undrawn}
+use Rattle.vt_cells.specs.Cell.{default_blank}
+use Rattle.vt_rows.specs.Cells.{at}
+use Rattle.vt_redraw.specs.Limited.{IsEach, drawn_least}
+use Rattle.vt_redraw.proofs.LeastLengths.{drawn_again, drawn_next, each_again, each_next}
+use Rattle.vt_redraw.proofs.limited.drawn_least.Goals.{then-not-is_like_previous, else-not-is_like_previous}
 use Rattle.vt_redraw.proofs.limited.drawn_least.Goals as goal
 
-pub loop-cell-preserved : goal.loop-cell-preserved
-loop-cell-preserved c =
-    let l = c.loop-cell in
-    let cells = c.args.cells.now in
-    let x = c.cell-item.result in
-    elim c.if-not-is_undrawn.branch [
-      | then-not-is_undrawn w ↦
-          let f : is_undrawn x ≡ false = sym c.is_undrawn.ensures ∙ w.if-not-is_undrawn.true in
-          let more = drawn_more l.was cells l.cell-index x c.loop-cell-test.true c.cell-item.is f in
-          let small = change_small l.was (attrs_of x) in
-          let short = text_short x w.contents.ensures.sound in
-          let text = ap length w.contents.ensures.value in
-          let change = w.change_least.ensures ∙ ap (change_least l.was) w.attrs-attrs.ensures in
-          let was = ap (λ (was : Option Attrs). drawn_least was (drop (l.cell-index + 1) cells))
-          (w.was-is ∙ ap Some w.attrs-attrs.ensures) in
+pub loop-col-preserved : goal.loop-col-preserved
+loop-col-preserved c =
+    let l = c.loop-col in
+    let xs = c.args.cells.now in
+    let now = c.if-not-is_like_previous in
+    elim c.if-not-is_like_previous.branch [
+      | then-not-is_like_previous w ↦
+          let drawn = w.draw_over_blank-drawn in
+          let x = w.index-cells-col.result in
+          let next = drawn_next l.was drawn.result.was drawn.result.change drawn.result.each xs l.col x
+          c.loop-col-test.true w.index-cells-col.is drawn.ensures.sum in
+          let here = get_or_read_under xs l.col _ x default_blank w.index-cells-col.is c.loop-col-test.true refl in
+          let was = ap (λ (a : Option Attrs). drawn_least a (drop (l.col + 1) xs)) w.was-is in
           record {
-            sum = omega (arith, more, text, change, was, w.len-is, l.invariant.sum);
-            small = omega (arith, small, short, text, change, w.len-is, l.invariant.small);
+            sum = omega (arith, next, was, w.len-is, w.each-is, l.invariant.sum);
+            small = omega (arith, drawn.ensures.small, w.len-is, w.each-is, l.invariant.small);
+            short = omega (arith, drawn.ensures.small, w.each-is);
+            each = λ _. each_next now.was now.each xs l.col
+                (subst (λ (a : Option Attrs). IsEach a now.each (at xs l.col)) (sym w.was-is)
+                (subst (λ (n : ℕ). IsEach drawn.result.was n (at xs l.col)) (sym w.each-is)
+                (subst (IsEach drawn.result.was drawn.result.each) here drawn.ensures.each)));
           }
-      | else-not-is_undrawn w ↦
-          let t : is_undrawn x ≡ true = sym c.is_undrawn.ensures ∙ w.if-not-is_undrawn.false in
-          let more = undrawn_more l.was cells l.cell-index x c.loop-cell-test.true c.cell-item.is t in
-          let was = ap (λ (was : Option Attrs). drawn_least was (drop (l.cell-index + 1) cells)) w.was-is in
+      | else-not-is_like_previous w ↦
+          let like = w.if-not-is_like_previous.false in
+          let head = c.is_like_previous.ensures.head like in
+          let each = l.invariant.each (c.is_like_previous.ensures.some like) in
+          let next = drawn_again l.was l.each xs l.col c.loop-col-test.true (c.is_like_previous.ensures.sound like) head each in
+          let was = ap (λ (a : Option Attrs). drawn_least a (drop (l.col + 1) xs)) w.was-is in
           record {
-            sum = omega (arith, more, was, w.len-is, l.invariant.sum);
-            small = omega (arith, w.len-is, l.invariant.small);
+            sum = omega (arith, next, was, w.len-is, w.each-is, l.invariant.sum);
+            small = omega (arith, w.len-is, w.each-is, l.invariant.small, l.invariant.short);
+            short = omega (arith, w.each-is, l.invariant.short);
+            each = λ _. each_next now.was now.each xs l.col
+                (subst (λ (a : Option Attrs). IsEach a now.each (at xs l.col)) (sym w.was-is)
+                (subst (λ (n : ℕ). IsEach l.was n (at xs l.col)) (sym w.each-is)
+                (each_again l.was l.each xs l.col head each)));
           }
     ]
