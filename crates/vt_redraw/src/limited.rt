@@ -110,10 +110,15 @@ fn drawn_least(cells: &[Cell]) -> usize
 }
 
 /// Returns whether the glyphs of the picture and the changes of attributes within its rows take at
-/// least `len` bytes. If they do, so does the full redraw of the picture.
+/// least `len` bytes. If they do, so does the full redraw of the picture. Returns `false` without
+/// adding up lengths if `len` is more than four bytes per cell, which few pictures take.
 fn has_drawn_least(view: &View<'_>, len: usize) -> bool
     ensures { IsTrue result → len ≤ length (bytes_of_all (redraw view.now)) }
 {
+    let cells = usize::from(view.rows()).saturating_mul(usize::from(view.cols()));
+    if len / 4 > cells {
+        return false;
+    }
     let mut least = 0_usize;
     for row in 0..view.rows() {
         least = least.saturating_add(drawn_least(view.row(row).own_cells()));
