@@ -2,8 +2,8 @@
 //! on the guess: whatever is moved, the diff then draws all remaining changes.
 //!
 //! Throughout this module, `prev` is the picture that the terminal displays, and `view` is the
-//! picture that it is to display. Only the first `height` rows are examined. `here` holds the cost
-//! of each of them if no rows are moved (see [`costs`]).
+//! picture that it is to display. Only the first `height` rows are examined. `here` holds the costs
+//! of these rows if no rows are moved, as far as they have been computed (see [`cost_at`]).
 
 ghost use Rattle.std.specs.Prelude.{◌≡◌, ◌+◌, ◌<◌, ◌≤◌, IfSome, IsSome, length};
 ghost use Rattle.vt_redraw.specs.Moved.{IsBand};
@@ -12,9 +12,9 @@ ghost use Rattle.vt_redraw.specs.Shifted.{IsMove, IsRowShift};
 
 use crate::band::Band;
 use crate::drawn_rows::DrawnRows;
-use crate::erasure::likely_erasure;
+use crate::erasure::{likely_erasure, may_save};
 use crate::picture_row::PictureRow;
-use crate::row_costs::{Numbers, between, cost, costs, savings, sequences};
+use crate::row_costs::{Numbers, add_costs, between, cost, cost_at, savings, sequences};
 use crate::row_guess::likely_row_shift;
 use crate::row_shift::RowShift;
 use crate::view::View;
@@ -36,7 +36,10 @@ const MOST_TEXT: usize = 4096;
 
 /// The number of columns after the left margin ([`MARGIN`]) whose text is hashed into the key of a
 /// row (see [`key`]).
-const KEYED: u16 = 16;
+const KEYED: usize = 12;
+
+/// The distance between two of these columns.
+const KEY_STEP: usize = 4;
 
 /// The cost of a row, in bytes, up to which the row is never examined for columns that have moved.
 const LEAST_COST: i32 = 12;
@@ -83,8 +86,8 @@ pub enum Move {
 /// rows or columns seem to have moved, returns a move that erases rows. Returns `None` if no move
 /// is expected to shorten the output enough, or if `text`, the diff written without a move, is
 /// shorter than 20 bytes. Only the first 256 rows are examined, and if `text` is longer than 4096
-/// bytes, only moves of rows are considered. `drawn` holds the rows for which `text` contains
-/// output.
+/// bytes, only moves of rows are considered. These are considered only if at least two rows have
+/// changed. `drawn` holds the rows for which `text` contains output.
 pub fn likely_move(view: &View<'_>, prev: &View<'_>, text: &str, drawn: &DrawnRows) -> Option<Move>
     requires { SamePictureSize view.now prev.now }
     ensures inside { IfSome result (IsMove (length prev.now.rows) prev.now.width) }
@@ -94,33 +97,37 @@ pub fn likely_move(view: &View<'_>, prev: &View<'_>, text: &str, drawn: &DrawnRo
         return None;
     }
     let height = view.rows().min(MOST_ROWS);
-    let here = costs(view, prev, height, drawn);
-    if let Some(band) = likely_band(view, prev, height, &here) {
-        return Some(Move::Rows(band));
+    let mut here = drawn.costs();
+    if drawn.count() > 1 {
+        if let Some(band) = likely_band(view, prev, height, &mut here) {
+            return Some(Move::Rows(band));
+        }
     }
     if text.len() > MOST_TEXT {
         return None;
     }
-    if let Some(shift) = first_row_shift(view, prev, height, &here, text.len()) {
+    if let Some(shift) = first_row_shift(view, prev, height, &mut here, text.len()) {
         return Some(Move::Columns(shift));
     }
-    let erased = likely_erasure(view, height, &here, prev.pen().attrs, text.len())?;
+    let attrs = prev.pen().attrs;
+    if !may_save(text, attrs) {
+        return None;
+    }
+    add_costs(&mut here, view, prev, height);
+    let erased = likely_erasure(view, height, &here, attrs, text.len())?;
     Some(Move::Rows(erased))
 }
 
 /// Returns the band of rows that has most likely moved between `prev` and
-/// `view`, or `None` if no rows seem to have moved. Returns `None` without a search if fewer than
-/// two rows have changed.
-fn likely_band(view: &View<'_>, prev: &View<'_>, height: u16, here: &Numbers) -> Option<Band>
+/// `view`, or `None` if no rows seem to have moved.
+fn likely_band(view: &View<'_>, prev: &View<'_>, height: u16, here: &mut Numbers) -> Option<Band>
     requires size { SamePictureSize view.now prev.now }
     requires inside { height ≤ length view.now.rows }
     requires few { height ≤ 256 }
     ensures { IfSome result (λ band. IsBand (length prev.now.rows) band) }
 {
-    if !have_two_changed(height, here) {
-        return None;
-    }
     let shift = likely_shift(view, prev, height, here)?;
+    add_costs(here, view, prev, height);
     let stretch = best_stretch(view, prev, height, here, shift)?;
     let band = stretch.band(shift);
     if band.is_within(prev.rows()) {
@@ -128,22 +135,6 @@ fn likely_band(view: &View<'_>, prev: &View<'_>, height: u16, here: &Numbers) ->
     } else {
         None
     }
-}
-
-/// Returns whether at least two of the examined rows have changed.
-fn have_two_changed(height: u16, here: &Numbers) -> bool
-    requires { height ≤ 256 }
-{
-    let mut one = false;
-    for row in 0..height {
-        if here[usize::from(row)] > 0 {
-            if one {
-                return true;
-            }
-            one = true;
-        }
-    }
-    false
 }
 
 /// Returns the shift of the first row whose columns seem to have moved between `prev` and `view`,
@@ -154,7 +145,7 @@ fn first_row_shift(
     view: &View<'_>,
     prev: &View<'_>,
     height: u16,
-    here: &Numbers,
+    here: &mut Numbers,
     len: usize,
 ) -> Option<RowShift>
     requires size { SamePictureSize view.now prev.now }
@@ -166,7 +157,7 @@ fn first_row_shift(
     let least_cost = least.max(LEAST_COST);
     let mut tried = 0;
     for row in 0..height {
-        if here[usize::from(row)] > least_cost && tried < MOST_TRIED {
+        if tried < MOST_TRIED && cost_at(here, view, prev, row) > least_cost {
             tried += 1;
             if let Some(shift) = likely_row_shift(view, prev, row, least) {
                 return Some(shift);
@@ -189,15 +180,18 @@ fn keys(view: &View<'_>, height: u16) -> Keys
     keys
 }
 
-/// Returns the key of a row, computed from the first byte of each cell's text in the [`KEYED`]
-/// columns after the left margin ([`MARGIN`]). Blanks add nothing to the key, because the blanks at
-/// the end of a row need not be stored.
+/// Returns the key of a row, computed from the first byte of each cell's text in every fourth
+/// column ([`KEY_STEP`]) after the left margin ([`MARGIN`]), [`KEYED`] columns in all. Blanks add
+/// nothing to the key, because the blanks at the end of a row need not be stored.
 fn key(cells: &PictureRow<'_>) -> u32 {
     let own = cells.own_cells();
-    let stop = own.len().min(usize::from(MARGIN + KEYED));
     let mut key = 0_u32;
     let mut factor = 1_u32;
-    for col in usize::from(MARGIN)..stop {
+    for step in 0..KEYED {
+        let col = usize::from(MARGIN) + KEY_STEP * step;
+        if col >= own.len() {
+            break;
+        }
         if let Some(byte) = own[col].contents().as_bytes().first() {
             key = key.wrapping_add(u32::from(*byte).wrapping_mul(factor));
         }
@@ -208,7 +202,7 @@ fn key(cells: &PictureRow<'_>) -> u32 {
 
 /// Returns the shift that moves the most rows of `prev` onto equal rows of `view`, with each row
 /// weighted by its cost. Returns `None` if no shift moves a row onto an equal row.
-fn likely_shift(view: &View<'_>, prev: &View<'_>, height: u16, here: &Numbers) -> Option<Shift>
+fn likely_shift(view: &View<'_>, prev: &View<'_>, height: u16, here: &mut Numbers) -> Option<Shift>
     requires size { SamePictureSize view.now prev.now }
     requires inside { height ≤ length view.now.rows }
     requires few { height ≤ 256 }
@@ -217,43 +211,45 @@ fn likely_shift(view: &View<'_>, prev: &View<'_>, height: u16, here: &Numbers) -
     let mut votes = [0_i32; 512];
     let mut voted = false;
     for row in 0..height {
-        let weight = here[usize::from(row)];
-        if weight > 0 {
-            voted |= vote(&mut votes, &view.row(row), prev, &keys, row, weight, height);
+        if here[usize::from(row)] != 0 {
+            voted |= vote(&mut votes, &keys, here, view, prev, row, height);
         }
     }
     if voted { heaviest(&votes) } else { None }
 }
 
-/// Adds `weight` to the votes for each shift that would move a row of `prev` that matches `cells`
-/// to row `row`. Two rows match if they are equal from the column that [`compared_from`] returns to
-/// the end. Adds no votes if `cells` has no text. Returns whether it added votes. `keys` holds the
-/// keys of the rows of `prev`.
+/// Adds the cost of row `row` to the votes for each shift that would move a matching row of `prev` to
+/// this row of `view`. Two rows match if they are equal from the column that [`compared_from`]
+/// returns to the end. Adds no votes if the row has no text. Returns whether it added votes. `keys`
+/// holds the keys of the rows of `prev`.
 ///
 /// Element `256 + n` of `votes` holds the votes for moving rows up by `n` rows, or down if `n` is
 /// negative.
 fn vote(
     votes: &mut [i32; 512],
-    cells: &PictureRow<'_>,
-    prev: &View<'_>,
     keys: &Keys,
+    here: &mut Numbers,
+    view: &View<'_>,
+    prev: &View<'_>,
     row: u16,
-    weight: i32,
     height: u16,
 ) -> bool
-    requires row { row < 256 }
-    requires inside { height ≤ length prev.now.rows }
+    requires size { SamePictureSize view.now prev.now }
+    requires row { row < height }
+    requires inside { height ≤ length view.now.rows }
     requires few { height ≤ 256 }
 {
-    let Some(start) = compared_from(cells) else {
+    let cells = view.row(row);
+    let Some(start) = compared_from(&cells) else {
         return false;
     };
-    let key = key(cells);
+    let key = key(&cells);
     let mut voted = false;
     for from in 0..height {
         let may_be = from != row && keys[usize::from(from)] == key;
-        if may_be && are_alike(cells, &prev.row(from), start) {
+        if may_be && are_alike(&cells, &prev.row(from), start) {
             let shift = usize::from(256 + from - row);
+            let weight = cost_at(here, view, prev, row);
             votes[shift] = votes[shift].saturating_add(weight);
             voted = true;
         }

@@ -1,5 +1,7 @@
 //! The rows for which a diff contains output.
 
+use crate::row_costs::{Numbers, UNKNOWN};
+
 /// A receiver that [`crate::write_contents_diff_watched`] notifies after each row.
 pub trait RowWatch<S> {
     /// Receives the sink after the output for row `row` has been written. Rows are passed from top
@@ -17,7 +19,11 @@ impl<S> RowWatch<S> for () {
 /// the first 256 rows are equal in both pictures.
 #[derive(Drop)]
 pub struct DrawnRows {
-    rows: [bool; 256],
+    /// [`UNKNOWN`] for each of these rows, and 0 for the rest, which cost nothing.
+    costs: Numbers,
+
+    /// The number of these rows.
+    count: u16,
 
     /// The length of the diff, in bytes, after the previous row.
     len: usize,
@@ -27,15 +33,21 @@ impl DrawnRows {
     /// Creates an empty set of rows, for a diff that has not been written yet.
     pub fn new() -> DrawnRows {
         DrawnRows {
-            rows: [false; 256],
+            costs: [0; 256],
+            count: 0,
             len: 0,
         }
     }
 
-    /// Returns whether the diff contains output for row `row`. Returns `false` for each row after
-    /// the first 256 rows.
-    pub(crate) fn contains(&self, row: u16) -> bool {
-        row < 256 && self.rows[usize::from(row)]
+    /// Returns what is known about the cost of each of the first 256 rows: [`UNKNOWN`] if the diff
+    /// contains output for the row, otherwise 0, because the row is equal in both pictures.
+    pub(crate) fn costs(&self) -> Numbers {
+        self.costs
+    }
+
+    /// Returns the number of rows, among the first 256, for which the diff contains output.
+    pub(crate) fn count(&self) -> u16 {
+        self.count
     }
 }
 
@@ -45,7 +57,8 @@ impl RowWatch<String> for DrawnRows {
     fn finish_row(&mut self, row: u16, sink: &String) {
         let len = sink.len();
         if row < 256 && len > self.len {
-            self.rows[usize::from(row)] = true;
+            self.costs[usize::from(row)] = UNKNOWN;
+            self.count = self.count.saturating_add(1);
         }
         self.len = len;
     }

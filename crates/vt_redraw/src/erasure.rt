@@ -4,13 +4,57 @@ ghost use Rattle.std.specs.Prelude.{◌≤◌, IfSome, length};
 ghost use Rattle.vt_redraw.specs.Moved.{IsBand};
 
 use crate::band::Band;
-use crate::row_costs::{Numbers, fresh_cost, sequences};
+use crate::row_costs::{Numbers, RUN, fresh_cost, sequences};
 use crate::view::View;
 use vt_cells::Attrs;
 
 /// The divisor that determines the minimum saving of an erasure of rows: it must be expected to
 /// save more bytes than the length of the diff divided by this number.
 const SHARE_DIVISOR: i32 = 16;
+
+/// Returns whether erasing rows first may save enough bytes (see [`SHARE_DIVISOR`]). `text` is the
+/// diff if no rows are erased first, and `attrs` are the terminal's attributes.
+pub(crate) fn may_save(text: &str, attrs: Attrs) -> bool {
+    let Ok(len) = i32::try_from(text.len()) else {
+        return false;
+    };
+    let bytes = text.as_bytes();
+    let least = (len / SHARE_DIVISOR).saturating_add(sequences(false, attrs));
+    // The first count takes far less time, and is rarely high enough.
+    most_saved(erasing_bytes(bytes)) > least && most_saved(default_runs(bytes)) > least
+}
+
+/// Returns the approximate number of bytes that erasing rows first saves at most, if the diff erases
+/// `runs` runs of default blanks: those that move the cursor to these runs and erase them.
+fn most_saved(runs: i32) -> i32 {
+    runs.saturating_mul(2 * RUN)
+}
+
+/// Returns the number of bytes that may be the final byte of a sequence that erases (EL or ECH).
+fn erasing_bytes(bytes: &[u8]) -> i32 {
+    let mut count = 0_i32;
+    for &byte in bytes {
+        count = count.wrapping_add(i32::from(byte == b'K' || byte == b'X'));
+    }
+    count
+}
+
+/// Returns the number of these bytes that follow a reset of all attributes (SGR) and no later change
+/// of attributes. Assumes that the attributes are the defaults at first.
+fn default_runs(bytes: &[u8]) -> i32 {
+    let mut count = 0_i32;
+    let mut is_default = true;
+    let mut previous = 0;
+    for &byte in bytes {
+        if byte == b'm' {
+            is_default = previous == b'[' || is_default && !previous.is_ascii_digit();
+        } else if is_default && (byte == b'K' || byte == b'X') {
+            count = count.wrapping_add(1);
+        }
+        previous = byte;
+    }
+    count
+}
 
 /// Returns the range of rows that saves the most bytes if it is erased and drawn anew, as a band
 /// that moves by its whole height. Returns `None` if every range is expected to save too few bytes

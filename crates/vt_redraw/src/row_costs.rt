@@ -1,38 +1,52 @@
 //! The approximate number of bytes that it takes to draw rows of a picture.
 //!
-//! Throughout this module, only the first `height` rows are examined, and `here` is the result of
-//! [`costs`].
+//! Throughout this module, only the first `height` rows are examined, and `here` holds the costs of
+//! these rows if no rows are moved (see [`cost_at`]).
 
-ghost use Rattle.std.specs.Prelude.{◌≤◌, length};
+ghost use Rattle.std.specs.Prelude.{◌<◌, ◌≤◌, length};
 ghost use Rattle.vt_redraw.specs.Picture.{SamePictureSize};
 
-use crate::drawn_rows::DrawnRows;
 use crate::picture_row::PictureRow;
 use crate::view::View;
 use vt_cells::{Attrs, Cell, cell};
 
 /// The approximate number of bytes that it takes to move the cursor within a row, or to erase a run
 /// of blanks. Diffs of recorded streams are shortest with this value.
-const RUN: i32 = 3;
+pub(crate) const RUN: i32 = 3;
 
-/// The cost of each examined row: the approximate number of bytes that it takes to draw the row.
+/// The cost of each of the first 256 rows: the approximate number of bytes that it takes to draw the
+/// row, or [`UNKNOWN`] if it has not been computed yet.
 pub(crate) type Numbers = [i32; 256];
 
-/// Returns, for each row of `view`, the approximate number of bytes that it takes to draw it over
-/// the corresponding row of `prev`. `drawn` holds the rows for which the diff from `prev` to `view`
-/// contains output. The other rows are equal, so they cost nothing and are not compared again.
-pub(crate) fn costs(view: &View<'_>, prev: &View<'_>, height: u16, drawn: &DrawnRows) -> Numbers
+/// The cost of a row for which it has not been computed yet.
+pub(crate) const UNKNOWN: i32 = -1;
+
+/// Returns the approximate number of bytes that it takes to draw row `row` of `view` over the
+/// corresponding row of `prev`. Computes this number and stores it in `here` unless `here` already
+/// contains it.
+pub(crate) fn cost_at(here: &mut Numbers, view: &View<'_>, prev: &View<'_>, row: u16) -> i32
+    requires size { SamePictureSize view.now prev.now }
+    requires inside { row < length view.now.rows }
+    requires few { row < 256 }
+{
+    let known = here[usize::from(row)];
+    if known != UNKNOWN {
+        return known;
+    }
+    let new = cost(&view.row(row), &prev.row(row));
+    here[usize::from(row)] = new;
+    new
+}
+
+/// Stores the costs of the first `height` rows in `here` (see [`cost_at`]).
+pub(crate) fn add_costs(here: &mut Numbers, view: &View<'_>, prev: &View<'_>, height: u16)
     requires size { SamePictureSize view.now prev.now }
     requires inside { height ≤ length view.now.rows }
     requires few { height ≤ 256 }
 {
-    let mut costs = [0; 256];
     for row in 0..height {
-        if drawn.contains(row) {
-            costs[usize::from(row)] = cost(&view.row(row), &prev.row(row));
-        }
+        cost_at(here, view, prev, row);
     }
-    costs
 }
 
 /// Returns the approximate number of bytes that it takes to draw the row `cells` over the row
