@@ -1,16 +1,17 @@
 -- Reading the characters of drawing output: how far they move the cursor.
-use Rattle.std.proofs.Common.{◌≡◌, ℕ, zero, suc, ◌+◌, ◌-◌, ◌<◌, ◌≤◌, nat_lt, true, false}
-use Rattle.std.proofs.Common.{List, [], ◌∷◌, ◌++◌, Some, None, length, refl, sym, ap, subst, ◌∙◌, arith}
+use Rattle.std.proofs.Common.{◌≡◌, ◌≢◌, ℕ, zero, suc, ◌+◌, ◌-◌, ◌<◌, ◌≤◌, min, nat_lt, true, false}
+use Rattle.std.proofs.Common.{List, [], ◌∷◌, ◌++◌, Option, Some, None, length, refl, sym, ap, subst, ◌∙◌, arith}
 use Rattle.std.specs.Prelude.{encode_utf8_all}
 use Rattle.std.specs.Char.{encode_utf8}
 use Rattle.std.specs.List.{AllByRecursion}
 use Rattle.std.proofs.lemmas.Bool.Decides.{nat_tests}
 use Rattle.std.proofs.lemmas.Str.{encode_ascii}
+use Rattle.unicode_width.specs.Width.{char_width}
 use Rattle.vt_cells.specs.Attrs.{Attrs}
 use Rattle.vt_cells.specs.Glyph.{columns_of}
 use Rattle.vt_cells.specs.Op.{Print}
 use Rattle.vt_cells.specs.declared.pos.Pos.{Pos}
-use Rattle.vt_cells.proofs.Widths.{columns_of-ascii}
+use Rattle.vt_cells.proofs.Widths.{columns_of-ascii, columns_of-given, columns_of-high}
 use Rattle.vt_grid.specs.Canvas.{and_then}
 use Rattle.vt_grid.specs.Moves.{moved}
 use Rattle.vt_grid.specs.Page.{Page}
@@ -33,6 +34,17 @@ use Rattle.vt_screen.proofs.Readback.{character_read, kept}
 use Rattle.vt_screen.proofs.ReadbackTexts.{reads_append}
 use Rattle.vt_screen.proofs.Replacing.{IsTame, copied, tame_keeps}
 use Rattle.std.proofs.Common.{◌-◌}
+
+some_stands : (n : ℕ) (width : Option ℕ) → width ≡ Some n → width ≢ None
+some_stands n width is none = absurd cc
+
+columns_some_by : (c : ℕ) (width : Option ℕ) → char_width false c ≡ width → 0x100 ≤ c → columns_of c ≢ None
+columns_some_by c (Some n) is high = some_stands (min n 2) (columns_of c) (columns_of-given c n is)
+columns_some_by c None is high = some_stands 1 (columns_of c) (columns_of-high c is high)
+
+-- Each character from U+0100 on takes a known number of columns.
+pub columns_some : (c : ℕ) → 0x100 ≤ c → columns_of c ≢ None
+columns_some c high = columns_some_by c (char_width false c) refl high
 
 pub drawn_ascii : (c : ℕ) → IsAsciiCharacter c → IsDrawn c
 drawn_ascii c (low, high) = record {

@@ -3,6 +3,7 @@
 ghost use Rattle.std.specs.Prelude.{◌≡◌, ◌<◌, ◌≤◌, ◌++◌, ◌∷◌, [], IfSome, IsTrue, decimal, length, take, slice_index_or};
 ghost use Rattle.std.specs.List.{AllByRecursion};
 ghost use Rattle.vt_cells.specs.Op.{counted};
+ghost use Rattle.vt_redraw.specs.Fits.{IsDrawn};
 ghost use Rattle.vt_screen.specs.ShortMoves.{IsAsciiCharacter, IsElement, IsSgrText, IsWantedNext, is_still};
 
 use crate::sgr::{Reading, Wanted};
@@ -127,10 +128,20 @@ pub fn other_character(text: &str) -> Option<(Element, usize)>
 {
     let mut chars = text.chars();
     let c = chars.next()?;
-    if c < '\u{a0}' || c == '\u{fffd}' || columns(c).is_none() {
+    if c < '\u{a0}' || !is_drawn(c) {
         return None;
     }
     Some((Element::Other(c), c.len_utf8()))
+}
+
+/// Returns whether a terminal prints `c` or adds it to the glyph before the cursor. Every character
+/// from U+0100 on takes a known number of columns, so the width table need not be searched for it.
+#[inline]
+#[tactic(auto, using(crate::proofs::CharactersRead::columns_some))]
+fn is_drawn(c: char) -> bool
+    ensures { IsTrue result → IsDrawn c }
+{
+    c != '\u{fffd}' && (c >= '\u{100}' || columns(c).is_some())
 }
 
 /// Returns the element and the length in bytes of the control sequence at the beginning of `bytes`.
