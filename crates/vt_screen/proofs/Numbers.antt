@@ -3,7 +3,7 @@ use Rattle.std.proofs.Common.{◌≡◌, ℕ, zero, suc, ◌+◌, ◌-◌, ◌*�
 use Rattle.std.proofs.Common.{refl, sym, ap, ap₂, subst, ◌∙◌, arith, length-drop}
 use Rattle.std.proofs.Math.Seq.{take-length, take-suc}
 use Rattle.std.proofs.lemmas.Fmt.{decimal_digit, decimal_step}
-use Rattle.std.proofs.lemmas.List.{replicate-append-replicate, append_assoc}
+use Rattle.std.proofs.lemmas.List.{replicate-append-replicate, append_assoc, drop-drop, get_or-drop}
 use Rattle.std.proofs.Common.{◌≢◌}
 use Rattle.vt_cells.specs.declared.color.Color.TheVariants.{Idx}
 use Rattle.vt_screen.specs.Sgr.{GroupRead, group_read, number_read, set}
@@ -93,6 +93,51 @@ sgr_more most first len more wanted next bytes some inside small digits separato
       few = omega (arith, few, some);
       handled = (is.0, subst (λ (w : Wanted). AreHandled w (rest.first ∷ rest.rest)) is.1 rest.handled);
     }
+
+-- The bytes before `end`, followed by at most `left` known numbers, are the parameters of an SGR sequence.
+abbrev pub AreKnownTo : (left : ℕ) → Wanted → (bytes : List ℕ) → (end : ℕ) → Type 0
+AreKnownTo left wanted bytes end =
+    (more : ℕ) → IsSgrText left wanted (take more (drop end bytes)) → IsSgrText 32 Any (take (end + more) bytes)
+
+pub known_first : (first len : ℕ) (next : Wanted) (bytes : List ℕ) → len < length bytes → first < 65536
+    → take len bytes ≡ decimal first → get_or bytes len 0 ≡ 0x3B → IsWantedNext Any first next
+    → AreKnownTo 31 next bytes (len + 1)
+known_first first len next bytes inside small digits separator is =
+    λ more rest. sgr_more 32 first len more Any next bytes (omega arith) inside small digits separator is
+    (subst (λ (xs : List ℕ). IsSgrText 31 next (take more xs)) (sym (slice_rest bytes (len + 1))) rest)
+
+pub known_more : (left first end len : ℕ) (wanted next : Wanted) (bytes : List ℕ) → 0 < left
+    → AreKnownTo left wanted bytes end → end + len < length bytes → first < 65536
+    → take len (take (length bytes - end) (drop end bytes)) ≡ decimal first → get_or bytes (end + len) 0 ≡ 0x3B
+    → IsWantedNext wanted first next → AreKnownTo (left - 1) next bytes (end + len + 1)
+known_more left first end len wanted next bytes some known inside small digits separator is =
+    λ more rest.
+    let tail = drop end bytes in
+    let e : end + (len + 1) ≡ end + len + 1 = omega arith in
+    let sum : end + (len + 1 + more) ≡ end + len + 1 + more = omega arith in
+    let shorter : len < length tail = subst (λ (n : ℕ). len < n) (sym (length-drop end bytes)) (omega (arith, inside)) in
+    let spelled : take len tail ≡ decimal first = ap (λ (xs : List ℕ). take len xs) (sym (slice_rest bytes end)) ∙ digits in
+    let split : get_or tail len 0 ≡ 0x3B = get_or-drop end bytes len 0 ∙ separator in
+    let dropped : drop (end + len + 1) bytes ≡ drop (len + 1) tail =
+    sym (drop-drop (len + 1) end bytes ∙ ap (λ (n : ℕ). drop n bytes) e) in
+    let after : take (length tail - (len + 1)) (drop (len + 1) tail) ≡ drop (len + 1) tail = slice_rest tail (len + 1) in
+    let inner = sgr_more left first len more wanted next tail some shorter small spelled split is
+    (subst (λ (xs : List ℕ). IsSgrText (left - 1) next (take more xs)) (dropped ∙ sym after) rest) in
+    subst (λ (n : ℕ). IsSgrText 32 Any (take n bytes)) sum (known (len + 1 + more) inner)
+
+pub known_last : (left first end len : ℕ) (wanted next : Wanted) (bytes : List ℕ) → 0 < left
+    → AreKnownTo left wanted bytes end → first < 65536
+    → take len (take (length bytes - end) (drop end bytes)) ≡ decimal first
+    → IsWantedNext wanted first next → IsSgrText 32 Any (take (end + len) bytes)
+known_last left first end len wanted next bytes some known small digits is =
+    known len (record {
+      first = first;
+      rest = [];
+      spelled = ap (λ (xs : List ℕ). take len xs) (sym (slice_rest bytes end)) ∙ digits;
+      small = (small, tt);
+      few = some;
+      handled = (is.0, tt);
+    })
 
 -- A number before the rest of CUP.
 pub place_more : (first len more : ℕ) (bytes whole : List ℕ) → len < length bytes → take len bytes ≡ decimal first

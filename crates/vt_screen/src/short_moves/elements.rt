@@ -260,7 +260,7 @@ fn several_numbers(bytes: &[u8], first: u16, len: usize) -> Option<(Element, usi
     if let Some((pos, more)) = place(first, &bytes[len + 1..]) {
         return Some((Element::Place(pos), len + 1 + more));
     }
-    let len = sgr_len(bytes, Wanted::Any, MOST_NUMBERS)?;
+    let len = sgr_len(bytes, first, len)?;
     Some((Element::Attrs, len + 1))
 }
 
@@ -287,30 +287,33 @@ fn place(row: u16, bytes: &[u8]) -> Option<(Pos, usize)>
 }
 
 /// Returns the length, in bytes, of the SGR parameters at the beginning of `bytes`, without the
-/// final byte `m`. The first parameter is interpreted as `wanted` specifies. Returns `None` if
-/// there are more than `most` parameters, if one of them is missing, has a leading zero, is above
-/// 65535 or is unknown, or if no `m` follows them.
-fn sgr_len(bytes: &[u8], wanted: Wanted, most: u8) -> Option<usize>
+/// final byte `m`. The first parameter is `first`, and a `;` follows its `len` digits. Returns `None`
+/// if there are more than [`MOST_NUMBERS`] parameters, if one of them is missing, has a leading zero,
+/// is above 65535 or is unknown, or if no `m` follows them.
+fn sgr_len(bytes: &[u8], first: u16, len: usize) -> Option<usize>
+    requires inside { len < length bytes.now }
+    requires digits { take len bytes.now ≡ decimal first }
+    requires separator { slice_index_or bytes.now len 0 ≡ 0x3B }
     ensures inside { IfSome result (λ len. len < length bytes.now) }
     ensures last { IfSome result (λ len. slice_index_or bytes.now len 0 ≡ 0x6D) }
-    ensures text { IfSome result (λ len. IsSgrText most wanted (take len bytes.now)) }
+    ensures text { IfSome result (λ len. IsSgrText 32 Wanted.Any (take len bytes.now)) }
 {
-    if most == 0 {
-        return None;
-    }
-    let (first, len) = number(bytes)?;
-    let next = wanted_next(wanted, first)?;
-    if len >= bytes.len() {
-        return None;
-    }
-    match bytes[len] {
-        b'm' => Some(len),
-        b';' => {
-            let more = sgr_len(&bytes[len + 1..], next, most - 1)?;
-            Some(len + 1 + more)
+    let mut wanted = wanted_next(Wanted::Any, first)?;
+    let mut end = len + 1;
+    for _number in 1..MOST_NUMBERS {
+        let (value, digits) = number(&bytes[end..])?;
+        wanted = wanted_next(wanted, value)?;
+        end += digits;
+        if end >= bytes.len() {
+            return None;
         }
-        _ => None,
+        match bytes[end] {
+            b'm' => return Some(end),
+            b';' => end += 1,
+            _ => return None,
+        }
     }
+    None
 }
 
 /// Returns how the number after `number` in an SGR sequence is interpreted, or `None` if `number`
