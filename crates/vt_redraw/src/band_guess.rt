@@ -140,7 +140,7 @@ fn likely_band(view: &View<'_>, prev: &View<'_>, height: u16, here: &mut Numbers
 /// Returns the shift of the first row whose columns seem to have moved between `prev` and `view`,
 /// or `None` if there is no such row. Skips a shift unless the number of bytes that it is expected
 /// to save exceeds `len`, the length of the diff in bytes, divided by [`SHARE_DIVISOR`]. Examines
-/// only the first [`MOST_TRIED`] rows whose cost exceeds that number and [`LEAST_COST`].
+/// only the first [`MOST_TRIED`] rows whose cost exceeds both that quotient and [`LEAST_COST`].
 fn first_row_shift(
     view: &View<'_>,
     prev: &View<'_>,

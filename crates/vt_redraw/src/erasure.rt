@@ -14,46 +14,75 @@ const SHARE_DIVISOR: i32 = 16;
 
 /// Returns whether erasing rows first may save enough bytes (see [`SHARE_DIVISOR`]). `text` is the
 /// diff if no rows are erased first, and `attrs` are the terminal's attributes.
+///
+/// At most, it saves the bytes that move the cursor to each erased run of default blanks and erase
+/// this run.
 pub(crate) fn may_save(text: &str, attrs: Attrs) -> bool {
     let Ok(len) = i32::try_from(text.len()) else {
         return false;
     };
     let bytes = text.as_bytes();
-    let least = (len / SHARE_DIVISOR).saturating_add(sequences(false, attrs));
-    // The first count takes far less time, and is rarely high enough.
-    most_saved(erasing_bytes(bytes)) > least && most_saved(default_runs(bytes)) > least
-}
-
-/// Returns the approximate number of bytes that erasing rows first saves at most, if the diff erases
-/// `runs` runs of default blanks: those that move the cursor to these runs and erase them.
-fn most_saved(runs: i32) -> i32 {
-    runs.saturating_mul(2 * RUN)
+    let saved = (len / SHARE_DIVISOR).saturating_add(sequences(false, attrs));
+    let least = (saved / (2 * RUN)).saturating_add(1);
+    // Counting them all takes far less time, and there are rarely enough.
+    let all = erasing_bytes(bytes);
+    all >= least && has_default_runs(bytes, least, all.saturating_sub(least))
 }
 
 /// Returns the number of bytes that may be the final byte of a sequence that erases (EL or ECH).
+///
+/// The bytes of each part are counted in a byte of their own, so that many can be counted at once.
 fn erasing_bytes(bytes: &[u8]) -> i32 {
     let mut count = 0_i32;
-    for &byte in bytes {
-        count = count.wrapping_add(i32::from(byte == b'K' || byte == b'X'));
+    for part in bytes.chunks(255) {
+        let mut count_in_part = 0_u8;
+        for &byte in part {
+            count_in_part = count_in_part.wrapping_add(u8::from(is_erasing(byte)));
+        }
+        count = count.wrapping_add(i32::from(count_in_part));
     }
     count
 }
 
-/// Returns the number of these bytes that follow a reset of all attributes (SGR) and no later change
-/// of attributes. Assumes that the attributes are the defaults at first.
-fn default_runs(bytes: &[u8]) -> i32 {
-    let mut count = 0_i32;
+/// Returns whether the byte may be the final byte of a sequence that erases (EL or ECH).
+#[inline(always)]
+fn is_erasing(byte: u8) -> bool {
+    byte == b'K' || byte == b'X'
+}
+
+/// Returns whether at least `least` of the bytes counted by [`erasing_bytes`] follow a reset of all
+/// attributes (SGR) and no later change of attributes. The attributes are taken to be the defaults
+/// at first. Stops as soon as more than `most_others` of the bytes do not follow a reset.
+fn has_default_runs(bytes: &[u8], least: i32, most_others: i32) -> bool {
+    let mut runs = 0_i32;
+    let mut others = 0_i32;
     let mut is_default = true;
-    let mut previous = 0;
-    for &byte in bytes {
+    for at in 0..bytes.len() {
+        let byte = bytes[at];
         if byte == b'm' {
-            is_default = previous == b'[' || is_default && !previous.is_ascii_digit();
-        } else if is_default && (byte == b'K' || byte == b'X') {
-            count = count.wrapping_add(1);
+            is_default = is_default_after(is_default, &bytes[..at]);
+        } else if is_erasing(byte) {
+            if is_default {
+                runs = runs.wrapping_add(1);
+            } else {
+                others = others.wrapping_add(1);
+            }
+            if runs >= least || others > most_others {
+                return runs >= least;
+            }
         }
-        previous = byte;
     }
-    count
+    false
+}
+
+/// Returns whether the attributes are probably the defaults after an `m` that follows `before`.
+/// `is_default` is whether they were so before it.
+fn is_default_after(is_default: bool, before: &[u8]) -> bool {
+    match before.last() {
+        Some(b'[') => true,
+        Some(byte) => is_default && !byte.is_ascii_digit(),
+        None => is_default,
+    }
 }
 
 /// Returns the range of rows that saves the most bytes if it is erased and drawn anew, as a band

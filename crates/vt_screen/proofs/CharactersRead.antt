@@ -1,5 +1,5 @@
 -- Reading the characters of drawing output: how far they move the cursor.
-use Rattle.std.proofs.Common.{◌≡◌, ◌≢◌, ℕ, zero, suc, ◌+◌, ◌-◌, ◌<◌, ◌≤◌, min, nat_lt, true, false}
+use Rattle.std.proofs.Common.{◌≡◌, ◌≢◌, ℕ, zero, suc, ◌+◌, ◌<◌, ◌≤◌, min, nat_lt, true, false}
 use Rattle.std.proofs.Common.{List, [], ◌∷◌, ◌++◌, Option, Some, None, length, refl, sym, ap, subst, ◌∙◌, arith}
 use Rattle.std.specs.Prelude.{encode_utf8_all}
 use Rattle.std.specs.Char.{encode_utf8}
@@ -16,7 +16,6 @@ use Rattle.vt_grid.specs.Canvas.{and_then}
 use Rattle.vt_grid.specs.Moves.{moved}
 use Rattle.vt_grid.specs.Page.{Page}
 use Rattle.vt_grid.specs.Printing.{glyph_put, lacks_room, page_after_print, pushes, room_made}
-use Rattle.vt_grid.specs.declared.page_step.PageStep.TheVariants as page
 use Rattle.vt_grid.proofs.Dispatch.{printed_wide}
 use Rattle.vt_grid.proofs.Texts.{has_room, printed_put}
 use Rattle.vt_redraw.specs.Fits.{IsDrawn, IsDrawnText}
@@ -33,7 +32,6 @@ use Rattle.vt_screen.proofs.PlainAgain.{op_goes}
 use Rattle.vt_screen.proofs.Readback.{character_read, kept}
 use Rattle.vt_screen.proofs.ReadbackTexts.{reads_append}
 use Rattle.vt_screen.proofs.Replacing.{IsTame, copied, tame_keeps}
-use Rattle.std.proofs.Common.{◌-◌}
 
 some_stands : (n : ℕ) (width : Option ℕ) → width ≡ Some n → width ≢ None
 some_stands n width is none = absurd cc

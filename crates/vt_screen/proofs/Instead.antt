@@ -1,14 +1,13 @@
 -- Output that can be replaced on terminals about which something is known: its parts in sequence, copied elements,
 -- movements, and gaps.
 use Rattle.std.proofs.Common.{◌≡◌, ℕ, zero, suc, ◌+◌, ◌-◌, ◌<◌, ◌≤◌, ◌^◌, Bool, true, List, [], ◌∷◌, ◌++◌}
-use Rattle.std.proofs.Common.{length, Option, Some, None, refl, sym, ap, subst, ◌∙◌, arith, take, drop, length-append, decimal}
+use Rattle.std.proofs.Common.{length, Option, Some, None, refl, sym, ap, subst, ◌∙◌, arith, take, length-append, decimal}
 use Rattle.std.specs.Prelude.{IfSome}
-use Rattle.std.proofs.lemmas.List.{take-append-drop}
 use Rattle.std.proofs.Common.{append-nil, append_assoc}
-use Rattle.std.proofs.Math.Seq.{take-append_seam}
-use Rattle.vt_cells.specs.Attrs.{Attrs, default_attrs}
+use Rattle.std.proofs.Math.Seq.{take-append_seam, take-length}
+use Rattle.vt_cells.specs.Attrs.{default_attrs}
 use Rattle.vt_cells.specs.Cell.{CellValue}
-use Rattle.vt_cells.specs.Op.{EraseRest, EraseChars, Hide, counted, csi}
+use Rattle.vt_cells.specs.Op.{counted, csi}
 use Rattle.vt_cells.specs.declared.pos.Pos.{Pos}
 use Rattle.vt_grid.specs.Page.{IsPage, cell_at, cursor_row}
 use Rattle.vt_grid.proofs.Pages.{page_at}
@@ -19,7 +18,7 @@ use Rattle.vt_rows.specs.Cells.{at}
 use Rattle.vt_scan.specs.Automaton.{start}
 use Rattle.vt_screen.specs.Again.{KeepsPlain}
 use Rattle.vt_screen.specs.Gaps.{IsDefaultAfter, IsGap, IsKeptAfter, IsKeptFrom, IsPrinted, ReplacesTracked, StillShows, Tracks}
-use Rattle.vt_screen.specs.Gaps.{AppendsInstead, IsLetter, IsShownGap, ReplacesWhole, gap_text, is_narrow_glyph, picture_cell}
+use Rattle.vt_screen.specs.Gaps.{AppendsUpTo, IsLetter, IsShownGap, ReplacesWhole, gap_text, is_narrow_glyph, picture_cell}
 use Rattle.vt_screen.specs.MadeOf.{IsMadeOf, shortened_controls, shortened_finals}
 use Rattle.vt_screen.specs.Reading.{Terminal, terminal, terminal_after}
 use Rattle.vt_screen.specs.Screen.{ScreenValue}
@@ -362,26 +361,25 @@ pub record IsInstead (rows cols : ℕ) (cells : ℕ → ℕ → CellValue) (know
   pub parts : whole ≡ done ++ rest
   pub stands : ReplacesTracked rows cols cells known now done short
 
-pub instead_first : (rows cols : ℕ) (cells : ℕ → ℕ → CellValue) (known : Known) (whole short : List ℕ) → short ≡ [] →
+instead_first : (rows cols : ℕ) (cells : ℕ → ℕ → CellValue) (known : Known) (whole short : List ℕ) → short ≡ [] →
     IsInstead rows cols cells known known whole whole short
 instead_first rows cols cells known whole short e =
     subst (λ (s : List ℕ). IsInstead rows cols cells known known whole whole s) (sym e)
     (record { done = []; parts = refl; stands = stands_nothing rows cols cells known })
 
-pub instead_next : (rows cols n : ℕ) (cells : ℕ → ℕ → CellValue) (known now new : Known)
-    (whole rest tail short longer : List ℕ) → IsInstead rows cols cells known now whole rest short → tail ≡ drop n rest →
-    AppendsInstead rows cols cells now new (take n rest) short longer →
-    IsInstead rows cols cells known new whole tail longer
-instead_next rows cols n cells known now new whole rest tail short longer is back appended = record {
-  done = is.done ++ take n rest;
+instead_next : (rows cols : ℕ) (cells : ℕ → ℕ → CellValue) (known now new : Known)
+    (whole rest tail short longer : List ℕ) → IsInstead rows cols cells known now whole rest short →
+    AppendsUpTo rows cols cells now new rest tail short longer → IsInstead rows cols cells known new whole tail longer
+instead_next rows cols cells known now new whole rest tail short longer is part = record {
+  done = is.done ++ part.done;
   parts = is.parts
-      ∙ (ap (λ (xs : List ℕ). is.done ++ xs) (sym (take-append-drop n rest))
-      ∙ (ap (λ (ys : List ℕ). is.done ++ (take n rest ++ ys)) (sym back) ∙ sym (append_assoc is.done (take n rest) tail)));
-  stands = subst (λ (xs : List ℕ). ReplacesTracked rows cols cells known new (is.done ++ take n rest) xs) (sym appended.appends)
-      (stands_then rows cols cells known now new is.done short (take n rest) appended.text is.stands appended.stands);
+      ∙ (ap (λ (xs : List ℕ). is.done ++ xs) part.parts ∙ sym (append_assoc is.done part.done tail));
+  stands = subst (λ (xs : List ℕ). ReplacesTracked rows cols cells known new (is.done ++ part.done) xs)
+      (sym part.stands.appends)
+      (stands_then rows cols cells known now new is.done short part.done part.stands.text is.stands part.stands.stands);
 }
 
-pub instead_whole : (rows cols : ℕ) (cells : ℕ → ℕ → CellValue) (known now : Known) (whole rest short : List ℕ) →
+instead_whole : (rows cols : ℕ) (cells : ℕ → ℕ → CellValue) (known now : Known) (whole rest short : List ℕ) →
     IsInstead rows cols cells known now whole rest short → length rest ≡ 0 →
     ReplacesWhole rows cols cells known whole short
 instead_whole rows cols cells known now whole (x ∷ rest) short is none = absurd (omega (arith, none))
@@ -389,13 +387,6 @@ instead_whole rows cols cells known now whole [] short is none = record {
   new = now;
   stands = subst (λ (xs : List ℕ). ReplacesTracked rows cols cells known now xs short) (sym (is.parts ∙ append-nil is.done)) is.stands;
 }
-
-pub instead_some : (rows cols : ℕ) (cells : ℕ → ℕ → CellValue) (known now : Known) (whole rest short : List ℕ) →
-    IsInstead rows cols cells known now whole rest short → 0 < length rest → 0 < length whole
-instead_some rows cols cells known now whole rest short is some =
-    let e : length whole ≡ length is.done + length rest =
-    ap (λ (xs : List ℕ). length xs) is.parts ∙ length-append is.done rest in
-    omega (arith, e, some)
 
 -- ---- text that is copied
 
@@ -405,42 +396,98 @@ pub record IsCopied (rows cols : ℕ) (cells : ℕ → ℕ → CellValue) (known
   pub parts : text ≡ done ++ rest
   pub stands : ReplacesTracked rows cols cells known now done done
 
-pub copied_first : (rows cols : ℕ) (cells : ℕ → ℕ → CellValue) (known : Known) (text : List ℕ) →
+copied_first : (rows cols : ℕ) (cells : ℕ → ℕ → CellValue) (known : Known) (text : List ℕ) →
     IsCopied rows cols cells known known text text
 copied_first rows cols cells known text =
     record { done = []; parts = refl; stands = stands_nothing rows cols cells known }
 
-pub copied_next : (rows cols n : ℕ) (cells : ℕ → ℕ → CellValue) (known now new : Known) (text rest head tail : List ℕ) →
-    IsCopied rows cols cells known now text rest → head ≡ take n rest → tail ≡ drop n rest →
+copied_next : (rows cols : ℕ) (cells : ℕ → ℕ → CellValue) (known now new : Known) (text rest head tail : List ℕ) →
+    IsCopied rows cols cells known now text rest → rest ≡ head ++ tail →
     ReplacesTracked rows cols cells now new head head → IsCopied rows cols cells known new text tail
-copied_next rows cols n cells known now new text rest head tail is front back copied = record {
+copied_next rows cols cells known now new text rest head tail is split copied = record {
   done = is.done ++ head;
-  parts = is.parts
-      ∙ (ap (λ (xs : List ℕ). is.done ++ xs) (sym (take-append-drop n rest))
-      ∙ (ap (λ (xs : List ℕ). is.done ++ (xs ++ drop n rest)) (sym front)
-      ∙ (ap (λ (ys : List ℕ). is.done ++ (head ++ ys)) (sym back) ∙ sym (append_assoc is.done head tail))));
+  parts = is.parts ∙ (ap (λ (xs : List ℕ). is.done ++ xs) split ∙ sym (append_assoc is.done head tail));
   stands = stands_then rows cols cells known now new is.done is.done head head is.stands copied;
 }
 
-pub copied_whole : (rows cols : ℕ) (cells : ℕ → ℕ → CellValue) (known now : Known) (text rest : List ℕ) →
-    IsCopied rows cols cells known now text rest →
-    ReplacesTracked rows cols cells known now (take (length text - length rest) text) (take (length text - length rest) text)
-copied_whole rows cols cells known now text rest is =
+-- The copied part, as a part of the text.
+copied_part : (rows cols : ℕ) (cells : ℕ → ℕ → CellValue) (known now : Known) (text rest : List ℕ) →
+    (is : IsCopied rows cols cells known now text rest) → take (length text - length rest) text ≡ is.done
+copied_part rows cols cells known now text rest is =
     let e : length text ≡ length is.done + length rest =
     ap (λ (xs : List ℕ). length xs) is.parts ∙ length-append is.done rest in
     let n : length text - length rest ≡ length is.done = omega (arith, e) in
-    let front : take (length text - length rest) text ≡ is.done =
     ap (λ (k : ℕ). take k text) n
-    ∙ (ap (λ (xs : List ℕ). take (length is.done) xs) is.parts ∙ take-append_seam is.done rest) in
-    subst (λ (xs : List ℕ). ReplacesTracked rows cols cells known now xs xs) (sym front) is.stands
+    ∙ (ap (λ (xs : List ℕ). take (length is.done) xs) is.parts ∙ take-append_seam is.done rest)
 
--- The text at the beginning of the output was copied.
-pub text_instead : (rows cols n : ℕ) (cells : ℕ → ℕ → CellValue) (known new : Known) (rest head before after : List ℕ) →
-    head ≡ take n rest → after ≡ before ++ head →
-    ReplacesTracked rows cols cells known new (take n rest) (take n rest) →
-    AppendsInstead rows cols cells known new (take n rest) before after
-text_instead rows cols n cells known new rest head before after front appended copied = record {
-  text = take n rest;
-  appends = appended ∙ ap (λ (xs : List ℕ). before ++ xs) front;
-  stands = copied;
+-- The part of the output before `uncopied` has been replaced by `short`, and what is in `uncopied` before `rest` is
+-- still to be copied.
+pub record IsUnderway (rows cols : ℕ) (cells : ℕ → ℕ → CellValue) (known now : Known)
+    (whole uncopied rest short : List ℕ) : Type 0 where
+  pub middle : Known
+  pub instead : IsInstead rows cols cells known middle whole uncopied short
+  pub copied : IsCopied rows cols cells middle now uncopied rest
+
+pub underway_first : (rows cols : ℕ) (cells : ℕ → ℕ → CellValue) (known : Known) (whole short : List ℕ) → short ≡ [] →
+    IsUnderway rows cols cells known known whole whole whole short
+underway_first rows cols cells known whole short e = record {
+  middle = known;
+  instead = instead_first rows cols cells known whole short e;
+  copied = copied_first rows cols cells known whole;
 }
+
+-- An element is to be copied.
+pub underway_read : (rows cols : ℕ) (cells : ℕ → ℕ → CellValue) (known now new : Known)
+    (whole uncopied rest head tail short : List ℕ) → IsUnderway rows cols cells known now whole uncopied rest short →
+    rest ≡ head ++ tail → ReplacesTracked rows cols cells now new head head →
+    IsUnderway rows cols cells known new whole uncopied tail short
+underway_read rows cols cells known now new whole uncopied rest head tail short is split copied = record {
+  middle = is.middle;
+  instead = is.instead;
+  copied = copied_next rows cols cells is.middle now new uncopied rest head tail is.copied split copied;
+}
+
+-- What was still to be copied has been copied.
+underway_copied : (rows cols : ℕ) (cells : ℕ → ℕ → CellValue) (known now : Known)
+    (whole uncopied rest short longer : List ℕ) → IsUnderway rows cols cells known now whole uncopied rest short →
+    longer ≡ short ++ take (length uncopied - length rest) uncopied →
+    IsInstead rows cols cells known now whole rest longer
+underway_copied rows cols cells known now whole uncopied rest short longer is e =
+    instead_next rows cols cells known is.middle now whole uncopied rest short longer is.instead (record {
+      done = is.copied.done;
+      parts = is.copied.parts;
+      stands = record {
+        text = is.copied.done;
+        appends = e ∙ ap (λ (xs : List ℕ). short ++ xs) (copied_part rows cols cells is.middle now uncopied rest is.copied);
+        stands = is.copied.stands;
+      };
+    })
+
+-- What was still to be copied has been copied, and a movement has been replaced.
+pub underway_moved : (rows cols : ℕ) (cells : ℕ → ℕ → CellValue) (known now new : Known)
+    (whole uncopied rest tail short part longer longest : List ℕ) →
+    IsUnderway rows cols cells known now whole uncopied rest short →
+    part ≡ take (length uncopied - length rest) uncopied → longer ≡ short ++ part →
+    AppendsUpTo rows cols cells now new rest tail longer longest →
+    IsUnderway rows cols cells known new whole tail tail longest
+underway_moved rows cols cells known now new whole uncopied rest tail short part longer longest is front e moved = record {
+  middle = new;
+  instead = instead_next rows cols cells known now new whole rest tail longer longest
+      (underway_copied rows cols cells known now whole uncopied rest short longer is
+      (e ∙ ap (λ (xs : List ℕ). short ++ xs) front)) moved;
+  copied = copied_first rows cols cells new tail;
+}
+
+-- Everything has been read and copied.
+pub underway_whole : (rows cols : ℕ) (cells : ℕ → ℕ → CellValue) (known now : Known) (whole uncopied rest short longer : List ℕ) →
+    IsUnderway rows cols cells known now whole uncopied rest short → length rest ≡ 0 → longer ≡ short ++ uncopied →
+    ReplacesWhole rows cols cells known whole longer
+underway_whole rows cols cells known now whole uncopied rest short longer is none e =
+    instead_whole rows cols cells known now whole rest longer
+    (underway_copied rows cols cells known now whole uncopied rest short longer is
+    (e ∙ ap (λ (xs : List ℕ). short ++ xs) (sym all))) none
+  where
+    all : take (length uncopied - length rest) uncopied ≡ uncopied
+    all =
+        let n : length uncopied - length rest ≡ length uncopied = omega (arith, none) in
+        ap (λ (k : ℕ). take k uncopied) n ∙ take-length uncopied

@@ -1,5 +1,5 @@
 -- What the code finds out about a terminal after an element, a movement or a gap.
-use Rattle.std.proofs.Common.{◌≡◌, ℕ, zero, suc, ◌+◌, ◌<◌, true, List, [], ◌∷◌, ◌++◌, Option, Some, None, length, refl, sym, subst, ap, ap₂, ◌∙◌, take, drop, append_assoc, arith}
+use Rattle.std.proofs.Common.{◌≡◌, ℕ, ◌+◌, ◌<◌, true, List, ◌++◌, Option, Some, None, length, refl, sym, subst, ap, ◌∙◌, append_assoc}
 use Rattle.std.specs.Prelude.{IfSome}
 use Rattle.vt_cells.specs.Cell.{CellValue}
 use Rattle.vt_cells.specs.Glyph.{columns_of}
@@ -8,7 +8,7 @@ use Rattle.vt_cells.specs.declared.pos.Pos.{Pos}
 use Rattle.vt_redraw.specs.Locality.{row_of_picture}
 use Rattle.vt_redraw.specs.Picture.{Picture}
 use Rattle.vt_rows.specs.Row.{RowValue}
-use Rattle.vt_screen.specs.Gaps.{AppendsInstead, IsLetter, IsPrinted, IsShownGap, ReplacesTracked, gap_text, picture_cell}
+use Rattle.vt_screen.specs.Gaps.{AppendsInstead, AppendsUpTo, IsLetter, IsPrinted, IsShownGap, ReplacesTracked, gap_text, picture_cell}
 use Rattle.vt_screen.specs.ShortMoves.{AppendsReplacement, IsAfter, IsElement, LeadsTo, is_still}
 use Rattle.vt_screen.specs.declared.short_moves.elements.Element.{Element}
 use Rattle.vt_screen.specs.declared.short_moves.elements.Element.TheVariants as elements
@@ -91,27 +91,22 @@ gap_instead picture known after gap letter old middle new row rows cols is lette
           (printed (picture_cell picture))));
     }
 
-take_more : (n : ℕ) (xs : List ℕ) → take (n + 1) xs ≡ take n xs ++ take 1 (drop n xs)
-take_more zero [] = refl
-take_more zero (x ∷ xs) = refl
-take_more (suc n) [] = let e : suc n + 1 ≡ suc (n + 1) = omega arith in ap (λ (m : ℕ). take m []) e
-take_more (suc n) (x ∷ xs) =
-    let e : suc n + 1 ≡ suc (n + 1) = omega arith in
-    ap (λ (m : ℕ). take m (x ∷ xs)) e ∙ ap (λ (t : List ℕ). x ∷ t) (take_more n xs)
-
--- The first element of the output and the character after it were replaced.
-pub next_instead : (rows cols len count : ℕ) (cells : ℕ → ℕ → CellValue) (known new : Known) (element : Element)
-    (rest head tail letter before after : List ℕ) → IsElement element head → element ≡ elements.Right count →
-    head ≡ take len rest → tail ≡ drop len rest → letter ≡ take 1 tail →
-    AppendsInstead rows cols cells known new (counted count 0x43 ++ letter) before after →
-    AppendsInstead rows cols cells known new (take (len + 1) rest) before after
-next_instead rows cols len count cells known new element rest head tail letter before after is right front back first appended =
-    subst (λ (old : List ℕ). AppendsInstead rows cols cells known new old before after) whole appended
+-- A movement over a gap, and the character after it, were replaced.
+pub gap_up_to : (rows cols count : ℕ) (cells : ℕ → ℕ → CellValue) (known new : Known) (element : Element)
+    (head tail letter rest before after : List ℕ) → IsElement element head → element ≡ elements.Right count →
+    tail ≡ letter ++ rest → AppendsInstead rows cols cells known new (counted count 0x43 ++ letter) before after →
+    AppendsUpTo rows cols cells known new (head ++ tail) rest before after
+gap_up_to rows cols count cells known new element head tail letter rest before after is right split appended = record {
+  done = head ++ letter;
+  parts = ap (λ (xs : List ℕ). head ++ xs) split ∙ sym (append_assoc head letter rest);
+  stands = subst (λ (xs : List ℕ). AppendsInstead rows cols cells known new (xs ++ letter) before after) (sym over) appended;
+}
   where
     over : head ≡ counted count 0x43
     over = (subst (λ (e : Element). IsElement e head) right is).2
 
-    whole : counted count 0x43 ++ letter ≡ take (len + 1) rest
-    whole =
-        ap₂ (λ (a b : List ℕ). a ++ b) (sym over ∙ front) (first ∙ ap (λ (t : List ℕ). take 1 t) back)
-        ∙ sym (take_more len rest)
+pub element_up_to : (rows cols : ℕ) (cells : ℕ → ℕ → CellValue) (known new : Known) (head tail before after : List ℕ) →
+    AppendsInstead rows cols cells known new head before after →
+    AppendsUpTo rows cols cells known new (head ++ tail) tail before after
+element_up_to rows cols cells known new head tail before after appended =
+    record { done = head; parts = refl; stands = appended }

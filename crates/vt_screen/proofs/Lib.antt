@@ -74,6 +74,7 @@ pub mod RepeatTokens
 mod NoRepeats
 pub mod RepeatedDiffs
 pub mod Replacing
+pub mod RouteLengths
 pub mod RoutesRead
 pub mod CharactersRead
 pub mod ElementsRead

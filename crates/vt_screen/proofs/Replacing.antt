@@ -1,5 +1,5 @@
 -- Replacing parts of the output, one after the other.
-use Rattle.std.proofs.Common.{◌≡◌, ℕ, ◌≤◌, ◌+◌, ◌<◌, false, List, [], ◌++◌, Option, Some, None, length, refl, sym, ap, subst, ◌∙◌, arith}
+use Rattle.std.proofs.Common.{◌≡◌, ℕ, ◌≤◌, ◌<◌, false, List, [], ◌++◌, Option, Some, None, length, refl, sym, ap, subst, ◌∙◌, arith}
 use Rattle.vt_cells.specs.declared.pos.Pos.{Pos}
 use Rattle.vt_grid.specs.Canvas.{and_then}
 use Rattle.vt_scan.specs.Automaton.{start}

@@ -268,19 +268,17 @@ route_leads rows cols from to route is low = record {
         ∙ ap (λ c. Some (terminal start (record screen { page = record screen.page { row = to.row; column = c } }))) (sym is.column)
 
 -- A route was appended instead of the movement `head`.
-pub move_appended : (rows cols : ℕ) (known : Option Pos) (from to : Pos) (route : Route) (head moves before after : List ℕ)
+pub move_appended : (rows cols : ℕ) (known : Option Pos) (from to : Pos) (route : Route) (head before after : List ℕ)
     → known ≡ Some from → LeadsTo rows cols known to head → IsRoute cols route from to → to.row < rows → to.col < cols
-    → moves ≡ route_text route → length moves < length head → after ≡ before ++ moves
+    → length (route_text route) < length head → after ≡ before ++ route_text route
     → AppendsReplacement rows cols known (Some to) head before after
-move_appended rows cols known from to route head moves before after at leads is low inside spelled shorter appends =
-    let short : LeadsTo rows cols known to moves =
-    subst (λ (t : List ℕ). LeadsTo rows cols known to t) (sym spelled)
-    (subst (λ (k : Option Pos). LeadsTo rows cols k to (route_text route)) (sym at)
-    (route_leads rows cols from to route is low)) in
+move_appended rows cols known from to route head before after at leads is low inside shorter appends =
+    let short : LeadsTo rows cols known to (route_text route) =
+    subst (λ (k : Option Pos). LeadsTo rows cols k to (route_text route)) (sym at) (route_leads rows cols from to route is low) in
     record {
-      text = moves;
+      text = route_text route;
       appends = appends;
-      replaces = leads_replace rows cols known to head moves inside leads short (omega (arith, shorter));
+      replaces = leads_replace rows cols known to head (route_text route) inside leads short (omega (arith, shorter));
     }
 
 -- The movement was appended as it is.

@@ -86,6 +86,14 @@ pub record AppendsInstead (height width : ℕ) (cells : ℕ → ℕ → CellValu
   pub appends : after ≡ before ++ text
   pub stands : ReplacesTracked height width cells known new old text
 
+-- The string `after` is `before` followed by output that replaces the part of the output `old` before `rest`, as
+-- `ReplacesTracked` describes.
+pub record AppendsUpTo (height width : ℕ) (cells : ℕ → ℕ → CellValue) (known new : Known)
+    (old rest before after : List ℕ) : Type 0 where
+  pub done : List ℕ
+  pub parts : old ≡ done ++ rest
+  pub stands : AppendsInstead height width cells known new done before after
+
 -- ---- scrolling diffs
 
 -- What is known, before any output is read, about a terminal that displays the picture of the given screen.

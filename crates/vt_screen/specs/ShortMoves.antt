@@ -160,6 +160,13 @@ pub record IsAfter (cols : ℕ) (from : Pos) (count : ℕ) (to : Pos) : Type 0 w
   pub column : to.col ≡ from.col + count
   pub inside : to.col < cols
 
+-- Whether the element does nothing but move the cursor.
+abbrev pub is_movement : Element → Bool
+is_movement (element.Place pos) = true
+is_movement (element.Right count) = true
+is_movement element.NextRow = true
+is_movement _ = false
+
 -- Whether the element leaves the cursor where it is.
 abbrev pub is_still : Element → Bool
 is_still element.EraseRest = true

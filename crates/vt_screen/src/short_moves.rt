@@ -6,24 +6,24 @@
 //! the ASCII glyphs that the terminal already displays there, if their attributes and the current
 //! attributes are the defaults. Nothing else in the output changes.
 
-ghost use Rattle.std.specs.Prelude.{◌≡◌, ◌+◌, ◌++◌, ◌-◌, ◌<◌, ◌≤◌, IfOk, IfSome, IsTrue, OnOk, Some, length, ℕ, min, string_bytes, take};
+ghost use Rattle.std.specs.Prelude.{◌≡◌, ◌+◌, ◌++◌, ◌-◌, ◌<◌, ◌≤◌, IfOk, IfSome, OnOk, Some, length, ℕ, min, string_bytes};
 ghost use Rattle.vt_cells.specs.Cell.{CellValue};
 ghost use Rattle.vt_cells.specs.Glyph.{columns_of};
 ghost use Rattle.vt_cells.specs.Refusals.{OnlyOutOfMemory};
 ghost use Rattle.vt_cells.specs.Op.{counted};
 ghost use Rattle.vt_redraw.specs.Refusals.{RefusedOnlyIfSome};
-ghost use Rattle.vt_screen.specs.Gaps.{AppendsInstead, IsLetter, IsPrinted, IsShownGap, ReplacesTracked, ReplacesWhole, picture_cell};
-ghost use Rattle.vt_screen.specs.ShortMoves.{AppendsReplacement, IsAfter, IsElement, IsRoute, LeadsTo, Replaces, row_start_text};
+ghost use Rattle.vt_screen.specs.Gaps.{AppendsInstead, AppendsUpTo, IsLetter, IsPrinted, IsShownGap, ReplacesTracked, ReplacesWhole, picture_cell};
+ghost use Rattle.vt_screen.specs.ShortMoves.{AppendsReplacement, IsAfter, IsElement, IsRoute, LeadsTo, Replaces, route_text, row_start_text};
 
 mod elements;
 mod gaps;
 mod known;
 mod route;
 
-use elements::{Element, first_element, other_character};
+use elements::{Element, first_element};
 use gaps::{Gap, first_letter, gap_over, write_gap};
 pub use known::Known;
-use route::{Route, likely_route};
+use route::{Route, digits, likely_route};
 use std::alloc::Global;
 use vt_cells::{Error, Pos, Sink, columns};
 use vt_grid::Size;
@@ -34,8 +34,8 @@ use vt_redraw::View;
 const LONGEST: usize = 4096;
 
 /// Returns `text` with shorter cursor movements, for a plain terminal that displays `prev`. `start`
-/// is what is known about the terminal before it reads the output. Returns `None` if `text` is
-/// longer than [`LONGEST`] or does not consist of elements that this module recognizes.
+/// is what is known about the terminal before it reads the output. Returns `None` if `text` is empty
+/// or longer than [`LONGEST`], or does not consist of elements that this module recognizes.
 ///
 /// # Errors
 ///
@@ -51,131 +51,84 @@ pub fn with_short_moves(
     ensures memory { OnlyOutOfMemory result }
     ensures nonempty { RefusedOnlyIfSome result text.now }
 {
-    if text.len() > LONGEST {
+    if text.is_empty() || text.len() > LONGEST {
         return Ok(None);
     }
     let Ok(mut short) = String::with_capacity(alloc, text.len()) else {
         return Err(Error::OutOfMemory);
     };
-    let mut moves = String::new(alloc);
     let mut known = start;
+    // What is in `uncopied` before `rest` has been read, and is still to be copied unchanged.
+    let mut uncopied = text;
     let mut rest = text;
     while !rest.is_empty() {
-        let Some((next, len)) = add_next(&mut short, &mut moves, prev, known, rest)? else {
+        let Some((element, head, tail)) = split_element(rest) else {
             return Ok(None);
         };
-        let Some((_, tail)) = rest.split_at_checked(len) else {
-            return Ok(None);
-        };
-        known = next;
-        rest = tail;
+        if element.is_movement() {
+            let Some((copied, _)) = uncopied.split_at_checked(uncopied.len() - rest.len()) else {
+                return Ok(None);
+            };
+            short.write_str(copied)?;
+            let (next, after) = add_movement(&mut short, prev, known, element, head, tail)?;
+            known = next;
+            uncopied = after;
+            rest = after;
+        } else {
+            known = known_after(known, element, size_of(prev), head);
+            rest = tail;
+        }
     }
+    short.write_str(uncopied)?;
     Ok(Some(short))
 }
 
-/// Appends the first element of `rest` to `short`, or shorter output with the same effect. Returns
-/// what is known about the terminal afterward, and how many bytes of `rest` the output replaces.
-/// Returns `None` if `rest` does not begin with an element that this module recognizes. `moves` is
-/// a scratch buffer.
-///
-/// # Errors
-///
-/// Returns `Error::OutOfMemory` if a string cannot grow.
+/// Returns the first element of `text`, the text of this element, and the rest of `text`. Returns
+/// `None` if `text` does not begin with an element that this module recognizes.
 #[inline]
-#[tactic(auto, using(crate::proofs::KnownSteps::next_instead))]
-fn add_next(
-    short: &mut String,
-    moves: &mut String,
-    prev: &View<'_>,
-    known: Known,
-    rest: &str,
-) -> Result<Option<(Known, usize)>, Error>
-    ensures appends { IfOk result (λ found. IfSome found (λ next. AppendsInstead
-        (length prev.now.rows) prev.now.width (picture_cell prev.now) known next.0
-        (take next.1 rest.now) (string_bytes short.old) (string_bytes short.new))) }
-    ensures some { IfOk result (λ found. IfSome found (λ next. 0 < next.1)) }
-    ensures memory { OnlyOutOfMemory result }
+fn split_element(text: &str) -> Option<(Element, &str, &str)>
+    ensures element { IfSome result (λ found. IsElement found.0 found.1.now) }
+    ensures parts { IfSome result (λ found. text.now ≡ found.1.now ++ found.2.now) }
+    ensures some { IfSome result (λ found. 0 < length found.1.now) }
 {
-    if begins_with_other(rest) {
-        let found = add_others(short, size_of(prev), known, rest)?;
-        return Ok(found);
-    }
-    let Some((element, len)) = first_element(rest) else {
-        return Ok(None);
-    };
-    let Some((head, tail)) = rest.split_at_checked(len) else {
-        return Ok(None);
-    };
-    if let Some(gap) = gap_over(prev, known, element) {
-        if let Some(letter) = first_letter(tail) {
-            let next = add_gap(short, prev, known, gap, letter)?;
-            return Ok(Some((next, len + 1)));
-        }
-    }
-    let next = add_element(short, moves, size_of(prev), known, element, head)?;
-    Ok(Some((next, len)))
+    let (element, len) = first_element(text)?;
+    let (head, tail) = text.split_at_checked(len)?;
+    Some((element, head, tail))
 }
 
-/// Appends the printed characters at the beginning of `rest` that are not ASCII to `short`. Returns
-/// what is known about the terminal afterward, and the length of these characters in bytes. Returns
-/// `None` if there are none.
+/// Appends `element`, which is a cursor movement, to `short`, or shorter output with the same
+/// effect. `head` is the text of the element, and `tail` is the output after it. Returns what is
+/// known about the terminal afterward, and `tail` without the character after a gap, which is
+/// appended with the gap.
 ///
 /// # Errors
 ///
 /// Returns `Error::OutOfMemory` if the string cannot grow.
-fn add_others(
+#[inline]
+#[tactic(auto, using(crate::proofs::KnownSteps::gap_up_to, crate::proofs::KnownSteps::element_up_to))]
+fn add_movement<'a>(
     short: &mut String,
-    size: Size,
+    prev: &View<'_>,
     known: Known,
-    rest: &str,
-) -> Result<Option<(Known, usize)>, Error>
-    ensures appends { IfOk result (λ found. IfSome found (λ next. (cells : ℕ → ℕ → CellValue) → AppendsInstead
-        size.rows size.cols cells known next.0
-        (take next.1 rest.now) (string_bytes short.old) (string_bytes short.new))) }
-    ensures some { IfOk result (λ found. IfSome found (λ next. 0 < next.1)) }
+    element: Element,
+    head: &str,
+    tail: &'a str,
+) -> Result<(Known, &'a str), Error>
+    requires { IsElement element head.now }
+    ensures appends { IfOk result (λ next. AppendsUpTo
+        (length prev.now.rows) prev.now.width (picture_cell prev.now) known next.0
+        (head.now ++ tail.now) next.1.now (string_bytes short.old) (string_bytes short.new)) }
+    ensures shorter { IfOk result (λ next. length next.1.now ≤ length tail.now) }
     ensures memory { OnlyOutOfMemory result }
 {
-    let (after, len) = after_others(size, known, rest);
-    if len == 0 {
-        return Ok(None);
+    if let Some(gap) = gap_over(prev, known, element) {
+        if let Some((letter, after)) = first_letter(tail) {
+            let next = add_gap(short, prev, known, gap, letter)?;
+            return Ok((next, after));
+        }
     }
-    let Some((text, _)) = rest.split_at_checked(len) else {
-        return Ok(None);
-    };
-    short.write_str(text)?;
-    Ok(Some((after, len)))
-}
-
-/// Reads the printed characters at the beginning of `text` that are not ASCII, which are copied
-/// unchanged. Returns what is known about the terminal after it has read them, and their length in
-/// bytes.
-#[inline]
-#[tactic(auto, using(crate::proofs::Instead::copied_first))]
-fn after_others(size: Size, known: Known, text: &str) -> (Known, usize)
-    ensures copied { (cells : ℕ → ℕ → CellValue) → ReplacesTracked size.rows size.cols cells known result.0
-        (take result.1 text.now) (take result.1 text.now) }
-    ensures inside { result.1 ≤ length text.now }
-{
-    let mut after = known;
-    let mut rest = text;
-    while begins_with_other(rest) {
-        let Some((element, len)) = other_character(rest) else {
-            break;
-        };
-        let Some((head, tail)) = rest.split_at_checked(len) else {
-            break;
-        };
-        after = known_after(after, element, size, head);
-        rest = tail;
-    }
-    (after, text.len() - rest.len())
-}
-
-/// Returns whether `text` begins with a character that is not ASCII.
-#[inline]
-fn begins_with_other(text: &str) -> bool {
-    let bytes = text.as_bytes();
-    !bytes.is_empty() && bytes[0] >= 0x80
+    let next = add_element(short, size_of(prev), known, element, head)?;
+    Ok((next, tail))
 }
 
 /// Returns the size of a view.
@@ -225,15 +178,13 @@ fn add_gap(
 }
 
 /// Appends `element` to `short`, or a shorter movement with the same effect, and returns what is
-/// known about the terminal afterward. `head` is the text of the element, and `moves` is a scratch
-/// buffer.
+/// known about the terminal afterward. `head` is the text of the element.
 ///
 /// # Errors
 ///
-/// Returns `Error::OutOfMemory` if a string cannot grow.
+/// Returns `Error::OutOfMemory` if the string cannot grow.
 fn add_element(
     short: &mut String,
-    moves: &mut String,
     size: Size,
     known: Known,
     element: Element,
@@ -246,7 +197,7 @@ fn add_element(
 {
     match destination(element, size, known.at, head) {
         Some(to) => {
-            let at = add_move(short, moves, size, known.at, to, head)?;
+            let at = add_move(short, size, known.at, to, head)?;
             Ok(Known { at, ..known })
         }
         None => {
@@ -386,14 +337,13 @@ fn after_characters(from: Pos, count: usize, size: Size) -> Option<Pos>
 }
 
 /// Appends `head`, which moves the cursor from `at` to `to`, or a shorter movement with the same
-/// effect. Returns the new position. `moves` is a scratch buffer.
+/// effect. Returns the new position.
 ///
 /// # Errors
 ///
-/// Returns `Error::OutOfMemory` if a string cannot grow.
+/// Returns `Error::OutOfMemory` if the string cannot grow.
 fn add_move(
     short: &mut String,
-    moves: &mut String,
     size: Size,
     at: Option<Pos>,
     to: Pos,
@@ -407,42 +357,39 @@ fn add_move(
     ensures memory { OnlyOutOfMemory result }
 {
     if let Some(route) = shorter_route(at, to, size.cols, head.len()) {
-        moves.clear();
-        route.write(moves)?;
-        if moves.len() < head.len() && moves.len() <= row_start_len(to) {
-            short.write_str(moves.as_str())?;
-            return Ok(Some(to));
-        }
+        route.write(short)?;
+        return Ok(Some(to));
     }
     add_place(short, size, at, to, head)?;
     Ok(Some(to))
 }
 
-/// Returns a route from `at` to `to` on a terminal with `cols` columns. Returns `None` if no route is
-/// likely to take fewer than `len` bytes.
+/// Returns a route from `at` to `to` on a terminal with `cols` columns that takes fewer than `len`
+/// bytes, and no more than CUP without a column if that leads to `to`. Returns `None` if no such
+/// route is known.
 fn shorter_route(at: Option<Pos>, to: Pos, cols: u16, len: usize) -> Option<Route>
-    ensures { IfSome result (λ route. (from : Pos) × (at ≡ Some from) × IsRoute cols route from to) }
+    ensures leads { IfSome result (λ route. (from : Pos) × (at ≡ Some from) × IsRoute cols route from to) }
+    ensures shorter { IfSome result (λ route. length (route_text route) < len) }
 {
     let from = at?;
     let route = likely_route(from, to, cols, len)?;
-    if !route.leads(from, to, cols) {
-        return None;
+    let bytes = route.len();
+    let is_short = bytes < len && (to.col > 0 || bytes <= row_start_len(to.row));
+    if is_short && route.leads(from, to, cols) {
+        Some(route)
+    } else {
+        None
     }
-    Some(route)
 }
 
-/// Returns the length, in bytes, of the CUP sequence without a column that moves the cursor to
-/// `to`. Returns `usize::MAX` if `to` is not in the first column, and 6 if the row number has three
-/// or more digits.
-fn row_start_len(to: Pos) -> usize {
-    if to.col > 0 {
-        return usize::MAX;
-    }
-    match to.row {
-        0..=8 => 4,
-        9..=98 => 5,
-        _ => 6,
-    }
+/// Returns the length, in bytes, of CUP without a column, which moves the cursor to the first column
+/// of row `row` (counted from 0).
+#[inline]
+#[tactic(auto, using(crate::proofs::RouteLengths::row_start_length))]
+fn row_start_len(row: u16) -> usize
+    ensures { result ≡ length (row_start_text row) }
+{
+    3 + digits(u32::from(row) + 1)
 }
 
 /// Appends `head`, which moves the cursor from `at` to `to`. If `to` is in the first column and CUP
@@ -465,20 +412,11 @@ fn add_place(
         head.now (string_bytes short.old) (string_bytes short.new)) }
     ensures memory { OnlyOutOfMemory result }
 {
-    if to.col == 0 && is_row_start_shorter(to.row, head.len()) {
+    if to.col == 0 && row_start_len(to.row) < head.len() {
         write_row_start(short, to.row)?;
         return Ok(());
     }
     short.write_str(head)
-}
-
-/// Returns whether CUP without a column, which moves the cursor to the first column of row `row`
-/// (counted from 0), has fewer than `len` bytes.
-fn is_row_start_shorter(row: u16, len: usize) -> bool
-    ensures { IsTrue result → length (row_start_text row) < len }
-{
-    let mut buffer = itoa::Buffer::new();
-    buffer.format(u32::from(row) + 1).len() + 3 < len
 }
 
 /// Appends CUP without a column, which moves the cursor to the first column of row `row` (counted

@@ -4,7 +4,7 @@ ghost use Rattle.std.specs.Prelude.{◌≡◌, ◌<◌, ◌≤◌, ◌++◌, ◌
 ghost use Rattle.std.specs.List.{AllByRecursion};
 ghost use Rattle.vt_cells.specs.Op.{counted};
 ghost use Rattle.vt_redraw.specs.Fits.{IsDrawn};
-ghost use Rattle.vt_screen.specs.ShortMoves.{IsAsciiCharacter, IsElement, IsSgrText, IsWantedNext, is_still};
+ghost use Rattle.vt_screen.specs.ShortMoves.{IsAsciiCharacter, IsElement, IsSgrText, IsWantedNext, is_movement, is_still};
 
 use crate::sgr::{Reading, Wanted};
 use vt_cells::{Pos, columns};
@@ -55,6 +55,17 @@ pub enum Element {
 }
 
 impl Element {
+    /// Returns whether the element does nothing but move the cursor.
+    #[inline]
+    pub fn is_movement(self) -> bool
+        ensures { result ≡ is_movement self }
+    {
+        matches!(
+            self,
+            Element::Place(_) | Element::Right(_) | Element::NextRow
+        )
+    }
+
     /// Returns whether the element leaves the cursor where it is.
     pub fn is_still(self) -> bool
         ensures { result ≡ is_still self }
@@ -121,7 +132,7 @@ fn next_row(bytes: &[u8]) -> Option<(Element, usize)>
 
 /// Returns the first character of `text` as an element, and its length in bytes. Returns `None` if
 /// `text` is empty, or if the character is ASCII or is not printed.
-pub fn other_character(text: &str) -> Option<(Element, usize)>
+fn other_character(text: &str) -> Option<(Element, usize)>
     ensures nonempty { IfSome result (λ found. 0 < found.1) }
     ensures inside { IfSome result (λ found. found.1 ≤ length text.now) }
     ensures element { IfSome result (λ found. IsElement found.0 (take found.1 text.now)) }
@@ -154,12 +165,13 @@ fn sequence(bytes: &[u8]) -> Option<(Element, usize)>
     if bytes.len() < 3 || bytes[0] != 0x1B || bytes[1] != b'[' {
         return None;
     }
-    if bytes[2] == b'?' {
-        return hide(bytes);
-    }
-    match short_sequence(bytes[2]) {
-        Some(element) => Some((element, 3)),
-        None => numbered_sequence(bytes),
+    match bytes[2] {
+        b'?' => hide(bytes),
+        b'0'..=b'9' => numbered_sequence(bytes),
+        last => {
+            let element = short_sequence(last)?;
+            Some((element, 3))
+        }
     }
 }
 
@@ -257,11 +269,24 @@ fn several_numbers(bytes: &[u8], first: u16, len: usize) -> Option<(Element, usi
     ensures inside { IfSome result (λ found. found.1 ≤ length bytes.now) }
     ensures element { IfSome result (λ found. IsElement found.0 (0x1B ∷ 0x5B ∷ take found.1 bytes.now)) }
 {
-    if let Some((pos, more)) = place(first, &bytes[len + 1..]) {
+    let rest = &bytes[len + 1..];
+    if ends_with_h(rest) {
+        let (pos, more) = place(first, rest)?;
         return Some((Element::Place(pos), len + 1 + more));
     }
     let len = sgr_len(bytes, first, len)?;
     Some((Element::Attrs, len + 1))
+}
+
+/// Returns whether an `H` follows the digits at the beginning of `bytes`. Only CUP ends like this,
+/// so that no number of an SGR sequence is parsed twice.
+fn ends_with_h(bytes: &[u8]) -> bool {
+    for &byte in bytes {
+        if !byte.is_ascii_digit() {
+            return byte == b'H';
+        }
+    }
+    false
 }
 
 /// Returns the position in a CUP sequence and the number of bytes read. The first parameter is

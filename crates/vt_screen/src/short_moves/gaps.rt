@@ -3,7 +3,7 @@
 //! CUF takes three or four bytes, so printing one to three glyphs that the terminal already
 //! displays is shorter.
 
-ghost use Rattle.std.specs.Prelude.{◌≡◌, ◌<◌, ◌≤◌, ◌+◌, ◌++◌, IfSome, IsTrue, OnOk, length, string_bytes, take};
+ghost use Rattle.std.specs.Prelude.{◌≡◌, ◌<◌, ◌≤◌, ◌+◌, ◌++◌, IfSome, IsTrue, OnOk, length, string_bytes};
 ghost use Rattle.vt_cells.specs.Refusals.{OnlyOutOfMemory};
 ghost use Rattle.vt_screen.specs.Gaps.{IsByteGlyph, IsFrom, IsGap, IsGapOver, IsLetter, gap_text};
 
@@ -111,16 +111,16 @@ pub fn write_gap(
     write_gap(short, row, col + 1, count - 1)
 }
 
-/// Returns the first character of `text`, or `None` if `text` does not begin with a printable ASCII
-/// character.
-pub fn first_letter(text: &str) -> Option<&str>
-    ensures letter { IfSome result (λ letter. IsLetter letter.now) }
-    ensures first { IfSome result (λ letter. letter.now ≡ take 1 text.now) }
+/// Returns the first character of `text` and the rest of `text`, or `None` if `text` does not begin
+/// with a printable ASCII character.
+pub fn first_letter(text: &str) -> Option<(&str, &str)>
+    ensures letter { IfSome result (λ found. IsLetter found.0.now) }
+    ensures parts { IfSome result (λ found. text.now ≡ found.0.now ++ found.1.now) }
 {
-    let (letter, _) = text.split_at_checked(1)?;
+    let (letter, rest) = text.split_at_checked(1)?;
     let bytes = letter.as_bytes();
     if bytes.is_empty() || bytes[0] < 0x20 || bytes[0] >= 0x7F {
         return None;
     }
-    Some(letter)
+    Some((letter, rest))
 }

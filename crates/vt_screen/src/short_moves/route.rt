@@ -1,6 +1,6 @@
 //! Short ways to move the cursor.
 
-ghost use Rattle.std.specs.Prelude.{◌≡◌, ◌++◌, ◌∷◌, ◌≤◌, ℕ, [], IfSome, OnOk, IsTrue, replicate, string_bytes};
+ghost use Rattle.std.specs.Prelude.{◌≡◌, ◌++◌, ◌∷◌, ◌≤◌, ℕ, [], IfSome, OnOk, IsTrue, decimal, length, replicate, string_bytes};
 ghost use Rattle.vt_cells.specs.Refusals.{OnlyOutOfMemory};
 ghost use Rattle.vt_screen.specs.ShortMoves.{IsLast, IsRoute, column_after_tabs, last_text, next_stop, route_text};
 
@@ -66,6 +66,15 @@ impl Route {
         self.last.column_after(stop, cols) == Some(to.col)
     }
 
+    /// Returns the number of bytes that the route takes in the output.
+    #[tactic(auto, using(crate::proofs::RouteLengths::route_length))]
+    pub fn len(&self) -> usize
+        ensures { result ≡ length (route_text self.now) }
+    {
+        let before = usize::from(self.feeds) + usize::from(self.returns) + usize::from(self.tabs);
+        before + self.last.len()
+    }
+
     /// Appends to `text` the control characters and the control sequence, if any, that make up the
     /// route.
     ///
@@ -125,13 +134,18 @@ impl Last {
 
     /// Returns the number of bytes that this part of a route takes in the output.
     #[inline]
-    fn cost(self) -> usize {
+    #[tactic(auto, using(crate::proofs::RouteLengths::back_length, crate::proofs::RouteLengths::right_length, crate::proofs::RouteLengths::column_length))]
+    fn len(self) -> usize
+        ensures bytes { result ≡ length (last_text self) }
+        ensures small { result ≤ 65535 }
+    {
         match self {
             Last::Stay => 0,
             Last::Back(count) => usize::from(count),
+            Last::Right(0) => 0,
             Last::Right(1) => 3,
-            Last::Right(count) => 3 + digits(count),
-            Last::Column(target) => 3 + digits(target.saturating_add(1)),
+            Last::Right(count) => 3 + digits(u32::from(count)),
+            Last::Column(target) => 3 + digits(u32::from(target) + 1),
         }
     }
 }
@@ -143,7 +157,7 @@ impl Way {
         Way {
             tabs,
             last,
-            cost: usize::from(tabs).saturating_add(last.cost()),
+            cost: usize::from(tabs).saturating_add(last.len()),
         }
     }
 
@@ -254,6 +268,10 @@ fn column_after_tabs(col: u16, count: u16, cols: u16) -> u16
 /// fewer than `len` bytes.
 pub fn likely_route(from: Pos, to: Pos, cols: u16, len: usize) -> Option<Route> {
     let feeds = to.row.checked_sub(from.row)?;
+    // Every route takes at least this many bytes. This test alone rejects most movements.
+    if usize::from(feeds) + usize::from(to.col != from.col) >= len {
+        return None;
+    }
     let returned = Way::forward(0, to.col, cols);
     let direct = if to.col < from.col {
         Way::new(0, Last::Back(from.col - to.col)).or(Way::new(0, Last::Column(to.col)))
@@ -277,9 +295,12 @@ pub fn likely_route(from: Pos, to: Pos, cols: u16, len: usize) -> Option<Route> 
     })
 }
 
-/// Returns the number of decimal digits of `number`.
-fn digits(number: u16) -> usize
-    ensures { result ≤ 5 }
+/// Returns the number of decimal digits of `number`, which must be at most 65536.
+#[tactic(auto, using(crate::proofs::RouteLengths::digits_one, crate::proofs::RouteLengths::digits_two, crate::proofs::RouteLengths::digits_three, crate::proofs::RouteLengths::digits_four, crate::proofs::RouteLengths::digits_five))]
+pub fn digits(number: u32) -> usize
+    requires { number ≤ 65536 }
+    ensures count { result ≡ length (decimal number) }
+    ensures small { result ≤ 5 }
 {
     match number {
         0..=9 => 1,

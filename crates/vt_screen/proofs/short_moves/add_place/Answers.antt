@@ -3,8 +3,8 @@ use Rattle.vt_screen.specs.ShortMoves.{row_start_text}
 use Rattle.vt_screen.proofs.RowStarts.{row_start_appended}
 use Rattle.vt_screen.proofs.short_moves.add_place.Goals as goal
 
-pub returns-then-is_row_start_shorter-clause-appends : goal.returns-then-is_row_start_shorter-clause-appends
-returns-then-is_row_start_shorter-clause-appends c =
+pub returns-then-row_start_len-head-clause-appends : goal.returns-then-row_start_len-head-clause-appends
+returns-then-row_start_len-head-clause-appends c =
     let small : c.args.to.row < 65535 = search rules in
     let shorter : length (row_start_text c.args.to.row) < length c.args.head.now = search rules in
     row_start_appended c.args.size.rows c.args.size.cols c.args.at c.args.to c.args.head.now (string_bytes c.args.short.now)
