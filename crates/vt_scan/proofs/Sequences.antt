@@ -55,7 +55,7 @@ step_final_at_once b low high =
     class_of-final (λ k. step_after CsiEntry [] b (transition_of CsiEntry k) ≡ gives Ground [] (sequence [] b))
     b low high refl refl refl refl
 
--- Reading the remaining bytes of a control sequence take_dispatch the sequence with all of its bytes.
+-- Reading the remaining bytes of a control sequence dispatches the sequence with all of its bytes.
 read_rest : (before text : List ℕ) (final : ℕ) → IsParameterText text → 0x40 ≤ final → final ≤ 0x7E
     → run (record { kind = CsiParam; collected = before }) (text ++ final ∷ [])
     ≡ back_with (sequence (before ++ text) final)

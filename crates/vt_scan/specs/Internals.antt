@@ -42,7 +42,7 @@ FitsEnding old new ending.OscDispatch = (old ≡ kinds.OscString) × ((new ≡ k
 FitsEnding old new ending.OscDispatchAndExecuted = (old ≡ kinds.OscString) × (new ≡ kinds.Ground)
 
 -- A transition from a state of the given kind is consistent: it collects bytes only within a sequence or within an
--- operating system command, and it take_dispatch a sequence or command only if it leaves that sequence or command.
+-- operating system command, and it dispatches a sequence or command only if it leaves that sequence or command.
 abbrev pub Fits : Kind → Transition → Type 0
 Fits old (Collect new) = (InSequence old × InSequence new) ⊎ ((old ≡ kinds.OscString) × (new ≡ kinds.OscString))
 Fits old Drop = Unit {0}

@@ -259,7 +259,7 @@ impl Scanner {
         false
     }
 
-    /// Enters the ground state and returns `true` if the transition `turn` take_dispatch an escape
+    /// Enters the ground state and returns `true` if the transition `turn` dispatches an escape
     /// sequence. Otherwise changes nothing and returns `false`.
     #[inline(always)]
     fn take_dispatch(&mut self, turn: Transition) -> bool
