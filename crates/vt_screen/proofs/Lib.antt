@@ -15,6 +15,7 @@ pub mod Attributes
 pub mod CursorRead
 pub mod InputRead
 pub mod StateRead
+pub mod StatesAgain
 pub mod Stable
 pub mod StableMoves
 mod Coloring

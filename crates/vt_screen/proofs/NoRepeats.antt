@@ -28,9 +28,9 @@ none_then [] ys h k = k
 none_then (x ∷ xs) ys h k = (h.0, none_then xs ys h.1 k)
 
 -- Output without REP that ends in ground state.
-record IsQuiet (text : List ℕ) : Type 0 where
-  state : (run start text).state ≡ start
-  none : AreNone (run start text).events
+pub record IsQuiet (text : List ℕ) : Type 0 where
+  pub state : (run start text).state ≡ start
+  pub none : AreNone (run start text).events
 
 quiet_back : (text : List ℕ) (events : List Event) → run start text ≡ back_with events → AreNone events → IsQuiet text
 quiet_back text events e none = record {
@@ -83,7 +83,7 @@ parameter_then : (xs ys : List ℕ) → IsParameterText xs → IsParameterText y
 parameter_then [] ys h k = k
 parameter_then (x ∷ xs) ys h k = (h.0, h.1, parameter_then xs ys h.2 k)
 
-numbers_parameter : (ns : List ℕ) → IsParameterText (semicolon_list ns)
+pub numbers_parameter : (ns : List ℕ) → IsParameterText (semicolon_list ns)
 numbers_parameter [] = tt
 numbers_parameter (n ∷ []) = decimal_parameter n
 numbers_parameter (n ∷ m ∷ ns) =
@@ -155,7 +155,7 @@ control_of true bytes (inl e) = subst IsQuiet (sym e) (record { state = refl; no
 control_of true bytes (inr (inl e)) = subst IsQuiet (sym e) (record { state = refl; none = (refl, tt) })
 control_of true bytes (inr (inr is)) = control_none bytes is
 
-piece_none : (scroll : Bool) (p : Piece) → IsPiece (diff_finals scroll) (diff_controls scroll) p → IsQuiet (piece_text p)
+pub piece_none : (scroll : Bool) (p : Piece) → IsPiece (diff_finals scroll) (diff_controls scroll) p → IsQuiet (piece_text p)
 piece_none scroll (Characters cs) is =
     quiet_back (encode_utf8_all cs) (map Character cs) (read_text cs (readable cs is)) (characters_none cs)
 piece_none scroll (Numbered ns final) is =

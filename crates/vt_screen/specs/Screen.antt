@@ -53,6 +53,11 @@ fresh_screen rows cols capacity = record {
   last = None;
 }
 
+-- The screen without its inactive page and scrollback: the active page becomes the main page of a screen whose
+-- scrollback keeps no rows. All other parts are unchanged.
+abbrev pub page_alone : ScreenValue → ScreenValue
+page_alone screen = record screen { other = None; is_alternate = false; scrollback = no_scrollback 0 }
+
 abbrev pub with_page : Page → ScreenValue → ScreenValue
 with_page page screen = record screen { page = page }
 

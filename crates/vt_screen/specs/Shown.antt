@@ -1,5 +1,5 @@
 -- The display of a screen, and the effect of output on the terminals that read it.
-use Rattle.std.specs.Prelude.{◌≡◌, ℕ, ◌<◌, false, List, [], ◌∷◌, length, Option, Some, chars}
+use Rattle.std.specs.Prelude.{◌≡◌, ◌≢◌, ℕ, ◌<◌, false, List, [], ◌∷◌, length, Option, Some, chars}
 use Rattle.std.specs.List.{list_any}
 use Rattle.vt_cells.specs.Attrs.{default_attrs, Attrs}
 use Rattle.vt_cells.specs.Cell.{text_of}
@@ -30,6 +30,10 @@ display_change was new = bytes_of_all (difference (display new) (display was))
 -- No scrollback is displayed, so the displayed rows are the rows of the active page.
 abbrev pub ShowsOwnPage : ScreenValue → Type 0
 ShowsOwnPage screen = (above_page screen).offset ≡ 0
+
+-- Scrollback is displayed.
+abbrev pub ShowsScrollback : ScreenValue → Type 0
+ShowsScrollback screen = (above_page screen).offset ≢ 0
 
 -- No displayed cell within the screen's width contains U+FE0F.
 abbrev pub ShowsNoSelector : ScreenValue → Type 0

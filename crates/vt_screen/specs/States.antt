@@ -1,10 +1,16 @@
 -- Output that sets a whole state (a display and input modes), output that sets only input modes, and the effects of
 -- both on terminals.
 use Rattle.std.specs.Prelude.{◌≡◌, ℕ, List, ◌++◌}
+use Rattle.std.specs.List.{AllByRecursion}
+use Rattle.vt_grid.specs.Page.{SameSize}
 use Rattle.vt_redraw.specs.Steady.{IsSteady}
+use Rattle.vt_scan.specs.Automaton.{start}
+use Rattle.vt_scan.specs.Run.{run}
+use Rattle.vt_screen.specs.Again.{IsNoCallback}
+use Rattle.vt_screen.specs.CallsOfRun.{screen_in, steps_in}
 use Rattle.vt_screen.specs.InputTexts.{input_change, input_text}
 use Rattle.vt_screen.specs.Screen.{Modes, ScreenValue, no_modes}
-use Rattle.vt_screen.specs.Shown.{IsReader, IsReaderOf, KeepsRestButModes, Makes, ReadsTo, Redraws}
+use Rattle.vt_screen.specs.Shown.{IsPlain, IsReader, IsReaderOf, KeepsRestButModes, Makes, ReadsTo, Redraws}
 use Rattle.vt_screen.specs.Shown.{display, display_change, shown_text}
 
 -- ---- input modes
@@ -52,3 +58,31 @@ HasModes modes reader after = after.modes ≡ modes
 pub record GivesState (Reader : ScreenValue → Type 0) (screen : ScreenValue) (text : List ℕ) : Type 0 where
   pub redraws : Redraws (display screen) Reader KeepsRestButModes text
   pub modes : IsSteady (display screen) → Makes Reader text (HasModes screen.modes)
+
+-- ---- terminals that are plain again
+
+-- The inactive page and the size are unchanged, and the same page is active.
+pub record KeepsAsideButModes (reader after : ScreenValue) : Type 0 where
+  pub other : after.other ≡ reader.other
+  pub is_alternate : after.is_alternate ≡ reader.is_alternate
+  pub size : SameSize after.page reader.page
+
+-- The terminal reads the output, starting in ground state, and afterward is plain and in ground state again, and has the
+-- given input modes. No callback is invoked except `on_scroll`. The inactive page and the size are unchanged, and the
+-- same page is active.
+pub record LeavesPlainWithModes (modes : Modes) (text : List ℕ) (reader : ScreenValue) : Type 0 where
+  pub ground : (run start text).state ≡ start
+  pub steps : AllByRecursion IsNoCallback (steps_in start reader text)
+  pub plain : IsPlain (screen_in start reader text)
+  pub aside : KeepsAsideButModes reader (screen_in start reader text)
+  pub has_modes : (screen_in start reader text).modes ≡ modes
+
+-- Every plain terminal whose modes satisfy the given predicate is plain again after it has read the output and has the
+-- given modes, as `LeavesPlainWithModes` describes.
+abbrev pub SetsModesPlainly : (Modes → Type 0) → Modes → List ℕ → Type 0
+SetsModesPlainly Had modes text =
+    (reader : ScreenValue) → IsPlain reader → Had reader.modes → LeavesPlainWithModes modes text reader
+
+-- The modes are the given ones.
+abbrev pub AreModes : (was modes : Modes) → Type 0
+AreModes was modes = modes ≡ was

@@ -23,10 +23,10 @@ ghost use Rattle.vt_redraw.specs.Steady.{IsSteady};
 ghost use Rattle.vt_screen.specs.Again.{KeepsPlain, MakesPlain};
 ghost use Rattle.vt_screen.specs.AnyRegion.{IsReaderInAnyRegion, KeepsRestButRegion, reset_text};
 ghost use Rattle.vt_screen.specs.MadeOf.{IsMadeOf, drawing_controls, drawing_finals, reset_controls};
-ghost use Rattle.vt_screen.specs.Screen.{IsColored, IsScreen, ScreenValue, above_page};
+ghost use Rattle.vt_screen.specs.Screen.{IsColored, IsScreen, ScreenValue, above_page, page_alone};
 ghost use Rattle.vt_screen.specs.Touched.{TouchesNear, TouchesOnly};
 ghost use Rattle.vt_screen.specs.Shown.{IsReader, IsReaderOfRows, IsSameIfEmpty, KeepsRest, Redraws, RedrawsFrom};
-ghost use Rattle.vt_screen.specs.Shown.{SetsAttrs, TakesCursor, Turns, attributes_text, display};
+ghost use Rattle.vt_screen.specs.Shown.{SetsAttrs, ShowsOwnPage, ShowsScrollback, TakesCursor, Turns, attributes_text, display};
 ghost use Rattle.vt_screen.specs.Shown.{display_change, shown_text};
 ghost use Rattle.vt_screen.specs.TextResults.{IfText};
 
@@ -39,13 +39,16 @@ use vt_redraw::{
 };
 
 impl Screen {
-    /// Returns a copy of what the screen displays: a screen of the same size
-    /// with a copy of the active page, but without scrollback or the inactive
-    /// page. It can serve as `prev` in [`Screen::contents_diff`] and takes less
-    /// memory than a clone.
+    /// Returns a copy of what the screen displays: a screen with the same
+    /// active page, attributes and modes, but without scrollback or the
+    /// inactive page (clause `alone`). It takes less memory than a clone.
+    ///
+    /// The copy has the same size, the same display and the same modes (clauses
+    /// `size`, `shown` and `modes`), so it can serve as `prev` in diffs,
+    /// including [`Screen::state_diff`].
     ///
     /// While scrollback is displayed, the result is a copy of the whole screen,
-    /// as returned by `Screen::clone`.
+    /// as returned by `Screen::clone` (clause `whole`).
     ///
     /// # Errors
     ///
@@ -53,6 +56,9 @@ impl Screen {
     pub fn shown_copy(&self) -> Result<Screen, Error>
         ensures shown { IfOk result (λ screen. display screen ≡ display self.now) }
         ensures size { IfOk result (λ screen. SameSize screen.page self.now.page) }
+        ensures modes { IfOk result (λ screen. screen.modes ≡ self.now.modes) }
+        ensures alone { ShowsOwnPage self.now → IfOk result (λ screen. screen ≡ page_alone self.now) }
+        ensures whole { ShowsScrollback self.now → IfOk result (λ screen. screen ≡ self.now) }
         ensures memory { OnlyOutOfMemory result }
     {
         if self.scrollback.offset() == 0 {
@@ -72,6 +78,7 @@ impl Screen {
     fn page_copy(&self) -> Result<Screen, Error>
         ensures shown { (above_page self.now).offset ≡ 0 → IfOk result (λ screen. display screen ≡ display self.now) }
         ensures size { IfOk result (λ screen. SameSize screen.page self.now.page) }
+        ensures alone { IfOk result (λ screen. screen ≡ page_alone self.now) }
         ensures memory { OnlyOutOfMemory result }
     {
         let grid = self.grid.try_clone(self.alloc)?;

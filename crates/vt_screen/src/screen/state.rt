@@ -12,7 +12,8 @@ ghost use Rattle.vt_redraw.specs.Steady.{IsSteady};
 ghost use Rattle.vt_screen.specs.MadeOf.{IsMadeOf, drawing_finals, state_controls};
 ghost use Rattle.vt_screen.specs.Screen.{IsColored, IsScreen};
 ghost use Rattle.vt_screen.specs.Shown.{display};
-ghost use Rattle.vt_screen.specs.States.{GivesState, IsStateReader, IsStateReaderOf, state_change, state_text};
+ghost use Rattle.vt_screen.specs.States.{AreModes, GivesState, HasDefaultMouseAndStyle, IsStateReader, IsStateReaderOf};
+ghost use Rattle.vt_screen.specs.States.{SetsModesPlainly, state_change, state_text};
 ghost use Rattle.vt_screen.specs.TextResults.{IfText};
 
 use crate::screen::Screen;
@@ -35,6 +36,11 @@ impl Screen {
     /// unchanged; only the saved cursor, saved origin mode, saved attributes
     /// and last character may change.
     ///
+    /// Such a terminal of any size is plain again and has the modes of this
+    /// screen after reading the output even if this screen is not steady
+    /// (clause `again`): no callback except `on_scroll` was invoked, and the
+    /// inactive page and the size are unchanged.
+    ///
     /// # Errors
     ///
     /// Returns `Error::OutOfMemory` if the output cannot be allocated.
@@ -51,6 +57,7 @@ impl Screen {
     pub fn state_formatted(&self) -> Result<String, Error>
         ensures text { IfText result (λ text. text ≡ state_text self.now) }
         ensures controls { IfText result (IsMadeOf drawing_finals state_controls) }
+        ensures again { IfText result (SetsModesPlainly HasDefaultMouseAndStyle self.now.modes) }
         ensures gives { IfText result (GivesState (IsStateReader self.now) self.now) }
         ensures memory { OnlyOutOfMemory result }
     {
@@ -74,7 +81,10 @@ impl Screen {
     /// `prev` has the display and modes of this screen after reading the output
     /// (clause `gives`), as with [`Screen::state_formatted`]. The output is
     /// empty if both screens have the same display and modes; if this screen is
-    /// steady, it is empty only in that case (clause `empty`).
+    /// steady, it is empty only in that case (clause `empty`). A plain terminal
+    /// with the modes of `prev` is plain again and has the modes of this screen
+    /// after reading the output even if this screen is not steady (clause
+    /// `again`), as with [`Screen::state_formatted`].
     ///
     /// # Errors
     ///
@@ -92,6 +102,7 @@ impl Screen {
         requires { SameSize self.now.page prev.now.page }
         ensures text { IfText result (λ text. text ≡ state_change prev.now self.now) }
         ensures controls { IfText result (IsMadeOf drawing_finals state_controls) }
+        ensures again { IfText result (SetsModesPlainly (AreModes prev.now.modes) self.now.modes) }
         ensures gives { IfText result (GivesState (IsStateReaderOf self.now prev.now) self.now) }
         ensures empty { IfText result (λ text. IsSteady (display self.now) → text ≡ [] →
             (display self.now ≡ display prev.now) × (self.now.modes ≡ prev.now.modes)) }

@@ -1,5 +1,6 @@
 use Rattle.std.proofs.Common.{◌≡◌, ℕ, List, ◌++◌, string_bytes, ap, sym, ◌∙◌, subst}
-use Rattle.vt_screen.specs.States.{state_change}
+use Rattle.vt_screen.specs.States.{AreModes, SetsModesPlainly, state_change}
+use Rattle.vt_screen.proofs.StatesAgain.{change_again}
 use Rattle.vt_screen.proofs.StateRead.{change_gives, state_none, state_tells}
 use Rattle.vt_screen.proofs.Viewing.{same_shown}
 use Rattle.vt_screen.proofs.ContentTexts.{none_refused}
@@ -43,3 +44,12 @@ returns-in-Ok-clause-controls c =
     c.in-Ok.ensures.text ∙ ap (λ (before : List ℕ). before ++ bytes) c.new-text.ensures.bytes in
     subst (IsMadeOf drawing_finals state_controls) (sym told)
     (state_change_made c.args.self.now c.args.prev.now c.in-Ok.ensures.whole c.in-Ok.ensures.colored c.in-Ok.ensures.other_colored)
+
+pub returns-in-Ok-clause-again : goal.returns-in-Ok-clause-again
+returns-in-Ok-clause-again c =
+    let bytes = state_change c.args.prev.now c.args.self.now in
+    let told : string_bytes c.write_state_diff.new.sink ≡ bytes =
+    c.in-Ok.ensures.text ∙ ap (λ (before : List ℕ). before ++ bytes) c.new-text.ensures.bytes in
+    subst (SetsModesPlainly (AreModes c.args.prev.now.modes) c.args.self.now.modes) (sym told)
+    (change_again c.args.self.now c.args.prev.now c.in-Ok.ensures.whole c.in-Ok.ensures.colored
+    c.in-Ok.ensures.other_colored)
